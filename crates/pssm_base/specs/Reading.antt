@@ -1,0 +1,16 @@
+-- What a path holds, and what is read of it.
+use Rattle.std.specs.Prelude.{◌≡◌, ℕ, ◌≤◌, List, ◌↔◌, length, take, drop, Option, IfSome}
+
+-- what is told of each path stays as it was
+abbrev pub SameContent : (List ℕ → Option (List ℕ)) → (List ℕ → Option (List ℕ)) → Type 0
+SameContent before after = (path : List ℕ) → after path ≡ before path
+
+-- n bytes are a front of what stands from an offset on, which is empty exactly at or after the end
+pub record IsFront (bytes : List ℕ) (from n : ℕ) (into : List ℕ) : Type 0 where
+  pub left : n ≤ length (drop from bytes)
+  pub copied : take n into ≡ take n (drop from bytes)
+  pub end : (n ≡ 0) ↔ (length bytes ≤ from)
+
+-- the bytes read so far are a front of what the path holds, where that is told
+abbrev pub IsRead : Option (List ℕ) → List ℕ → Type 0
+IsRead content bytes = IfSome content (λ held. bytes ≡ take (length bytes) held)

@@ -1,0 +1,31 @@
+//! The outside of the program.
+//!
+//! What is read comes through [`Inputs`], and what is written goes through [`Sink`]. Each says in its contract
+//! what it holds or has taken, where that is told, and how often it has failed. So code over them can promise
+//! that a fault is never its own.
+#![tactic(auto)]
+
+mod calls;
+mod fault;
+mod files;
+mod gate;
+mod inputs;
+mod mem_inputs;
+mod mem_sink;
+mod real;
+mod sink;
+mod sure;
+mod whole;
+
+pub use fault::{Failed, NoMemory, WholeFault};
+pub use gate::Gate;
+pub use inputs::Inputs;
+pub use mem_inputs::MemInputs;
+pub use mem_sink::MemSink;
+pub use real::{FileInputs, StdoutSink};
+pub use sink::{Sink, put_all};
+pub use sure::{SureInputs, SureSink};
+pub use whole::read_whole;
+
+#[cfg(test)]
+mod tests;
