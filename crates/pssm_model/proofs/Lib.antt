@@ -1,0 +1,10 @@
+pub mod BuiltElements
+pub mod BuiltForest
+pub mod BuiltTransitions
+pub mod BuiltLegs
+pub mod BuiltRoutes
+pub mod BuiltFiring
+pub mod BuiltShape
+pub mod BuiltWellFormed
+pub mod BuiltExample
+pub mod Empty

@@ -1,0 +1,14 @@
+pub mod Forest
+pub mod Limits
+pub mod Shape
+pub mod Legs
+pub mod Routes
+pub mod Firing
+pub mod Paths
+pub mod WellFormed
+pub mod BuiltMachine
+pub mod OneRegion
+pub mod Proper
+pub mod Equal
+pub mod formers
+pub mod Codes
