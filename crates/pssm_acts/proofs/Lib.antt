@@ -1,0 +1,10 @@
+pub mod SpellingLaws
+pub mod Appended
+pub mod Active
+pub mod LastStep
+pub mod Waiting
+pub mod Views
+pub mod Admissible
+pub mod Ended
+pub mod Stores
+pub mod Appending

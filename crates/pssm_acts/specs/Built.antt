@@ -1,0 +1,48 @@
+-- The settings that the code runs so far: one class with a machine of one region, one object, and signals without arguments.
+-- Later work widens this premise; no definition changes with it.
+use Rattle.std.specs.Prelude.{◌≡◌, ◌≢◌, ◌<◌, ◌≤◌, ℕ, List, [], ◌∷◌, length, AllPairs}
+use Rattle.std.specs.List.{AllByRecursion}
+use Rattle.pssm_model.specs.declared.ids.SignalId.{SignalId}
+use Rattle.pssm_model.specs.declared.elements.Transition.{Transition}
+use Rattle.pssm_model.specs.BuiltMachine.{IsBuiltMachine}
+use Rattle.pssm_acts.specs.declared.setting.SignalDecl.{SignalDecl}
+use Rattle.pssm_acts.specs.declared.setting.ObjectDecl.{ObjectDecl}
+use Rattle.pssm_acts.specs.declared.setting.Class.{Class}
+use Rattle.pssm_acts.specs.declared.setting.Setting.{Setting}
+use Rattle.pssm_acts.specs.declared.tree.Act.{Act}
+use Rattle.pssm_acts.specs.Spelling.{IsName}
+
+-- a signal without arguments
+pub record IsPlainSignal (x : SignalDecl) : Type 0 where
+  pub name : IsName x.name
+  pub count : x.count ≡ 0
+
+-- a class without variables, guards and marks, whose one behaviour is the empty one
+pub record IsPlainClass (x : Class) : Type 0 where
+  pub empty : Act
+  pub name : IsName x.name
+  pub vars : x.vars ≡ []
+  pub acts : x.program.acts ≡ empty ∷ []
+  pub nothing : empty.stmts ≡ []
+  pub guards : x.program.guards ≡ []
+  pub marks : x.program.marks ≡ []
+  pub machine : IsBuiltMachine x.machine
+
+-- the triggers are signals of the setting, in strictly ascending number
+pub record ListsSignals (signal_count : ℕ) (x : Transition) : Type 0 where
+  pub known : AllByRecursion (λ (g : SignalId). g.0 < signal_count) x.triggers
+  pub ascending : AllPairs (λ (g h : SignalId). g.0 < h.0) x.triggers
+
+-- one class, one object of it, and the signals
+pub record IsBuilt (setting : Setting) : Type 0 where
+  pub class : Class
+  pub object : ObjectDecl
+  pub signals_are : AllByRecursion IsPlainSignal setting.signals
+  pub signals_differ : AllPairs (λ (a b : SignalDecl). a.name ≢ b.name) setting.signals
+  pub few_signals : length setting.signals ≤ 256
+  pub classes : setting.classes ≡ class ∷ []
+  pub objects : setting.objects ≡ object ∷ []
+  pub class_is : IsPlainClass class
+  pub object_name : IsName object.name
+  pub object_class : object.class ≡ 0
+  pub triggers : AllByRecursion (ListsSignals (length setting.signals)) class.machine.transitions

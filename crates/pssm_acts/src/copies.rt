@@ -1,0 +1,320 @@
+//! How values of this crate are made once more.
+ghost use Rattle.std.specs.Prelude.{◌≡◌, IfOk};
+
+use crate::entry::{Entry, Out};
+use crate::setting::{Class, ObjectDecl, Program, Setting, SignalDecl, VarDecl};
+use crate::stimulus::Stimulus;
+use crate::tree::{Act, Cond, Expr, Stmt};
+use pssm_model::{Boxed, Duplicate, Row};
+use std::alloc::{AllocError as NoMemory, Global};
+
+impl Duplicate for Out {
+    fn duplicate(&self, alloc: Global) -> Result<Out, NoMemory> {
+        match self {
+            Out::Mark { mark, args } => Ok(Out::Mark {
+                mark: *mark,
+                args: args.duplicate(alloc)?,
+            }),
+            Out::Send {
+                object,
+                signal,
+                args,
+            } => Ok(Out::Send {
+                object: *object,
+                signal: *signal,
+                args: args.duplicate(alloc)?,
+            }),
+        }
+    }
+}
+
+impl Duplicate for Entry {
+    fn duplicate(&self, alloc: Global) -> Result<Entry, NoMemory> {
+        match self {
+            Entry::Post {
+                object,
+                signal,
+                args,
+            } => Ok(Entry::Post {
+                object: *object,
+                signal: *signal,
+                args: args.duplicate(alloc)?,
+            }),
+            Entry::Start { object } => Ok(Entry::Start { object: *object }),
+            Entry::Take {
+                object,
+                number,
+                firing,
+            } => Ok(Entry::Take {
+                object: *object,
+                number: *number,
+                firing: firing.duplicate(alloc)?,
+            }),
+            Entry::Done {
+                object,
+                state,
+                firing,
+            } => Ok(Entry::Done {
+                object: *object,
+                state: *state,
+                firing: firing.duplicate(alloc)?,
+            }),
+            Entry::Exit {
+                object,
+                state,
+                outs,
+            } => Ok(Entry::Exit {
+                object: *object,
+                state: *state,
+                outs: outs.duplicate(alloc)?,
+            }),
+            Entry::Effect {
+                object,
+                transition,
+                outs,
+            } => Ok(Entry::Effect {
+                object: *object,
+                transition: *transition,
+                outs: outs.duplicate(alloc)?,
+            }),
+            Entry::Enter {
+                object,
+                state,
+                outs,
+            } => Ok(Entry::Enter {
+                object: *object,
+                state: *state,
+                outs: outs.duplicate(alloc)?,
+            }),
+            Entry::Opened {
+                object,
+                region,
+                mode,
+                how,
+            } => Ok(Entry::Opened {
+                object: *object,
+                region: *region,
+                mode: *mode,
+                how: how.duplicate(alloc)?,
+            }),
+            Entry::Pick {
+                object,
+                choice,
+                route,
+            } => Ok(Entry::Pick {
+                object: *object,
+                choice: *choice,
+                route: route.duplicate(alloc)?,
+            }),
+            Entry::DoStep {
+                object,
+                state,
+                step,
+                outs,
+            } => Ok(Entry::DoStep {
+                object: *object,
+                state: *state,
+                step: *step,
+                outs: outs.duplicate(alloc)?,
+            }),
+        }
+    }
+}
+
+impl Duplicate for Stimulus {
+    fn duplicate(&self, alloc: Global) -> Result<Stimulus, NoMemory> {
+        Ok(Stimulus {
+            object: self.object,
+            signal: self.signal,
+            args: self.args.duplicate(alloc)?,
+        })
+    }
+}
+
+impl Duplicate for SignalDecl {
+    fn duplicate(&self, alloc: Global) -> Result<SignalDecl, NoMemory> {
+        Ok(SignalDecl {
+            name: self.name.duplicate(alloc)?,
+            count: self.count,
+        })
+    }
+}
+
+impl Duplicate for VarDecl {
+    fn duplicate(&self, alloc: Global) -> Result<VarDecl, NoMemory> {
+        Ok(VarDecl {
+            name: self.name.duplicate(alloc)?,
+            first: self.first,
+        })
+    }
+}
+
+impl Duplicate for ObjectDecl {
+    fn duplicate(&self, alloc: Global) -> Result<ObjectDecl, NoMemory> {
+        Ok(ObjectDecl {
+            name: self.name.duplicate(alloc)?,
+            class: self.class,
+        })
+    }
+}
+
+impl Duplicate for Expr {
+    fn duplicate(&self, alloc: Global) -> Result<Expr, NoMemory> {
+        match self {
+            Expr::Num(number) => Ok(Expr::Num(*number)),
+            Expr::Var(variable) => Ok(Expr::Var(*variable)),
+            Expr::Param(parameter) => Ok(Expr::Param(*parameter)),
+            Expr::Sum(left, right) => {
+                let left = left.get().duplicate(alloc)?;
+                let right = right.get().duplicate(alloc)?;
+                Ok(Expr::Sum(Boxed::new(alloc, left)?, Boxed::new(alloc, right)?))
+            }
+            Expr::Diff(left, right) => {
+                let left = left.get().duplicate(alloc)?;
+                let right = right.get().duplicate(alloc)?;
+                Ok(Expr::Diff(Boxed::new(alloc, left)?, Boxed::new(alloc, right)?))
+            }
+            Expr::Prod(left, right) => {
+                let left = left.get().duplicate(alloc)?;
+                let right = right.get().duplicate(alloc)?;
+                Ok(Expr::Prod(Boxed::new(alloc, left)?, Boxed::new(alloc, right)?))
+            }
+        }
+    }
+}
+
+impl Duplicate for Cond {
+    fn duplicate(&self, alloc: Global) -> Result<Cond, NoMemory> {
+        match self {
+            Cond::True => Ok(Cond::True),
+            Cond::False => Ok(Cond::False),
+            Cond::Compare(rel, left, right) => Ok(Cond::Compare(
+                *rel,
+                left.duplicate(alloc)?,
+                right.duplicate(alloc)?,
+            )),
+            Cond::Not(inner) => {
+                let inner = inner.get().duplicate(alloc)?;
+                Ok(Cond::Not(Boxed::new(alloc, inner)?))
+            }
+            Cond::And(left, right) => {
+                let left = left.get().duplicate(alloc)?;
+                let right = right.get().duplicate(alloc)?;
+                Ok(Cond::And(Boxed::new(alloc, left)?, Boxed::new(alloc, right)?))
+            }
+            Cond::Or(left, right) => {
+                let left = left.get().duplicate(alloc)?;
+                let right = right.get().duplicate(alloc)?;
+                Ok(Cond::Or(Boxed::new(alloc, left)?, Boxed::new(alloc, right)?))
+            }
+        }
+    }
+}
+
+impl Duplicate for Stmt {
+    fn duplicate(&self, alloc: Global) -> Result<Stmt, NoMemory> {
+        copy_stmt(self, alloc)
+    }
+}
+
+impl Duplicate for Act {
+    fn duplicate(&self, alloc: Global) -> Result<Act, NoMemory> {
+        Ok(Act {
+            stmts: self.stmts.duplicate(alloc)?,
+        })
+    }
+}
+
+impl Duplicate for Program {
+    fn duplicate(&self, alloc: Global) -> Result<Program, NoMemory> {
+        Ok(Program {
+            acts: self.acts.duplicate(alloc)?,
+            guards: self.guards.duplicate(alloc)?,
+            marks: self.marks.duplicate(alloc)?,
+        })
+    }
+}
+
+impl Duplicate for Class {
+    fn duplicate(&self, alloc: Global) -> Result<Class, NoMemory> {
+        Ok(Class {
+            name: self.name.duplicate(alloc)?,
+            vars: self.vars.duplicate(alloc)?,
+            machine: self.machine.duplicate(alloc)?,
+            program: self.program.duplicate(alloc)?,
+        })
+    }
+}
+
+impl Duplicate for Setting {
+    fn duplicate(&self, alloc: Global) -> Result<Setting, NoMemory> {
+        Ok(Setting {
+            signals: self.signals.duplicate(alloc)?,
+            classes: self.classes.duplicate(alloc)?,
+            objects: self.objects.duplicate(alloc)?,
+        })
+    }
+}
+
+#[cycle(copies)]
+fn copy_stmt(stmt: &Stmt, alloc: Global) -> Result<Stmt, NoMemory>
+    ensures { IfOk result (λ other. other ≡ stmt.now) }
+{
+    match stmt {
+        Stmt::Assign { variable, value } => Ok(Stmt::Assign {
+            variable: *variable,
+            value: value.duplicate(alloc)?,
+        }),
+        Stmt::Choose {
+            condition,
+            body,
+            otherwise: Some(rest),
+        } => {
+            let condition = condition.duplicate(alloc)?;
+            let body = copy_block(body.as_slice(), alloc)?;
+            let rest = copy_block(rest.as_slice(), alloc)?;
+            Ok(Stmt::Choose {
+                condition,
+                body,
+                otherwise: Some(rest),
+            })
+        }
+        Stmt::Choose {
+            condition,
+            body,
+            otherwise: None,
+        } => {
+            let condition = condition.duplicate(alloc)?;
+            let body = copy_block(body.as_slice(), alloc)?;
+            Ok(Stmt::Choose {
+                condition,
+                body,
+                otherwise: None,
+            })
+        }
+        Stmt::Send {
+            object,
+            signal,
+            args,
+        } => Ok(Stmt::Send {
+            object: *object,
+            signal: *signal,
+            args: args.duplicate(alloc)?,
+        }),
+        Stmt::Mark { mark, args } => Ok(Stmt::Mark {
+            mark: *mark,
+            args: args.duplicate(alloc)?,
+        }),
+    }
+}
+
+#[cycle(copies)]
+fn copy_block(stmts: &[Stmt], alloc: Global) -> Result<Row<Stmt>, NoMemory>
+    ensures { IfOk result (λ other. other ≡ stmts.now) }
+{
+    let mut items = Vec::with_capacity(alloc, stmts.len())?;
+    for stmt in stmts {
+        items.push(copy_stmt(stmt, alloc)?)?;
+    }
+    Ok(Row::from_vec(items))
+}

@@ -1,0 +1,97 @@
+//! Each public call once, with ample memory.
+use crate::*;
+use pssm_model::{Boxed, Row, SignalId, VertexId};
+use std::alloc::Global;
+use std::test::Fail;
+
+fn row_of<T: Drop>(alloc: Global, item: T) -> Result<Row<T>, Fail> {
+    let mut items = Vec::new(alloc);
+    items.push(item)?;
+    Ok(Row::from_vec(items))
+}
+
+#[test]
+fn args_keep_their_values(rt: HostRuntime) -> Result<(), Fail> {
+    let args = Args::from_vec([5, -7].to_vec(rt.alloc())?);
+    assert_eq!(rt; args.as_slice(), [5, -7].as_slice());
+    let other = args.copy(rt.alloc())?;
+    assert!(rt; args == other);
+    assert!(rt; args != Args::from_vec([5].to_vec(rt.alloc())?));
+    assert_eq!(rt; other.into_vec().as_slice(), [5, -7].as_slice());
+    Ok(())
+}
+
+#[test]
+fn outputs_and_entries_are_copied_and_compared(rt: HostRuntime) -> Result<(), Fail> {
+    let out = Out::Send {
+        object: ObjectId(1),
+        signal: SignalId(2),
+        args: Args::from_vec([3].to_vec(rt.alloc())?),
+    };
+    assert!(rt; out == out.copy(rt.alloc())?);
+    let entry = Entry::DoStep {
+        object: ObjectId(0),
+        state: VertexId(4),
+        step: 5,
+        outs: row_of(rt.alloc(), out)?,
+    };
+    assert!(rt; entry == entry.copy(rt.alloc())?);
+    assert!(rt;
+        entry
+            != Entry::Start {
+                object: ObjectId(0)
+            }
+    );
+    Ok(())
+}
+
+#[test]
+fn stimuli_are_copied_and_compared(rt: HostRuntime) -> Result<(), Fail> {
+    let stimulus = Stimulus {
+        object: ObjectId(1),
+        signal: SignalId(2),
+        args: Args::from_vec(Vec::new(rt.alloc())),
+    };
+    assert!(rt; stimulus == stimulus.copy(rt.alloc())?);
+    Ok(())
+}
+
+#[test]
+fn behaviours_and_guards_are_copied_and_compared(rt: HostRuntime) -> Result<(), Fail> {
+    let act = Act {
+        stmts: row_of(
+            rt.alloc(),
+            Stmt::Choose {
+                condition: Cond::Not(Boxed::new(rt.alloc(), Cond::True)?),
+                body: row_of(
+                    rt.alloc(),
+                    Stmt::Assign {
+                        variable: 0,
+                        value: Expr::Num(5),
+                    },
+                )?,
+                otherwise: None,
+            },
+        )?,
+    };
+    assert!(rt; act == act.copy(rt.alloc())?);
+    let idle = Act {
+        stmts: Row::from_vec(Vec::new(rt.alloc())),
+    };
+    assert!(rt; act != idle);
+    let guard = Cond::Compare(Rel::Lt, Expr::Var(0), Expr::Param(1));
+    assert!(rt; guard == guard.copy(rt.alloc())?);
+    assert!(rt; guard != Cond::True);
+    Ok(())
+}
+
+#[test]
+fn settings_are_copied_and_compared(rt: HostRuntime) -> Result<(), Fail> {
+    let setting = Setting {
+        signals: Row::from_vec(Vec::new(rt.alloc())),
+        classes: Row::from_vec(Vec::new(rt.alloc())),
+        objects: Row::from_vec(Vec::new(rt.alloc())),
+    };
+    assert!(rt; setting == setting.copy(rt.alloc())?);
+    Ok(())
+}
