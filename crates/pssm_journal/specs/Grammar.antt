@@ -1,0 +1,93 @@
+-- Which lines may stand in a journal, and where a text is none.
+use Rattle.std.specs.Prelude.{◌≡◌, ◌⊎◌, ℕ, ℤ, ◌<◌, ◌≤◌, List, [], ◌∷◌, ◌++◌, length, FitsSigned}
+use Rattle.std.specs.Int.{w64}
+use Rattle.std.specs.List.{AllByRecursion}
+use Rattle.pssm_model.specs.declared.ids.TransId.{TransId}
+use Rattle.pssm_model.specs.declared.steps.Route.{Route}
+use Rattle.pssm_model.specs.declared.steps.Firing.{Firing}
+use Rattle.pssm_model.specs.declared.steps.Mode.TheVariants.{Plain}
+use Rattle.pssm_model.specs.declared.steps.How.{How}
+use Rattle.pssm_model.specs.declared.steps.How.TheVariants.{By, Restore, Nothing}
+use Rattle.pssm_acts.specs.declared.line.Line.{Line}
+use Rattle.pssm_acts.specs.declared.line.Line.TheVariants.{Post, Start, Take, Done, Exit, Effect, Enter, Opened, Pick, DoStep}
+use Rattle.pssm_acts.specs.declared.line.LineOut.{LineOut}
+use Rattle.pssm_acts.specs.declared.line.LineOut.TheVariants.{Mark, Send}
+use Rattle.pssm_acts.specs.Spelling.{IsName}
+use Rattle.pssm_journal.specs.LineText.{line_text, header_line, journal_text}
+
+-- the number of an element or of a do step
+abbrev pub IsIndex : ℕ → Type 0
+IsIndex n = n < 65536
+
+-- at most eight numbers of 64 bits
+abbrev pub AreArgs : List ℤ → Type 0
+AreArgs args = (length args ≤ 8) × AllByRecursion (FitsSigned w64) args
+
+abbrev pub IsSpelledOut : LineOut → Type 0
+IsSpelledOut (Mark mark args) = IsName mark × AreArgs args
+IsSpelledOut (Send object signal args) = IsName object × IsName signal × AreArgs args
+
+-- at most 64 outputs
+abbrev pub AreSpelledOuts : List LineOut → Type 0
+AreSpelledOuts outs = (length outs ≤ 64) × AllByRecursion IsSpelledOut outs
+
+-- A route starts somewhere.
+abbrev pub IsSpelledRoute : Route → Type 0
+IsSpelledRoute route = (0 < length route.starts) × AllByRecursion (λ t. IsIndex t.0) route.starts × AllByRecursion (λ t. IsIndex t.0) route.rest
+
+abbrev pub IsSpelledFiring : Firing → Type 0
+IsSpelledFiring firing = AllByRecursion IsSpelledRoute firing.routes
+
+abbrev pub IsSpelledHow : How → Type 0
+IsSpelledHow (By route) = IsSpelledRoute route
+IsSpelledHow (Restore state) = IsIndex state.0
+IsSpelledHow Nothing = Unit {0}
+
+-- Its names are names, and its numbers, lists and outputs are within the limits of a line (this profile's choice).
+abbrev pub IsSpelled : Line → Type 0
+IsSpelled (Post object signal args) = IsName object × IsName signal × AreArgs args
+IsSpelled (Start object) = IsName object
+IsSpelled (Take object number firing) = IsName object × (0 < number) × (number < 4294967296) × IsSpelledFiring firing
+IsSpelled (Done object state firing) = IsName object × IsIndex state.0 × IsSpelledFiring firing
+IsSpelled (Exit object state outs) = IsName object × IsIndex state.0 × AreSpelledOuts outs
+IsSpelled (Effect object transition outs) = IsName object × IsIndex transition.0 × AreSpelledOuts outs
+IsSpelled (Enter object state outs) = IsName object × IsIndex state.0 × AreSpelledOuts outs
+IsSpelled (Opened object region mode how) = IsName object × IsIndex region.0 × IsSpelledHow how
+IsSpelled (Pick object choice route) = IsName object × IsIndex choice.0 × IsSpelledRoute route
+IsSpelled (DoStep object state step outs) = IsName object × IsIndex state.0 × IsIndex step × AreSpelledOuts outs
+
+-- the route of one transition
+abbrev pub one_route : TransId → Route
+one_route t = record { starts = t ∷ []; rest = [] }
+
+-- Nothing fires, or one transition does.
+abbrev pub IsPlainFiring : Firing → Type 0
+IsPlainFiring firing = (firing.routes ≡ []) ⊎ ((t : TransId) × (firing.routes ≡ one_route t ∷ []))
+
+-- the lines that are read so far: no arguments, no outputs, routes of one transition
+abbrev pub IsPlainLine : Line → Type 0
+IsPlainLine (Post object signal args) = args ≡ []
+IsPlainLine (Start object) = Unit {0}
+IsPlainLine (Take object number firing) = IsPlainFiring firing
+IsPlainLine (Exit object state outs) = outs ≡ []
+IsPlainLine (Effect object transition outs) = outs ≡ []
+IsPlainLine (Enter object state outs) = outs ≡ []
+IsPlainLine (Opened object region mode how) = (mode ≡ Plain) × ((t : TransId) × (how ≡ By (one_route t)))
+IsPlainLine _ = ⊥
+
+-- a line of the grammar (this profile's choice)
+abbrev pub IsLine : Line → Type 0
+IsLine l = IsPlainLine l × IsSpelled l
+
+-- No line of the grammar stands at the front.
+abbrev pub BeginsNoLine : List ℕ → Type 0
+BeginsNoLine rest = (l : Line) (more : List ℕ) → IsLine l → rest ≡ line_text l ++ 10 ∷ more → ⊥
+
+-- Another text than the first line stands at the front.
+abbrev pub LacksHeader : List ℕ → Type 0
+LacksHeader bytes = (more : List ℕ) → bytes ≡ header_line ++ more → ⊥
+
+-- The bytes are no text of a journal: the first line is missing, or after these lines comes what is no line.
+pub data IsBadText (bytes : List ℕ) (lines : List Line) : Type 0 where
+  no_header : lines ≡ [] → LacksHeader bytes → IsBadText bytes lines
+  no_line : (rest : List ℕ) → bytes ≡ journal_text lines ++ rest → (rest ≡ [] → ⊥) → AllByRecursion IsLine lines → BeginsNoLine rest → IsBadText bytes lines

@@ -1,0 +1,64 @@
+-- What is to be said of the bytes of a journal.
+use Rattle.std.specs.Prelude.{◌≡◌, ℕ, ◌+◌, List, [], ◌∷◌, ◌++◌, length}
+use Rattle.std.specs.List.{AllByRecursion}
+use Rattle.pssm_acts.specs.declared.entry.Entry.{Entry}
+use Rattle.pssm_acts.specs.declared.entry.Rule.{Rule}
+use Rattle.pssm_acts.specs.declared.entry.Rule.TheVariants.{A1}
+use Rattle.pssm_acts.specs.declared.line.Line.{Line}
+use Rattle.pssm_acts.specs.declared.setting.Setting.{Setting}
+use Rattle.pssm_acts.specs.Rules.{Holds}
+use Rattle.pssm_acts.specs.Runs.{IsAdmissibleIn}
+use Rattle.pssm_acts.specs.Verdict.{IsFirstBroken}
+use Rattle.pssm_journal.specs.LineText.{journal_text}
+use Rattle.pssm_journal.specs.Grammar.{IsLine, IsBadText}
+use Rattle.pssm_journal.specs.Entries.{IsEntryOf, BreaksNames, AreEntries}
+
+-- accepted with the number of its entries, refused at an entry, from 1, by a rule, or no text of a journal
+pub data Judged : Type 0 where
+  Accepted : ℕ → Judged
+  Refused : ℕ → Rule → Judged
+  BadText : Judged
+
+-- Lines of the grammar write entries that break no rule.
+pub record IsKept (setting : Setting) (lines : List Line) (J : List Entry) : Type 0 where
+  pub lines_are : AllByRecursion IsLine lines
+  pub entries_are : AreEntries setting lines J
+  pub admissible : IsAdmissibleIn setting J
+
+-- The line's entry breaks this rule first; a line whose names are not the setting's breaks the first rule.
+pub data BreaksRule (setting : Setting) (J : List Entry) (line : Line) (rule : Rule) : Type 0 where
+  by_entry : (e : Entry) → IsEntryOf setting line e → IsFirstBroken (Holds setting) J e rule → BreaksRule setting J line rule
+  by_names : BreaksNames setting line → rule ≡ A1 → BreaksRule setting J line rule
+
+-- The bytes are the text of a journal that breaks no rule.
+pub record IsAccepted (setting : Setting) (bytes : List ℕ) (entries : ℕ) : Type 0 where
+  pub lines : List Line
+  pub journal : List Entry
+  pub text : bytes ≡ journal_text lines
+  pub kept : IsKept setting lines journal
+  pub entries_are : entries ≡ length journal
+
+-- The bytes begin with a journal whose last entry, and no earlier one, breaks a rule, this one first.
+pub record IsRefusedText (setting : Setting) (bytes : List ℕ) (position : ℕ) (rule : Rule) : Type 0 where
+  pub lines : List Line
+  pub journal : List Entry
+  pub line : Line
+  pub rest : List ℕ
+  pub text : bytes ≡ journal_text (lines ++ line ∷ []) ++ rest
+  pub kept : IsKept setting lines journal
+  pub is_line : IsLine line
+  pub breaks : BreaksRule setting journal line rule
+  pub position_is : position ≡ length journal + 1
+
+-- The bytes are no text of a journal, and no entry before that breaks a rule.
+pub record IsBadJournal (setting : Setting) (bytes : List ℕ) : Type 0 where
+  pub lines : List Line
+  pub journal : List Entry
+  pub bad : IsBadText bytes lines
+  pub kept : IsKept setting lines journal
+
+-- what is to be said of the bytes
+abbrev pub IsJudged : Setting → List ℕ → Judged → Type 0
+IsJudged setting bytes (Accepted entries) = IsAccepted setting bytes entries
+IsJudged setting bytes (Refused position rule) = IsRefusedText setting bytes position rule
+IsJudged setting bytes BadText = IsBadJournal setting bytes

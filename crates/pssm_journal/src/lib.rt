@@ -1,0 +1,26 @@
+//! The text of a journal, and the entries that its lines write.
+//!
+//! A journal is the line `pssm-journal 1` and then one line for each entry, each ended by a line feed (this
+//! profile's choice). The grammar of lines, the one spelling of each line, what makes bytes no text of a journal, and
+//! what is to be said of the bytes under a setting stand in this crate's `specs/`. A [`LineReader`] takes the bytes in
+//! whatever pieces they come and gives the lines, and [`entry_of`] gives the entry of a line. This crate knows nothing
+//! of whether an entry may follow: that is for the crates above.
+#![tactic(auto)]
+
+mod batch;
+mod entry;
+mod fault;
+mod judged;
+mod known;
+mod line;
+mod names;
+mod parts;
+mod reader;
+#[cfg(test)]
+mod tests;
+
+pub use entry::entry_of;
+pub use fault::LineFault;
+pub use judged::one_judgement;
+pub use pssm_acts::{Entry, Line, LineOut, Out, Rule};
+pub use reader::{Fed, LineReader};
