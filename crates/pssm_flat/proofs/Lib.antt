@@ -1,0 +1,9 @@
+pub mod Bind
+pub mod LabelLaws
+pub mod LineLaws
+pub mod Items
+pub mod SignalLaws
+pub mod TransitionLaws
+pub mod VertexLaws
+pub mod MachineLaws
+pub mod WholeLaws
