@@ -1,0 +1,165 @@
+-- What a system keeps true, as its calls need it.
+use Rattle.std.proofs.Common.{◌≡◌, ◌+◌, ℕ, true, false, if◌then◌else◌, IsTrue, MatchOption, MatchBool, append-nil, ◌<◌, ◌≤◌, arith, get_or, All, ◌++◌, List, [], ◌∷◌, Bool, Vec, Global, Option, Some, None, length, sym, ap, subst, ◌∙◌}
+use Rattle.std.specs.Option.{option_to_list}
+use Rattle.std.proofs.lemmas.Bool.{false≢true}
+use Rattle.pssm_model.specs.declared.ids.SignalId.{SignalId}
+use Rattle.pssm_model.specs.declared.elements.DraftMachine.{DraftMachine}
+use Rattle.pssm_model.specs.declared.ids.TransId.{TransId}
+use Rattle.pssm_model.specs.declared.steps.Route.{Route}
+use Rattle.pssm_model.specs.declared.steps.Firing.{Firing}
+use Rattle.pssm_model.specs.OneRegion.{single_route}
+use Rattle.pssm_model.specs.BuiltMachine.{IsBuiltMachine}
+use Rattle.pssm_acts.specs.declared.entry.Entry.{Entry}
+use Rattle.pssm_acts.specs.declared.entry.Entry.TheVariants.{Post, Start, Take, Done, Exit, Effect, Enter, Opened, Pick, DoStep}
+use Rattle.pssm_acts.specs.declared.entry.Rule.{Rule}
+use Rattle.pssm_acts.specs.declared.entry.Rule.TheVariants.{A1}
+use Rattle.pssm_acts.specs.declared.setting.Class.{Class}
+use Rattle.pssm_acts.specs.declared.setting.Setting.{Setting}
+use Rattle.pssm_acts.specs.Known.{IsFiringOf, IsRouteOf}
+use Rattle.pssm_acts.specs.Rules.{Holds}
+use Rattle.pssm_acts.specs.Verdict.{IsFirstBroken}
+use Rattle.pssm_acts.specs.Runs.{MayFollow, IsAdmissibleIn}
+use Rattle.pssm_acts.specs.Built.{IsBuilt}
+use Rattle.pssm_acts.proofs.Appending.{admissible_push, admissible_none}
+use Rattle.pssm_system.specs.declared.progress.Progress.TheVariants.{Unstarted}
+use Rattle.pssm_system.specs.declared.judging.Standing.{Standing}
+use Rattle.pssm_system.specs.History.{History}
+use Rattle.pssm_system.specs.Judging.{NamesTransitions, Judges}
+use Rattle.pssm_system.specs.Reactions.{AreReactions}
+use Rattle.pssm_system.specs.Keeping.{KeepsRun}
+use Rattle.pssm_system.specs.Standing.{StandsAt}
+use Rattle.pssm_system.specs.Advancing.{Advances, signals_after, taken_after}
+use Rattle.pssm_system.proofs.Kept.{class_is}
+use Rattle.pssm_system.proofs.Judged.{IsJudged, judged}
+use Rattle.pssm_system.proofs.Advancing.{at_the_start}
+use Rattle.pssm_system.proofs.Following.{following, next_waits}
+
+-- the transitions that a take names are those of the machine
+named : {setting : Setting} (b : IsBuilt setting) (J : List Entry) (e : Entry) → Holds setting A1 J e → NamesTransitions b.class.machine e
+named b J (Take o number firing) (class, is, known) = subst (λ (k : Class). IsFiringOf k.machine firing) (class_is b o class is).1 known
+named b J (Post o signal args) h = tt
+named b J (Start o) h = tt
+named b J (Done o state firing) h = tt
+named b J (Exit o state outs) h = tt
+named b J (Effect o transition outs) h = tt
+named b J (Enter o state outs) h = tt
+named b J (Opened o region mode how) h = tt
+named b J (Pick o choice route) h = tt
+named b J (DoStep o state step outs) h = tt
+
+module _ (h : History) (standing : Standing) (rows : List (Vec Bool Global)) (setting : Setting) (J : List Entry) (k : KeepsRun setting J standing rows)
+    (m : DraftMachine) (machine_is : m ≡ k.built.class.machine)
+    (view_is : let seen : History = record { setting = setting; journal = J } in seen ≡ h) (e : Entry) where
+  names_seen : Holds h.setting A1 h.journal e → Holds setting A1 J e
+  names_seen names = subst (λ (v : History). Holds v.setting A1 v.journal e) (sym view_is) names
+
+  pub names_known : Holds h.setting A1 h.journal e → NamesTransitions m e
+  names_known names = subst (λ n. NamesTransitions n e) (sym machine_is) (named k.built J e (names_seen names))
+
+  pub table_known : AreReactions m rows
+  table_known = subst (λ n. AreReactions n rows) (sym machine_is) k.reactions
+
+  verdict_seen : Holds h.setting A1 h.journal e → (answer : Option Rule) → Judges m standing.progress standing.signals.items standing.taken e answer
+      → IsJudged h.setting h.journal e answer
+  verdict_seen names answer judges =
+      subst (λ (v : History). IsJudged v.setting v.journal e answer) view_is
+      (judged k.built J e standing.progress standing.signals.items standing.taken k.stands (names_seen names) answer
+      (subst (λ n. Judges n standing.progress standing.signals.items standing.taken e answer) machine_is judges))
+
+  pub keeps_all : Holds h.setting A1 h.journal e → (answer : Option Rule) → Judges m standing.progress standing.signals.items standing.taken e answer
+      → answer ≡ None → MayFollow h.setting h.journal e
+  keeps_all names answer judges none = subst (IsJudged h.setting h.journal e) none (verdict_seen names answer judges)
+
+  pub breaks_first : Holds h.setting A1 h.journal e → (answer : Option Rule) → Judges m standing.progress standing.signals.items standing.taken e answer
+      → (rule : Rule) → answer ≡ Some rule → IsFirstBroken (Holds h.setting) h.journal e rule
+  breaks_first names answer judges rule some = subst (IsJudged h.setting h.journal e) some (verdict_seen names answer judges)
+
+  -- what is kept once an entry that may follow is appended
+  pub keeps_longer : MayFollow h.setting h.journal e → (next : Standing) → Advances m standing.progress e next.progress
+      → next.signals.items ≡ signals_after standing.signals.items e → next.taken ≡ taken_after standing.taken e
+      → KeepsRun setting (J ++ e ∷ []) next rows
+  keeps_longer may next advances signals taken =
+      let follows : MayFollow setting J e = subst (λ (v : History). MayFollow v.setting v.journal e) (sym view_is) may in
+      record {
+        built = k.built;
+        admissible = admissible_push setting J e k.admissible follows;
+        stands = subst (λ n. StandsAt k.built.class.machine (J ++ e ∷ []) next.progress next.signals.items n) (sym taken)
+            (subst (λ gs. StandsAt k.built.class.machine (J ++ e ∷ []) next.progress gs (taken_after standing.taken e)) (sym signals)
+            (following k.built J standing.progress standing.signals.items standing.taken k.stands e follows next.progress
+            (subst (λ n. Advances n standing.progress e next.progress) machine_is advances)));
+        reactions = k.reactions;
+      }
+
+  -- the longer journal is that of an admissible run
+  pub admissible_longer : MayFollow h.setting h.journal e → IsAdmissibleIn setting (J ++ e ∷ [])
+  admissible_longer may =
+      admissible_push setting J e k.admissible (subst (λ (v : History). MayFollow v.setting v.journal e) (sym view_is) may)
+
+  -- the machine is one of those that the code runs
+  pub machine_built : IsBuiltMachine m
+  machine_built = subst IsBuiltMachine (sym machine_is) k.built.class_is.machine
+
+  -- a signal waits for an entry that takes one
+  pub signal_waits : MayFollow h.setting h.journal e → ((n : ℕ) → taken_after n e ≡ n + 1) → standing.taken < length standing.signals.items
+  signal_waits may takes =
+      next_waits k.built J standing.progress standing.signals.items standing.taken k.stands e
+      (subst (λ (v : History). MayFollow v.setting v.journal e) (sym view_is) may) takes
+
+-- where nothing has changed, the same is kept
+pub keeps_same : (setting : Setting) (J K : List Entry) (standing next : Standing) (rows : List (Vec Bool Global)) → KeepsRun setting J standing rows → K ≡ J
+    → next.progress ≡ standing.progress → next.signals.items ≡ standing.signals.items → next.taken ≡ standing.taken → KeepsRun setting K next rows
+keeps_same setting J K standing next rows k entries progress signals taken =
+    let there : KeepsRun setting J next rows = record {
+      built = k.built;
+      admissible = k.admissible;
+      stands = subst (λ p. StandsAt k.built.class.machine J p next.signals.items next.taken) (sym progress)
+          (subst (λ gs. StandsAt k.built.class.machine J standing.progress gs next.taken) (sym signals)
+          (subst (StandsAt k.built.class.machine J standing.progress standing.signals.items) (sym taken) k.stands));
+      reactions = k.reactions;
+    } in
+    subst (λ js. KeepsRun setting js next rows) (sym entries) there
+
+-- the signals with the one that was posted, if one was
+pub signals_match : (posted : Option SignalId) (signals : List SignalId) (e : Entry)
+    → MatchOption posted ((gs : List SignalId) → signals_after gs e ≡ gs) (λ g. (gs : List SignalId) → signals_after gs e ≡ gs ++ g ∷ [])
+    → signals ++ option_to_list posted ≡ signals_after signals e
+signals_match None signals e h = append-nil signals ∙ sym (h signals)
+signals_match (Some g) signals e h = sym (h signals)
+
+-- how many have been taken, with the one that is
+pub taken_match : (takes : Bool) (taken : ℕ) (e : Entry) → MatchBool takes ((n : ℕ) → taken_after n e ≡ n + 1) ((n : ℕ) → taken_after n e ≡ n)
+    → (if takes then taken + 1 else taken) ≡ taken_after taken e
+taken_match true taken e h = sym (h taken)
+taken_match false taken e h = sym (h taken)
+
+pub takes_one : (takes : Bool) (e : Entry) → MatchBool takes ((n : ℕ) → taken_after n e ≡ n + 1) ((n : ℕ) → taken_after n e ≡ n) → IsTrue takes
+    → (n : ℕ) → taken_after n e ≡ n + 1
+takes_one true e h is = h
+takes_one false e h is = absurd (false≢true is)
+
+-- a system that has just been made
+pub keeps_new : (setting : Setting) (b : IsBuilt setting) (J : List Entry) (standing : Standing) (rows : List (Vec Bool Global)) (m : DraftMachine) → m ≡ b.class.machine
+    → J ≡ [] → standing.progress ≡ Unstarted → standing.signals.items ≡ [] → standing.taken ≡ 0 → AreReactions m rows → KeepsRun setting J standing rows
+keeps_new setting b J standing rows m machine_is empty unstarted no_signals none_taken table = record {
+  built = b;
+  admissible = subst (λ js. IsAdmissibleIn setting js) (sym empty) (admissible_none setting);
+  stands = subst (λ js. StandsAt b.class.machine js standing.progress standing.signals.items standing.taken) (sym empty)
+      (subst (λ p. StandsAt b.class.machine [] p standing.signals.items standing.taken) (sym unstarted)
+      (subst (λ gs. StandsAt b.class.machine [] Unstarted gs standing.taken) (sym no_signals)
+      (subst (StandsAt b.class.machine [] Unstarted []) (sym none_taken) (at_the_start b.class_is.machine))));
+  reactions = subst (λ n. AreReactions n rows) machine_is table;
+}
+
+-- a list of one element is that element
+pub one_only : {X : Type 0} (xs : List X) (x : X) → 1 ≤ length xs → length xs < 2 → x ≡ get_or xs 0 x → xs ≡ x ∷ []
+one_only [] x some few is = absurd (omega arith)
+one_only (y ∷ []) x some few is = ap (λ z. z ∷ []) (sym is)
+one_only (y ∷ z ∷ zs) x some few is = absurd (omega arith)
+
+-- the one transition of the one route of a firing
+pub fired_is_known : (m : DraftMachine) (firing : Firing) (route : Route) (t : TransId) → IsFiringOf m firing → firing.routes ≡ route ∷ [] → route ≡ single_route t
+    → t.0 < length m.transitions
+fired_is_known m firing route t known one single =
+    let routes : All (IsRouteOf m) (route ∷ []) = subst (All (IsRouteOf m)) one known in
+    let transitions : IsRouteOf m (single_route t) = subst (IsRouteOf m) single (routes 0 route (omega arith)) in
+    transitions 0 t (omega arith)

@@ -1,0 +1,11 @@
+pub mod Steps
+pub mod Moves
+pub mod Signals
+pub mod Kept
+pub mod Rules
+pub mod Judged
+pub mod Advancing
+pub mod Following
+pub mod Marks
+pub mod Histories
+pub mod Samples

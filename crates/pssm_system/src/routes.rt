@@ -1,0 +1,18 @@
+//! Routes of one transition, which are all that a machine of one region has.
+ghost use Rattle.std.specs.Prelude.{◌≡◌, MatchOption};
+ghost use Rattle.pssm_model.specs.OneRegion.{single_route};
+
+use pssm_model::{Route, TransId};
+
+/// The transition out of the initial vertex.
+pub const FIRST_TRANSITION: TransId = TransId(0);
+
+/// The transition of a route that is no more than one.
+pub fn single_start(route: &Route) -> Option<TransId>
+    ensures { MatchOption result ((t : TransId) → route.now ≡ single_route t → ⊥) (λ t. route.now ≡ single_route t) }
+{
+    match (route.starts.as_slice(), route.rest.as_slice()) {
+        ([start], []) => Some(*start),
+        _ => None,
+    }
+}
