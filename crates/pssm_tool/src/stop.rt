@@ -1,0 +1,34 @@
+//! Why the work on the words ended before a verdict, and why no answer is given.
+ghost use Rattle.std.specs.Prelude.{◌≡◌};
+ghost use Rattle.pssm_tool.specs.declared.stop.Stop.TheVariants.{NoMemory as Memory};
+
+use crate::answer::Answer;
+use std::alloc::AllocError;
+
+/// An answer that came early, or none at all.
+#[derive(Clone, Copy, PartialEq, Eq, Debug)]
+pub enum Stop {
+    /// The answer is this one.
+    Answered(Answer),
+    /// A file could not be read: the count of its path's faults rose.
+    ReadFault,
+    /// There was not enough memory.
+    NoMemory,
+}
+
+impl From<AllocError> for Stop {
+    ghost from_gives = { λ _ e. e ≡ Memory };
+
+    fn from(_: AllocError) -> Stop {
+        Stop::NoMemory
+    }
+}
+
+/// Why no answer is given. Nothing is written.
+#[derive(Clone, Copy, PartialEq, Eq, Debug)]
+pub enum Failure {
+    /// A file could not be read: the count of its path's faults rose.
+    ReadFault,
+    /// There was not enough memory.
+    NoMemory,
+}
