@@ -1,10 +1,18 @@
--- The settings that the code runs so far: one class with a machine of one region, one object, and signals without arguments.
+-- The settings that the code runs so far: one class with a machine of one region, one object, and signals without arguments;
+-- and the entries of their runs.
 -- Later work widens this premise; no definition changes with it.
-use Rattle.std.specs.Prelude.{◌≡◌, ◌≢◌, ◌<◌, ◌≤◌, ℕ, List, [], ◌∷◌, length, AllPairs}
+use Rattle.std.specs.Prelude.{◌≡◌, ◌≢◌, ◌⊎◌, ◌<◌, ◌≤◌, ℕ, List, [], ◌∷◌, length, AllPairs}
 use Rattle.std.specs.List.{AllByRecursion}
 use Rattle.pssm_model.specs.declared.ids.SignalId.{SignalId}
+use Rattle.pssm_model.specs.declared.ids.TransId.{TransId}
 use Rattle.pssm_model.specs.declared.elements.Transition.{Transition}
+use Rattle.pssm_model.specs.declared.steps.Firing.{Firing}
+use Rattle.pssm_model.specs.declared.steps.Mode.TheVariants.{Plain}
+use Rattle.pssm_model.specs.declared.steps.How.TheVariants.{By}
 use Rattle.pssm_model.specs.BuiltMachine.{IsBuiltMachine}
+use Rattle.pssm_model.specs.OneRegion.{single_route}
+use Rattle.pssm_acts.specs.declared.entry.Entry.{Entry}
+use Rattle.pssm_acts.specs.declared.entry.Entry.TheVariants.{Post, Start, Take, Exit, Effect, Enter, Opened}
 use Rattle.pssm_acts.specs.declared.setting.SignalDecl.{SignalDecl}
 use Rattle.pssm_acts.specs.declared.setting.ObjectDecl.{ObjectDecl}
 use Rattle.pssm_acts.specs.declared.setting.Class.{Class}
@@ -46,3 +54,18 @@ pub record IsBuilt (setting : Setting) : Type 0 where
   pub object_name : IsName object.name
   pub object_class : object.class ≡ 0
   pub triggers : AllByRecursion (ListsSignals (length setting.signals)) class.machine.transitions
+
+-- Nothing fires, or one transition does.
+abbrev pub IsPlainFiring : Firing → Type 0
+IsPlainFiring firing = (firing.routes ≡ []) ⊎ ((t : TransId) × (firing.routes ≡ single_route t ∷ []))
+
+-- the entries of a run of such a setting: no arguments, no outputs, routes of one transition
+abbrev pub IsPlainEntry : Entry → Type 0
+IsPlainEntry (Post o signal args) = args ≡ []
+IsPlainEntry (Start o) = Unit {0}
+IsPlainEntry (Take o number firing) = (0 < number) × IsPlainFiring firing
+IsPlainEntry (Exit o state outs) = outs ≡ []
+IsPlainEntry (Effect o transition outs) = outs ≡ []
+IsPlainEntry (Enter o state outs) = outs ≡ []
+IsPlainEntry (Opened o region mode how) = (mode ≡ Plain) × ((t : TransId) × (how ≡ By (single_route t)))
+IsPlainEntry _ = ⊥

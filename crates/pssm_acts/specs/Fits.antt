@@ -10,7 +10,7 @@ use Rattle.pssm_acts.specs.declared.tree.Cond.TheVariants.{True, False, Compare,
 use Rattle.pssm_acts.specs.declared.tree.Stmt.{Stmt, Assign, Choose', Send, Mark, Row_of-Stmt, end_of-Stmt, more_of-Stmt, Held-Stmt-Choose-2, None', Some'}
 
 -- what the trees of a class may name: so many variables and marks, and these sends (this profile's choice)
-pub record Scope : Type 1 where
+pub record Vocabulary : Type 1 where
   pub vars : ℕ
   pub marks : ℕ
   pub Sends : Option ObjectId → SignalId → ℕ → Type 0
@@ -35,19 +35,19 @@ CondFits vars (Or' p (more_of-Cond c end_of-Cond) q (more_of-Cond d end_of-Cond)
 
 -- The numbers in a statement and its blocks are in range (this profile's choice).
 abbrev mutual
-  pub StmtFits : Scope → Stmt → Type 0
-  StmtFits scope (Assign x e) = (x < scope.vars) × ExprFits scope.vars e
-  StmtFits scope (Choose' c shape body otherwise) = CondFits scope.vars c × BlockFits scope body × OtherwiseFits scope otherwise
-  StmtFits scope (Send to signal args) = scope.Sends to signal (length args) × All (ExprFits scope.vars) args
-  StmtFits scope (Mark mark args) = (mark.0 < scope.marks) × (length args ≤ 8) × All (ExprFits scope.vars) args
+  pub StmtFits : Vocabulary → Stmt → Type 0
+  StmtFits vocabulary (Assign x e) = (x < vocabulary.vars) × ExprFits vocabulary.vars e
+  StmtFits vocabulary (Choose' c shape body otherwise) = CondFits vocabulary.vars c × BlockFits vocabulary body × OtherwiseFits vocabulary otherwise
+  StmtFits vocabulary (Send to signal args) = vocabulary.Sends to signal (length args) × All (ExprFits vocabulary.vars) args
+  StmtFits vocabulary (Mark mark args) = (mark.0 < vocabulary.marks) × (length args ≤ 8) × All (ExprFits vocabulary.vars) args
 
-  pub BlockFits : {n : _} → Scope → Row_of-Stmt n → Type 0
-  BlockFits scope end_of-Stmt = Unit {0}
-  BlockFits scope (more_of-Stmt stmt rest) = StmtFits scope stmt × BlockFits scope rest
+  pub BlockFits : {n : _} → Vocabulary → Row_of-Stmt n → Type 0
+  BlockFits vocabulary end_of-Stmt = Unit {0}
+  BlockFits vocabulary (more_of-Stmt stmt rest) = StmtFits vocabulary stmt × BlockFits vocabulary rest
 
-  pub OtherwiseFits : Scope → Held-Stmt-Choose-2 → Type 0
-  OtherwiseFits scope None' = Unit {0}
-  OtherwiseFits scope (Some' shape block) = BlockFits scope block
+  pub OtherwiseFits : Vocabulary → Held-Stmt-Choose-2 → Type 0
+  OtherwiseFits vocabulary None' = Unit {0}
+  OtherwiseFits vocabulary (Some' shape block) = BlockFits vocabulary block
 
 -- how many statements a statement is, those in its blocks counted (this profile's choice)
 abbrev mutual
@@ -71,5 +71,5 @@ stmts_count [] = 0
 stmts_count (stmt ∷ rest) = stmt_count stmt + stmts_count rest
 
 -- a behaviour whose numbers are in range and that has at most 64 statements (this profile's choice)
-abbrev pub ActFits : Scope → Act → Type 0
-ActFits scope act = All (StmtFits scope) act.stmts × (stmts_count act.stmts ≤ 64)
+abbrev pub ActFits : Vocabulary → Act → Type 0
+ActFits vocabulary act = All (StmtFits vocabulary) act.stmts × (stmts_count act.stmts ≤ 64)

@@ -87,6 +87,10 @@ LegOpens m route t _ = ⊥
 abbrev pub RunsInLeg : DraftMachine → ObjectId → StepAt → Leg → Item → Type 0
 RunsInLeg m o step leg item = LegRuns m (CanExit o step leg.route) leg.route leg.first item
 
+-- The item is one of the leg: an exit, an effect or an entry of it, or what it calls at its end (UML 2.5.1 14.2.3.9, transition execution sequence).
+abbrev pub IsItemOfLeg : DraftMachine → ObjectId → StepAt → Leg → Item → Type 0
+IsItemOfLeg m o step leg item = RunsInLeg m o step leg item ⊎ LegEnds m leg.route leg.first item ⊎ LegOpens m leg.route leg.first item
+
 -- The opening restores the State (UML 2.5.1 14.2.3.4, State history).
 abbrev pub Restores : Entry → ObjectId → RegionId → Mode → VertexId → Type 0
 Restores (Opened object region way (Restore state)) o r mode s = (object ≡ o) × (region ≡ r) × (way ≡ mode) × (state ≡ s)
@@ -159,7 +163,7 @@ pub data Before (m : DraftMachine) (o : ObjectId) (step : StepAt) : Item → Ite
   effect_end : {x y : Item} (leg : Leg) → IsLeg o step leg → IsEffect x → RunsInLeg m o step leg x → (LegEnds m leg.route leg.first y ⊎ LegOpens m leg.route leg.first y) → Before m o step x y
   enter_end : {x y : Item} (leg : Leg) → IsLeg o step leg → IsEnter x → RunsInLeg m o step leg x → LegEnds m leg.route leg.first y → Before m o step x y
   later : {x y : Item} (leg : Leg) (next : TransId) → IsLeg o step leg → LaterLeg m leg.route leg.first next → RunsInLeg m o step leg x
-      → (RunsInLeg m o step (record leg { first = next }) y ⊎ LegEnds m leg.route next y ⊎ LegOpens m leg.route next y) → Before m o step x y
+      → IsItemOfLeg m o step (record leg { first = next }) y → Before m o step x y
 
 -- an item that is called and has not run, where every called item that comes before it has (UML 2.5.1 14.2.3.9, transition execution sequence)
 pub record IsReady (m : DraftMachine) (o : ObjectId) (step : StepAt) (item : Item) : Type 0 where

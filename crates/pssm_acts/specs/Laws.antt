@@ -36,9 +36,9 @@ abbrev pub needs_at_most : Setting → List ObjectId → ℕ
 needs_at_most setting objects = sum_by (λ o. option_map_or (λ c. entries_at_most c.machine) (class_of setting o) 0) objects
 
 -- The journal can be continued to a complete run by at most so many entries (UML 2.5.1 14.2.3.9, run to completion).
-pub record Completes (setting : Setting) (J : List Entry) (unfinished : List ObjectId) : Type 0 where
+pub record CompletesWithin (setting : Setting) (J : List Entry) (most : ℕ) : Type 0 where
   pub more : List Entry
-  pub few : length more ≤ needs_at_most setting unfinished
+  pub few : length more ≤ most
   pub run : IsCompleteRun setting (J ++ more)
 
 -- Every admissible journal of a well-formed setting can be completed, by no more entries than its open steps need at most
@@ -46,7 +46,7 @@ pub record Completes (setting : Setting) (J : List Entry) (unfinished : List Obj
 abbrev pub CompletionLaw : Setting → Type 0
 CompletionLaw setting =
     (J : List Entry) → IsWellFormed setting → IsAdmissibleIn setting J
-    → (unfinished : List ObjectId) × AreOpen setting J unfinished × Completes setting J unfinished
+    → (unfinished : List ObjectId) × AreOpen setting J unfinished × CompletesWithin setting J (needs_at_most setting unfinished)
 
 -- The entry begins a step of the object other than its first (UML 2.5.1 14.2.3.9, run to completion).
 abbrev pub BeginsStep : Entry → ObjectId → Type 0

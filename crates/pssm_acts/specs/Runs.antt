@@ -1,5 +1,5 @@
 -- Journals of a setting: admissible, complete, quiet, full, and fitting stimuli.
-use Rattle.std.specs.Prelude.{◌≡◌, ◌⊎◌, ◌<◌, ◌++◌, ℕ, List, length, Some}
+use Rattle.std.specs.Prelude.{◌≡◌, ◌⊎◌, ◌≤◌, ◌<◌, ◌++◌, ℕ, List, length, Some}
 use Rattle.pssm_model.specs.declared.elements.DraftMachine.{DraftMachine}
 use Rattle.pssm_model.specs.declared.steps.Item.{Item}
 use Rattle.pssm_model.specs.declared.steps.Item.TheVariants as items
@@ -55,6 +55,11 @@ IsVerdict setting J (Refused position rule) = IsRefused (Holds setting) J positi
 -- No entry other than a post may follow (UML 2.5.1 14.2.3.9, a StateMachine waits for the next event).
 abbrev pub IsQuiet : Setting → List Entry → Type 0
 IsQuiet setting J = (e : Entry) → (IsPost e → ⊥) → MayFollow setting J e → ⊥
+
+-- at most 1,000,000 entries, and at most 2,000,000 posts, sends and marks (this profile's choice)
+pub record KeepsJournalLimits (J : List Entry) : Type 0 where
+  pub entries : length J ≤ 1000000
+  pub outputs : output_count J ≤ 2000000
 
 -- as many entries as the limit allows, or no room for the outputs of one more (this profile's choice)
 abbrev pub IsFull : ℕ → List Entry → Type 0

@@ -2,7 +2,7 @@
 //!
 //! The definitions that speak of entries stand in this crate's `specs/`: what a behaviour is worth, what a journal
 //! says of an object, the items of a step and their order, the rules of a run and the verdict on a journal.
-//! This crate knows nothing of texts: how a model or a journal is spelled is for the crates above.
+//! Of texts this crate knows how a name and a number are spelled; how a model or a journal is spelled is for the crates above.
 #![tactic(auto)]
 
 mod args;

@@ -1,13 +1,13 @@
 -- Labels: what is read as one is one, and each one is read again.
-use Rattle.std.proofs.Common.{◌≡◌, ℕ, suc, ◌+◌, ◌<◌, Bool, true, false, cond, eqb, ltb, ◌&&◌, List, [], ◌∷◌, ◌++◌, length, take, drop, Some, None, refl, sym, ap, subst, ◌∙◌, arith}
+use Rattle.std.proofs.Common.{◌≡◌, ℕ, ◌+◌, ◌<◌, Bool, true, false, cond, eqb, ltb, ◌&&◌, List, [], ◌∷◌, ◌++◌, length, take, drop, Some, None, refl, sym, ap, subst, ◌∙◌, arith}
 use Rattle.std.specs.List.{prefix_len, list_all}
 use Rattle.std.specs.Str.{IsUtf8, is_utf8}
-use Rattle.std.proofs.lemmas.Bool.{and_parts, cond-true, cond-false, eqb-true, ltb-true, lt-ltb}
+use Rattle.std.proofs.lemmas.Bool.{and_parts, eqb-true, ltb-true, lt-ltb}
 use Rattle.std.proofs.lemmas.List.{take_at, drop_at, take-append-drop, length-take-le}
 use Rattle.std.proofs.lemmas.List.Sums.{prefix_len-le-length}
 use Rattle.std.proofs.lemmas.Str.{IsUtf8-from_is_utf8, is_utf8-from_IsUtf8, IsUtf8-nil}
-use Rattle.pssm_acts.specs.SpellingReading.{EndsRun, stripped}
-use Rattle.pssm_acts.proofs.SpellingLaws.{stripped_takes, stripped_again}
+use Rattle.pssm_acts.specs.SpellingReading.{stripped}
+use Rattle.pssm_acts.proofs.SpellingLaws.{passes_front, front_again, stripped_takes, stripped_again}
 use Rattle.pssm_flat.specs.Text.{line, label_text}
 use Rattle.pssm_flat.specs.Flat.{is_label_byte, IsLabel}
 use Rattle.pssm_flat.specs.Reading.{label_at, label_end_at}
@@ -22,22 +22,6 @@ not_true false h = refl
 
 pub reads_no_utf8 : (bytes : List ℕ) → (IsUtf8 bytes → ⊥) → false ≡ is_utf8 bytes
 reads_no_utf8 bytes h = not_true (is_utf8 bytes) (λ e. h (IsUtf8-from_is_utf8 bytes e))
-
--- ---- the longest front of bytes that pass
-
-passes_front : (p : ℕ → Bool) (xs : List ℕ) → list_all p (take (prefix_len p xs) xs) ≡ true
-passes_front p [] = refl
-passes_front p (x ∷ xs) = by_head (p x) refl (passes_front p xs) where
-  by_head : (t : Bool) → p x ≡ t → list_all p (take (prefix_len p xs) xs) ≡ true → list_all p (take (cond t (1 + prefix_len p xs) 0) (x ∷ xs)) ≡ true
-  by_head true here more = let n : 1 + prefix_len p xs ≡ suc (prefix_len p xs) = omega arith in rw (n, here) more
-  by_head false here more = refl
-
-front_again : (p : ℕ → Bool) (text rest : List ℕ) → list_all p text ≡ true → EndsRun p rest → prefix_len p (text ++ rest) ≡ length text
-front_again p [] [] all ends = refl
-front_again p [] (c ∷ rest) all ends = cond-false (p c) (1 + prefix_len p rest) 0 ends
-front_again p (x ∷ text) rest all ends =
-    let both = and_parts (p x) (list_all p text) all in
-    cond-true (p x) (1 + prefix_len p (text ++ rest)) 0 both.0 ∙ (let more = front_again p text rest both.1 ends in omega arith)
 
 -- ---- a label and its line feed
 

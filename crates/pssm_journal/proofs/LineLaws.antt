@@ -15,7 +15,9 @@ use Rattle.pssm_acts.specs.Spelling.{IsName, continues_name}
 use Rattle.pssm_acts.specs.SpellingReading.{is_digit, EndsRun, stripped, name_taken, number_taken, index_taken}
 use Rattle.pssm_acts.proofs.SpellingLaws.{stripped_takes, stripped_again, name_takes, name_again, number_takes, number_again}
 use Rattle.pssm_journal.specs.LineText.{line_text, firing_text}
-use Rattle.pssm_journal.specs.Grammar.{IsLine, IsSpelledHow, IsPlainFiring, IsSpelledFiring, one_route}
+use Rattle.pssm_model.specs.OneRegion.{single_route}
+use Rattle.pssm_acts.specs.Built.{IsPlainFiring}
+use Rattle.pssm_journal.specs.Grammar.{IsLine, IsSpelledHow, IsSpelledFiring}
 use Rattle.pssm_journal.specs.LineReading.{◌>>=◌, at_end, vertex, region, transition, firing_of, element_taken, place_taken, fires_taken, post_taken, start_taken, take_taken, exit_taken, effect_taken, enter_taken, open_taken, item_taken, line_taken}
 
 -- ---- steps that may fail
@@ -248,25 +250,25 @@ enter_again object n name small =
 open_takes : (bytes : List ℕ) (l : Line) → open_taken bytes ≡ Some l → Spells (codes "open " ++ bytes) l
 unfolding open_taken
 open_takes bytes l e =
-    let o = bind_some (name_taken bytes) (λ object. element_taken (codes " r") object.1 >>= λ r. element_taken (codes " default by t") r.1 >>= λ by. at_end (Opened object.0 (region r.0) Plain (By (one_route (transition by.0)))) by.1) l e in
+    let o = bind_some (name_taken bytes) (λ object. element_taken (codes " r") object.1 >>= λ r. element_taken (codes " default by t") r.1 >>= λ by. at_end (Opened object.0 (region r.0) Plain (By (single_route (transition by.0)))) by.1) l e in
     let object = name_takes bytes o.0.0 o.0.1 o.1 in
-    let r = bind_some (element_taken (codes " r") o.0.1) (λ r. element_taken (codes " default by t") r.1 >>= λ by. at_end (Opened o.0.0 (region r.0) Plain (By (one_route (transition by.0)))) by.1) l o.2 in
+    let r = bind_some (element_taken (codes " r") o.0.1) (λ r. element_taken (codes " default by t") r.1 >>= λ by. at_end (Opened o.0.0 (region r.0) Plain (By (single_route (transition by.0)))) by.1) l o.2 in
     let place = element_takes (codes " r") o.0.1 r.0.0 r.0.1 r.1 in
-    let t = bind_some (element_taken (codes " default by t") r.0.1) (λ by. at_end (Opened o.0.0 (region r.0.0) Plain (By (one_route (transition by.0)))) by.1) l r.2 in
+    let t = bind_some (element_taken (codes " default by t") r.0.1) (λ by. at_end (Opened o.0.0 (region r.0.0) Plain (By (single_route (transition by.0)))) by.1) l r.2 in
     let way = element_takes (codes " default by t") r.0.1 t.0.0 t.0.1 t.1 in
-    let last = at_end_is (Opened o.0.0 (region r.0.0) Plain (By (one_route (transition t.0.0)))) t.0.1 l t.2 in
+    let last = at_end_is (Opened o.0.0 (region r.0.0) Plain (By (single_route (transition t.0.0)))) t.0.1 l t.2 in
     let text : bytes ≡ o.0.0 ++ (codes " r" ++ (decimal r.0.0 ++ (codes " default by t" ++ (decimal t.0.0 ++ [])))) =
     object.parts ∙ ap (λ (x : List ℕ). o.0.0 ++ x) (place.parts ∙ ap (λ (x : List ℕ). codes " r" ++ (decimal r.0.0 ++ x)) (way.parts ∙ ap (λ (x : List ℕ). codes " default by t" ++ (decimal t.0.0 ++ x)) last.0)) in
-    let whole : Spells (codes "open " ++ bytes) (Opened o.0.0 (region r.0.0) Plain (By (one_route (transition t.0.0)))) = record { line = ((refl, (transition t.0.0, refl)), (object.name, place.small, (omega arith, (way.small, tt), tt))); text = ap (λ (x : List ℕ). codes "open " ++ x) text } in
+    let whole : Spells (codes "open " ++ bytes) (Opened o.0.0 (region r.0.0) Plain (By (single_route (transition t.0.0)))) = record { line = ((refl, (transition t.0.0, refl)), (object.name, place.small, (omega arith, (way.small, tt), tt))); text = ap (λ (x : List ℕ). codes "open " ++ x) text } in
     subst (λ (x : Line). Spells (codes "open " ++ bytes) x) last.1 whole
 
-open_again : (object : List ℕ) (r t : ℕ) → IsName object → r < 65536 → t < 65536 → open_taken (object ++ (codes " r" ++ (decimal r ++ (codes " default by t" ++ (decimal t ++ []))))) ≡ Some (Opened object (region r) Plain (By (one_route (transition t))))
+open_again : (object : List ℕ) (r t : ℕ) → IsName object → r < 65536 → t < 65536 → open_taken (object ++ (codes " r" ++ (decimal r ++ (codes " default by t" ++ (decimal t ++ []))))) ≡ Some (Opened object (region r) Plain (By (single_route (transition t))))
 unfolding open_taken
 open_again object r t name r_small t_small =
     let tail = codes " default by t" ++ (decimal t ++ []) in
-    bind_at (name_taken (object ++ (codes " r" ++ (decimal r ++ tail)))) (λ o. element_taken (codes " r") o.1 >>= λ x. element_taken (codes " default by t") x.1 >>= λ by. at_end (Opened o.0 (region x.0) Plain (By (one_route (transition by.0)))) by.1) (object, codes " r" ++ (decimal r ++ tail)) (name_again object (codes " r" ++ (decimal r ++ tail)) name refl)
-    ∙ bind_at (element_taken (codes " r") (codes " r" ++ (decimal r ++ tail))) (λ x. element_taken (codes " default by t") x.1 >>= λ by. at_end (Opened object (region x.0) Plain (By (one_route (transition by.0)))) by.1) (r, tail) (element_again (codes " r") r tail r_small refl)
-    ∙ bind_at (element_taken (codes " default by t") tail) (λ by. at_end (Opened object (region r) Plain (By (one_route (transition by.0)))) by.1) (t, []) (element_again (codes " default by t") t [] t_small tt)
+    bind_at (name_taken (object ++ (codes " r" ++ (decimal r ++ tail)))) (λ o. element_taken (codes " r") o.1 >>= λ x. element_taken (codes " default by t") x.1 >>= λ by. at_end (Opened o.0 (region x.0) Plain (By (single_route (transition by.0)))) by.1) (object, codes " r" ++ (decimal r ++ tail)) (name_again object (codes " r" ++ (decimal r ++ tail)) name refl)
+    ∙ bind_at (element_taken (codes " r") (codes " r" ++ (decimal r ++ tail))) (λ x. element_taken (codes " default by t") x.1 >>= λ by. at_end (Opened object (region x.0) Plain (By (single_route (transition by.0)))) by.1) (r, tail) (element_again (codes " r") r tail r_small refl)
+    ∙ bind_at (element_taken (codes " default by t") tail) (λ by. at_end (Opened object (region r) Plain (By (single_route (transition by.0)))) by.1) (t, []) (element_again (codes " default by t") t [] t_small tt)
 
 -- ---- lines
 
@@ -337,7 +339,7 @@ enter_line : (object : List ℕ) (n : ℕ) → IsName object → n < 65536 → l
 unfolding line_taken item_taken stripped
 enter_line object n name small = enter_again object n name small
 
-open_line : (object : List ℕ) (r t : ℕ) → IsName object → r < 65536 → t < 65536 → line_taken (line_text (Opened object (region r) Plain (By (one_route (transition t))))) ≡ Some (Opened object (region r) Plain (By (one_route (transition t))))
+open_line : (object : List ℕ) (r t : ℕ) → IsName object → r < 65536 → t < 65536 → line_taken (line_text (Opened object (region r) Plain (By (single_route (transition t))))) ≡ Some (Opened object (region r) Plain (By (single_route (transition t))))
 unfolding line_taken item_taken stripped
 open_line object r t name r_small t_small = open_again object r t name r_small t_small
 

@@ -14,7 +14,8 @@ use Rattle.pssm_acts.specs.Spelling.{IsName, continues_name}
 use Rattle.pssm_acts.specs.SpellingReading.{is_digit}
 use Rattle.pssm_acts.proofs.SpellingLaws.{digits_model, name_goes_on}
 use Rattle.pssm_journal.specs.LineText.{line_text, firing_text, routes_text}
-use Rattle.pssm_journal.specs.Grammar.{IsLine, IsPlainFiring, IsSpelledFiring, IsSpelledHow, IsSpelledRoute}
+use Rattle.pssm_acts.specs.Built.{IsPlainFiring}
+use Rattle.pssm_journal.specs.Grammar.{IsLine, IsSpelledFiring, IsSpelledHow, IsSpelledRoute}
 use Rattle.pssm_journal.specs.Reading.{is_no_feed, has_no_feed}
 use Rattle.pssm_journal.proofs.Feeds.{no_feed_append}
 

@@ -8,11 +8,13 @@ use Rattle.pssm_model.specs.declared.steps.Firing.{Firing}
 use Rattle.pssm_model.specs.declared.steps.Mode.TheVariants.{Plain}
 use Rattle.pssm_model.specs.declared.steps.How.{How}
 use Rattle.pssm_model.specs.declared.steps.How.TheVariants.{By, Restore, Nothing}
+use Rattle.pssm_model.specs.OneRegion.{single_route}
 use Rattle.pssm_acts.specs.declared.line.Line.{Line}
 use Rattle.pssm_acts.specs.declared.line.Line.TheVariants.{Post, Start, Take, Done, Exit, Effect, Enter, Opened, Pick, DoStep}
 use Rattle.pssm_acts.specs.declared.line.LineOut.{LineOut}
 use Rattle.pssm_acts.specs.declared.line.LineOut.TheVariants.{Mark, Send}
 use Rattle.pssm_acts.specs.Spelling.{IsName}
+use Rattle.pssm_acts.specs.Built.{IsPlainFiring}
 use Rattle.pssm_journal.specs.LineText.{line_text, header_line, journal_text}
 
 -- the number of an element or of a do step
@@ -56,14 +58,6 @@ IsSpelled (Opened object region mode how) = IsName object × IsIndex region.0 ×
 IsSpelled (Pick object choice route) = IsName object × IsIndex choice.0 × IsSpelledRoute route
 IsSpelled (DoStep object state step outs) = IsName object × IsIndex state.0 × IsIndex step × AreSpelledOuts outs
 
--- the route of one transition
-abbrev pub one_route : TransId → Route
-one_route t = record { starts = t ∷ []; rest = [] }
-
--- Nothing fires, or one transition does.
-abbrev pub IsPlainFiring : Firing → Type 0
-IsPlainFiring firing = (firing.routes ≡ []) ⊎ ((t : TransId) × (firing.routes ≡ one_route t ∷ []))
-
 -- the lines that are read so far: no arguments, no outputs, routes of one transition
 abbrev pub IsPlainLine : Line → Type 0
 IsPlainLine (Post object signal args) = args ≡ []
@@ -72,7 +66,7 @@ IsPlainLine (Take object number firing) = IsPlainFiring firing
 IsPlainLine (Exit object state outs) = outs ≡ []
 IsPlainLine (Effect object transition outs) = outs ≡ []
 IsPlainLine (Enter object state outs) = outs ≡ []
-IsPlainLine (Opened object region mode how) = (mode ≡ Plain) × ((t : TransId) × (how ≡ By (one_route t)))
+IsPlainLine (Opened object region mode how) = (mode ≡ Plain) × ((t : TransId) × (how ≡ By (single_route t)))
 IsPlainLine _ = ⊥
 
 -- a line of the grammar (this profile's choice)

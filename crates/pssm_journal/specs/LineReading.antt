@@ -10,7 +10,7 @@ use Rattle.pssm_model.specs.declared.steps.How.TheVariants.{By}
 use Rattle.pssm_acts.specs.declared.line.Line.{Line}
 use Rattle.pssm_acts.specs.declared.line.Line.TheVariants.{Post, Start, Take, Exit, Effect, Enter, Opened}
 use Rattle.pssm_acts.specs.SpellingReading.{stripped, name_taken, number_taken, index_taken}
-use Rattle.pssm_journal.specs.Grammar.{one_route}
+use Rattle.pssm_model.specs.OneRegion.{single_route}
 use Rattle.pssm_journal.specs.declared.parts.LineParts.{LineParts}
 use Rattle.pssm_journal.specs.declared.parts.LineParts.TheVariants as parts
 
@@ -35,7 +35,7 @@ transition n = record { 0 = n }
 -- nothing fires, or the one transition
 abbrev pub firing_of : Option ℕ → Firing
 firing_of None = record { routes = [] }
-firing_of (Some t) = record { routes = one_route (transition t) ∷ [] }
+firing_of (Some t) = record { routes = single_route (transition t) ∷ [] }
 
 -- the line of parts that lie in a text
 abbrev pub line_of_parts : LineParts → Line
@@ -45,7 +45,7 @@ line_of_parts (parts.Take object number fires) = Take object.now number (firing_
 line_of_parts (parts.Exit object state) = Exit object.now (vertex state) []
 line_of_parts (parts.Effect object t) = Effect object.now (transition t) []
 line_of_parts (parts.Enter object state) = Enter object.now (vertex state) []
-line_of_parts (parts.Opened object r by) = Opened object.now (region r) Plain (By (one_route (transition by)))
+line_of_parts (parts.Opened object r by) = Opened object.now (region r) Plain (By (single_route (transition by)))
 
 -- the number of an element behind a fixed front
 unfoldable pub element_taken : List ℕ → List ℕ → Option (ℕ × List ℕ)
@@ -108,7 +108,7 @@ open_taken bytes = do
   object ← name_taken bytes
   r ← element_taken (codes " r") object.1
   by ← element_taken (codes " default by t") r.1
-  at_end (Opened object.0 (region r.0) Plain (By (one_route (transition by.0)))) by.1
+  at_end (Opened object.0 (region r.0) Plain (By (single_route (transition by.0)))) by.1
 
 -- a line that is an item of a step
 unfoldable pub item_taken : List ℕ → Option Line

@@ -1,7 +1,8 @@
 //! One line of a journal, from its text.
 ghost use Rattle.std.specs.Prelude.{◌≡◌, IfOk, IfSome, IfNone};
 ghost use Rattle.pssm_journal.specs.LineText.{line_text};
-ghost use Rattle.pssm_journal.specs.Grammar.{IsLine, one_route};
+ghost use Rattle.pssm_model.specs.OneRegion.{single_route};
+ghost use Rattle.pssm_journal.specs.Grammar.{IsLine};
 ghost use Rattle.pssm_journal.specs.LineReading.{line_of_parts, firing_of as fired};
 ghost use Rattle.pssm_journal.specs.Reading.{SpellsNoLine};
 
@@ -17,7 +18,7 @@ fn text_of(alloc: Global, bytes: &[u8]) -> Result<Text, NoMemory>
 }
 
 fn route_of(alloc: Global, transition: u16) -> Result<Route, NoMemory>
-    ensures { IfOk result (λ r. r ≡ one_route (record { 0 = transition })) }
+    ensures { IfOk result (λ r. r ≡ single_route (record { 0 = transition })) }
 {
     let mut starts = Vec::new(alloc);
     starts.push(TransId(transition))?;

@@ -1,4 +1,4 @@
--- Which routes fire together, and the routes that an opening or a choice takes.
+-- Which routes fire together, and the routes that an opening or a choice takes. A list of routes stands for the set of its members.
 use Rattle.std.specs.Prelude.{◌≡◌, ◌⊎◌, ◌<◌, List, [], ◌∷◌, All, Contains, AllPairs}
 use Rattle.pssm_model.specs.declared.ids.VertexId.{VertexId}
 use Rattle.pssm_model.specs.declared.ids.TransId.{TransId}
