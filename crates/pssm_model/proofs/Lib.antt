@@ -7,4 +7,10 @@ pub mod BuiltFiring
 pub mod BuiltShape
 pub mod BuiltWellFormed
 pub mod BuiltExample
-pub mod Empty
+pub mod OwnerChains
+pub mod Climbing
+pub mod Faults
+pub mod Checked
+pub mod FirstFault
+pub mod Nesting
+pub mod Scopes

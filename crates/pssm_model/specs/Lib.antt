@@ -12,3 +12,6 @@ pub mod Proper
 pub mod Equal
 pub mod formers
 pub mod Codes
+pub mod Depths
+pub mod Sound
+pub mod Tables

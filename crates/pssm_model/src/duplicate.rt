@@ -32,6 +32,12 @@ impl<T: Duplicate> Duplicate for Boxed<T> {
     }
 }
 
+impl Duplicate for u16 {
+    fn duplicate(&self, _alloc: Global) -> Result<u16, NoMemory> {
+        Ok(*self)
+    }
+}
+
 impl Duplicate for Owner {
     fn duplicate(&self, _alloc: Global) -> Result<Owner, NoMemory> {
         Ok(*self)

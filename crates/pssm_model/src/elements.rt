@@ -1,7 +1,11 @@
 //! The parts of a state machine as plain data, and what can be wrong with their shape.
+ghost use Rattle.std.specs.Prelude.{◌≡◌};
+ghost use Rattle.pssm_model.specs.declared.elements.Shape.TheVariants.{NoMemory};
+
 use crate::ids::{ActId, GuardId, RegionId, SignalId, TransId, VertexId};
 use crate::row::Row;
 use crate::text::Text;
+use std::alloc::AllocError;
 
 /// What owns a region or a vertex: the machine (`Top`), a region, or a State
 /// (UML 2.5.1, 14.2.3.2 and 14.2.3.7).
@@ -109,4 +113,12 @@ pub enum Shape {
     TooMany(Element),
     TooDeep(Element),
     NoMemory,
+}
+
+impl From<AllocError> for Shape {
+    ghost from_gives = { λ _ e. e ≡ NoMemory };
+
+    fn from(_e: AllocError) -> Shape {
+        Shape::NoMemory
+    }
 }

@@ -6,12 +6,15 @@
 #![tactic(auto)]
 
 mod boxed;
+mod depths;
 mod duplicate;
 mod elements;
+mod forest;
 mod ids;
 mod machine;
 mod row;
 mod same;
+mod shape;
 mod steps;
 mod text;
 

@@ -1,10 +1,14 @@
 //! `Machine`: a draft that is known to have the shape of a state machine.
-ghost use Rattle.std.specs.Prelude.{◌≡◌, ◌<◌, length, slice_get, Some, IfOk};
-ghost use Rattle.std.specs.Option.{option_map};
-ghost use Rattle.pssm_model.specs.Shape.{HasShape};
+ghost use Rattle.std.specs.Prelude.{◌≡◌, ◌⊎◌, ◌↔◌, ◌<◌, ◌≤◌, length, slice_get, Some, All, Contains, IsTrue, IfOk, IfErr, IfSome, IfNone, OnOk};
+ghost use Rattle.pssm_model.specs.declared.ids.RegionId.{RegionId};
+ghost use Rattle.pssm_model.specs.declared.ids.VertexId.{VertexId};
+ghost use Rattle.pssm_model.specs.declared.elements.Owner.{Owner};
+ghost use Rattle.pssm_model.specs.Forest.{HasRegionsAbove, IsScope, LiesInRegion, LiesInState};
+ghost use Rattle.pssm_model.specs.Shape.{HasShape, IsShapeFault};
 
 use crate::duplicate::Duplicate;
-use crate::elements::{DraftMachine, Owner, Transition, Vertex};
+use crate::elements::{DraftMachine, Owner, Shape, Transition, Vertex};
+use crate::forest::Forest;
 use crate::ids::{RegionId, TransId, VertexId};
 use std::alloc::{AllocError as NoMemory, Global};
 use std::marker::Model;
@@ -13,26 +17,35 @@ use std::marker::Model;
 #[derive(Drop)]
 pub struct Machine {
     draft: DraftMachine,
+    forest: Forest,
 }
 
 impl Model for Machine {
     ghost use Rattle.pssm_model.specs.declared.elements.DraftMachine.{DraftMachine};
-    ghost use Rattle.pssm_model.specs.Limits.{IsWithinLimits};
+    ghost use Rattle.pssm_model.specs.Tables.{AreTables};
 
     ghost Value = { DraftMachine };
 
     ghost view = { λ m. m.draft };
 
-    ghost invariant = { λ m. IsWithinLimits m.draft };
+    ghost invariant = { λ m. AreTables m.draft m.forest.regions m.forest.vertices };
 }
 
 impl Machine {
-    /// The machine of a draft that is known to have the shape of one.
-    pub fn of_draft(draft: DraftMachine) -> Machine
-        requires { HasShape draft }
-        ensures { result ≡ draft }
+    /// The machine of a draft, or what is wrong with the first element with which something is, in the order regions,
+    /// vertices, transitions. A refusal leaves nothing.
+    ///
+    /// `NoMemory`: memory ran out; it comes in place of any other answer.
+    pub fn new(alloc: Global, draft: &DraftMachine) -> Result<Machine, Shape>
+        ensures made { IfOk result (λ machine. machine ≡ draft.now) }
+        ensures shaped { OnOk result (HasShape draft.now) }
+        ensures fault { IfErr result (λ fault. (fault ≡ Shape.NoMemory) ⊎ IsShapeFault draft.now fault) }
+        // A draft that has the shape of a machine is refused for want of memory alone.
+        ensures only_misshapen { HasShape draft.now → IfErr result (λ fault. fault ≡ Shape.NoMemory) }
     {
-        Machine { draft }
+        let forest = Forest::of(alloc, draft)?;
+        let draft = draft.duplicate(alloc)?;
+        Ok(Machine { draft, forest })
     }
 
     /// How many regions it has, at most 1,024.
@@ -80,6 +93,46 @@ impl Machine {
         self.draft.regions.as_slice()[r.0 as usize]
     }
 
+    /// Whether a vertex lies in a region: the region stands on its owner chain (UML 2.5.1, 14.2.3.2).
+    pub fn lies_in_region(&self, v: VertexId, r: RegionId) -> bool
+        requires vertex { v.0 < length self.now.vertices }
+        requires region { r.0 < length self.now.regions }
+        ensures { IsTrue result ↔ LiesInRegion self.now v r }
+    {
+        self.forest.lies_in_region(&self.draft, v, r)
+    }
+
+    /// Whether a vertex lies in a State: it lies in a region of it (UML 2.5.1, 14.2.3.4). Nothing lies in itself, and a
+    /// connection point does not lie in its State.
+    pub fn lies_in_state(&self, v: VertexId, s: VertexId) -> bool
+        requires vertex { v.0 < length self.now.vertices }
+        requires state { s.0 < length self.now.vertices }
+        ensures { IsTrue result ↔ LiesInState self.now v s }
+    {
+        self.forest.lies_in_state(&self.draft, v, s)
+    }
+
+    /// How many regions stand on the owner chain of a vertex: from 1 to 32.
+    pub fn depth(&self, v: VertexId) -> u16
+        requires { v.0 < length self.now.vertices }
+        ensures depth { HasRegionsAbove self.now (Owner.State v) result }
+        ensures at_most { result ≤ 32 }
+    {
+        self.forest.depth(&self.draft, v)
+    }
+
+    /// The innermost region in which all vertices of a list lie, where there is one (UML 2.5.1, 14.2.3.9: the least
+    /// common ancestor).
+    pub fn scope(&self, list: &[VertexId]) -> Option<RegionId>
+        requires some { 0 < length list.now }
+        requires inside { All (λ v. v.0 < length self.now.vertices) list.now }
+        ensures scope { IfSome result (IsScope self.now (Contains list.now)) }
+        // There is none only where no region has them all.
+        ensures none { IfNone result ((r : RegionId) → ((v : VertexId) → Contains list.now v → LiesInRegion self.now v r) → ⊥) }
+    {
+        self.forest.scope(&self.draft, list)
+    }
+
     /// A second machine, equal to this one.
     pub fn copy(&self, alloc: Global) -> Result<Machine, NoMemory>
         ensures { IfOk result (λ other. other ≡ self.now) }
@@ -90,9 +143,9 @@ impl Machine {
 
 impl Duplicate for Machine {
     fn duplicate(&self, alloc: Global) -> Result<Machine, NoMemory> {
-        Ok(Machine {
-            draft: self.draft.duplicate(alloc)?,
-        })
+        let draft = self.draft.duplicate(alloc)?;
+        let forest = self.forest.duplicate(alloc)?;
+        Ok(Machine { draft, forest })
     }
 }
 

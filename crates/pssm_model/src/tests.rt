@@ -1,5 +1,6 @@
 //! Each public call once, with ample memory.
-ghost use Rattle.std.specs.Prelude.{◌≡◌, length};
+mod places;
+mod shapes;
 
 use crate::*;
 use std::alloc::Global;
@@ -15,20 +16,56 @@ fn text_of(alloc: Global, bytes: &[u8]) -> Result<Text, Fail> {
     Ok(Text::from_vec(bytes.to_vec(alloc)?))
 }
 
-#[tactic(auto, using(crate::proofs::Empty::empty_has_shape))]
-fn empty_machine(alloc: Global) -> Machine
-    ensures { length result.regions ≡ 0 }
-{
-    Machine::of_draft(DraftMachine {
-        regions: Row::from_vec(Vec::new(alloc)),
-        vertices: Row::from_vec(Vec::new(alloc)),
-        transitions: Row::from_vec(Vec::new(alloc)),
+/// A vertex without label and behaviours.
+pub fn vertex(alloc: Global, owner: Owner, kind: VertexKind) -> Vertex {
+    Vertex {
+        owner,
+        kind,
+        label: Text::from_vec(Vec::new(alloc)),
+        entry: ActId(0),
+        exit: ActId(0),
+        steps: Row::from_vec(Vec::new(alloc)),
+        defers: Row::from_vec(Vec::new(alloc)),
+    }
+}
+
+/// An external transition without triggers, guard and effect.
+pub fn transition(alloc: Global, source: u16, target: u16) -> Transition {
+    Transition {
+        source: VertexId(source),
+        target: VertexId(target),
+        kind: TransKind::External,
+        triggers: Row::from_vec(Vec::new(alloc)),
+        guard: Guard::Always,
+        effect: ActId(0),
+    }
+}
+
+/// The draft of these regions, by their owners, of these vertices, and of transitions with these ends.
+pub fn draft_of(
+    alloc: Global,
+    regions: &[Owner],
+    vertices: &[(Owner, VertexKind)],
+    ends: &[(u16, u16)],
+) -> Result<DraftMachine, Fail> {
+    let mut made = Vec::new(alloc);
+    for (owner, kind) in vertices {
+        made.push(vertex(alloc, *owner, *kind))?;
+    }
+    let mut transitions = Vec::new(alloc);
+    for (source, target) in ends {
+        transitions.push(transition(alloc, *source, *target))?;
+    }
+    Ok(DraftMachine {
+        regions: Row::from_vec(regions.to_vec(alloc)?),
+        vertices: Row::from_vec(made),
+        transitions: Row::from_vec(transitions),
     })
 }
 
 #[test]
 fn machines_are_copied_and_compared(rt: HostRuntime) -> Result<(), Fail> {
-    let machine = empty_machine(rt.alloc());
+    let machine = Machine::new(rt.alloc(), &draft_of(rt.alloc(), &[], &[], &[])?)?;
     assert_eq!(rt; machine.regions(), 0);
     assert_eq!(rt; machine.vertices(), 0);
     assert_eq!(rt; machine.transitions(), 0);
