@@ -8,3 +8,10 @@ pub mod Admissible
 pub mod Ended
 pub mod Stores
 pub mod Appending
+pub mod Outputs
+pub mod Takes
+pub mod Meaning
+pub mod Blocks
+pub mod ExprText
+pub mod StmtText
+pub mod ArgumentLaws

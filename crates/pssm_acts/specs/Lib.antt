@@ -17,3 +17,6 @@ pub mod Fits
 pub mod Proper
 pub mod Laws
 pub mod Equal
+pub mod Arguments
+pub mod Work
+pub mod ActText

@@ -4,7 +4,7 @@ ghost use Rattle.std.specs.Prelude.{◌≡◌, IfOk};
 use crate::entry::{Entry, Out};
 use crate::setting::{Class, ObjectDecl, Program, Setting, SignalDecl, VarDecl};
 use crate::stimulus::Stimulus;
-use crate::tree::{Act, Cond, Expr, Stmt};
+use crate::tree::{Act, Cond, Expr, Rel, Stmt};
 use pssm_model::{Boxed, Duplicate, Row};
 use std::alloc::{AllocError as NoMemory, Global};
 
@@ -160,54 +160,13 @@ impl Duplicate for ObjectDecl {
 
 impl Duplicate for Expr {
     fn duplicate(&self, alloc: Global) -> Result<Expr, NoMemory> {
-        match self {
-            Expr::Num(number) => Ok(Expr::Num(*number)),
-            Expr::Var(variable) => Ok(Expr::Var(*variable)),
-            Expr::Param(parameter) => Ok(Expr::Param(*parameter)),
-            Expr::Sum(left, right) => {
-                let left = left.get().duplicate(alloc)?;
-                let right = right.get().duplicate(alloc)?;
-                Ok(Expr::Sum(Boxed::new(alloc, left)?, Boxed::new(alloc, right)?))
-            }
-            Expr::Diff(left, right) => {
-                let left = left.get().duplicate(alloc)?;
-                let right = right.get().duplicate(alloc)?;
-                Ok(Expr::Diff(Boxed::new(alloc, left)?, Boxed::new(alloc, right)?))
-            }
-            Expr::Prod(left, right) => {
-                let left = left.get().duplicate(alloc)?;
-                let right = right.get().duplicate(alloc)?;
-                Ok(Expr::Prod(Boxed::new(alloc, left)?, Boxed::new(alloc, right)?))
-            }
-        }
+        Ok(boxed_expr(self, alloc)?.into_inner())
     }
 }
 
 impl Duplicate for Cond {
     fn duplicate(&self, alloc: Global) -> Result<Cond, NoMemory> {
-        match self {
-            Cond::True => Ok(Cond::True),
-            Cond::False => Ok(Cond::False),
-            Cond::Compare(rel, left, right) => Ok(Cond::Compare(
-                *rel,
-                left.duplicate(alloc)?,
-                right.duplicate(alloc)?,
-            )),
-            Cond::Not(inner) => {
-                let inner = inner.get().duplicate(alloc)?;
-                Ok(Cond::Not(Boxed::new(alloc, inner)?))
-            }
-            Cond::And(left, right) => {
-                let left = left.get().duplicate(alloc)?;
-                let right = right.get().duplicate(alloc)?;
-                Ok(Cond::And(Boxed::new(alloc, left)?, Boxed::new(alloc, right)?))
-            }
-            Cond::Or(left, right) => {
-                let left = left.get().duplicate(alloc)?;
-                let right = right.get().duplicate(alloc)?;
-                Ok(Cond::Or(Boxed::new(alloc, left)?, Boxed::new(alloc, right)?))
-            }
-        }
+        Ok(boxed_cond(self, alloc)?.into_inner())
     }
 }
 
@@ -254,6 +213,70 @@ impl Duplicate for Setting {
             objects: self.objects.duplicate(alloc)?,
         })
     }
+}
+
+/// A copy of an expression on the heap. Expressions nest some 2,000 deep, so a level keeps little on the stack.
+fn boxed_expr(expr: &Expr, alloc: Global) -> Result<Boxed<Expr>, NoMemory>
+    ensures { IfOk result (λ other. other ≡ expr.now) }
+{
+    match expr {
+        Expr::Num(number) => Boxed::new(alloc, Expr::Num(*number)),
+        Expr::Var(variable) => Boxed::new(alloc, Expr::Var(*variable)),
+        Expr::Param(parameter) => Boxed::new(alloc, Expr::Param(*parameter)),
+        Expr::Sum(left, right) => {
+            let left = boxed_expr(left.get(), alloc)?;
+            let right = boxed_expr(right.get(), alloc)?;
+            Boxed::new(alloc, Expr::Sum(left, right))
+        }
+        Expr::Diff(left, right) => {
+            let left = boxed_expr(left.get(), alloc)?;
+            let right = boxed_expr(right.get(), alloc)?;
+            Boxed::new(alloc, Expr::Diff(left, right))
+        }
+        Expr::Prod(left, right) => {
+            let left = boxed_expr(left.get(), alloc)?;
+            let right = boxed_expr(right.get(), alloc)?;
+            Boxed::new(alloc, Expr::Prod(left, right))
+        }
+    }
+}
+
+/// A copy of a guard on the heap. Guards nest some 4,000 deep, so a level keeps little on the stack.
+fn boxed_cond(cond: &Cond, alloc: Global) -> Result<Boxed<Cond>, NoMemory>
+    ensures { IfOk result (λ other. other ≡ cond.now) }
+{
+    match cond {
+        Cond::True => Boxed::new(alloc, Cond::True),
+        Cond::False => Boxed::new(alloc, Cond::False),
+        Cond::Compare(rel, left, right) => boxed_comparison(*rel, left, right, alloc),
+        Cond::Not(inner) => {
+            let inner = boxed_cond(inner.get(), alloc)?;
+            Boxed::new(alloc, Cond::Not(inner))
+        }
+        Cond::And(left, right) => {
+            let left = boxed_cond(left.get(), alloc)?;
+            let right = boxed_cond(right.get(), alloc)?;
+            Boxed::new(alloc, Cond::And(left, right))
+        }
+        Cond::Or(left, right) => {
+            let left = boxed_cond(left.get(), alloc)?;
+            let right = boxed_cond(right.get(), alloc)?;
+            Boxed::new(alloc, Cond::Or(left, right))
+        }
+    }
+}
+
+fn boxed_comparison(
+    rel: Rel,
+    left: &Expr,
+    right: &Expr,
+    alloc: Global,
+) -> Result<Boxed<Cond>, NoMemory>
+    ensures { IfOk result (λ other. other ≡ Cond.Compare rel left.now right.now) }
+{
+    let left = left.duplicate(alloc)?;
+    let right = right.duplicate(alloc)?;
+    Boxed::new(alloc, Cond::Compare(rel, left, right))
 }
 
 #[cycle(copies)]

@@ -10,11 +10,16 @@ mod copies;
 mod entry;
 mod equal;
 mod line;
+mod running;
 mod setting;
 pub mod spelling;
 mod stimulus;
+mod terms;
 mod tree;
 mod trees;
+mod value;
+mod worked;
+mod writing;
 
 pub use args::Args;
 pub use entry::{Entry, ObjectId, Out, Rule};
@@ -22,6 +27,9 @@ pub use line::{Line, LineOut};
 pub use setting::{Class, Names, ObjectDecl, Outcome, Program, Setting, SignalDecl, VarDecl};
 pub use stimulus::{Stimulus, Task};
 pub use tree::{Act, Cond, Expr, Rel, Stmt};
+pub use value::truth;
+pub use worked::{Worked, run};
+pub use writing::{write_act, write_cond};
 
 #[cfg(test)]
 mod tests;

@@ -95,3 +95,19 @@ fn settings_are_copied_and_compared(rt: HostRuntime) -> Result<(), Fail> {
     assert!(rt; setting == setting.copy(rt.alloc())?);
     Ok(())
 }
+
+#[test]
+fn a_guard_is_decided_and_spelled(rt: HostRuntime) -> Result<(), Fail> {
+    let alloc = rt.alloc();
+    let none = Args::from_vec(Vec::new(alloc));
+    let names = Names {
+        vars: Row::from_vec(Vec::new(alloc)),
+        objects: Row::from_vec(Vec::new(alloc)),
+        signals: Row::from_vec(Vec::new(alloc)),
+    };
+    let guard = Cond::Compare(Rel::Lt, Expr::Num(1), Expr::Num(2));
+    assert!(rt; truth(&guard, &[], &none));
+    let text = write_cond(alloc, &guard, &names)?;
+    assert_eq!(rt; text.as_slice(), b"1 < 2".as_slice());
+    Ok(())
+}
