@@ -28,11 +28,13 @@ fn machine_of(
 {
     let mut regions = Vec::new(alloc);
     regions.push(Owner::Top)?;
-    Ok(Machine::of_draft(DraftMachine {
+    let draft = DraftMachine {
         regions: Row::from_vec(regions),
         vertices: Row::from_vec(vertices),
         transitions: Row::from_vec(transitions),
-    }))
+    };
+    // Such a draft has the shape of a machine, so it is refused for want of memory alone.
+    Machine::new(alloc, &draft).map_err(|_| AllocError)
 }
 
 /// The behaviours of a class that has none: the empty one.
