@@ -1,0 +1,11 @@
+pub mod Walking
+pub mod Listing
+pub mod Places
+pub mod Chains
+pub mod Together
+pub mod Arrows
+pub mod Closures
+pub mod Backwards
+pub mod Straying
+pub mod Numbered
+pub mod Order

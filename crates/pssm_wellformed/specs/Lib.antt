@@ -1,0 +1,9 @@
+pub mod Lists
+pub mod Reach
+pub mod Survey
+pub mod Questions
+pub mod Apart
+pub mod Walks
+pub mod Strays
+pub mod Faults
+pub mod Checked

@@ -1,0 +1,94 @@
+//! The rules of single transitions: E10, E13, E17 and E21.
+ghost use Rattle.std.specs.Prelude.{◌≡◌, ◌↔◌, ◌<◌, length, Contains, IsTrue, ℕ};
+ghost use Rattle.pssm_model.specs.Legs.{Leaves, Goes};
+ghost use Rattle.pssm_model.specs.WellFormed.{HasElse, IsTriggeredWrongly, IsBadInternal, IsBadElse, IsTorn};
+ghost use Rattle.pssm_wellformed.specs.Survey.{HasEnd, IsSurvey, transition_number};
+
+use crate::elements::{
+    end_of, has_else, has_guard, has_kind, has_trigger, is_branch, is_pseudostate,
+    is_unguarded_kind,
+};
+use crate::inside::share_region;
+use crate::survey::{End, Survey, meeting};
+use pssm_model::{Machine, TransId, TransKind, VertexKind};
+
+/// Whether the transition is of the kind.
+pub fn goes(machine: &Machine, transition: TransId, kind: TransKind) -> bool
+    requires { transition.0 < length machine.now.transitions }
+    ensures { IsTrue result ↔ Goes machine.now transition kind }
+{
+    machine.transition(transition).kind == kind
+}
+
+/// E10: whether it leaves a pseudostate and has a trigger, or leaves an initial, history or entry point and has a guard.
+pub fn is_triggered_wrongly(machine: &Machine, survey: &Survey, transition: TransId) -> bool
+    requires survey { IsSurvey machine.now survey.now }
+    requires there { transition.0 < length machine.now.transitions }
+    ensures { IsTrue result ↔ IsTriggeredWrongly machine.now transition }
+{
+    let source = end_of(machine, transition, End::Source);
+    (is_pseudostate(machine, source) && has_trigger(machine, transition))
+        || (is_unguarded_kind(machine, source) && has_guard(machine, transition))
+}
+
+/// E13: whether it is internal, and its source is no State or is not its target.
+pub fn is_bad_internal(machine: &Machine, survey: &Survey, transition: TransId) -> bool
+    requires survey { IsSurvey machine.now survey.now }
+    requires there { transition.0 < length machine.now.transitions }
+    ensures { IsTrue result ↔ IsBadInternal machine.now transition }
+{
+    let source = end_of(machine, transition, End::Source);
+    let target = end_of(machine, transition, End::Target);
+    goes(machine, transition, TransKind::Internal)
+        && (!has_kind(machine, source, VertexKind::State) || target.0 != source.0)
+}
+
+/// Whether the first transition is earlier than the second and has `else`.
+fn is_earlier_else(machine: &Machine, first: TransId, second: TransId) -> bool
+    requires { first.0 < length machine.now.transitions }
+    ensures { IsTrue result ↔ (first.0 < second.0) × HasElse machine.now first }
+{
+    first.0 < second.0 && has_else(machine, first)
+}
+
+/// Whether an earlier one of these transitions has `else`.
+fn has_earlier_else(machine: &Machine, transitions: &[u16], transition: TransId) -> bool
+    requires { (t : ℕ) → Contains transitions.now t → t < length machine.now.transitions }
+    ensures { IsTrue result ↔ ((t : ℕ) × Contains transitions.now t × (t < transition.0) × HasElse machine.now (transition_number t)) }
+{
+    for number in transitions {
+        if is_earlier_else(machine, TransId(*number), transition) {
+            return true;
+        }
+    }
+    false
+}
+
+/// E17: whether it has `else` and leaves no junction or choice, or is not the first such of its source.
+pub fn is_bad_else(machine: &Machine, survey: &Survey, transition: TransId) -> bool
+    requires survey { IsSurvey machine.now survey.now }
+    requires there { transition.0 < length machine.now.transitions }
+    ensures { IsTrue result ↔ IsBadElse machine.now transition }
+{
+    let source = end_of(machine, transition, End::Source);
+    has_else(machine, transition)
+        && (!is_branch(machine, source)
+            || has_earlier_else(
+                machine,
+                meeting(machine, survey, source, End::Source),
+                transition,
+            ))
+}
+
+/// E21: whether its ends lie in no common region, or it ends on a join and leaves no State.
+pub fn is_torn(machine: &Machine, survey: &Survey, transition: TransId) -> bool
+    requires survey { IsSurvey machine.now survey.now }
+    requires there { transition.0 < length machine.now.transitions }
+    ensures { IsTrue result ↔ IsTorn machine.now transition }
+{
+    let source = end_of(machine, transition, End::Source);
+    let target = end_of(machine, transition, End::Target);
+    !share_region(machine, survey, source, target)
+        || (has_kind(machine, target, VertexKind::Join)
+            && !has_kind(machine, source, VertexKind::State))
+}
