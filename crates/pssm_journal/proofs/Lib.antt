@@ -4,5 +4,12 @@ pub mod LineLengths
 pub mod Streams
 pub mod ReaderSteps
 pub mod EntryLaws
+pub mod OutputCounts
+pub mod Fronts
+pub mod FirstRules
 pub mod Judgements
-pub mod EmptyMachine
+pub mod Joined
+pub mod NameLaws
+pub mod NamedLines
+pub mod BuiltNames
+pub mod Spellings

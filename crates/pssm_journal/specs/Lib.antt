@@ -4,4 +4,6 @@ pub mod Stream
 pub mod LineReading
 pub mod Reading
 pub mod Entries
+pub mod Naming
+pub mod EntryLine
 pub mod Judged

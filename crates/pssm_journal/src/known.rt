@@ -114,7 +114,8 @@ fn are_names_known(setting: &Setting, class: &Class, entry: &Entry) -> bool
     }
 }
 
-fn object_of(entry: &Entry) -> ObjectId
+/// The object of an entry.
+pub fn object_of(entry: &Entry) -> ObjectId
     ensures { result ≡ its_object entry.now }
 {
     match entry {

@@ -12,15 +12,25 @@ mod entry;
 mod fault;
 mod judged;
 mod known;
+mod laws;
 mod line;
+#[cfg(test)]
+mod line_tests;
 mod names;
+mod naming;
 mod parts;
+mod ranges;
 mod reader;
+mod spelled;
 #[cfg(test)]
 mod tests;
+mod writing;
 
 pub use entry::entry_of;
 pub use fault::LineFault;
 pub use judged::one_judgement;
+pub use laws::{built_lines, one_spelling, read_again};
+pub use naming::line_of;
 pub use pssm_acts::{Entry, Line, LineOut, Out, Rule};
 pub use reader::{Fed, LineReader};
+pub use writing::write_line;

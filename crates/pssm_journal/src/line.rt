@@ -11,7 +11,8 @@ use pssm_acts::{Args, Line};
 use pssm_model::{Firing, How, Mode, RegionId, Route, Row, Text, TransId, VertexId};
 use std::alloc::{AllocError as NoMemory, Global};
 
-fn text_of(alloc: Global, bytes: &[u8]) -> Result<Text, NoMemory>
+/// A text of these bytes.
+pub fn text_of(alloc: Global, bytes: &[u8]) -> Result<Text, NoMemory>
     ensures { IfOk result (λ t. t ≡ bytes.now) }
 {
     Ok(Text::from_vec(bytes.to_vec(alloc)?))
@@ -41,7 +42,7 @@ fn firing_of(alloc: Global, fires: Option<u16>) -> Result<Firing, NoMemory>
 }
 
 /// The line of these parts.
-fn line_of(alloc: Global, parts: LineParts<'_>) -> Result<Line, NoMemory>
+fn whole_line(alloc: Global, parts: LineParts<'_>) -> Result<Line, NoMemory>
     ensures { IfOk result (λ l. l ≡ line_of_parts parts.entry) }
 {
     match parts {
@@ -93,7 +94,7 @@ pub fn read_line(alloc: Global, bytes: &[u8]) -> Result<Option<Line>, NoMemory>
     ensures only { IfOk result (λ o. IfNone o (SpellsNoLine bytes.now)) }
 {
     match parts_of(bytes) {
-        Some(parts) => Ok(Some(line_of(alloc, parts)?)),
+        Some(parts) => Ok(Some(whole_line(alloc, parts)?)),
         None => Ok(None),
     }
 }

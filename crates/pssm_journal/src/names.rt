@@ -1,9 +1,10 @@
-//! What the names of a line stand for in a setting.
+//! What the names of a line stand for in a setting, and which name a number has.
 ghost use Rattle.std.specs.Prelude.{◌≡◌, position};
 ghost use Rattle.std.specs.Option.{option_copied};
 ghost use Rattle.std.specs.Str.{bytes_eq};
 ghost use Rattle.pssm_acts.specs.Settings.{class_of};
 ghost use Rattle.pssm_journal.specs.Entries.{object_named, signal_named, mark_named};
+ghost use Rattle.pssm_journal.specs.EntryLine.{name_of_object, name_of_signal, name_of_mark};
 
 use pssm_acts::{Class, ObjectDecl, ObjectId, Setting, SignalDecl};
 use pssm_model::{MarkId, SignalId, Text};
@@ -71,4 +72,37 @@ pub fn class_at(setting: &Setting, object: ObjectId) -> Option<&Class>
 {
     let declared = setting.objects.as_slice().get(object.0 as usize)?;
     setting.classes.as_slice().get(declared.class as usize)
+}
+
+/// The name of an object, empty where there is no such object.
+pub fn object_name(setting: &Setting, object: ObjectId) -> &[u8]
+    ensures { result.now ≡ name_of_object setting.now object }
+{
+    match setting.objects.as_slice().get(object.0 as usize) {
+        Some(declared) => declared.name.as_slice(),
+        None => &[],
+    }
+}
+
+/// The name of a signal, empty where there is no such signal.
+pub fn signal_name(setting: &Setting, signal: SignalId) -> &[u8]
+    ensures { result.now ≡ name_of_signal setting.now signal }
+{
+    match setting.signals.as_slice().get(signal.0 as usize) {
+        Some(declared) => declared.name.as_slice(),
+        None => &[],
+    }
+}
+
+/// The name of a mark of an object's class, empty where there is no such mark.
+pub fn mark_name(setting: &Setting, object: ObjectId, mark: MarkId) -> &[u8]
+    ensures { result.now ≡ name_of_mark setting.now object mark }
+{
+    let Some(class) = class_at(setting, object) else {
+        return &[];
+    };
+    match class.program.marks.as_slice().get(mark.0 as usize) {
+        Some(name) => name.as_slice(),
+        None => &[],
+    }
 }

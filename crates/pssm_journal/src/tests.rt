@@ -265,15 +265,16 @@ fn parts_of_a_line(rt: HostRuntime) -> Result<(), Fail> {
 }
 
 /// A machine without any element.
-fn empty_machine(alloc: Global) -> Machine {
-    Machine::of_draft(DraftMachine {
+pub fn empty_machine(alloc: Global) -> Result<Machine, AllocError> {
+    let draft = DraftMachine {
         regions: Row::from_vec(Vec::new(alloc)),
         vertices: Row::from_vec(Vec::new(alloc)),
         transitions: Row::from_vec(Vec::new(alloc)),
-    })
+    };
+    Machine::new(alloc, &draft).map_err(|_| AllocError)
 }
 
-fn text(alloc: Global, bytes: &[u8]) -> Result<Text, AllocError> {
+pub fn text(alloc: Global, bytes: &[u8]) -> Result<Text, AllocError> {
     Ok(Text::from_vec(Vec::from_slice(alloc, bytes)?))
 }
 
@@ -293,7 +294,7 @@ fn small_setting(alloc: Global) -> Result<Setting, AllocError> {
     classes.push(Class {
         name: text(alloc, b"M")?,
         vars: Row::from_vec(Vec::new(alloc)),
-        machine: empty_machine(alloc),
+        machine: empty_machine(alloc)?,
         program: Program {
             acts: Row::from_vec(Vec::new(alloc)),
             guards: Row::from_vec(Vec::new(alloc)),

@@ -1,0 +1,148 @@
+//! The text of a line.
+ghost use Rattle.std.specs.Prelude.{◌≡◌, [], ◌∷◌, ◌++◌, IfOk, OnOk, codes};
+ghost use Rattle.std.specs.Fmt.{decimal};
+ghost use Rattle.pssm_journal.specs.LineText.{line_text, mode_text, outs_text};
+
+use crate::spelled::{Spelled, put_call, put_outs};
+use pssm_acts::{Line, LineOut};
+use pssm_model::{Mode, Text};
+use std::alloc::{AllocError as NoMemory, Global};
+
+/// Writes the kind of a line, its object, and a number behind a word.
+fn put_place(
+    alloc: Global,
+    text: &mut Vec<u8>,
+    kind: &[u8],
+    object: &Text,
+    word: &[u8],
+    number: u32,
+) -> Result<(), NoMemory>
+    ensures { OnOk result (text.new.items ≡ text.old.items ++ (kind.now ++ (object.now ++ (word.now ++ decimal number)))) }
+{
+    text.extend_from_slice(kind)?;
+    text.extend_from_slice(object.as_slice())?;
+    text.extend_from_slice(word)?;
+    number.put(alloc, text)
+}
+
+/// The name of a mode.
+fn mode_name(mode: Mode) -> &'static [u8]
+    ensures { result.now ≡ mode_text mode }
+{
+    match mode {
+        Mode::Plain => b"default",
+        Mode::Shallow => b"shallow",
+        Mode::Deep => b"deep",
+    }
+}
+
+/// Writes a line without its line feed.
+fn put_line(alloc: Global, text: &mut Vec<u8>, line: &Line) -> Result<(), NoMemory>
+    ensures { OnOk result (text.new.items ≡ text.old.items ++ line_text line.now) }
+{
+    match line {
+        Line::Post {
+            object,
+            signal,
+            args,
+        } => {
+            text.extend_from_slice(b"post ")?;
+            put_call(alloc, text, object, signal, args)
+        }
+        Line::Start { object } => {
+            text.extend_from_slice(b"start ")?;
+            text.extend_from_slice(object.as_slice())
+        }
+        Line::Take {
+            object,
+            number,
+            firing,
+        } => {
+            put_place(alloc, text, b"take ", object, b" ", *number)?;
+            text.push(b' ')?;
+            firing.put(alloc, text)
+        }
+        Line::Done {
+            object,
+            state,
+            firing,
+        } => {
+            put_place(alloc, text, b"done ", object, b" v", u32::from(state.0))?;
+            text.push(b' ')?;
+            firing.put(alloc, text)
+        }
+        Line::Exit {
+            object,
+            state,
+            outs,
+        } => {
+            put_place(alloc, text, b"exit ", object, b" v", u32::from(state.0))?;
+            put_outs(alloc, text, outs.as_slice())
+        }
+        Line::Effect {
+            object,
+            transition,
+            outs,
+        } => {
+            put_place(
+                alloc,
+                text,
+                b"effect ",
+                object,
+                b" t",
+                u32::from(transition.0),
+            )?;
+            put_outs(alloc, text, outs.as_slice())
+        }
+        Line::Enter {
+            object,
+            state,
+            outs,
+        } => {
+            put_place(alloc, text, b"enter ", object, b" v", u32::from(state.0))?;
+            put_outs(alloc, text, outs.as_slice())
+        }
+        Line::Opened {
+            object,
+            region,
+            mode,
+            how,
+        } => {
+            put_place(alloc, text, b"open ", object, b" r", u32::from(region.0))?;
+            text.push(b' ')?;
+            text.extend_from_slice(mode_name(*mode))?;
+            text.push(b' ')?;
+            how.put(alloc, text)
+        }
+        Line::Pick {
+            object,
+            choice,
+            route,
+        } => {
+            put_place(alloc, text, b"pick ", object, b" v", u32::from(choice.0))?;
+            text.push(b' ')?;
+            route.put(alloc, text)
+        }
+        Line::DoStep {
+            object,
+            state,
+            step,
+            outs,
+        } => {
+            put_place(alloc, text, b"do ", object, b" v", u32::from(state.0))?;
+            text.push(b' ')?;
+            u32::from(*step).put(alloc, text)?;
+            put_outs(alloc, text, outs.as_slice())
+        }
+    }
+}
+
+/// The bytes of a line, its line feed included.
+pub fn write_line(alloc: Global, line: &Line) -> Result<Vec<u8>, NoMemory>
+    ensures { IfOk result (λ bytes. bytes.items ≡ line_text line.now ++ 10 ∷ []) }
+{
+    let mut text = Vec::new(alloc);
+    put_line(alloc, &mut text, line)?;
+    text.push(b'\n')?;
+    Ok(text)
+}
