@@ -15,7 +15,7 @@ use Rattle.pssm_model.specs.declared.steps.Item.TheVariants as items
 use Rattle.pssm_model.specs.Legs.{Leaves, Enters}
 use Rattle.pssm_model.specs.BuiltMachine.{IsBuiltMachine}
 use Rattle.pssm_model.specs.OneRegion.{top_region, first_transition, single_route}
-use Rattle.pssm_model.proofs.BuiltTransitions.{nothing_in_nil}
+use Rattle.pssm_model.proofs.BuiltTransitions.{nothing_in_nil, source_in_range, leaving_in_range, entering_in_range, target_range}
 use Rattle.pssm_model.proofs.BuiltRoutes.{is_one}
 use Rattle.pssm_acts.specs.declared.entry.Entry.{Entry}
 use Rattle.pssm_acts.specs.declared.entry.Entry.TheVariants.{Post, Start, Take, Exit, Effect, Enter, Opened}
@@ -83,6 +83,7 @@ module _ {m : DraftMachine} (b : IsBuiltMachine m) where
       let all : signals_of (J ++ e ∷ []) ≡ signals_of J ++ x ∷ [] = signals_push J e in
       record {
         progress_is = progress_post J p g args s.progress_is;
+        names = s.names;
         active = λ q is. ⊎_elim (λ enters. absurd enters) (λ was. s.active q was.0) (active_push J the_object q e is);
         active_there = λ q is. active_kept J the_object q e (s.active_there q is) (λ exits. exits);
         signals_are = ap (λ gs. gs ++ g ∷ []) s.signals_are ∙ sym (map-append (λ (y : Stimulus). y.signal) (signals_of J) (x ∷ []))
@@ -100,6 +101,7 @@ module _ {m : DraftMachine} (b : IsBuiltMachine m) where
       let k = signals_kept m J e Unstarted signals taken refl (λ n. refl) s in
       record {
         progress_is = under_way_start b J the_object;
+        names = tt;
         active = λ q is. ⊎_elim (λ enters. absurd enters) (λ was. s.active q was.0) (active_push J the_object q e is);
         active_there = λ q is. active_kept J the_object q e (s.active_there q is) (λ exits. exits);
         signals_are = k.signals_are;
@@ -126,6 +128,7 @@ module _ {m : DraftMachine} (b : IsBuiltMachine m) where
             step_is = step_take_nothing b J the_object (taken + 1) firing none;
             fresh = λ is. absurd (cc);
           };
+          names = s.names;
           active = λ q is. ⊎_elim (λ enters. absurd enters) (λ was. s.active q was.0) (active_push J the_object q e is);
           active_there = λ q is. active_kept J the_object q e (s.active_there q is) (λ exits. exits);
           signals_are = s.signals_are ∙ ap (map (λ (x : Stimulus). x.signal)) same;
@@ -148,6 +151,7 @@ module _ {m : DraftMachine} (b : IsBuiltMachine m) where
                 (λ q is. let now = s.active q is in cc);
             fresh = λ is. absurd (cc);
           };
+          names = (source_in_range b t a leaves, leaving_in_range b t a leaves, (target_range b t to enters).1);
           active = λ q is. ⊎_elim (λ enters. absurd enters) (λ was. s.active q was.0) (active_push J the_object q e is);
           active_there = λ q is. active_kept J the_object q e (s.active_there q is) (λ exits. exits);
           signals_are = s.signals_are ∙ ap (map (λ (x : Stimulus). x.signal)) same;
@@ -170,6 +174,7 @@ module _ {m : DraftMachine} (b : IsBuiltMachine m) where
           step_is = step_opened b J the_object u.step to enters (u.fresh refl) u.step_is;
           fresh = λ is. absurd (cc);
         };
+        names = (entering_in_range b first_transition to enters, (target_range b first_transition to enters).1);
         active = λ q is. ⊎_elim (λ enters. absurd enters) (λ was. s.active q was.0) (active_push J the_object q e is);
         active_there = λ q is. active_kept J the_object q e (s.active_there q is) (λ exits. exits);
         signals_are = k.signals_are;
@@ -195,6 +200,7 @@ module _ {m : DraftMachine} (b : IsBuiltMachine m) where
               u.step_is u.step_is.in_order.1;
           fresh = λ is. absurd (cc);
         };
+        names = (s.names.1, s.names.2);
         active = λ q is.
             ⊎_elim (λ enters. absurd enters)
             (λ was. let now = s.active q was.0 in let here : v ≡ q = cc in absurd (was.1 (refl, here)))
@@ -220,6 +226,7 @@ module _ {m : DraftMachine} (b : IsBuiltMachine m) where
               (λ is. let c = is_one (items.Enter to) (items.Effect t) is in cc) u.step_is u.step_is.in_order.1;
           fresh = λ is. absurd (cc);
         };
+        names = s.names.1;
         active = λ q is. ⊎_elim (λ enters. absurd enters) (λ was. s.active q was.0) (active_push J the_object q e is);
         active_there = λ q is. active_kept J the_object q e (s.active_there q is) (λ exits. exits);
         signals_are = k.signals_are;
@@ -242,6 +249,7 @@ module _ {m : DraftMachine} (b : IsBuiltMachine m) where
               (λ is. nothing_in_nil (items.Enter to) is) u.step_is tt;
           fresh = λ is. absurd (cc);
         };
+        names = s.names;
         active = λ q is.
             ⊎_elim (λ enters. ap Some enters.1) (λ was. absurd (let now = s.active q was.0 in cc)) (active_push J the_object q e is);
         active_there = λ q is. active_entered J the_object q e (refl, cc);
@@ -254,6 +262,7 @@ module _ {m : DraftMachine} (b : IsBuiltMachine m) where
   pub at_the_start : StandsAt m [] Unstarted [] 0
   at_the_start = record {
     progress_is = tt;
+    names = tt;
     active = λ q is. absurd (none_active the_object q is);
     active_there = λ q is. absurd (cc);
     signals_are = refl;

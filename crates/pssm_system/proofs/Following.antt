@@ -37,7 +37,7 @@ use Rattle.pssm_system.specs.Standing.{the_object, waiting, passed, active_in, I
 use Rattle.pssm_system.specs.Judging.{FiresAt}
 use Rattle.pssm_system.specs.Advancing.{AdvancesByFiring, Advances, signals_after, taken_after}
 use Rattle.pssm_system.proofs.Steps.{first_in, in_cases}
-use Rattle.pssm_system.proofs.Signals.{waiting_is_next, told_next}
+use Rattle.pssm_system.proofs.Signals.{IsNext, waiting_is_next, told_next}
 use Rattle.pssm_system.proofs.Kept.{asks, own_entry}
 use Rattle.pssm_system.proofs.Rules.{starts_once, not_started, step_unfinished, no_queue_head, called_item_waits, order_broken, opens_only, no_do_step, outs_are_none}
 use Rattle.pssm_system.proofs.Judged.{opening_only, no_pick_waits, fires_is}
@@ -155,24 +155,34 @@ module _ {setting : Setting} (b : IsBuilt setting) (J : List Entry) (p : Progres
       (subst (λ os. StandsAt b.class.machine (J ++ Enter the_object v os ∷ []) (Resting v) signals taken) (sym none)
       (after_enter b.class_is.machine J v signals taken (subst (λ n. StandsAt b.class.machine J n signals taken) now s)))
 
-  following_opened : (r : RegionId) (mode : Mode) (how : How) → MayFollow setting J (Opened the_object r mode how)
-      → (q : Progress) → Advances b.class.machine p (Opened the_object r mode how) q
-      → StandsAt b.class.machine (J ++ Opened the_object r mode how ∷ []) q signals taken
-  following_opened r mode how may q (to, enters, is) =
+  -- an opening that may follow is the one at the start, by the transition out of the initial vertex
+  pub opens_now : (r : RegionId) (mode : Mode) (how : How) → MayFollow setting J (Opened the_object r mode how)
+      → (p ≡ Opening) × (r ≡ top_region) × (mode ≡ Plain) × (how ≡ By (single_route first_transition))
+  opens_now r mode how may =
       let e : Entry = Opened the_object r mode how in
       let f = asks b J e A3 (λ e. cc) refl (may A3) in
       let first = item_is_first (items.Opened r mode) (is_started f.0 f.1 f.2) (asks b J e A8 (λ e. cc) refl (may A8) (items.Opened r mode) (refl, refl))
       (λ y step last called before. asks b J e A9 (λ e. cc) refl (may A9) (items.Opened r mode) y step (refl, refl) last called before) in
       let now = opening_only p r mode first.0 first.1 in
-      let truth = guards_at b.class (told_by J) J the_object in
-      let way : how ≡ By (single_route first_transition) =
-      opens_only b.class_is.machine truth J the_object how
-      (subst (λ k. CanOpen b.class.machine truth J the_object top_region k how) now.2
-      (subst (λ g. CanOpen b.class.machine truth J the_object g mode how) now.1 (asks b J e A10 (λ e. cc) refl (may A10)))) in
+      let truth = guards_at b.class (told_by J) J the_object in (
+        now.0,
+        now.1,
+        now.2,
+        opens_only b.class_is.machine truth J the_object how
+            (subst (λ k. CanOpen b.class.machine truth J the_object top_region k how) now.2
+            (subst (λ g. CanOpen b.class.machine truth J the_object g mode how) now.1 (asks b J e A10 (λ e. cc) refl (may A10)))),
+      )
+
+  following_opened : (r : RegionId) (mode : Mode) (how : How) → MayFollow setting J (Opened the_object r mode how)
+      → (q : Progress) → Advances b.class.machine p (Opened the_object r mode how) q
+      → StandsAt b.class.machine (J ++ Opened the_object r mode how ∷ []) q signals taken
+  following_opened r mode how may q (to, enters, is) =
+      let e : Entry = Opened the_object r mode how in
+      let now = opens_now r mode how may in
       subst (λ n. StandsAt b.class.machine (J ++ e ∷ []) n signals taken) (sym is)
       (subst (λ g. StandsAt b.class.machine (J ++ Opened the_object g mode how ∷ []) (Acting first_transition to) signals taken) (sym now.1)
       (subst (λ k. StandsAt b.class.machine (J ++ Opened the_object top_region k how ∷ []) (Acting first_transition to) signals taken) (sym now.2)
-      (subst (λ w. StandsAt b.class.machine (J ++ Opened the_object top_region Plain w ∷ []) (Acting first_transition to) signals taken) (sym way)
+      (subst (λ w. StandsAt b.class.machine (J ++ Opened the_object top_region Plain w ∷ []) (Acting first_transition to) signals taken) (sym now.3)
       (after_opened b.class_is.machine J to signals taken enters (subst (λ n. StandsAt b.class.machine J n signals taken) now.0 s)))))
 
   following_start : MayFollow setting J (Start the_object) → (q : Progress) → q ≡ Opening
@@ -200,10 +210,10 @@ module _ {setting : Setting} (b : IsBuilt setting) (J : List Entry) (p : Progres
       (after_take_one b.class_is.machine J firing a signals taken here lt t next.0 one leaves next.1)
   taken_fires firing a signal q rests lt advances (route ∷ other ∷ rest) are fires = absurd fires
 
-  following_take : (number : ℕ) (firing : Firing) → MayFollow setting J (Take the_object number firing)
-      → (q : Progress) → AdvancesByFiring b.class.machine p firing.routes q
-      → StandsAt b.class.machine (J ++ Take the_object number firing ∷ []) q signals (taken + 1)
-  following_take number firing may q advances =
+  -- a take that may follow takes the next signal with what it fires in the State where the object rests
+  pub takes_what : (number : ℕ) (firing : Firing) → MayFollow setting J (Take the_object number firing)
+      → (a : VertexId) × (next : IsNext J taken number) × (p ≡ Resting a) × FiresAt b.class.machine a next.signal.signal firing.routes
+  takes_what number firing may =
       let e : Entry = Take the_object number firing in
       let f = asks b J e A3 (λ e. cc) refl (may A3) in
       let finished = asks b J e A4 (λ e. cc) refl (may A4) in
@@ -211,14 +221,32 @@ module _ {setting : Setting} (b : IsBuilt setting) (J : List Entry) (p : Progres
       ⊎_elim (λ is. is) (λ left. absurd (step_unfinished b.class_is.machine J the_object p left.0 left.1 s.progress_is finished))
       (rests_or_left p (is_started f.0 f.1 f.2)) in
       let next = waiting_is_next b.class b.class_is.machine J the_object taken number s.all_to_object s.taken_is (asks b J e A6 (λ e. cc) refl (may A6)) in
-      let here : active_in p ≡ Some rests.0 = ap active_in rests.1 in
-      let fires = fires_is b.class_is.machine (stand_after b.class.machine J the_object)
-      (guards_under b.class (store_of b.class (told_by J) J the_object) (eight_of next.signal.args)) next.signal.signal rests.0 firing.routes
-      (s.active_there rests.0 here) (λ q active. let now = s.active q active in cc)
-      (asks b J e A7 (λ e. cc) refl (may A7) next.signal
-      (subst (λ n. told_by J n ≡ Some next.signal) (sym next.number_is) (told_next J taken next.signal next.there))) in
+      let here : active_in p ≡ Some rests.0 = ap active_in rests.1 in (
+        rests.0,
+        next,
+        rests.1,
+        fires_is b.class_is.machine (stand_after b.class.machine J the_object)
+            (guards_under b.class (store_of b.class (told_by J) J the_object) (eight_of next.signal.args)) next.signal.signal rests.0 firing.routes
+            (s.active_there rests.0 here) (λ q active. let now = s.active q active in cc)
+            (asks b J e A7 (λ e. cc) refl (may A7) next.signal
+            (subst (λ n. told_by J n ≡ Some next.signal) (sym next.number_is) (told_next J taken next.signal next.there))),
+      )
+
+  following_take : (number : ℕ) (firing : Firing) → MayFollow setting J (Take the_object number firing)
+      → (q : Progress) → AdvancesByFiring b.class.machine p firing.routes q
+      → StandsAt b.class.machine (J ++ Take the_object number firing ∷ []) q signals (taken + 1)
+  following_take number firing may q advances =
+      let (a, next, rests, fires) = takes_what number firing may in
       subst (λ n. StandsAt b.class.machine (J ++ Take the_object n firing ∷ []) q signals (taken + 1)) (sym next.number_is)
-      (taken_fires firing rests.0 next.signal.signal q rests.1 next.waits advances firing.routes refl fires)
+      (taken_fires firing a next.signal.signal q rests next.waits advances firing.routes refl fires)
+
+  -- no pick may follow
+  pub picks_nothing : (v : VertexId) (route : Route) → MayFollow setting J (Pick the_object v route) → ⊥
+  picks_nothing v route may =
+      let e : Entry = Pick the_object v route in
+      let f = asks b J e A3 (λ e. cc) refl (may A3) in
+      no_pick_waits p v (called_item_waits b.class_is.machine J the_object p (items.Pick v) (is_started f.0 f.1 f.2) s.progress_is
+      (asks b J e A8 (λ e. cc) refl (may A8) (items.Pick v) (refl, refl)))
 
   following_own : (e : Entry) → object_of e ≡ the_object → MayFollow setting J e → (q : Progress) → Advances b.class.machine p e q
       → StandsAt b.class.machine (J ++ e ∷ []) q (signals_after signals e) (taken_after taken e)
@@ -246,12 +274,7 @@ module _ {setting : Setting} (b : IsBuilt setting) (J : List Entry) (p : Progres
   following_own (Opened o r mode how) own may q is =
       subst (λ x. StandsAt b.class.machine (J ++ Opened x r mode how ∷ []) q signals taken) (sym own)
       (following_opened r mode how (subst (λ x. MayFollow setting J (Opened x r mode how)) own may) q is)
-  following_own (Pick o v route) own may q is =
-      let there = subst (λ x. MayFollow setting J (Pick x v route)) own may in
-      let e : Entry = Pick the_object v route in
-      let f = asks b J e A3 (λ e. cc) refl (there A3) in
-      absurd (no_pick_waits p v (called_item_waits b.class_is.machine J the_object p (items.Pick v) (is_started f.0 f.1 f.2) s.progress_is
-      (asks b J e A8 (λ e. cc) refl (there A8) (items.Pick v) (refl, refl))))
+  following_own (Pick o v route) own may q is = absurd (picks_nothing v route (subst (λ x. MayFollow setting J (Pick x v route)) own may))
   following_own (DoStep o v k outs) own may q is =
       let there = subst (λ x. MayFollow setting J (DoStep x v k outs)) own may in
       absurd (no_do_step b.class_is.machine J the_object v k (asks b J (DoStep the_object v k outs) A11 (λ e. cc) refl (there A11)))

@@ -1,6 +1,8 @@
 -- What a system keeps true, as its calls need it.
-use Rattle.std.proofs.Common.{◌≡◌, ◌+◌, ℕ, true, false, if◌then◌else◌, IsTrue, MatchOption, MatchBool, append-nil, ◌<◌, ◌≤◌, arith, get_or, All, ◌++◌, List, [], ◌∷◌, Bool, Vec, Global, Option, Some, None, length, sym, ap, subst, ◌∙◌}
-use Rattle.std.specs.Option.{option_to_list}
+use Rattle.std.proofs.Common.{◌≡◌, ◌↔◌, ◌+◌, ℕ, ℤ, true, false, if◌then◌else◌, IsTrue, MatchOption, MatchBool, append-nil, ◌<◌, ◌≤◌, arith, get_or, All, ◌++◌, List, [], ◌∷◌, Bool, Vec, Global, Option, Some, None, length, sym, ap, subst, ◌∙◌}
+use Rattle.std.specs.List.{AllByRecursion}
+use Rattle.std.specs.Option.{option_to_list, IfNone, IfSome}
+use Rattle.std.proofs.lemmas.List.{length-map}
 use Rattle.std.proofs.lemmas.Bool.{false≢true}
 use Rattle.pssm_model.specs.declared.ids.SignalId.{SignalId}
 use Rattle.pssm_model.specs.declared.elements.DraftMachine.{DraftMachine}
@@ -9,18 +11,28 @@ use Rattle.pssm_model.specs.declared.steps.Route.{Route}
 use Rattle.pssm_model.specs.declared.steps.Firing.{Firing}
 use Rattle.pssm_model.specs.OneRegion.{single_route}
 use Rattle.pssm_model.specs.BuiltMachine.{IsBuiltMachine}
+use Rattle.pssm_acts.specs.declared.entry.ObjectId.{ObjectId}
 use Rattle.pssm_acts.specs.declared.entry.Entry.{Entry}
 use Rattle.pssm_acts.specs.declared.entry.Entry.TheVariants.{Post, Start, Take, Done, Exit, Effect, Enter, Opened, Pick, DoStep}
 use Rattle.pssm_acts.specs.declared.entry.Rule.{Rule}
 use Rattle.pssm_acts.specs.declared.entry.Rule.TheVariants.{A1}
+use Rattle.pssm_acts.specs.declared.stimulus.Stimulus.{Stimulus}
 use Rattle.pssm_acts.specs.declared.setting.Class.{Class}
 use Rattle.pssm_acts.specs.declared.setting.Setting.{Setting}
 use Rattle.pssm_acts.specs.Known.{IsFiringOf, IsRouteOf}
 use Rattle.pssm_acts.specs.Rules.{Holds}
 use Rattle.pssm_acts.specs.Verdict.{IsFirstBroken}
-use Rattle.pssm_acts.specs.Runs.{MayFollow, IsAdmissibleIn}
-use Rattle.pssm_acts.specs.Built.{IsBuilt}
-use Rattle.pssm_acts.proofs.Appending.{admissible_push, admissible_none}
+use Rattle.pssm_acts.specs.Settings.{class_of}
+use Rattle.pssm_acts.specs.Journal.{IsPost}
+use Rattle.pssm_acts.specs.Values.{no_params}
+use Rattle.pssm_acts.specs.Pool.{signals_of, told_by}
+use Rattle.pssm_acts.specs.Behaviours.{store_of, params_of}
+use Rattle.pssm_acts.specs.Runs.{MayFollow, IsAdmissibleIn, IsQuiet, KeepsJournalLimits}
+use Rattle.pssm_acts.specs.Laws.{CompletesWithin, KeepsTakes, KeepsRegions}
+use Rattle.pssm_acts.specs.Built.{IsBuilt, IsPlainClass, IsPlainEntry}
+use Rattle.pssm_acts.proofs.Appending.{every_push, admissible_push, admissible_none}
+use Rattle.pssm_acts.proofs.Outputs.{signals_of-within}
+use Rattle.pssm_acts.proofs.Takes.{admissible-keeps_takes}
 use Rattle.pssm_system.specs.declared.progress.Progress.TheVariants.{Unstarted}
 use Rattle.pssm_system.specs.declared.judging.Standing.{Standing}
 use Rattle.pssm_system.specs.History.{History}
@@ -32,7 +44,13 @@ use Rattle.pssm_system.specs.Advancing.{Advances, signals_after, taken_after}
 use Rattle.pssm_system.proofs.Kept.{class_is}
 use Rattle.pssm_system.proofs.Judged.{IsJudged, judged}
 use Rattle.pssm_system.proofs.Advancing.{at_the_start}
+use Rattle.pssm_system.specs.Choosing.{IsIdle, Chooses}
 use Rattle.pssm_system.proofs.Following.{following, next_waits}
+use Rattle.pssm_system.proofs.Chosen.{chosen_follows, none_is_idle, idle_is_quiet, quiet_is_idle}
+use Rattle.pssm_system.proofs.Completing.{completes}
+use Rattle.pssm_system.proofs.Plain.{is_plain}
+use Rattle.pssm_system.proofs.Regions.{keeps_regions}
+use Rattle.pssm_system.proofs.Values.{nothing_stored, zero_params}
 
 -- the transitions that a take names are those of the machine
 named : {setting : Setting} (b : IsBuilt setting) (J : List Entry) (e : Entry) → Holds setting A1 J e → NamesTransitions b.class.machine e
@@ -67,33 +85,33 @@ module _ (h : History) (standing : Standing) (rows : List (Vec Bool Global)) (se
       (subst (λ n. Judges n standing.progress standing.signals.items standing.taken e answer) machine_is judges))
 
   pub keeps_all : Holds h.setting A1 h.journal e → (answer : Option Rule) → Judges m standing.progress standing.signals.items standing.taken e answer
-      → answer ≡ None → MayFollow h.setting h.journal e
-  keeps_all names answer judges none = subst (IsJudged h.setting h.journal e) none (verdict_seen names answer judges)
+      → IfNone answer (MayFollow h.setting h.journal e)
+  keeps_all names None judges = verdict_seen names None judges
+  keeps_all names (Some rule) judges = tt
 
   pub breaks_first : Holds h.setting A1 h.journal e → (answer : Option Rule) → Judges m standing.progress standing.signals.items standing.taken e answer
-      → (rule : Rule) → answer ≡ Some rule → IsFirstBroken (Holds h.setting) h.journal e rule
-  breaks_first names answer judges rule some = subst (IsJudged h.setting h.journal e) some (verdict_seen names answer judges)
+      → IfSome answer (IsFirstBroken (Holds h.setting) h.journal e)
+  breaks_first names None judges = tt
+  breaks_first names (Some rule) judges = verdict_seen names (Some rule) judges
 
   -- what is kept once an entry that may follow is appended
-  pub keeps_longer : MayFollow h.setting h.journal e → (next : Standing) → Advances m standing.progress e next.progress
+  pub keeps_longer : MayFollow h.setting h.journal e → KeepsJournalLimits (h.journal ++ e ∷ []) → (next : Standing) → Advances m standing.progress e next.progress
       → next.signals.items ≡ signals_after standing.signals.items e → next.taken ≡ taken_after standing.taken e
       → KeepsRun setting (J ++ e ∷ []) next rows
-  keeps_longer may next advances signals taken =
+  keeps_longer may limits next advances signals taken =
       let follows : MayFollow setting J e = subst (λ (v : History). MayFollow v.setting v.journal e) (sym view_is) may in
       record {
         built = k.built;
         admissible = admissible_push setting J e k.admissible follows;
+        limits = subst (λ (v : History). KeepsJournalLimits (v.journal ++ e ∷ [])) (sym view_is) limits;
+        plain = every_push IsPlainEntry J e k.plain
+            (is_plain k.built J standing.progress standing.signals.items standing.taken k.stands e follows);
         stands = subst (λ n. StandsAt k.built.class.machine (J ++ e ∷ []) next.progress next.signals.items n) (sym taken)
             (subst (λ gs. StandsAt k.built.class.machine (J ++ e ∷ []) next.progress gs (taken_after standing.taken e)) (sym signals)
             (following k.built J standing.progress standing.signals.items standing.taken k.stands e follows next.progress
             (subst (λ n. Advances n standing.progress e next.progress) machine_is advances)));
         reactions = k.reactions;
       }
-
-  -- the longer journal is that of an admissible run
-  pub admissible_longer : MayFollow h.setting h.journal e → IsAdmissibleIn setting (J ++ e ∷ [])
-  admissible_longer may =
-      admissible_push setting J e k.admissible (subst (λ (v : History). MayFollow v.setting v.journal e) (sym view_is) may)
 
   -- the machine is one of those that the code runs
   pub machine_built : IsBuiltMachine m
@@ -105,6 +123,67 @@ module _ (h : History) (standing : Standing) (rows : List (Vec Bool Global)) (se
       next_waits k.built J standing.progress standing.signals.items standing.taken k.stands e
       (subst (λ (v : History). MayFollow v.setting v.journal e) (sym view_is) may) takes
 
+-- what a system tells of itself
+module _ (h : History) (standing : Standing) (rows : List (Vec Bool Global)) (setting : Setting) (J : List Entry) (k : KeepsRun setting J standing rows)
+    (view_is : let seen : History = record { setting = setting; journal = J } in seen ≡ h) where
+  seen : (P : Setting → List Entry → Type 0) → P setting J → P h.setting h.journal
+  seen P here = subst (λ (v : History). P v.setting v.journal) view_is here
+
+  pub completes_seen : CompletesWithin h.setting h.journal 3
+  completes_seen =
+      seen (λ s js. CompletesWithin s js 3) (completes k.built J standing.progress standing.signals.items standing.taken k.stands k.admissible)
+
+  -- the laws of all admissible journals
+  pub laws_seen : KeepsTakes h.setting h.journal × KeepsRegions h.setting h.journal
+  laws_seen = (seen KeepsTakes (admissible-keeps_takes setting J k.admissible), seen KeepsRegions (keeps_regions k.built J k.admissible))
+
+  -- it is quiet exactly where the object rests and no signal waits
+  pub quiet_seen : (b : Bool) → IsTrue b ↔ IsIdle standing.progress standing.signals.items standing.taken → IsTrue b ↔ IsQuiet h.setting h.journal
+  quiet_seen b says = (
+    λ is. seen IsQuiet (idle_is_quiet k.built J standing.progress standing.signals.items standing.taken k.stands (says.0 is)),
+    λ quiet. says.1
+        (quiet_is_idle k.built J standing.progress standing.signals.items standing.taken rows k.reactions k.stands
+        (subst (λ (v : History). IsQuiet v.setting v.journal) (sym view_is) quiet)),
+  )
+
+  -- the signals are within the limits
+  pub few_signals : length standing.signals.items ≤ 2000000
+  few_signals =
+      let long = ap length k.stands.signals_are ∙ length-map (signals_of J) (λ (x : Stimulus). x.signal) in
+      let within = signals_of-within J in
+      let few = k.limits.outputs in
+      omega arith
+
+  -- what is chosen may follow, and nothing is chosen where nothing may
+  module _ (m : DraftMachine) (machine_is : m ≡ k.built.class.machine) where
+    own_machine : (chosen : Option Entry) → Chooses m standing.progress standing.signals.items standing.taken chosen
+        → Chooses k.built.class.machine standing.progress standing.signals.items standing.taken chosen
+    own_machine chosen is = subst (λ n. Chooses n standing.progress standing.signals.items standing.taken chosen) machine_is is
+
+    pub chosen_seen : (chosen : Option Entry) → Chooses m standing.progress standing.signals.items standing.taken chosen
+        → IfSome chosen (λ e. (IsPost e → ⊥) × MayFollow h.setting h.journal e)
+    chosen_seen None is = tt
+    chosen_seen (Some e) is =
+        let may = chosen_follows k.built J standing.progress standing.signals.items standing.taken k.stands e (own_machine (Some e) is) in
+        (may.0, seen (λ s js. MayFollow s js e) may.1)
+
+    pub none_seen : (chosen : Option Entry) → Chooses m standing.progress standing.signals.items standing.taken chosen
+        → IfNone chosen (IsQuiet h.setting h.journal)
+    none_seen None is =
+        seen IsQuiet (idle_is_quiet k.built J standing.progress standing.signals.items standing.taken k.stands
+        (none_is_idle k.built standing.progress standing.signals.items standing.taken (own_machine None is)))
+    none_seen (Some e) is = tt
+
+  -- nothing is stored, and the parameters are zeros
+  pub store_seen : (store : List ℤ) → store ≡ [] → (o : ObjectId) (c : Class) → class_of h.setting o ≡ Some c → store ≡ store_of c (told_by h.journal) h.journal o
+  store_seen store none o c is =
+      let here : class_of setting o ≡ Some c = subst (λ (v : History). class_of v.setting o ≡ Some c) (sym view_is) is in
+      let plain : IsPlainClass c = subst IsPlainClass (sym (class_is k.built o c here).1) k.built.class_is in
+      none ∙ sym (nothing_stored c plain (told_by h.journal) o h.journal)
+
+  pub params_seen : (params : List ℤ) → params ≡ no_params → (o : ObjectId) → params ≡ params_of (told_by h.journal) h.journal o
+  params_seen params zeros o = zeros ∙ sym (seen (λ s js. params_of (told_by js) js o ≡ no_params) (zero_params J o k.plain))
+
 -- where nothing has changed, the same is kept
 pub keeps_same : (setting : Setting) (J K : List Entry) (standing next : Standing) (rows : List (Vec Bool Global)) → KeepsRun setting J standing rows → K ≡ J
     → next.progress ≡ standing.progress → next.signals.items ≡ standing.signals.items → next.taken ≡ standing.taken → KeepsRun setting K next rows
@@ -112,6 +191,8 @@ keeps_same setting J K standing next rows k entries progress signals taken =
     let there : KeepsRun setting J next rows = record {
       built = k.built;
       admissible = k.admissible;
+      limits = k.limits;
+      plain = k.plain;
       stands = subst (λ p. StandsAt k.built.class.machine J p next.signals.items next.taken) (sym progress)
           (subst (λ gs. StandsAt k.built.class.machine J standing.progress gs next.taken) (sym signals)
           (subst (StandsAt k.built.class.machine J standing.progress standing.signals.items) (sym taken) k.stands));
@@ -143,6 +224,8 @@ pub keeps_new : (setting : Setting) (b : IsBuilt setting) (J : List Entry) (stan
 keeps_new setting b J standing rows m machine_is empty unstarted no_signals none_taken table = record {
   built = b;
   admissible = subst (λ js. IsAdmissibleIn setting js) (sym empty) (admissible_none setting);
+  limits = subst KeepsJournalLimits (sym empty) (record { entries = omega arith; outputs = omega arith });
+  plain = subst (AllByRecursion IsPlainEntry) (sym empty) tt;
   stands = subst (λ js. StandsAt b.class.machine js standing.progress standing.signals.items standing.taken) (sym empty)
       (subst (λ p. StandsAt b.class.machine [] p standing.signals.items standing.taken) (sym unstarted)
       (subst (λ gs. StandsAt b.class.machine [] Unstarted gs standing.taken) (sym no_signals)

@@ -134,7 +134,7 @@ module _ {setting : Setting} (b : IsBuilt setting) where
   holds J e A11 other h = λ k is. subst (λ k. KeepsShared k A11 J e) (sym (class_is (object_of e) k is).1) h
   holds J e A12 other h = λ k is. subst (λ k. KeepsShared k A12 J e) (sym (class_is (object_of e) k is).1) h
 
-  own_class : (o : ObjectId) → o ≡ the_object → class_of setting o ≡ Some b.class
+  pub own_class : (o : ObjectId) → o ≡ the_object → class_of setting o ≡ Some b.class
   own_class o own = subst (λ p. class_of setting p ≡ Some b.class) (sym own) class_there
 
   pub asks : (J : List Entry) (e : Entry) (rule : Rule) → rule ≢ A1 → object_of e ≡ the_object → Holds setting rule J e → KeepsShared b.class rule J e

@@ -9,3 +9,10 @@ pub mod Following
 pub mod Marks
 pub mod Histories
 pub mod Samples
+pub mod Choices
+pub mod Chosen
+pub mod Completing
+pub mod Limits
+pub mod Plain
+pub mod Values
+pub mod Regions

@@ -206,12 +206,12 @@ module _ {m : DraftMachine} (b : IsBuiltMachine m) where
       no_steps (Some x) none lt = let e = ap length (none x refl) in omega arith
 
 -- the behaviours are all empty, so no entry has outputs
-act_is_empty : (c : Class) (plain : IsPlainClass c) → (n : ℕ) (a : Act) → slice_get c.program.acts n ≡ Some a → a.stmts ≡ []
+pub act_is_empty : (c : Class) (plain : IsPlainClass c) → (n : ℕ) (a : Act) → slice_get c.program.acts n ≡ Some a → a.stmts ≡ []
 act_is_empty c plain n a e =
     let one = only_element plain.empty a n (subst (λ acts. slice_get acts n ≡ Some a) plain.acts e) in
     ap (λ (x : Act). x.stmts) one.1 ∙ plain.nothing
 
-act_found : (c : Class) (e : Entry) (a : Act) → act_of c e ≡ Some a → (n : ℕ) × (slice_get c.program.acts n ≡ Some a)
+pub act_found : (c : Class) (e : Entry) (a : Act) → act_of c e ≡ Some a → (n : ℕ) × (slice_get c.program.acts n ≡ Some a)
 act_found c (Exit o s outs) a h = let found = and_then_some (λ (x : Vertex). act_at c x.exit) (vertex_at c.machine s) a h in (found.0.exit.0, found.2)
 act_found c (Enter o s outs) a h = let found = and_then_some (λ (x : Vertex). act_at c x.entry) (vertex_at c.machine s) a h in (found.0.entry.0, found.2)
 act_found c (Effect o t outs) a h = let found = and_then_some (λ (x : Transition). act_at c x.effect) (transition_at c.machine t) a h in (found.0.effect.0, found.2)

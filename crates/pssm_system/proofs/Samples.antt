@@ -1,27 +1,47 @@
--- The setting of the tests is one that the code runs.
-use Rattle.std.proofs.Common.{Some, sym, subst, ◌≡◌, List, [], ◌∷◌, refl, arith}
+-- The settings of the tests are ones that the code runs.
+use Rattle.std.proofs.Common.{Some, sym, subst, ◌≡◌, ◌≤◌, List, [], ◌∷◌, length, Bool, true, false, if◌then◌else◌, refl, arith}
+use Rattle.std.specs.List.{AllByRecursion}
+use Rattle.pssm_model.specs.declared.elements.Transition.{Transition}
 use Rattle.pssm_model.specs.declared.elements.VertexKind.TheVariants as kinds
-use Rattle.pssm_model.specs.BuiltMachine.{IsBuiltMachine, IsPlainVertex}
-use Rattle.pssm_model.specs.Shape.{HasShape}
-use Rattle.pssm_model.proofs.BuiltShape.{built_has_shape}
+use Rattle.pssm_model.specs.BuiltMachine.{IsBuiltMachine, IsPlainVertex, IsSignalTransition}
 use Rattle.pssm_acts.specs.declared.entry.Entry.{Entry}
 use Rattle.pssm_acts.specs.declared.entry.Rule.TheVariants.{A1}
 use Rattle.pssm_acts.specs.declared.setting.Setting.{Setting}
 use Rattle.pssm_acts.specs.Settings.{class_of}
 use Rattle.pssm_acts.specs.Rules.{Holds}
 use Rattle.pssm_system.proofs.Kept.{class_there}
-use Rattle.pssm_acts.specs.Built.{IsBuilt}
-use Rattle.pssm_system.specs.Sample.{sample_vertex, sample_transition, sample_machine, sample_class, sample_setting, IsNamed}
+use Rattle.pssm_acts.specs.Built.{IsBuilt, ListsSignals}
+use Rattle.pssm_system.specs.Sample.{sample_vertex, sample_transition, to_b, sample_machine, sample_class, sample_setting, IsNamed}
 
 plain_vertex : (kind : _) → IsPlainVertex kind (sample_vertex kind)
 plain_vertex kind = record { owner = refl; kind_is = refl; entry = refl; exit = refl; steps = refl; defers = refl }
 
-machine_is_built : IsBuiltMachine sample_machine
-machine_is_built = record {
+to_b_is : IsSignalTransition 3 to_b
+to_b_is = record {
+  plain = record { target_is_state = omega arith; target_in_range = omega arith; kind = refl; guard = refl; effect = refl };
+  source_is_state = omega arith;
+  source_in_range = omega arith;
+  triggers = λ none. cc;
+}
+
+-- the second transition of a forked machine
+abbrev second_of : Bool → List Transition
+second_of forked = if forked then to_b ∷ [] else []
+
+second_is : (forked : Bool) → AllByRecursion (IsSignalTransition 3) (second_of forked)
+second_is true = (to_b_is, tt)
+second_is false = tt
+
+few_seconds : (forked : Bool) → length (second_of forked) ≤ 1
+few_seconds true = omega arith
+few_seconds false = omega arith
+
+machine_is_built : (forked : Bool) → IsBuiltMachine (sample_machine forked)
+machine_is_built forked = record {
   initial = sample_vertex kinds.Initial;
   states = sample_vertex kinds.State ∷ sample_vertex kinds.State ∷ [];
   first = sample_transition 0 1 [];
-  others = sample_transition 1 2 (record { 0 = 0 } ∷ []) ∷ [];
+  others = to_b ∷ second_of forked;
   regions = refl;
   vertices = refl;
   transitions = refl;
@@ -32,25 +52,21 @@ machine_is_built = record {
     source = refl;
     triggers = refl;
   };
-  others_are = (
-    record {
-      plain = record { target_is_state = omega arith; target_in_range = omega arith; kind = refl; guard = refl; effect = refl };
-      source_is_state = omega arith;
-      source_in_range = omega arith;
-      triggers = λ none. cc;
-    },
-    tt,
-  );
+  others_are = (to_b_is, second_is forked);
   few_vertices = omega arith;
-  few_transitions = omega arith;
+  few_transitions = let few = few_seconds forked in omega arith;
 }
 
-pub sample_has_shape : HasShape sample_machine
-sample_has_shape = built_has_shape machine_is_built
+to_b_lists : ListsSignals 1 to_b
+to_b_lists = record { known = (omega arith, tt); ascending = λ i j d lt within. absurd (omega arith) }
 
-pub sample_is_built : IsBuilt sample_setting
-sample_is_built = record {
-  class = sample_class;
+second_lists : (forked : Bool) → AllByRecursion (ListsSignals 1) (second_of forked)
+second_lists true = (to_b_lists, tt)
+second_lists false = tt
+
+pub sample_is_built : (forked : Bool) → IsBuilt (sample_setting forked)
+sample_is_built forked = record {
+  class = sample_class forked;
   object = record { name = 97 ∷ []; class = 0 };
   signals_are = (record { name = record { spelled = refl; short = omega arith }; count = refl }, tt);
   signals_differ = λ i j d lt within. absurd (omega arith);
@@ -65,19 +81,17 @@ sample_is_built = record {
     nothing = refl;
     guards = refl;
     marks = refl;
-    machine = machine_is_built;
+    machine = machine_is_built forked;
   };
   object_name = record { spelled = refl; short = omega arith };
   object_class = refl;
-  triggers = (
-    record { known = tt; ascending = λ i j d lt within. absurd (omega arith) },
-    (record { known = (omega arith, tt); ascending = λ i j d lt within. absurd (omega arith) }, tt),
-  );
+  triggers = (record { known = tt; ascending = λ i j d lt within. absurd (omega arith) }, (to_b_lists, second_lists forked));
 }
 
 -- an entry that names what the sample has keeps the first rule
-pub named_holds : (setting : Setting) (J : List Entry) (e : Entry) → setting ≡ sample_setting → IsNamed e → Holds setting A1 J e
+pub named_holds : (forked : Bool) (setting : Setting) (J : List Entry) (e : Entry) → setting ≡ sample_setting forked → IsNamed forked e → Holds setting A1 J e
 unfolding sample_is_built
-named_holds setting J e is named =
-    let there = class_there sample_is_built in
-    subst (λ (s : Setting). Holds s A1 J e) (sym is) (sample_class, subst (λ o. class_of sample_setting o ≡ Some sample_class) (sym named.0) there, named.1)
+named_holds forked setting J e is named =
+    let there = class_there (sample_is_built forked) in
+    subst (λ (s : Setting). Holds s A1 J e) (sym is)
+    (sample_class forked, subst (λ o. class_of (sample_setting forked) o ≡ Some (sample_class forked)) (sym named.0) there, named.1)

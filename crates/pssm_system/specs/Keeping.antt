@@ -1,17 +1,26 @@
 -- What a system keeps true of its parts.
-use Rattle.std.specs.Prelude.{List, Bool, Vec}
+use Rattle.std.specs.Prelude.{◌≡◌, ℤ, List, [], Bool, Vec}
+use Rattle.std.specs.List.{AllByRecursion}
 use Rattle.std.specs.declared.alloc.Global.{Global}
 use Rattle.pssm_acts.specs.declared.entry.Entry.{Entry}
 use Rattle.pssm_acts.specs.declared.setting.Setting.{Setting}
-use Rattle.pssm_acts.specs.Built.{IsBuilt}
-use Rattle.pssm_acts.specs.Runs.{IsAdmissibleIn}
+use Rattle.pssm_acts.specs.Values.{no_params}
+use Rattle.pssm_acts.specs.Built.{IsBuilt, IsPlainEntry}
+use Rattle.pssm_acts.specs.Runs.{IsAdmissibleIn, KeepsJournalLimits}
 use Rattle.pssm_system.specs.declared.judging.Standing.{Standing}
 use Rattle.pssm_system.specs.Standing.{StandsAt}
 use Rattle.pssm_system.specs.Reactions.{AreReactions}
 
--- a setting that the code runs, a journal of an admissible run of it, what is kept of the journal, and the table of the machine
+-- a setting that the code runs, a journal of an admissible run of it within the limits, what is kept of the journal, and the table of the machine
 pub record KeepsRun (setting : Setting) (J : List Entry) (standing : Standing) (rows : List (Vec Bool Global)) : Type 0 where
   pub built : IsBuilt setting
   pub admissible : IsAdmissibleIn setting J
+  pub limits : KeepsJournalLimits J
+  pub plain : AllByRecursion IsPlainEntry J
   pub stands : StandsAt built.class.machine J standing.progress standing.signals.items standing.taken
   pub reactions : AreReactions built.class.machine rows
+
+-- the values of no variables, and eight zeros as parameters
+pub record KeepsValues (store params : List ℤ) : Type 0 where
+  pub store_is : store ≡ []
+  pub params_are : params ≡ no_params

@@ -4,4 +4,5 @@ pub mod Judging
 pub mod Reactions
 pub mod Keeping
 pub mod Advancing
+pub mod Choosing
 pub mod Sample

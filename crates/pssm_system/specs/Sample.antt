@@ -1,5 +1,5 @@
--- The setting of the tests: a machine that goes from A to B on Go.
-use Rattle.std.specs.Prelude.{◌≡◌, ℕ, List, [], ◌∷◌}
+-- The settings of the tests: machines that go from A to B on Go, by one transition or by two.
+use Rattle.std.specs.Prelude.{◌≡◌, ℕ, List, [], ◌∷◌, Bool, if◌then◌else◌}
 use Rattle.pssm_model.specs.declared.elements.DraftMachine.{DraftMachine}
 use Rattle.pssm_model.specs.declared.elements.Vertex.{Vertex}
 use Rattle.pssm_model.specs.declared.elements.VertexKind.{VertexKind}
@@ -26,31 +26,35 @@ abbrev pub sample_transition : ℕ → ℕ → List SignalId → Transition
 sample_transition source target triggers =
     record { source = record { 0 = source }; target = record { 0 = target }; kind = External; triggers = triggers; guard = Always; effect = record { 0 = 0 } }
 
--- the initial vertex, A and B
-abbrev pub sample_machine : DraftMachine
-sample_machine = record {
+-- the transition from A to B on Go
+abbrev pub to_b : Transition
+to_b = sample_transition 1 2 (record { 0 = 0 } ∷ [])
+
+-- the initial vertex, A and B; a forked machine has a second transition from A to B
+abbrev pub sample_machine : Bool → DraftMachine
+sample_machine forked = record {
   regions = Top ∷ [];
   vertices = sample_vertex kinds.Initial ∷ sample_vertex kinds.State ∷ sample_vertex kinds.State ∷ [];
-  transitions = sample_transition 0 1 [] ∷ sample_transition 1 2 (record { 0 = 0 } ∷ []) ∷ [];
+  transitions = sample_transition 0 1 [] ∷ to_b ∷ (if forked then to_b ∷ [] else []);
 }
 
 -- the class `M`, which has no behaviour but the empty one
-abbrev pub sample_class : Class
-sample_class = record {
+abbrev pub sample_class : Bool → Class
+sample_class forked = record {
   name = 77 ∷ [];
   vars = [];
-  machine = sample_machine;
+  machine = sample_machine forked;
   program = record { acts = record { stmts = [] } ∷ []; guards = []; marks = [] };
 }
 
 -- the signal `Go`, the class, and the object `a`
-abbrev pub sample_setting : Setting
-sample_setting = record {
+abbrev pub sample_setting : Bool → Setting
+sample_setting forked = record {
   signals = record { name = 71 ∷ 111 ∷ []; count = 0 } ∷ [];
-  classes = sample_class ∷ [];
+  classes = sample_class forked ∷ [];
   objects = record { name = 97 ∷ []; class = 0 } ∷ [];
 }
 
 -- Every name of the entry is one of the sample's.
-abbrev pub IsNamed : Entry → Type 0
-IsNamed e = (object_of e ≡ the_object) × NamesKnown sample_setting sample_class e
+abbrev pub IsNamed : Bool → Entry → Type 0
+IsNamed forked e = (object_of e ≡ the_object) × NamesKnown (sample_setting forked) (sample_class forked) e

@@ -2,6 +2,7 @@
 use Rattle.std.specs.Prelude.{◌≡◌, ◌⊎◌, ◌≤◌, ◌<◌, true, false, ℕ, List, [], ◌∷◌, length, map, Option, Some, None, Contains}
 use Rattle.std.specs.List.{AllByRecursion, list_any}
 use Rattle.pssm_model.specs.declared.ids.VertexId.{VertexId}
+use Rattle.pssm_model.specs.declared.ids.TransId.{TransId}
 use Rattle.pssm_model.specs.declared.ids.SignalId.{SignalId}
 use Rattle.pssm_model.specs.declared.elements.DraftMachine.{DraftMachine}
 use Rattle.pssm_model.specs.declared.steps.Route.{Route}
@@ -14,6 +15,7 @@ use Rattle.pssm_acts.specs.declared.entry.Entry.{Entry}
 use Rattle.pssm_acts.specs.Journal.{StepAt, IsLastStep, IsActive, IsPost, IsStart}
 use Rattle.pssm_acts.specs.Items.{Called, Before, HasRun, HeadGoesBy}
 use Rattle.pssm_acts.specs.Pool.{signals_of, takes}
+use Rattle.pssm_acts.specs.Known.{IsVertexOf}
 use Rattle.pssm_system.specs.declared.progress.Progress.{Progress}
 use Rattle.pssm_system.specs.declared.progress.Progress.TheVariants.{Unstarted, Opening, Resting, Exiting, Acting, Entering}
 
@@ -47,6 +49,18 @@ active_in _ = None
 abbrev pub IsStarted : Progress → Type 0
 IsStarted Unstarted = ⊥
 IsStarted _ = Unit {0}
+
+-- the transition is one of the machine
+abbrev pub IsTransitionOf : DraftMachine → TransId → Type 0
+IsTransitionOf m t = t.0 < length m.transitions
+
+-- What the progress names is of the machine.
+abbrev pub IsProgressIn : DraftMachine → Progress → Type 0
+IsProgressIn m (Resting state) = IsVertexOf m state
+IsProgressIn m (Exiting from by to) = IsVertexOf m from × IsTransitionOf m by × IsVertexOf m to
+IsProgressIn m (Acting by to) = IsTransitionOf m by × IsVertexOf m to
+IsProgressIn m (Entering to) = IsVertexOf m to
+IsProgressIn m _ = Unit {0}
 
 -- each of the items comes before the next
 abbrev pub IsInOrder : DraftMachine → ObjectId → StepAt → List Item → Type 0
@@ -89,6 +103,7 @@ pub record HasTaken (J : List Entry) (o : ObjectId) (taken : ℕ) : Type 0 where
 -- what is kept of a journal of the one object, beside the journal
 pub record StandsAt (m : DraftMachine) (J : List Entry) (progress : Progress) (signals : List SignalId) (taken : ℕ) : Type 0 where
   pub progress_is : IsProgressOf m J the_object progress
+  pub names : IsProgressIn m progress
   pub active : (s : VertexId) → IsActive J the_object s → active_in progress ≡ Some s
   pub active_there : (s : VertexId) → active_in progress ≡ Some s → IsActive J the_object s
   pub signals_are : signals ≡ map (λ x. x.signal) (signals_of J)

@@ -186,16 +186,16 @@ fn is_reaction(machine: &Machine, state: VertexId, signal: SignalId, route: &Rou
         None => false,
         Some(start) => {
             let transition = machine.transition(start);
-            transition.source == state && lists(transition, signal)
+            reacts_in(transition, state, signal)
         }
     }
 }
 
-/// Whether the transition lists the signal among its triggers.
-fn lists(transition: &Transition, signal: SignalId) -> bool
-    ensures { IsTrue result ↔ Contains transition.now.triggers signal }
+/// Whether the transition leaves the State and lists the signal among its triggers.
+pub fn reacts_in(transition: &Transition, state: VertexId, signal: SignalId) -> bool
+    ensures { IsTrue result ↔ (transition.now.source ≡ state) × Contains transition.now.triggers signal }
 {
-    transition.triggers.as_slice().contains(&signal)
+    transition.source == state && transition.triggers.as_slice().contains(&signal)
 }
 
 /// The verdict on an item, but for its way and its outputs.

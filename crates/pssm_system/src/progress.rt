@@ -4,7 +4,7 @@ ghost use Rattle.std.specs.Prelude.{◌≡◌, ◌↔◌, IsTrue, Contains, slic
 use pssm_model::{Item, Mode, RegionId, TransId, VertexId};
 
 /// The one region of the machine.
-const TOP_REGION: RegionId = RegionId(0);
+pub const TOP_REGION: RegionId = RegionId(0);
 
 /// Where the object of a machine of one region stands (UML 2.5.1, 14.2.3.9, run to completion).
 #[derive(Clone, Copy, PartialEq, Eq, Debug)]

@@ -1,8 +1,9 @@
 //! Routes of one transition, which are all that a machine of one region has.
-ghost use Rattle.std.specs.Prelude.{◌≡◌, MatchOption};
+ghost use Rattle.std.specs.Prelude.{◌≡◌, MatchOption, IfOk};
 ghost use Rattle.pssm_model.specs.OneRegion.{single_route};
 
-use pssm_model::{Route, TransId};
+use pssm_model::{Route, Row, TransId};
+use std::alloc::{AllocError as NoMemory, Global};
 
 /// The transition out of the initial vertex.
 pub const FIRST_TRANSITION: TransId = TransId(0);
@@ -15,4 +16,14 @@ pub fn single_start(route: &Route) -> Option<TransId>
         ([start], []) => Some(*start),
         _ => None,
     }
+}
+
+/// The route that is this transition and no more.
+pub fn single_route(alloc: Global, transition: TransId) -> Result<Route, NoMemory>
+    ensures { IfOk result (λ route. route ≡ single_route transition) }
+{
+    Ok(Route {
+        starts: Row::from_vec(vec![in alloc; transition]?),
+        rest: Row::from_vec(Vec::new(alloc)),
+    })
 }

@@ -1,12 +1,14 @@
 //! `System`: a setting and the journal of an admissible run of it.
-ghost use Rattle.std.specs.Prelude.{◌≡◌, ◌++◌, ◌∷◌, [], IfOk, OnOk, OnErr, Some, None};
-ghost use Rattle.pssm_acts.specs.Built.{IsBuilt};
+ghost use Rattle.std.specs.Prelude.{◌≡◌, ◌<◌, ◌↔◌, ◌++◌, ◌∷◌, [], length, IsTrue, IfOk, IfNone, IfSome, OnOk, OnErr, Some};
+ghost use Rattle.std.specs.List.{AllByRecursion};
+ghost use Rattle.pssm_acts.specs.Values.{no_params};
+ghost use Rattle.pssm_acts.specs.Built.{IsBuilt, IsPlainEntry};
 
 use crate::judging::Standing;
 use crate::progress::Progress;
 use crate::reactions::{Reactions, reactions_of};
 use crate::stepping::{posted_signal, progress_after, takes_signal};
-use pssm_acts::{Entry, Rule, Setting};
+use pssm_acts::{Args, Entry, ObjectId, Rule, Setting};
 use pssm_model::Machine;
 use std::alloc::{AllocError as NoMemory, Global};
 use std::marker::Model;
@@ -17,10 +19,15 @@ use std::marker::Model;
 /// judging an entry and appending one take the same time however long the journal is.
 #[derive(Drop)]
 pub struct System {
+    alloc: Global,
     setting: Setting,
     entries: Vec<Entry>,
     standing: Standing,
     reactions: Reactions,
+    /// The values of the variables of the class, which has none.
+    store: Vec<i64>,
+    /// The parameters of the object's step: eight zeros, since no signal has arguments.
+    params: Args,
 }
 
 impl Model for System {
@@ -34,18 +41,24 @@ impl Model for System {
 
     ghost coded = { Prim.hlevel (codes, stmt.the_row.coded, cond.the_row.coded, expr.the_row.coded) };
 
-    ghost use Rattle.pssm_system.specs.Keeping.{KeepsRun};
+    ghost use Rattle.pssm_system.specs.Keeping.{KeepsRun, KeepsValues};
 
     ghost view = { λ s. record { setting = s.setting; journal = s.entries.items } };
 
-    ghost invariant = { λ s. KeepsRun s.setting s.entries.items s.standing s.reactions.rows.items };
+    ghost invariant = { λ s. KeepsRun s.setting s.entries.items s.standing s.reactions.rows.items × KeepsValues s.store.items s.params };
 }
 
 impl System {
+    ghost use Rattle.pssm_acts.specs.Settings.{class_of};
+    ghost use Rattle.pssm_acts.specs.Journal.{IsPost};
+    ghost use Rattle.pssm_acts.specs.Pool.{told_by};
+    ghost use Rattle.pssm_acts.specs.Behaviours.{store_of, params_of};
     ghost use Rattle.pssm_acts.specs.Rules.{Holds};
-    ghost use Rattle.pssm_acts.specs.Runs.{MayFollow, IsAdmissibleIn};
+    ghost use Rattle.pssm_acts.specs.Runs.{MayFollow, IsAdmissibleIn, IsQuiet, KeepsJournalLimits};
+    ghost use Rattle.pssm_acts.specs.Laws.{CompletesWithin, KeepsTakes, KeepsRegions};
     ghost use Rattle.pssm_acts.specs.Verdict.{IsFirstBroken};
     ghost use Rattle.pssm_acts.specs.declared.entry.Rule.TheVariants.{A1};
+    ghost use Rattle.pssm_acts.specs.declared.setting.Class.{Class};
 
     /// A system with no entry yet.
     ///
@@ -53,14 +66,15 @@ impl System {
     pub fn new(alloc: Global, setting: Setting) -> Result<System, NoMemory>
         requires { IsBuilt setting }
         ensures start { IfOk result (λ system. system ≡ record { setting = setting; journal = [] }) }
-        ensures admissible { IfOk result (λ system. IsAdmissibleIn system.setting system.journal) }
     {
         let reactions = reactions_of(
             alloc,
             machine_of(&setting),
             setting.signals.as_slice().len(),
         )?;
+        let params = zero_params(alloc)?;
         Ok(System {
+            alloc,
             setting,
             entries: Vec::new(alloc),
             standing: Standing {
@@ -69,6 +83,8 @@ impl System {
                 taken: 0,
             },
             reactions,
+            store: Vec::new(alloc),
+            params,
         })
     }
 
@@ -80,30 +96,39 @@ impl System {
     }
 
     /// The entries of the journal, in order: those of an admissible run.
+    ///
+    /// There are at most 1,000,000 of them, with at most 2,000,000 posts, sends and marks, and at most three more
+    /// entries finish the step that is open.
     pub fn entries(&self) -> &[Entry]
         ensures journal { result.now ≡ self.now.journal }
         ensures admissible { IsAdmissibleIn self.now.setting self.now.journal }
+        ensures limits { KeepsJournalLimits self.now.journal }
+        ensures plain { AllByRecursion IsPlainEntry self.now.journal }
+        ensures completes { CompletesWithin self.now.setting self.now.journal 3 }
+        ensures laws { KeepsTakes self.now.setting self.now.journal × KeepsRegions self.now.setting self.now.journal }
     {
         self.entries.as_slice()
     }
 
     /// The first rule that the entry breaks after the journal, if it breaks one.
-    pub fn allows(&self, entry: &Entry) -> Option<Rule>
+    pub fn allows(&self, entry: &Entry) -> Result<Option<Rule>, NoMemory>
         requires names { Holds self.now.setting A1 self.now.journal entry.now }
-        ensures keeps { result ≡ None → MayFollow self.now.setting self.now.journal entry.now }
-        ensures breaks { (rule : Rule) → result ≡ Some rule → IsFirstBroken (Holds self.now.setting) self.now.journal entry.now rule }
+        ensures keeps { IfOk result (λ rule. IfNone rule (MayFollow self.now.setting self.now.journal entry.now)) }
+        ensures breaks { IfOk result (λ rule. IfSome rule (λ broken. IsFirstBroken (Holds self.now.setting) self.now.journal entry.now broken)) }
     {
-        self.standing
-            .judge(machine_of(&self.setting), &self.reactions, entry)
+        Ok(
+            self.standing
+                .judge(machine_of(&self.setting), &self.reactions, entry),
+        )
     }
 
     /// Appends an entry that breaks no rule after the journal.
     ///
     /// On want of memory the system is as before, and the entry is dropped.
     pub fn apply(&mut self, entry: Entry) -> Result<(), NoMemory>
-        requires { MayFollow self.old.setting self.old.journal entry }
+        requires follows { MayFollow self.old.setting self.old.journal entry }
+        requires limits { KeepsJournalLimits (self.old.journal ++ entry ∷ []) }
         ensures ok { OnOk result (self.new ≡ record { setting = self.old.setting; journal = self.old.journal ++ entry ∷ [] }) }
-        ensures admissible { OnOk result (IsAdmissibleIn self.new.setting self.new.journal) }
         ensures err { OnErr result (self.new ≡ self.old) }
     {
         let progress = progress_after(machine_of(&self.setting), self.standing.progress, &entry);
@@ -114,6 +139,49 @@ impl System {
         self.standing.advance(progress, posted, takes);
         Ok(())
     }
+
+    /// Whether no entry but a post may follow.
+    pub fn quiet(&self) -> bool
+        ensures { IsTrue result ↔ IsQuiet self.now.setting self.now.journal }
+    {
+        self.standing.is_idle()
+    }
+
+    /// An entry other than a post that breaks no rule after the journal, or none where there is none.
+    ///
+    /// Where a signal enables several transitions the word picks one of them: the one at place word modulo their count.
+    pub fn choose(&self, word: u64) -> Result<Option<Entry>, NoMemory>
+        ensures chosen { IfOk result (λ o. IfSome o (λ e. (IsPost e → ⊥) × MayFollow self.now.setting self.now.journal e)) }
+        ensures none { IfOk result (λ o. IfNone o (IsQuiet self.now.setting self.now.journal)) }
+    {
+        self.standing
+            .choose(self.alloc, machine_of(&self.setting), word)
+    }
+
+    /// The values of the object's variables, as they are now.
+    pub fn store(&self, object: ObjectId) -> &[i64]
+        requires { object.0 < length self.now.setting.objects }
+        ensures { (class : Class) → class_of self.now.setting object ≡ Some class → result.now ≡ store_of class (told_by self.now.journal) self.now.journal object }
+    {
+        let _ = object;
+        self.store.as_slice()
+    }
+
+    /// The parameters of the object's step, eight numbers, as they are now.
+    pub fn params(&self, object: ObjectId) -> &Args
+        requires { object.0 < length self.now.setting.objects }
+        ensures { result.now ≡ params_of (told_by self.now.journal) self.now.journal object }
+    {
+        let _ = object;
+        &self.params
+    }
+}
+
+/// Eight zeros.
+fn zero_params(alloc: Global) -> Result<Args, NoMemory>
+    ensures { IfOk result (λ params. params ≡ no_params) }
+{
+    Ok(Args::from_vec(vec![in alloc; 0; 8]?))
 }
 
 /// The machine of the one class.

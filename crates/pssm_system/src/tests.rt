@@ -1,7 +1,9 @@
-//! Runs of a machine that goes from A to B on Go, and the rule that a wrong entry breaks.
-ghost use Rattle.std.specs.Prelude.{◌≡◌, ◌<◌, IfOk, [], ◌∷◌};
+//! Runs of machines that go from A to B on Go, what is chosen in them, and the rule that a wrong entry breaks.
+ghost use Rattle.std.specs.Prelude.{◌≡◌, ◌<◌, IfOk, [], ◌∷◌, Bool, false};
+ghost use Rattle.pssm_acts.specs.Runs.{MayFollow};
+ghost use Rattle.pssm_acts.specs.Built.{IsBuilt};
 ghost use Rattle.pssm_model.specs.OneRegion.{single_route};
-ghost use Rattle.pssm_system.specs.Sample.{sample_vertex, sample_transition, sample_machine, sample_setting, IsNamed};
+ghost use Rattle.pssm_system.specs.Sample.{sample_vertex, sample_transition, to_b, sample_machine, sample_setting, IsNamed};
 
 use crate::System;
 use pssm_acts::{
@@ -45,8 +47,9 @@ fn transition(source: u16, target: u16, triggers: Vec<SignalId>) -> Transition
     }
 }
 
-fn draft(alloc: Global) -> Result<DraftMachine, NoMemory>
-    ensures { IfOk result (λ draft. draft ≡ sample_machine) }
+/// The initial vertex, A and B; a forked machine has a second transition from A to B.
+fn draft(alloc: Global, forked: bool) -> Result<DraftMachine, NoMemory>
+    ensures { IfOk result (λ draft. draft ≡ sample_machine forked) }
 {
     let regions = vec![in alloc; Owner::Top]?;
     let vertices = vec![in alloc;
@@ -54,8 +57,10 @@ fn draft(alloc: Global) -> Result<DraftMachine, NoMemory>
         vertex(alloc, VertexKind::State),
         vertex(alloc, VertexKind::State),
     ]?;
-    let go = vec![in alloc; GO]?;
-    let transitions = vec![in alloc; transition(0, 1, Vec::new(alloc)), transition(1, 2, go)]?;
+    let mut transitions = vec![in alloc; transition(0, 1, Vec::new(alloc)), to_b(alloc)?]?;
+    if forked {
+        transitions.push(to_b(alloc)?)?;
+    }
     Ok(DraftMachine {
         regions: Row::from_vec(regions),
         vertices: Row::from_vec(vertices),
@@ -63,8 +68,20 @@ fn draft(alloc: Global) -> Result<DraftMachine, NoMemory>
     })
 }
 
-fn setting(alloc: Global) -> Result<Setting, NoMemory>
-    ensures { IfOk result (λ setting. setting ≡ sample_setting) }
+fn to_b(alloc: Global) -> Result<Transition, NoMemory>
+    ensures { IfOk result (λ transition. transition ≡ to_b) }
+{
+    Ok(transition(1, 2, vec![in alloc; GO]?))
+}
+
+fn machine(alloc: Global, forked: bool) -> Result<Machine, NoMemory>
+    ensures { IfOk result (λ machine. machine ≡ sample_machine forked) }
+{
+    Machine::new(alloc, &draft(alloc, forked)?).map_err(|_| NoMemory)
+}
+
+fn setting(alloc: Global, forked: bool) -> Result<Setting, NoMemory>
+    ensures { IfOk result (λ setting. setting ≡ sample_setting forked) }
 {
     let go = Text::from_vec(b"Go".to_vec(alloc)?);
     let class_name = Text::from_vec(b"M".to_vec(alloc)?);
@@ -72,11 +89,11 @@ fn setting(alloc: Global) -> Result<Setting, NoMemory>
     let act = Act {
         stmts: Row::from_vec(Vec::new(alloc)),
     };
-    let machine = draft(alloc)?;
+    let machine = machine(alloc, forked)?;
     let class = Class {
         name: class_name,
         vars: Row::from_vec(Vec::new(alloc)),
-        machine: Machine::of_draft(machine),
+        machine,
         program: Program {
             acts: Row::from_vec(vec![in alloc; act]?),
             guards: Row::from_vec(Vec::new(alloc)),
@@ -95,8 +112,16 @@ fn setting(alloc: Global) -> Result<Setting, NoMemory>
     })
 }
 
+/// A system of the machine, with no entry yet.
+fn system(alloc: Global, forked: bool) -> Result<System, NoMemory>
+    ensures { IfOk result (λ system. system.setting ≡ sample_setting forked) }
+{
+    let setting = setting(alloc, forked)?;
+    System::new(alloc, setting)
+}
+
 fn post(alloc: Global) -> Entry
-    ensures { IsNamed result }
+    ensures { (forked : Bool) → IsNamed forked result }
 {
     Entry::Post {
         object: OBJECT,
@@ -106,14 +131,14 @@ fn post(alloc: Global) -> Entry
 }
 
 fn start() -> Entry
-    ensures { IsNamed result }
+    ensures { IsNamed false result }
 {
     Entry::Start { object: OBJECT }
 }
 
 fn exit(alloc: Global, state: u16) -> Entry
     requires { state < 3 }
-    ensures { IsNamed result }
+    ensures { IsNamed false result }
 {
     Entry::Exit {
         object: OBJECT,
@@ -124,7 +149,7 @@ fn exit(alloc: Global, state: u16) -> Entry
 
 fn effect(alloc: Global, transition: u16) -> Entry
     requires { transition < 2 }
-    ensures { IsNamed result }
+    ensures { IsNamed false result }
 {
     Entry::Effect {
         object: OBJECT,
@@ -135,7 +160,7 @@ fn effect(alloc: Global, transition: u16) -> Entry
 
 fn enter(alloc: Global, state: u16) -> Entry
     requires { state < 3 }
-    ensures { IsNamed result }
+    ensures { IsNamed false result }
 {
     Entry::Enter {
         object: OBJECT,
@@ -147,7 +172,7 @@ fn enter(alloc: Global, state: u16) -> Entry
 /// The exit of a State that sends Go to the object.
 fn exit_sending(alloc: Global, state: u16) -> Result<Entry, NoMemory>
     requires { state < 3 }
-    ensures { IfOk result IsNamed }
+    ensures { IfOk result (IsNamed false) }
 {
     let sent = Out::Send {
         object: OBJECT,
@@ -173,7 +198,7 @@ fn single(alloc: Global, transition: u16) -> Result<Route, NoMemory>
 
 fn open_by(alloc: Global, transition: u16) -> Result<Entry, NoMemory>
     requires { transition < 2 }
-    ensures { IfOk result IsNamed }
+    ensures { IfOk result (IsNamed false) }
 {
     Ok(Entry::Opened {
         object: OBJECT,
@@ -185,7 +210,7 @@ fn open_by(alloc: Global, transition: u16) -> Result<Entry, NoMemory>
 
 fn take(alloc: Global, number: u32, transition: u16) -> Result<Entry, NoMemory>
     requires { transition < 2 }
-    ensures { IfOk result IsNamed }
+    ensures { IfOk result (IsNamed false) }
 {
     let route = single(alloc, transition)?;
     Ok(Entry::Take {
@@ -198,7 +223,7 @@ fn take(alloc: Global, number: u32, transition: u16) -> Result<Entry, NoMemory>
 }
 
 fn take_nothing(alloc: Global, number: u32) -> Entry
-    ensures { IsNamed result }
+    ensures { IsNamed false result }
 {
     Entry::Take {
         object: OBJECT,
@@ -211,7 +236,7 @@ fn take_nothing(alloc: Global, number: u32) -> Entry
 
 fn done(alloc: Global, state: u16) -> Entry
     requires { state < 3 }
-    ensures { IsNamed result }
+    ensures { IsNamed false result }
 {
     Entry::Done {
         object: OBJECT,
@@ -224,7 +249,7 @@ fn done(alloc: Global, state: u16) -> Entry
 
 fn do_step(alloc: Global, state: u16) -> Entry
     requires { state < 3 }
-    ensures { IsNamed result }
+    ensures { IsNamed false result }
 {
     Entry::DoStep {
         object: OBJECT,
@@ -283,7 +308,7 @@ fn edge_number(edge: Edge) -> u16
 }
 
 fn entry_of(alloc: Global, step: Step) -> Result<Entry, NoMemory>
-    ensures { IfOk result IsNamed }
+    ensures { IfOk result (IsNamed false) }
 {
     match step {
         Step::Post => Ok(post(alloc)),
@@ -300,15 +325,27 @@ fn entry_of(alloc: Global, step: Step) -> Result<Entry, NoMemory>
     }
 }
 
+/// Appends an entry that may follow, where the journal has room for it.
+fn append(system: &mut System, entry: Entry) -> Result<(), NoMemory>
+    requires built { IsBuilt system.old.setting }
+    requires follows { MayFollow system.old.setting system.old.journal entry }
+    ensures { system.new.setting ≡ system.old.setting }
+{
+    if system.entries().len() < 1000 {
+        system.apply(entry)?;
+    }
+    Ok(())
+}
+
 /// What the rules say of the entry, which is appended where they let it through.
 fn play(alloc: Global, system: &mut System, step: Step) -> Result<Option<Rule>, NoMemory>
-    requires { system.old.setting ≡ sample_setting }
-    ensures { system.new.setting ≡ sample_setting }
+    requires { system.old.setting ≡ sample_setting false }
+    ensures { system.new.setting ≡ sample_setting false }
 {
     let entry = entry_of(alloc, step)?;
-    let verdict = system.allows(&entry);
+    let verdict = system.allows(&entry)?;
     if verdict.is_none() {
-        system.apply(entry)?;
+        append(system, entry)?;
     }
     Ok(verdict)
 }
@@ -319,8 +356,8 @@ fn first_difference(
     system: &mut System,
     steps: &[(Step, Option<Rule>)],
 ) -> Result<usize, NoMemory>
-    requires { system.old.setting ≡ sample_setting }
-    ensures { system.new.setting ≡ sample_setting }
+    requires { system.old.setting ≡ sample_setting false }
+    ensures { system.new.setting ≡ sample_setting false }
 {
     for (index, (step, told)) in steps.iter().enumerate() {
         if play(alloc, system, *step)? != *told {
@@ -376,7 +413,7 @@ const IN_A: [(Step, Option<Rule>); 10] = [
 #[test]
 fn accepts_a_run(rt: HostRuntime) -> Result<(), Fail> {
     let alloc = rt.alloc();
-    let mut system = System::new(alloc, setting(alloc)?)?;
+    let mut system = system(alloc, false)?;
     assert_eq!(rt; first_difference(alloc, &mut system, &INTO_A)?, 5);
     assert_eq!(rt; first_difference(alloc, &mut system, &INTO_B)?, 5);
     assert_eq!(rt; system.entries().len(), 9);
@@ -387,7 +424,7 @@ fn accepts_a_run(rt: HostRuntime) -> Result<(), Fail> {
 #[test]
 fn judges_at_the_start(rt: HostRuntime) -> Result<(), Fail> {
     let alloc = rt.alloc();
-    let mut system = System::new(alloc, setting(alloc)?)?;
+    let mut system = system(alloc, false)?;
     assert_eq!(rt; first_difference(alloc, &mut system, &AT_THE_START)?, 7);
     assert_eq!(rt; system.entries().len(), 1);
     Ok(())
@@ -396,9 +433,97 @@ fn judges_at_the_start(rt: HostRuntime) -> Result<(), Fail> {
 #[test]
 fn judges_in_a(rt: HostRuntime) -> Result<(), Fail> {
     let alloc = rt.alloc();
-    let mut system = System::new(alloc, setting(alloc)?)?;
+    let mut system = system(alloc, false)?;
     assert_eq!(rt; first_difference(alloc, &mut system, &INTO_A)?, 5);
     assert_eq!(rt; first_difference(alloc, &mut system, &IN_A)?, 10);
     assert_eq!(rt; system.entries().len(), 7);
+    Ok(())
+}
+
+/// Goes on with what is chosen by the word until nothing is, and says whether all of it was allowed and the end is quiet.
+fn runs_to_quiet(system: &mut System, word: u64) -> Result<bool, NoMemory>
+    requires { IsBuilt system.old.setting }
+{
+    for _turn in 0..100 {
+        match system.choose(word)? {
+            None => return Ok(system.quiet()),
+            Some(entry) => {
+                if system.quiet() || system.allows(&entry)?.is_some() {
+                    return Ok(false);
+                }
+                append(system, entry)?;
+            }
+        }
+    }
+    Ok(false)
+}
+
+/// A system of the machine, into which Go was posted so many times.
+fn posted(alloc: Global, forked: bool, posts: usize) -> Result<System, NoMemory>
+    ensures { IfOk result (λ system. system.setting ≡ sample_setting forked) }
+{
+    let mut system = system(alloc, forked)?;
+    for _post in 0..posts {
+        let entry = post(alloc);
+        if system.allows(&entry)?.is_none() {
+            append(&mut system, entry)?;
+        }
+    }
+    Ok(system)
+}
+
+/// How many times Go is posted, and how many entries the run has then: a start, an opening, an effect and an entry; for
+/// the first Go a post, a take, an exit, an effect and an entry; for the second, which B does not react to, a post and a take.
+const RUNS: [(usize, usize); 3] = [(0, 4), (1, 9), (2, 11)];
+
+#[test]
+fn runs_what_is_chosen(rt: HostRuntime) -> Result<(), Fail> {
+    let alloc = rt.alloc();
+    for (posts, entries) in RUNS.iter() {
+        let mut system = posted(alloc, false, *posts)?;
+        assert!(rt; runs_to_quiet(&mut system, 0)?);
+        assert_eq!(rt; system.entries().len(), *entries);
+    }
+    Ok(())
+}
+
+/// The transition that the first take of the journal fires.
+fn fired(entries: &[Entry]) -> Option<TransId> {
+    for entry in entries {
+        if let Entry::Take { firing, .. } = entry {
+            if let [route] = firing.routes.as_slice() {
+                return route.starts.as_slice().first().copied();
+            }
+        }
+    }
+    None
+}
+
+/// A word, and the transition that it picks of the two from A to B.
+const WORDS: [(u64, TransId); 4] = [
+    (0, TransId(1)),
+    (1, TransId(2)),
+    (6, TransId(1)),
+    (u64::MAX, TransId(2)),
+];
+
+#[test]
+fn reaches_each_transition(rt: HostRuntime) -> Result<(), Fail> {
+    let alloc = rt.alloc();
+    for (word, transition) in WORDS.iter() {
+        let mut system = posted(alloc, true, 1)?;
+        assert!(rt; runs_to_quiet(&mut system, *word)?);
+        assert!(rt; fired(system.entries()) == Some(*transition));
+    }
+    Ok(())
+}
+
+#[test]
+fn stores_nothing(rt: HostRuntime) -> Result<(), Fail> {
+    let alloc = rt.alloc();
+    let mut system = posted(alloc, false, 1)?;
+    assert!(rt; runs_to_quiet(&mut system, 0)?);
+    assert!(rt; system.store(OBJECT).is_empty());
+    assert!(rt; system.params(OBJECT).as_slice() == [0, 0, 0, 0, 0, 0, 0, 0].as_slice());
     Ok(())
 }

@@ -4,6 +4,8 @@ use Rattle.std.specs.List.{AllByRecursion}
 use Rattle.pssm_model.specs.declared.elements.DraftMachine.{DraftMachine}
 use Rattle.pssm_model.specs.BuiltMachine.{IsBuiltMachine}
 use Rattle.pssm_acts.specs.Built.{ListsSignals}
+use Rattle.pssm_system.specs.declared.progress.Progress.TheVariants.{Unstarted}
+use Rattle.pssm_system.specs.declared.judging.Standing.{Standing}
 use Rattle.pssm_system.proofs.Histories.{keeps_new}
 use Rattle.pssm_system.proofs.system.System.new.Goals as goal
 
@@ -17,5 +19,8 @@ reactions_of-requires-clause-known c =
 
 pub invariant_of-result : goal.invariant_of-result
 invariant_of-result c =
-    keeps_new c.args.setting c.requires c.new.result.items _ c.in_ok-reactions.reactions.rows.items c.machine_of.result.now (c.machine_of.ensures c.requires)
-    c.new.ensures.items refl c.new-2.ensures.items refl c.in_ok-reactions.ensures
+    let standing : Standing = record { progress = Unstarted; signals = c.new-2.result; taken = 0 } in (
+      keeps_new c.args.setting c.requires c.new.result.items standing c.in_ok-reactions.reactions.rows.items c.machine_of.result.now
+          (c.machine_of.ensures c.requires) c.new.ensures.items refl c.new-2.ensures.items refl c.in_ok-reactions.ensures,
+      record { store_is = c.new-3.ensures.items; params_are = c.in_ok-params.ensures },
+    )
