@@ -1,0 +1,5 @@
+pub mod RunLaws
+pub mod FollowingLaws
+pub mod JudgingLaws
+pub mod AnswerLaws
+pub mod Samples

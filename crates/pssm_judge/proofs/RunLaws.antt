@@ -1,0 +1,55 @@
+-- What one line more does to a run.
+use Rattle.std.proofs.Common.{◌≡◌, ◌+◌, ◌<◌, ◌≤◌, ◌⊎◌, ◌↔◌, ℕ, Bool, true, false, Option, Some, List, [], ◌∷◌, ◌++◌, length, sym, ap, subst, ◌∙◌, arith, inl, inr, length-append}
+use Rattle.std.specs.Prelude.{IsTrue, IfSome}
+use Rattle.std.proofs.lemmas.List.Sums.{sum_by_push}
+use Rattle.pssm_acts.specs.declared.entry.Entry.{Entry}
+use Rattle.pssm_acts.specs.declared.line.Line.{Line}
+use Rattle.pssm_acts.specs.declared.setting.Setting.{Setting}
+use Rattle.pssm_acts.specs.Pool.{output_count}
+use Rattle.pssm_acts.specs.Runs.{MayFollow, IsAdmissibleIn, KeepsJournalLimits}
+use Rattle.pssm_acts.proofs.Appending.{admissible_push}
+use Rattle.pssm_journal.specs.Entries.{IsEntryOf, KeepsNames}
+use Rattle.pssm_journal.specs.Judged.{line_output_count, PassesLimits}
+use Rattle.pssm_journal.proofs.OutputCounts.{entry_output_count, line_outputs}
+use Rattle.pssm_system.specs.History.{History}
+use Rattle.pssm_judge.specs.Following.{TakesLine}
+
+-- the outputs of a journal with the entry of a line more
+pub outputs_push : (setting : Setting) (J : List Entry) (line : Line) (e : Entry) → IsEntryOf setting line e → output_count (J ++ e ∷ []) ≡ output_count J + line_output_count line
+outputs_push setting J line e is = sum_by_push entry_output_count J e ∙ ap (λ (n : ℕ). output_count J + n) (sym (line_outputs setting line e is))
+
+-- A line that does not pass the limits keeps them.
+pub limits_push : (setting : Setting) (J : List Entry) (line : Line) (e : Entry) → IsEntryOf setting line e → (PassesLimits J line → ⊥) → KeepsJournalLimits (J ++ e ∷ [])
+limits_push setting J line e is within =
+    let longer = length-append J (e ∷ []) in
+    let more = outputs_push setting J line e is in
+    record {
+      entries = omega (arith, longer, at_most 1000000 (length J + 1) (λ (x : 1000000 < length J + 1). within (inl x)));
+      outputs = omega (arith, more, at_most 2000000 (output_count J + line_output_count line) (λ (x : 2000000 < output_count J + line_output_count line). within (inr x)));
+    }
+  where
+    at_most : (limit n : ℕ) → (limit < n → ⊥) → n ≤ limit
+    at_most limit n above = omega (arith, above)
+
+-- The run has taken the entry of the line.
+pub takes_line : (old new : History) (line : Line) (e : Entry) → IsAdmissibleIn old.setting old.journal → IsEntryOf old.setting line e → (PassesLimits old.journal line → ⊥)
+    → MayFollow old.setting old.journal e → new ≡ record { setting = old.setting; journal = old.journal ++ e ∷ [] } → TakesLine old new line
+takes_line old new line e admissible is within follows after = record {
+  entry = e;
+  is = is;
+  after = after;
+  admissible = subst (λ (h : History). IsAdmissibleIn h.setting h.journal) (sym after) (admissible_push old.setting old.journal e admissible follows);
+  limits = subst (λ (h : History). KeepsJournalLimits h.journal) (sym after) (limits_push old.setting old.journal line e is within);
+}
+
+-- The test on the limits failed: the line does not pass them.
+pub keeps_within : (J : List Entry) (line : Line) (entries outputs further : ℕ) (passes : Bool) → entries ≡ length J → outputs ≡ output_count J → further ≡ line_output_count line
+    → IsTrue passes ↔ ((1000000 < entries + 1) ⊎ (2000000 < outputs + further)) → passes ≡ false → PassesLimits J line → ⊥
+keeps_within J line entries outputs further passes e o f test failed p =
+    let met : passes ≡ true = test.1 (rw (e, o, f) p) in
+    cc
+
+-- what was found of a line: its entry, whose names are known
+pub found_entry : (s t : Setting) (line : Line) (o : Option Entry) (e : Entry) → s ≡ t → o ≡ Some e → IfSome o (λ x. IsEntryOf s line x × KeepsNames s x) → IsEntryOf t line e × KeepsNames t e
+found_entry s t line o e same is known =
+    subst (λ (x : Setting). IsEntryOf x line e × KeepsNames x e) same (subst (λ (p : Option Entry). IfSome p (λ x. IsEntryOf s line x × KeepsNames s x)) is known)

@@ -1,0 +1,65 @@
+-- What the judge's answers say of a journal.
+use Rattle.std.specs.Prelude.{◌≡◌, ℕ, List, length, Result, Ok, Err}
+use Rattle.pssm_base.specs.Faults.{Rose}
+use Rattle.pssm_base.specs.Reading.{Contents, ReadsWhole, HoldsMore}
+use Rattle.pssm_acts.specs.declared.entry.Entry.{Entry}
+use Rattle.pssm_acts.specs.declared.line.Line.{Line}
+use Rattle.pssm_acts.specs.declared.setting.Setting.{Setting}
+use Rattle.pssm_acts.specs.Laws.{CompletesWithin}
+use Rattle.pssm_journal.specs.LineText.{journal_text}
+use Rattle.pssm_journal.specs.Judged.{Judged, Accepted, Refused, Limited, BadText, IsKept, IsJudged}
+use Rattle.pssm_judge.specs.declared.run.Stop.{Stop}
+use Rattle.pssm_judge.specs.declared.run.Stop.TheVariants as stops
+use Rattle.pssm_judge.specs.declared.verdict.Verdict.{Verdict}
+use Rattle.pssm_judge.specs.declared.verdict.Verdict.TheVariants.{Accept, Refuse}
+use Rattle.pssm_judge.specs.declared.verdict.JudgeFault.{JudgeFault}
+use Rattle.pssm_judge.specs.declared.verdict.JudgeFault.TheVariants.{Text, Limit, TooLarge, ReadFault, NoMemory}
+
+-- The bytes are the text of an admissible journal that can be continued to a complete run by at most so many entries.
+pub record IsPrefixText (setting : Setting) (bytes : List ℕ) (entries most : ℕ) : Type 0 where
+  pub lines : List Line
+  pub journal : List Entry
+  pub text : bytes ≡ journal_text lines
+  pub kept : IsKept setting lines journal
+  pub entries_are : entries ≡ length journal
+  pub completes : CompletesWithin setting journal most
+
+-- what the bytes deserve, as a verdict; an accepted journal of the settings that the code runs so far is completed by at most three entries
+abbrev pub IsVerdictOn : Setting → List ℕ → Verdict → Type 0
+IsVerdictOn setting bytes (Accept entries) = IsJudged setting bytes (Accepted entries) × IsPrefixText setting bytes entries 3
+IsVerdictOn setting bytes (Refuse entry rule) = IsJudged setting bytes (Refused entry rule)
+
+-- what the bytes deserve where there is no verdict; want of memory says nothing of them
+abbrev pub IsFaultOn : Setting → List ℕ → JudgeFault → Type 0
+IsFaultOn setting bytes (Text fault) = IsJudged setting bytes BadText
+IsFaultOn setting bytes (Limit entry) = IsJudged setting bytes (Limited entry)
+IsFaultOn setting bytes NoMemory = Unit {0}
+IsFaultOn setting bytes _ = ⊥
+
+-- The path was read whole, and its bytes deserve the verdict.
+pub record IsVerdictFor (setting : Setting) (contents : Contents) (path : List ℕ) (verdict : Verdict) : Type 0 where
+  pub bytes : List ℕ
+  pub reads : ReadsWhole contents path 16777216 bytes
+  pub says : IsVerdictOn setting bytes verdict
+
+-- The path was read whole, and this is to be said of its bytes.
+abbrev pub ReadsJudged : Setting → Contents → List ℕ → Judged → Type 0
+ReadsJudged setting contents path judged = (bytes : List ℕ) × ReadsWhole contents path 16777216 bytes × IsJudged setting bytes judged
+
+-- Why there is no verdict: the text is bad, or passes the limits; the path holds too much; or the count of its faults rose. Want of memory is told without a cause.
+abbrev pub IsFaultFor : Setting → Contents → ℕ → ℕ → List ℕ → JudgeFault → Type 0
+IsFaultFor setting contents before after path (Text fault) = ReadsJudged setting contents path BadText
+IsFaultFor setting contents before after path (Limit entry) = ReadsJudged setting contents path (Limited entry)
+IsFaultFor setting contents before after path TooLarge = HoldsMore contents path 16777216
+IsFaultFor setting contents before after path ReadFault = Rose before after
+IsFaultFor setting contents before after path NoMemory = Unit {0}
+
+-- what is to be said where the judging ends at an entry
+abbrev pub said_at : Stop → Judged
+said_at (stops.Limit entry) = Limited entry
+said_at (stops.Refuse entry rule) = Refused entry rule
+
+-- the judge's answer there
+abbrev pub answer_to : Stop → Result Verdict JudgeFault
+answer_to (stops.Limit entry) = Err (Limit entry)
+answer_to (stops.Refuse entry rule) = Ok (Refuse entry rule)

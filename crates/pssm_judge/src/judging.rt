@@ -1,0 +1,82 @@
+//! `judge`: what a journal deserves under a setting.
+ghost use Rattle.std.specs.Prelude.{◌≡◌, IfOk, IfErr};
+ghost use Rattle.pssm_base.specs.Faults.{NoneFell};
+ghost use Rattle.pssm_base.specs.Reading.{SameContent};
+ghost use Rattle.pssm_acts.specs.Built.{IsBuilt};
+ghost use Rattle.pssm_judge.specs.Verdicts.{IsVerdictOn, IsVerdictFor, IsFaultOn, IsFaultFor};
+
+use crate::run::Run;
+use crate::verdict::{JudgeFault, Verdict};
+use pssm_acts::Setting;
+use pssm_base::{Inputs, WholeFault, read_whole};
+use pssm_journal::LineReader;
+use std::alloc::Global;
+
+// The most bytes that a journal may have.
+const LIMIT: u64 = 16_777_216;
+
+// How many bytes the reader of lines is handed at a time.
+const PIECE: usize = 65_536;
+
+/// Judges the journal that stands under `path`, as one of a run of the setting.
+///
+/// The lines are decided in order, and the first that stops the judging decides: a line that is none of the journal
+/// form is [`JudgeFault::Text`]; the entry by which the entries pass 1,000,000, or the posts, sends and marks pass
+/// 2,000,000, is [`JudgeFault::Limit`]; and an entry that breaks a rule is [`Verdict::Refuse`]. Where no line stops it
+/// all was read, and the answer is [`Verdict::Accept`].
+///
+/// It answers [`JudgeFault::TooLarge`] where the path holds more than 16,777,216 bytes,
+/// [`JudgeFault::ReadFault`] where a read failed, and [`JudgeFault::NoMemory`] where there was not enough memory. The
+/// setting is used up, and what a path holds is as before.
+pub fn judge<I: Inputs>(
+    alloc: Global,
+    setting: Setting,
+    inputs: &mut I,
+    path: &str,
+) -> Result<Verdict, JudgeFault>
+    requires built { IsBuilt setting }
+
+    // What the bytes of the path deserve.
+    ensures verdict { IfOk result (IsVerdictFor setting (I.content inputs.old) path.now) }
+
+    // Why there is no verdict.
+    ensures fault { IfErr result (IsFaultFor setting (I.content inputs.old)
+        (I.faults inputs.old path.now) (I.faults inputs.new path.now) path.now) }
+
+    // What the call leaves.
+    ensures counts { NoneFell (I.faults inputs.old) (I.faults inputs.new) }
+    ensures same { SameContent (I.content inputs.old) (I.content inputs.new) }
+{
+    match read_whole(alloc, inputs, path, LIMIT) {
+        Ok(bytes) => judge_bytes(alloc, setting, bytes.as_slice()),
+        Err(WholeFault::TooLarge) => Err(JudgeFault::TooLarge),
+        Err(WholeFault::ReadFault) => Err(JudgeFault::ReadFault),
+        Err(WholeFault::NoMemory) => Err(JudgeFault::NoMemory),
+    }
+}
+
+// What the bytes deserve as a journal of the setting.
+fn judge_bytes(alloc: Global, setting: Setting, journal: &[u8]) -> Result<Verdict, JudgeFault>
+    requires built { IsBuilt setting }
+    ensures verdict { IfOk result (IsVerdictOn setting journal.now) }
+    ensures fault { IfErr result (IsFaultOn setting journal.now) }
+{
+    let mut run = Run::new(alloc, setting)?;
+    let mut reader = LineReader::new(alloc);
+    let mut rest = journal;
+    while !rest.is_empty() {
+        let (piece, after) = rest.split_at(rest.len().min(PIECE));
+        let fed = reader.feed(piece)?;
+        if let Some(stop) = run.follow(alloc, fed.lines.as_slice())? {
+            return stop.answer();
+        }
+        if let Some(fault) = fed.fault {
+            return Err(JudgeFault::Text(fault));
+        }
+        rest = after;
+    }
+    match reader.finish() {
+        Some(fault) => Err(JudgeFault::Text(fault)),
+        None => Ok(Verdict::Accept { entries: run.len() }),
+    }
+}

@@ -1,0 +1,18 @@
+//! What the bytes of a journal deserve under a setting.
+//!
+//! [`judge`] reads a journal whole and decides its lines in order. Of each line it asks first whether it is one of the
+//! journal form, then whether the journal passes its limits with it, then whether its names are the setting's, and
+//! then whether its entry breaks a rule. The lines come from `pssm_journal`, and the verdict on an entry from
+//! `pssm_system`: this crate knows no rule and no spelling.
+#![tactic(auto)]
+
+mod judging;
+mod limits;
+mod run;
+#[cfg(test)]
+mod tests;
+mod verdict;
+
+pub use judging::judge;
+pub use pssm_journal::{LineFault, Rule};
+pub use verdict::{JudgeFault, Verdict};
