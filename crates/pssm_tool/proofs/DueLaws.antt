@@ -1,138 +1,121 @@
--- How the answer for the words comes of the parts of the work.
-use Rattle.std.proofs.Common.{◌≡◌, ◌≢◌, ◌⊎◌, ◌<◌, ◌≤◌, ℕ, List, length, Option, IfSome, refl, subst, inl, inr, arith, ap, ◌∙◌}
-use Rattle.std.proofs.lemmas.Bool.Decides.{eqb_tells}
-use Rattle.std.specs.Io.KnownBytes.{Appends}
+-- How a reply that is owed comes of the parts of the work.
+use Rattle.std.proofs.Common.{◌≡◌, ◌≢◌, ◌⊎◌, ◌<◌, ◌≤◌, ℕ, List, [], ◌∷◌, length, codes, Option, None, Some, IfSome, IfNone, Result, Ok, Err, IfOk, IfErr, refl, sym, subst, inl, inr, arith, ap, ◌∙◌}
 use Rattle.pssm_base.specs.Faults.{Rose, NoneFell}
-use Rattle.pssm_base.specs.Reading.{SameContent}
-use Rattle.pssm_acts.specs.declared.entry.Rule.{Rule}
+use Rattle.pssm_base.specs.Reading.{Contents, ReadsWhole, HoldsMore, SameContent}
 use Rattle.pssm_acts.specs.declared.setting.Setting.{Setting}
+use Rattle.pssm_acts.specs.declared.stimulus.Stimulus.{Stimulus}
+use Rattle.pssm_judge.specs.declared.verdict.Verdict.{Verdict}
+use Rattle.pssm_judge.specs.declared.verdict.Verdict.TheVariants as verdicts
+use Rattle.pssm_judge.specs.declared.verdict.JudgeFault.{JudgeFault}
+use Rattle.pssm_judge.specs.declared.verdict.JudgeFault.TheVariants as faults
+use Rattle.pssm_judge.specs.Verdicts.{IsVerdictFor, IsFaultFor}
+use Rattle.pssm_tool.specs.declared.words.Options.{Options}
 use Rattle.pssm_tool.specs.declared.answer.Answer.{Answer}
-use Rattle.pssm_tool.specs.declared.answer.Answer.TheVariants.{Accept, Refuse, Usage, BadModel, BadJournal, TooLarge}
+use Rattle.pssm_tool.specs.declared.answer.Answer.TheVariants.{Accept, Refuse, Limit, Usage, BadModel, BadJournal, TooLarge}
+use Rattle.pssm_tool.specs.declared.reply.Reply.{Reply}
+use Rattle.pssm_tool.specs.declared.reply.Reply.TheVariants.{Line, Journal}
 use Rattle.pssm_tool.specs.declared.stop.Stop.{Stop}
 use Rattle.pssm_tool.specs.declared.stop.Stop.TheVariants.{Answered, ReadFault, NoMemory}
-use Rattle.pssm_tool.specs.Words.{IsJudge}
-use Rattle.pssm_tool.specs.Answers.{text_of, code_of, IsFailure}
-use Rattle.pssm_tool.specs.Verdicts.{IsVerdict}
-use Rattle.pssm_tool.specs.Due.{Contents, Reads, IsTooLarge, ReadsModel, IsDue, judge, large_model, bad_model, good_model, large_journal, judged, Gives}
-use Rattle.pssm_tool.specs.Stops.{StopsFile, StopsModel, StopsAll}
+use Rattle.pssm_tool.specs.Words.{IsJudge, IsRun, Meaning, Judges, Runs, Means}
+use Rattle.pssm_tool.specs.Stimuli.{NameNoStimuli}
+use Rattle.pssm_tool.specs.Verdicts.{IsVerdict, said}
+use Rattle.pssm_tool.specs.Due.{model_of, NamesPath, ReadsModel, LacksModel, large_model, bad_model, IsDueForJournal, large_journal, judged, IsDue, no_model, judge, unfit, IsContinued, ReadFailed}
+use Rattle.pssm_tool.specs.Stops.{StopsModel, GoesOn, StopsAll}
+
+-- ---- the model
+
+pub model_named : (meaning : Meaning) → NamesPath meaning (model_of meaning)
+model_named (Judges model journal) = inl refl
+model_named (Runs options model stimuli) = refl
+
+-- An answer for want of a model accepts nothing.
+lacks_goes_on : (words : List (List ℕ)) (contents : Contents) (model : List ℕ) (answer : Answer) → LacksModel contents model answer → GoesOn words contents (Line answer)
+lacks_goes_on words contents model answer (large_model large is) = subst (λ (a : Answer). GoesOn words contents (Line a)) (sym is) tt
+lacks_goes_on words contents model answer (bad_model bad is) = subst (λ (a : Answer). GoesOn words contents (Line a)) (sym is) tt
 
 -- The work ended at the model.
-pub stops_at_model : (words : List (List ℕ)) (contents : Contents) (before after : List ℕ → ℕ) (model journal : List ℕ) (stop : Stop) → IsJudge words model journal
-    → StopsModel contents (before model) (after model) model stop → StopsAll words contents before after stop
-stops_at_model words contents before after model journal (Answered answer) is s = elim s [
-  | inl large ↦ judge model journal is (large_model large.1 large.0)
-  | inr bad ↦ judge model journal is (bad_model bad.1 bad.0)
-]
-stops_at_model words contents before after model journal ReadFault is s = (model, journal, is, inl s)
-stops_at_model words contents before after model journal NoMemory is s = tt
+pub stops_at_model : (words : List (List ℕ)) (meaning : Meaning) (contents : Contents) (before after : List ℕ → ℕ) (stop : Stop) → Means words meaning
+    → StopsModel contents (before (model_of meaning)) (after (model_of meaning)) (model_of meaning) stop → StopsAll words contents before after stop
+stops_at_model words meaning contents before after (Answered answer) means lacks =
+    (no_model meaning means lacks, lacks_goes_on words contents (model_of meaning) answer lacks)
+stops_at_model words meaning contents before after ReadFault means rose = record { meaning = meaning; path = model_of meaning; means = means; named = model_named meaning; rose = rose }
+stops_at_model words meaning contents before after NoMemory means none = tt
+
+-- ---- the journal
+
+-- What was read after the model was read holds of what was told before.
+pub same_bytes : (contents then : Contents) (path bytes : List ℕ) → SameContent contents then → ReadsWhole then path 16777216 bytes → ReadsWhole contents path 16777216 bytes
+same_bytes contents then path bytes same reads =
+    record { told = subst (λ (o : Option (List ℕ)). IfSome o (λ held. bytes ≡ held)) (same path) reads.told; at_most = reads.at_most }
+
+-- What is said after the model was read holds of what was told before.
+same_journal : (contents then : Contents) (setting : Setting) (journal : List ℕ) (answer : Answer) → SameContent contents then → IsDueForJournal then setting journal answer
+    → IsDueForJournal contents setting journal answer
+same_journal contents then setting journal answer same (large_journal large is) =
+    large_journal (subst (λ (o : Option (List ℕ)). IfSome o (λ held. 16777216 < length held)) (same journal) large) is
+same_journal contents then setting journal answer same (judged bytes reads says) =
+    judged bytes (same_bytes contents then journal bytes same reads) says
 
 -- a count that did not fall and then rose
 rose_after : (a b c : ℕ) → a ≤ b → Rose b c → Rose a c
 rose_after a b c fell rose below = let up : b < c = rose below in omega arith
 
--- The work ended at the journal.
-pub stops_at_journal : (words : List (List ℕ)) (contents then : Contents) (before mid after : List ℕ → ℕ) (model journal : List ℕ) (setting : Setting) (stop : Stop) → IsJudge words model journal
-    → ReadsModel contents model setting → SameContent contents then → NoneFell before mid → StopsFile then (mid journal) (after journal) journal stop → StopsAll words contents before after stop
-stops_at_journal words contents then before mid after model journal setting (Answered answer) is reads same fell s =
-    let large : IsTooLarge contents journal = subst (λ (o : Option (List ℕ)). IfSome o (λ held. 16777216 < length held)) (same journal) s.1 in
-    judge model journal is (good_model setting reads (large_journal large s.0))
-stops_at_journal words contents then before mid after model journal setting ReadFault is reads same fell s = (model, journal, is, inr (rose_after (before journal) (mid journal) (after journal) (fell journal) s))
-stops_at_journal words contents then before mid after model journal setting NoMemory is reads same fell s = tt
+-- the model that was read, and what the judge said of the journal
+module _ (words : List (List ℕ)) (contents then : Contents) (before mid after : List ℕ → ℕ) (model journal : List ℕ) (setting : Setting) (is : IsJudge words model journal)
+    (reads : ReadsModel contents model setting) (same : SameContent contents then) (fell : NoneFell before mid) (r : Result Verdict JudgeFault)
+    (verdict : IfOk r (IsVerdictFor setting then journal)) (fault : IfErr r (IsFaultFor setting then (mid journal) (after journal) journal)) where
+  due_said : (r : Result Verdict JudgeFault) → IfOk r (IsVerdictFor setting then journal) → IfErr r (IsFaultFor setting then (mid journal) (after journal) journal)
+      → (answer : Answer) → said r ≡ Ok answer → IsDueForJournal then setting journal answer
+  due_said (Ok (verdicts.Accept n)) v f answer e = let same_answer : Accept n ≡ answer = cc in subst (λ (a : Answer). IsDueForJournal then setting journal a) same_answer (judged v.bytes v.reads v.says.0)
+  due_said (Ok (verdicts.Refuse n rule)) v f answer e = let same_answer : Refuse n rule ≡ answer = cc in subst (λ (a : Answer). IsDueForJournal then setting journal a) same_answer (judged v.bytes v.reads v.says)
+  due_said (Err (faults.Text bad)) v f answer e = let same_answer : BadJournal ≡ answer = cc in subst (λ (a : Answer). IsDueForJournal then setting journal a) same_answer (judged f.0 f.1 f.2)
+  due_said (Err (faults.Limit n)) v f answer e = let same_answer : Limit n ≡ answer = cc in subst (λ (a : Answer). IsDueForJournal then setting journal a) same_answer (judged f.0 f.1 f.2)
+  due_said (Err faults.TooLarge) v f answer e = large_journal f (let same_answer : TooLarge ≡ answer = cc in sym same_answer)
+  due_said (Err faults.ReadFault) v f answer e = absurd cc
+  due_said (Err faults.NoMemory) v f answer e = absurd cc
 
--- The journal was judged.
-pub due_judged : (words : List (List ℕ)) (contents then : Contents) (model journal bytes : List ℕ) (setting : Setting) (answer : Answer) → IsJudge words model journal
-    → ReadsModel contents model setting → SameContent contents then → Reads then journal bytes → IsVerdict setting bytes answer → IsDue words contents answer
-due_judged words contents then model journal bytes setting answer is reads same read verdict =
-    let told = subst (λ (o : Option (List ℕ)). IfSome o (λ held. bytes ≡ held)) (same journal) read.told in
-    judge model journal is (good_model setting reads (judged bytes (record { told = told; at_most = read.at_most }) verdict))
+  -- The answer is owed.
+  pub due_judged : (answer : Answer) → said r ≡ Ok answer → IsDue words contents answer
+  due_judged answer e = judge model journal setting is reads (same_journal contents then setting journal answer same (due_said r verdict fault answer e))
 
--- the answer of a status
-accept_from_code : (a : Answer) → code_of a ≡ 0 → (n : ℕ) × (a ≡ Accept n)
-accept_from_code (Accept n) e = (n, refl)
-accept_from_code (Refuse n rule) e = absurd (omega arith)
-accept_from_code Usage e = absurd (omega arith)
-accept_from_code BadModel e = absurd (omega arith)
-accept_from_code BadJournal e = absurd (omega arith)
-accept_from_code TooLarge e = absurd (omega arith)
+  goes_on_said : (r : Result Verdict JudgeFault) → IfOk r (IsVerdictFor setting then journal) → (answer : Answer) → said r ≡ Ok answer → GoesOn words contents (Line answer)
+  goes_on_said (Ok (verdicts.Accept n)) v answer e =
+      let same_answer : Accept n ≡ answer = cc in
+      subst (λ (a : Answer). GoesOn words contents (Line a)) same_answer (λ m j means.
+      let both : codes "judge" ∷ model ∷ journal ∷ [] ≡ codes "judge" ∷ m ∷ j ∷ [] = sym is ∙ means in
+      let models : model ≡ m = cc in
+      let journals : journal ≡ j = cc in
+      subst (λ (t : List ℕ). IsContinued contents t j) models (subst (λ (t : List ℕ). IsContinued contents model t) journals (record {
+        setting = setting;
+        bytes = v.bytes;
+        entries = n;
+        model_is = reads;
+        journal_is = same_bytes contents then journal v.bytes same v.reads;
+        prefix = v.says.1;
+      })))
+  goes_on_said (Ok (verdicts.Refuse n rule)) v answer e = let same_answer : Refuse n rule ≡ answer = cc in subst (λ (a : Answer). GoesOn words contents (Line a)) same_answer tt
+  goes_on_said (Err (faults.Text bad)) v answer e = let same_answer : BadJournal ≡ answer = cc in subst (λ (a : Answer). GoesOn words contents (Line a)) same_answer tt
+  goes_on_said (Err (faults.Limit n)) v answer e = let same_answer : Limit n ≡ answer = cc in subst (λ (a : Answer). GoesOn words contents (Line a)) same_answer tt
+  goes_on_said (Err faults.TooLarge) v answer e = let same_answer : TooLarge ≡ answer = cc in subst (λ (a : Answer). GoesOn words contents (Line a)) same_answer tt
+  goes_on_said (Err faults.ReadFault) v answer e = absurd cc
+  goes_on_said (Err faults.NoMemory) v answer e = absurd cc
 
-refuse_from_code : (a : Answer) → code_of a ≡ 1 → (n : ℕ) × (rule : Rule) × (a ≡ Refuse n rule)
-refuse_from_code (Accept n) e = absurd (omega arith)
-refuse_from_code (Refuse n rule) e = (n, rule, refl)
-refuse_from_code Usage e = absurd (omega arith)
-refuse_from_code BadModel e = absurd (omega arith)
-refuse_from_code BadJournal e = absurd (omega arith)
-refuse_from_code TooLarge e = absurd (omega arith)
+  -- An accepted journal goes on to a complete run.
+  pub goes_on_judged : (answer : Answer) → said r ≡ Ok answer → GoesOn words contents (Line answer)
+  goes_on_judged answer e = goes_on_said r verdict answer e
 
-usage_from_code : (a : Answer) → code_of a ≡ 2 → a ≡ Usage
-usage_from_code (Accept n) e = absurd (omega arith)
-usage_from_code (Refuse n rule) e = absurd (omega arith)
-usage_from_code Usage e = refl
-usage_from_code BadModel e = absurd (omega arith)
-usage_from_code BadJournal e = absurd (omega arith)
-usage_from_code TooLarge e = absurd (omega arith)
+  stops_said : (r : Result Verdict JudgeFault) → IfErr r (IsFaultFor setting then (mid journal) (after journal) journal) → (stop : Stop) → said r ≡ Err stop → StopsAll words contents before after stop
+  stops_said (Ok (verdicts.Accept n)) f stop e = absurd cc
+  stops_said (Ok (verdicts.Refuse n rule)) f stop e = absurd cc
+  stops_said (Err (faults.Text bad)) f stop e = absurd cc
+  stops_said (Err (faults.Limit n)) f stop e = absurd cc
+  stops_said (Err faults.TooLarge) f stop e = absurd cc
+  stops_said (Err faults.ReadFault) f stop e =
+      let same_stop : ReadFault ≡ stop = cc in
+      subst (λ (s : Stop). StopsAll words contents before after s) same_stop
+      (record { meaning = Judges model journal; path = journal; means = is; named = inr refl; rose = rose_after (before journal) (mid journal) (after journal) (fell journal) f })
+  stops_said (Err faults.NoMemory) f stop e = let same_stop : NoMemory ≡ stop = cc in subst (λ (s : Stop). StopsAll words contents before after s) same_stop tt
 
-bad_model_from_code : (a : Answer) → code_of a ≡ 3 → a ≡ BadModel
-bad_model_from_code (Accept n) e = absurd (omega arith)
-bad_model_from_code (Refuse n rule) e = absurd (omega arith)
-bad_model_from_code Usage e = absurd (omega arith)
-bad_model_from_code BadModel e = refl
-bad_model_from_code BadJournal e = absurd (omega arith)
-bad_model_from_code TooLarge e = absurd (omega arith)
-
-bad_journal_from_code : (a : Answer) → code_of a ≡ 4 → a ≡ BadJournal
-bad_journal_from_code (Accept n) e = absurd (omega arith)
-bad_journal_from_code (Refuse n rule) e = absurd (omega arith)
-bad_journal_from_code Usage e = absurd (omega arith)
-bad_journal_from_code BadModel e = absurd (omega arith)
-bad_journal_from_code BadJournal e = refl
-bad_journal_from_code TooLarge e = absurd (omega arith)
-
-too_large_from_code : (a : Answer) → code_of a ≡ 9 → a ≡ TooLarge
-too_large_from_code (Accept n) e = absurd (omega arith)
-too_large_from_code (Refuse n rule) e = absurd (omega arith)
-too_large_from_code Usage e = absurd (omega arith)
-too_large_from_code BadModel e = absurd (omega arith)
-too_large_from_code BadJournal e = absurd (omega arith)
-too_large_from_code TooLarge e = refl
-
--- no answer has one of the other statuses
-pub code_is_known : (a : Answer) → (code_of a ≤ 9) × (code_of a ≢ 5) × (code_of a ≢ 6) × (code_of a ≢ 7) × (code_of a ≢ 8)
-code_is_known (Accept n) = (omega arith, λ e. omega arith, λ e. omega arith, λ e. omega arith, λ e. omega arith)
-code_is_known (Refuse n rule) = (omega arith, λ e. omega arith, λ e. omega arith, λ e. omega arith, λ e. omega arith)
-code_is_known Usage = (omega arith, λ e. omega arith, λ e. omega arith, λ e. omega arith, λ e. omega arith)
-code_is_known BadModel = (omega arith, λ e. omega arith, λ e. omega arith, λ e. omega arith, λ e. omega arith)
-code_is_known BadJournal = (omega arith, λ e. omega arith, λ e. omega arith, λ e. omega arith, λ e. omega arith)
-code_is_known TooLarge = (omega arith, λ e. omega arith, λ e. omega arith, λ e. omega arith, λ e. omega arith)
-
--- What was told of an answer that is owed, by its status.
-module _ (words : List (List ℕ)) (contents : Contents) (before after : Option (List ℕ)) (answer : Answer) (due : IsDue words contents answer) (written : Appends before after (text_of answer)) where
-  given : (other : Answer) → answer ≡ other → Gives words contents before after other
-  given other e = subst (λ (a : Answer). Gives words contents before after a) e (record { due = due; written = written })
-
-  pub gives_accept : code_of answer ≡ 0 → (n : ℕ) × Gives words contents before after (Accept n)
-  gives_accept e = let a = accept_from_code answer e in (a.0, given (Accept a.0) a.1)
-
-  pub gives_refuse : code_of answer ≡ 1 → (n : ℕ) × (rule : Rule) × Gives words contents before after (Refuse n rule)
-  gives_refuse e = let a = refuse_from_code answer e in (a.0, a.1, given (Refuse a.0 a.1) a.2)
-
-  pub gives_usage : code_of answer ≡ 2 → Gives words contents before after Usage
-  gives_usage e = given Usage (usage_from_code answer e)
-
-  pub gives_bad_model : code_of answer ≡ 3 → Gives words contents before after BadModel
-  gives_bad_model e = given BadModel (bad_model_from_code answer e)
-
-  pub gives_bad_journal : code_of answer ≡ 4 → Gives words contents before after BadJournal
-  gives_bad_journal e = given BadJournal (bad_journal_from_code answer e)
-
-  pub gives_too_large : code_of answer ≡ 9 → Gives words contents before after TooLarge
-  gives_too_large e = given TooLarge (too_large_from_code answer e)
-
--- The status is that of the answer, or says that writing or memory failed.
-pub code_or_failure : {P : Type 0} (code : ℕ) (a b : Answer) → (code ≢ 6 → code ≢ 7 → (code ≡ code_of a) × P) → a ≡ b → (code ≡ code_of b) ⊎ IsFailure code
-code_or_failure code a b told same = elim (eqb_tells code 6) [
-  | inl six ↦ inr (omega (arith, six.1), omega (arith, six.1))
-  | inr other ↦ elim (eqb_tells code 7) [
-    | inl seven ↦ inr (omega (arith, seven.1), omega (arith, seven.1))
-    | inr another ↦ inl ((told other.1 another.1).0 ∙ ap code_of same)
-  ]
-]
+  -- The work ended at the journal.
+  pub stops_judged : (stop : Stop) → said r ≡ Err stop → StopsAll words contents before after stop
+  stops_judged stop e = stops_said r fault stop e

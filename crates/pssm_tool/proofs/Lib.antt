@@ -1,5 +1,9 @@
 pub mod Three
-pub mod FollowingLaws
-pub mod JudgingLaws
+pub mod NumberLaws
+pub mod WordLaws
+pub mod CallLaws
+pub mod RunLaws
+pub mod TextLaws
 pub mod DueLaws
 pub mod DueOnce
+pub mod ReplyLaws

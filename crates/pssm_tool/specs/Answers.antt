@@ -1,10 +1,14 @@
--- The answers of the program: their texts and their statuses.
-use Rattle.std.specs.Prelude.{◌≤◌, ◌≢◌, ℕ, List, [], ◌∷◌, ◌++◌, codes}
+-- What the program writes, and its statuses.
+use Rattle.std.specs.Prelude.{◌≤◌, ℕ, List, [], ◌∷◌, ◌++◌, codes}
 use Rattle.std.specs.Fmt.{decimal}
 use Rattle.pssm_acts.specs.declared.entry.Rule.{Rule}
 use Rattle.pssm_acts.specs.declared.entry.Rule.TheVariants.{A1, A2, A3, A4, A5, A6, A7, A8, A9, A10, A11, A12}
 use Rattle.pssm_tool.specs.declared.answer.Answer.{Answer}
-use Rattle.pssm_tool.specs.declared.answer.Answer.TheVariants.{Accept, Refuse, Usage, BadModel, BadJournal, TooLarge}
+use Rattle.pssm_tool.specs.declared.answer.Answer.TheVariants.{Accept, Refuse, Limit, Usage, BadModel, BadJournal, TooLarge}
+use Rattle.pssm_tool.specs.declared.reply.Reply.{Reply}
+use Rattle.pssm_tool.specs.declared.reply.Reply.TheVariants.{Line, Journal}
+use Rattle.pssm_tool.specs.declared.run.Ended.{Ended}
+use Rattle.pssm_tool.specs.declared.run.Ended.TheVariants as ends
 
 -- the number in a rule's name
 abbrev pub number_of_rule : Rule → ℕ
@@ -33,6 +37,7 @@ refusal_line entry rule = line (codes "refuse " ++ decimal entry ++ codes " A" +
 abbrev pub text_of : Answer → List ℕ
 text_of (Accept entries) = line (codes "accept " ++ decimal entries)
 text_of (Refuse entry rule) = refusal_line entry (number_of_rule rule)
+text_of (Limit entry) = line (codes "limit " ++ decimal entry)
 text_of Usage = line (codes "usage")
 text_of BadModel = line (codes "bad model")
 text_of BadJournal = line (codes "bad journal")
@@ -45,11 +50,27 @@ code_of (Refuse entry rule) = 1
 code_of Usage = 2
 code_of BadModel = 3
 code_of BadJournal = 4
+code_of (Limit entry) = 8
 code_of TooLarge = 9
 
--- the statuses of the program: 0 to 7 and 9
+-- the status that goes with the end of a run
+abbrev pub code_of_end : Ended → ℕ
+code_of_end ends.Quiet = 0
+code_of_end ends.Limit = 8
+
+-- what is written for a reply
+abbrev pub reply_text : Reply → List ℕ
+reply_text (Line answer) = text_of answer
+reply_text (Journal text ended) = text
+
+-- the status that goes with it
+abbrev pub reply_code : Reply → ℕ
+reply_code (Line answer) = code_of answer
+reply_code (Journal text ended) = code_of_end ended
+
+-- the statuses of the program: 0 to 9
 abbrev pub IsStatus : ℕ → Type 0
-IsStatus code = (code ≤ 9) × (code ≢ 8)
+IsStatus code = code ≤ 9
 
 -- the statuses that say that reading, writing or memory failed
 abbrev pub IsFailure : ℕ → Type 0

@@ -1,4 +1,4 @@
-//! What the program answers: the line that it writes, and its status.
+//! The answers of one line: what is written, and the status.
 ghost use Rattle.std.specs.Prelude.{◌≡◌, IfOk, string_bytes};
 ghost use Rattle.pssm_tool.specs.Answers.{text_of, code_of, number_of_rule, refusal_line};
 
@@ -13,7 +13,9 @@ pub enum Answer {
     Accept { entries: u32 },
     /// The entry, counted from 1, is the first that breaks a rule, and this is the first rule that it breaks.
     Refuse { entry: u32, rule: Rule },
-    /// The words are none that the program knows.
+    /// With this entry, counted from 1, the journal passes its limits, and no earlier entry breaks a rule.
+    Limit { entry: u32 },
+    /// The words mean no command, or a stimulus among them names what the model does not have.
     Usage,
     /// The model is no text of the flat form, as far as it is built.
     BadModel,
@@ -34,6 +36,7 @@ impl Answer {
             Answer::Usage => 2,
             Answer::BadModel => 3,
             Answer::BadJournal => 4,
+            Answer::Limit { .. } => 8,
             Answer::TooLarge => 9,
         };
         Status { code }
@@ -46,6 +49,7 @@ impl Answer {
         match *self {
             Answer::Accept { entries } => format!(in alloc; "accept {entries}\n"),
             Answer::Refuse { entry, rule } => refusal(alloc, entry, number(rule)),
+            Answer::Limit { entry } => format!(in alloc; "limit {entry}\n"),
             Answer::Usage => String::from_str(alloc, "usage\n"),
             Answer::BadModel => String::from_str(alloc, "bad model\n"),
             Answer::BadJournal => String::from_str(alloc, "bad journal\n"),

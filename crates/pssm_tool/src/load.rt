@@ -1,10 +1,10 @@
-//! The files that the words name, read whole.
-ghost use Rattle.std.specs.Prelude.{◌≡◌, ◌≤◌, length, IfOk, IfErr};
+//! The model that the words name.
+ghost use Rattle.std.specs.Prelude.{◌≡◌, IfOk, IfErr};
 ghost use Rattle.pssm_base.specs.Faults.{NoneFell};
 ghost use Rattle.pssm_base.specs.Reading.{SameContent};
 ghost use Rattle.pssm_flat.specs.Flat.{IsFlat};
-ghost use Rattle.pssm_tool.specs.Due.{Reads, ReadsModel};
-ghost use Rattle.pssm_tool.specs.Stops.{StopsFile, StopsModel};
+ghost use Rattle.pssm_tool.specs.Due.{ReadsModel};
+ghost use Rattle.pssm_tool.specs.Stops.{StopsModel};
 
 use crate::answer::Answer;
 use crate::stop::Stop;
@@ -13,24 +13,8 @@ use pssm_base::{Inputs, WholeFault, read_whole};
 use pssm_flat::{FlatFault, read_flat};
 use std::alloc::Global;
 
-// The most bytes that a model or a journal may have.
+// The most bytes that a model may have.
 const LIMIT: u64 = 16_777_216;
-
-/// All bytes of a file of at most 16,777,216.
-pub fn file<I: Inputs>(alloc: Global, inputs: &mut I, path: &str) -> Result<Vec<u8>, Stop>
-    ensures reads { IfOk result (λ bytes. Reads (I.content inputs.old) path.now bytes.items) }
-    ensures stops { IfErr result (StopsFile (I.content inputs.old)
-        (I.faults inputs.old path.now) (I.faults inputs.new path.now) path.now) }
-    ensures counts { NoneFell (I.faults inputs.old) (I.faults inputs.new) }
-    ensures same { SameContent (I.content inputs.old) (I.content inputs.new) }
-{
-    match read_whole(alloc, inputs, path, LIMIT) {
-        Ok(bytes) => Ok(bytes),
-        Err(WholeFault::TooLarge) => Err(Stop::Answered(Answer::TooLarge)),
-        Err(WholeFault::ReadFault) => Err(Stop::ReadFault),
-        Err(WholeFault::NoMemory) => Err(Stop::NoMemory),
-    }
-}
 
 /// The setting of a model's file.
 pub fn model<I: Inputs>(alloc: Global, inputs: &mut I, path: &str) -> Result<Setting, Stop>
@@ -40,7 +24,12 @@ pub fn model<I: Inputs>(alloc: Global, inputs: &mut I, path: &str) -> Result<Set
     ensures counts { NoneFell (I.faults inputs.old) (I.faults inputs.new) }
     ensures same { SameContent (I.content inputs.old) (I.content inputs.new) }
 {
-    let bytes = file(alloc, inputs, path)?;
+    let bytes = match read_whole(alloc, inputs, path, LIMIT) {
+        Ok(bytes) => bytes,
+        Err(WholeFault::TooLarge) => return Err(Stop::Answered(Answer::TooLarge)),
+        Err(WholeFault::ReadFault) => return Err(Stop::ReadFault),
+        Err(WholeFault::NoMemory) => return Err(Stop::NoMemory),
+    };
     match read_flat(alloc, bytes.as_slice()) {
         Ok(setting) => Ok(setting),
         Err(FlatFault::BadModel) => Err(Stop::Answered(Answer::BadModel)),

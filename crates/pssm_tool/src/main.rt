@@ -1,16 +1,22 @@
-//! `zawhiroke judge MODEL JOURNAL` says whether a journal of a state machine's run is what UML says.
+//! `zawhiroke judge MODEL JOURNAL` says whether a journal of a state machine's run is what UML says, and
+//! `zawhiroke run MODEL STIMULUS*` runs a state machine and writes the journal.
 //!
 //! [`top::pssm`] does all of it, over inputs and a sink that it is handed; its clauses are what the program promises.
 //! `main` only hands it the words, the system's files and standard output.
 #![tactic(auto)]
 
 mod answer;
-mod judge;
+mod commands;
 mod load;
+mod numbers;
+mod reply;
+mod run;
 mod status;
+mod stimuli;
 mod stop;
 #[cfg(test)]
 mod tests;
+mod text;
 mod top;
 mod words;
 

@@ -1,11 +1,11 @@
-//! Why the work on the words ended before a verdict, and why no answer is given.
+//! Why the work on the words ended before its end, and why no reply is given.
 ghost use Rattle.std.specs.Prelude.{◌≡◌};
 ghost use Rattle.pssm_tool.specs.declared.stop.Stop.TheVariants.{NoMemory as Memory};
 
 use crate::answer::Answer;
 use std::alloc::AllocError;
 
-/// An answer that came early, or none at all.
+/// An answer that came early, or no reply at all.
 #[derive(Clone, Copy, PartialEq, Eq, Debug)]
 pub enum Stop {
     /// The answer is this one.
@@ -24,7 +24,7 @@ impl From<AllocError> for Stop {
     }
 }
 
-/// Why no answer is given. Nothing is written.
+/// Why no reply is given. Nothing is written.
 #[derive(Clone, Copy, PartialEq, Eq, Debug)]
 pub enum Failure {
     /// A file could not be read: the count of its path's faults rose.

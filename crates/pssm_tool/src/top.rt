@@ -1,29 +1,35 @@
 //! The top call: from words to a status.
-ghost use Rattle.std.specs.Prelude.{◌≡◌, ◌≢◌, ◌⊎◌, ℕ, IfOk, IfErr, IsErrOf};
+ghost use Rattle.std.specs.Prelude.{◌≡◌, ◌≢◌, ◌⊎◌, ℕ, List, IfOk, IfErr, IsErrOf};
 ghost use Rattle.std.specs.Io.KnownBytes.{Appends, Keeps};
 ghost use Rattle.pssm_acts.specs.declared.entry.Rule.{Rule};
+ghost use Rattle.pssm_acts.specs.declared.setting.Setting.{Setting};
+ghost use Rattle.pssm_acts.specs.declared.stimulus.Stimulus.{Stimulus};
 ghost use Rattle.pssm_tool.specs.declared.answer.Answer.{Answer};
+ghost use Rattle.pssm_tool.specs.declared.reply.Reply.{Reply};
+ghost use Rattle.pssm_tool.specs.declared.run.Ended.{Ended};
+ghost use Rattle.pssm_tool.specs.declared.words.Options.{Options};
 ghost use Rattle.pssm_base.specs.Faults.{Rose};
 ghost use Rattle.pssm_base.specs.Putting.{TookPart};
-ghost use Rattle.pssm_tool.specs.Words.{texts};
-ghost use Rattle.pssm_tool.specs.Answers.{text_of, code_of, IsStatus, IsFailure};
-ghost use Rattle.pssm_tool.specs.Due.{IsDue, IsTold, Gives, ReadFailed};
-ghost use Rattle.pssm_tool.specs.Stops.{StopsAll};
+ghost use Rattle.pssm_tool.specs.Words.{texts, IsJudge, IsRun};
+ghost use Rattle.pssm_tool.specs.Answers.{reply_text, reply_code, code_of, IsStatus, IsFailure};
+ghost use Rattle.pssm_tool.specs.Due.{IsDue, IsRunDue, IsOwed, IsTold, Gives, IsContinued, IsAcceptedText, ReadFailed};
+ghost use Rattle.pssm_tool.specs.Stops.{StopsAll, GoesOn};
 
 use crate::answer::Answer;
-use crate::judge::judge;
-use crate::load;
+use crate::commands::{judge_journal, run_model};
+use crate::reply::Reply;
 use crate::status::Status;
 use crate::stop::{Failure, Stop};
-use crate::words::paths_of;
+use crate::words::{Command, command_of};
 use pssm_base::{Gate, Inputs, Sink, put_all};
 use std::alloc::Global;
 
 /// Does what the words say, and answers how the program ends. `words` are those after the program's name.
 ///
-/// `judge MODEL JOURNAL` judges a journal of a run of the model. The one line of the answer goes to `out` after all
-/// else is done; before that nothing is written. `rt` and `gate` are for the commands that run workers, and `judge`
-/// does not use them.
+/// `judge MODEL JOURNAL` judges a journal of a run of the model, and writes one line.
+/// `run [--seed N] [--workers W] [--limit L] MODEL STIMULUS*` runs the model and writes the journal. What is written
+/// goes to `out` at once, after all else is done; before that nothing is written. `rt` and `gate` are for commands
+/// that start workers, of which there is none yet.
 pub fn pssm<R, I: Inputs, S: Sink, G: Gate + Sync>(
     _rt: &R,
     alloc: Global,
@@ -32,104 +38,144 @@ pub fn pssm<R, I: Inputs, S: Sink, G: Gate + Sync>(
     out: &mut S,
     _gate: &G,
 ) -> Status
-    // 0: the journal is admissible, and `accept N` says how many entries it has.
-    ensures accepted { result.code ≡ 0 → (n : ℕ) × Gives (texts words.now) (I.content inputs.old)
-        (S.taken out.old) (S.taken out.new) (Answer.Accept n) }
+    // 0: the journal is admissible, and `accept N` says how many entries it has; or the journal was written of a run
+    // that ended where nothing more can happen.
+    ensures accepted { result.code ≡ 0
+        → ((n : ℕ) × Gives (texts words.now) (I.content inputs.old)
+        (S.taken out.old) (S.taken out.new) (Reply.Line (Answer.Accept n)))
+        ⊎ ((text : List ℕ) × Gives (texts words.now) (I.content inputs.old)
+        (S.taken out.old) (S.taken out.new) (Reply.Journal text Ended.Quiet)) }
+
+    // The journal that was accepted is the beginning of a complete run.
+    ensures continued { result.code ≡ 0 → (model journal : List ℕ) → IsJudge (texts words.now) model journal
+        → IsContinued (I.content inputs.old) model journal }
 
     // 1: `refuse N An` names the first entry that breaks a rule, and the first rule that it breaks.
     ensures refused { result.code ≡ 1 → (n : ℕ) × (rule : Rule) × Gives (texts words.now) (I.content inputs.old)
-        (S.taken out.old) (S.taken out.new) (Answer.Refuse n rule) }
+        (S.taken out.old) (S.taken out.new) (Reply.Line (Answer.Refuse n rule)) }
 
-    // 2: the words are not `judge MODEL JOURNAL`.
+    // 2: the words mean no command, or name a stimulus that the model does not have.
     ensures usage { result.code ≡ 2 → Gives (texts words.now) (I.content inputs.old)
-        (S.taken out.old) (S.taken out.new) Answer.Usage }
+        (S.taken out.old) (S.taken out.new) (Reply.Line Answer.Usage) }
 
     // 3: the model's bytes are no flat text.
     ensures bad_model { result.code ≡ 3 → Gives (texts words.now) (I.content inputs.old)
-        (S.taken out.old) (S.taken out.new) Answer.BadModel }
+        (S.taken out.old) (S.taken out.new) (Reply.Line Answer.BadModel) }
 
     // 4: the journal's bytes are no journal text, and no earlier line breaks a rule.
     ensures bad_journal { result.code ≡ 4 → Gives (texts words.now) (I.content inputs.old)
-        (S.taken out.old) (S.taken out.new) Answer.BadJournal }
+        (S.taken out.old) (S.taken out.new) (Reply.Line Answer.BadJournal) }
 
     // 5: reading a path that the words name failed in this call. Nothing is written.
     ensures read_fault { result.code ≡ 5 → ReadFailed (texts words.now) (I.faults inputs.old) (I.faults inputs.new) }
     ensures read_fault_silent { result.code ≡ 5 → Keeps (S.taken out.old) (S.taken out.new) }
 
-    // 6: writing failed in this call. A front of the line that was owed was taken.
+    // 6: writing failed in this call. A front of the text that was owed was taken.
     ensures write_fault { result.code ≡ 6 → Rose (S.faults out.old) (S.faults out.new) }
-    ensures write_fault_part { result.code ≡ 6 → (answer : Answer) × IsDue (texts words.now) (I.content inputs.old) answer
-        × TookPart (S.taken out.old) (S.taken out.new) (text_of answer) }
+    ensures write_fault_part { result.code ≡ 6 → (reply : Reply) × IsOwed (texts words.now) (I.content inputs.old) reply
+        × TookPart (S.taken out.old) (S.taken out.new) (reply_text reply) }
 
     // 7: there was not enough memory. Nothing is written.
     ensures no_memory_silent { result.code ≡ 7 → Keeps (S.taken out.old) (S.taken out.new) }
 
+    // 8: `limit N` names the entry by which the journal passes its limits; or the journal was written of a run that
+    // ended because it is full.
+    ensures limited { result.code ≡ 8
+        → ((n : ℕ) × Gives (texts words.now) (I.content inputs.old)
+        (S.taken out.old) (S.taken out.new) (Reply.Line (Answer.Limit n)))
+        ⊎ ((text : List ℕ) × Gives (texts words.now) (I.content inputs.old)
+        (S.taken out.old) (S.taken out.new) (Reply.Journal text Ended.Limit)) }
+
     // 9: a file is too large.
     ensures too_large { result.code ≡ 9 → Gives (texts words.now) (I.content inputs.old)
-        (S.taken out.old) (S.taken out.new) Answer.TooLarge }
+        (S.taken out.old) (S.taken out.new) (Reply.Line Answer.TooLarge) }
 
     // There is no other status.
     ensures no_other { IsStatus result.code }
 
-    // Where it is told what the files hold, one answer is owed, and its status comes unless reading, writing or
+    // The journal that a run writes is accepted as one of its model.
+    ensures accepts_runs { (options : Options) (model : List ℕ) (stimuli : List (List ℕ))
+        → IsRun (texts words.now) options model stimuli → (result.code ≡ 0) ⊎ (result.code ≡ 8)
+        → IsAcceptedText (I.content inputs.old) model (S.taken out.old) (S.taken out.new) }
+
+    // Where it is told what the files hold and a line is owed, one is, and its status comes unless reading, writing or
     // memory failed.
     ensures exactly { (answer : Answer) → IsTold (texts words.now) (I.content inputs.old)
         → IsDue (texts words.now) (I.content inputs.old) answer → (result.code ≡ code_of answer) ⊎ IsFailure result.code }
+
+    // Where a run is owed, its journal comes with one of its two ends, unless reading, writing or memory failed.
+    ensures runs { (setting : Setting) (stimuli : List Stimulus) (limit : ℕ) → IsTold (texts words.now) (I.content inputs.old)
+        → IsRunDue (texts words.now) (I.content inputs.old) setting stimuli limit
+        → (result.code ≡ 0) ⊎ (result.code ≡ 8) ⊎ IsFailure result.code }
 {
     match owed(alloc, words, inputs) {
-        Ok(answer) => tell(alloc, answer, out),
+        Ok(reply) => tell(alloc, &reply, out),
         Err(Failure::ReadFault) => Status { code: 5 },
         Err(Failure::NoMemory) => Status { code: 7 },
     }
 }
 
-// Writes the line of an answer.
-fn tell<S: Sink>(alloc: Global, answer: Answer, out: &mut S) -> Status
+// Writes the text of a reply.
+fn tell<S: Sink>(alloc: Global, reply: &Reply, out: &mut S) -> Status
     ensures told { result.code ≢ 6 → result.code ≢ 7
-        → (result.code ≡ code_of answer) × Appends (S.taken out.old) (S.taken out.new) (text_of answer) }
+        → (result.code ≡ reply_code reply.now) × Appends (S.taken out.old) (S.taken out.new) (reply_text reply.now) }
     ensures write_fault { result.code ≡ 6 → Rose (S.faults out.old) (S.faults out.new)
-        × TookPart (S.taken out.old) (S.taken out.new) (text_of answer) }
+        × TookPart (S.taken out.old) (S.taken out.new) (reply_text reply.now) }
     ensures no_memory { result.code ≡ 7 → Keeps (S.taken out.old) (S.taken out.new) }
 {
-    let Ok(text) = answer.text(alloc) else {
-        return Status { code: 7 };
-    };
-    match put_all(out, text.as_bytes()) {
-        Ok(()) => answer.status(),
+    match reply {
+        Reply::Line(answer) => match answer.text(alloc) {
+            Ok(text) => put(text.as_bytes(), reply.status(), out),
+            Err(_) => Status { code: 7 },
+        },
+        Reply::Journal { text, .. } => put(text.as_slice(), reply.status(), out),
+    }
+}
+
+// Writes the bytes, and answers the status unless writing failed.
+fn put<S: Sink>(bytes: &[u8], status: Status, out: &mut S) -> Status
+    requires { status.code ≢ 6 }
+    ensures told { result.code ≢ 6 → (result ≡ status) × Appends (S.taken out.old) (S.taken out.new) bytes.now }
+    ensures write_fault { result.code ≡ 6 → Rose (S.faults out.old) (S.faults out.new)
+        × TookPart (S.taken out.old) (S.taken out.new) bytes.now }
+{
+    match put_all(out, bytes) {
+        Ok(()) => status,
         Err(_) => Status { code: 6 },
     }
 }
 
-// The answer that is owed for the words and their files.
-fn owed<I: Inputs>(alloc: Global, words: &[String], inputs: &mut I) -> Result<Answer, Failure>
-    ensures due { IfOk result (λ answer. IsDue (texts words.now) (I.content inputs.old) answer) }
+// The reply that is owed for the words and their files.
+fn owed<I: Inputs>(alloc: Global, words: &[String], inputs: &mut I) -> Result<Reply, Failure>
+    ensures owed { IfOk result (IsOwed (texts words.now) (I.content inputs.old)) }
+    ensures goes_on { IfOk result (GoesOn (texts words.now) (I.content inputs.old)) }
     ensures read_fault { IsErrOf result Failure.ReadFault
         → ReadFailed (texts words.now) (I.faults inputs.old) (I.faults inputs.new) }
 {
-    match answer(alloc, words, inputs) {
-        Ok(answer) => Ok(answer),
-        Err(Stop::Answered(answer)) => Ok(answer),
+    match reply(alloc, words, inputs) {
+        Ok(reply) => Ok(reply),
+        Err(Stop::Answered(answer)) => Ok(Reply::Line(answer)),
         Err(Stop::ReadFault) => Err(Failure::ReadFault),
         Err(Stop::NoMemory) => Err(Failure::NoMemory),
     }
 }
 
-// The answer that is owed, or why the work ended before the verdict.
-fn answer<I: Inputs>(alloc: Global, words: &[String], inputs: &mut I) -> Result<Answer, Stop>
-    ensures due { IfOk result (λ answer. IsDue (texts words.now) (I.content inputs.old) answer) }
+// The reply that is owed, or why the work ended before it.
+fn reply<I: Inputs>(alloc: Global, words: &[String], inputs: &mut I) -> Result<Reply, Stop>
+    ensures owed { IfOk result (IsOwed (texts words.now) (I.content inputs.old)) }
+    ensures goes_on { IfOk result (GoesOn (texts words.now) (I.content inputs.old)) }
     ensures stops { IfErr result (StopsAll (texts words.now) (I.content inputs.old)
         (I.faults inputs.old) (I.faults inputs.new)) }
 {
-    let Some((model, journal)) = paths_of(words) else {
-        return Ok(Answer::Usage);
-    };
-    let setting = match load::model(alloc, inputs, model) {
-        Ok(setting) => setting,
-        Err(stop) => return Err(stop),
-    };
-    let bytes = match load::file(alloc, inputs, journal) {
-        Ok(bytes) => bytes,
-        Err(stop) => return Err(stop),
-    };
-    judge(alloc, setting, bytes.as_slice())
+    match command_of(words) {
+        Some(Command::Judge { model, journal }) => judge_journal(alloc, inputs, model, journal),
+        Some(
+            Command::Run {
+                options,
+                model,
+                stimuli,
+            },
+        ) => run_model(alloc, inputs, options, model, stimuli),
+        None => Ok(Reply::Line(Answer::Usage)),
+    }
 }

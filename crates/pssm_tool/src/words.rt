@@ -1,16 +1,117 @@
 //! The words of the command line.
-ghost use Rattle.std.specs.Prelude.{◌≡◌, List, ℕ, map, IfSome, IfNone, string_bytes};
-ghost use Rattle.pssm_tool.specs.Words.{IsJudge, texts};
+ghost use Rattle.std.specs.Prelude.{◌≡◌, ◌≤◌, ◌∷◌, ◌++◌, List, ℕ, codes, IfSome, IfNone, IsTrue, ◌↔◌, string_bytes};
+ghost use Rattle.pssm_tool.specs.Words.{texts, BeginWith, HasOption, BeginsWithDashes, Meaning, Means, IsUsage, meaning_of};
 
-/// The paths of the model and of the journal, where the words are `judge MODEL JOURNAL`.
-pub fn paths_of(words: &[String]) -> Option<(&str, &str)>
-    ensures judge { IfSome result (λ paths. IsJudge (texts words.now) paths.0.now paths.1.now) }
-    ensures usage { IfNone result ((model journal : List ℕ) → IsJudge (texts words.now) model journal → ⊥) }
+use crate::numbers::number_of;
+use crate::stimuli::are_spelled;
+
+/// What may be chosen for a run.
+#[derive(Clone, Copy, PartialEq, Eq, Debug)]
+pub struct Options {
+    /// What the free choices are made from.
+    pub seed: u64,
+    /// How many workers run the model, 1 to 16.
+    pub workers: u8,
+    /// How many entries the journal may have, at most 1,000,000.
+    pub limit: u32,
+}
+
+/// A command, with the words that it needs.
+#[derive(Clone, Copy)]
+pub enum Command<'a> {
+    /// Judge the journal as one of a run of the model.
+    Judge {
+        model: &'a str,
+        journal: &'a str,
+    },
+    /// Run the model. The stimuli are spelled as they should be, and may name what the model does not have.
+    Run {
+        options: Options,
+        model: &'a str,
+        stimuli: &'a [String],
+    },
+}
+
+/// The command that the words mean, if they mean one. They mean no more than one.
+pub fn command_of(words: &[String]) -> Option<Command<'_>>
+    ensures reads { IfSome result (λ command. Means (texts words.now) (meaning_of command)) }
+    ensures usage { IfNone result (IsUsage (texts words.now)) }
+    ensures once { (a b : Meaning) → Means (texts words.now) a → Means (texts words.now) b → a ≡ b }
 {
     match words {
-        [verb, model, journal] if verb.as_str() == "judge" => {
-            Some((model.as_str(), journal.as_str()))
-        }
+        [verb, rest @ ..] if verb.as_str() == "run" => run_of(rest),
+        [verb, model, journal] if verb.as_str() == "judge" => Some(Command::Judge {
+            model: model.as_str(),
+            journal: journal.as_str(),
+        }),
         _ => None,
     }
+}
+
+// The command of the words after `run`.
+fn run_of(words: &[String]) -> Option<Command<'_>>
+    ensures reads { IfSome result (λ command. Means (codes "run" ∷ texts words.now) (meaning_of command)) }
+    ensures usage { IfNone result (IsUsage (codes "run" ∷ texts words.now)) }
+{
+    let (seed, rest) = option_at(words, "--seed", 0, u64::MAX, 0)?;
+    let (workers, rest) = option_at(rest, "--workers", 1, 16, 1)?;
+    let (limit, rest) = option_at(rest, "--limit", 0, 1_000_000, 10_000)?;
+    let [model, stimuli @ ..] = rest else {
+        return None;
+    };
+    if has_dashes(model.as_str()) {
+        return None;
+    }
+    if !are_spelled(stimuli) {
+        return None;
+    }
+    Some(Command::Run {
+        options: Options {
+            seed,
+            workers: workers as u8,
+            limit: limit as u32,
+        },
+        model: model.as_str(),
+        stimuli,
+    })
+}
+
+// The number of an option that may stand at the front, and the words after it.
+fn option_at<'a>(
+    words: &'a [String],
+    name: &str,
+    least: u64,
+    greatest: u64,
+    otherwise: u64,
+) -> Option<(u64, &'a [String])>
+    requires { otherwise ≤ greatest }
+    ensures has { IfSome result (λ x. HasOption name.now least greatest otherwise (texts words.now) (texts x.1.now) x.0) }
+    ensures within { IfSome result (λ x. x.0 ≤ greatest) }
+    ensures none { IfNone result ((rest : List (List ℕ)) (n : ℕ)
+        → HasOption name.now least greatest otherwise (texts words.now) rest n → ⊥) }
+{
+    if !begin_with(words, name) {
+        return Some((otherwise, words));
+    }
+    match words {
+        [_, word, rest @ ..] => Some((number_of(word.as_str(), least, greatest)?, rest)),
+        _ => None,
+    }
+}
+
+// Whether the first of the words is this one.
+fn begin_with(words: &[String], name: &str) -> bool
+    ensures { IsTrue result ↔ BeginWith (texts words.now) name.now }
+{
+    match words {
+        [first, ..] => first.as_str() == name,
+        [] => false,
+    }
+}
+
+// Whether the word begins as an option does.
+fn has_dashes(word: &str) -> bool
+    ensures { IsTrue result ↔ BeginsWithDashes word.now }
+{
+    word.as_bytes().strip_prefix(b"--").is_some()
 }

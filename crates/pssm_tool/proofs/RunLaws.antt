@@ -1,0 +1,183 @@
+-- How a run goes on entry by entry, and what it comes to.
+use Rattle.std.proofs.Common.{◌≡◌, ◌≢◌, ◌<◌, ◌≤◌, ◌+◌, ◌⊎◌, ℕ, zero, suc, List, [], ◌∷◌, ◌++◌, length, take, drop, get_or, Option, Some, None, IfSome, slice_get, refl, sym, ap, subst, ◌∙◌, arith, inl, inr, add-one, append-nil, length-append, Bor, MatchOption}
+use Rattle.std.specs.List.{AllByRecursion, flat_map, sum_by}
+use Rattle.std.proofs.lemmas.Grind.{flat_map-append}
+use Rattle.std.proofs.lemmas.List.{take-append-drop}
+use Rattle.std.proofs.lemmas.List.Sums.{sum_by-append}
+use Rattle.std.specs.Option.{option_copied}
+use Rattle.std.proofs.lemmas.Option.{slice_get_within, slice_get_past, slice_get_read}
+use Rattle.std.proofs.Math.Seq.{take-length}
+use Rattle.pssm_acts.specs.declared.entry.Entry.{Entry}
+use Rattle.pssm_acts.specs.declared.entry.Entry.TheVariants.{Post, Start, Take, Done, Exit, Effect, Enter, Opened, Pick, DoStep}
+use Rattle.pssm_acts.specs.declared.entry.Rule.TheVariants.{A1, A12}
+use Rattle.pssm_acts.specs.declared.setting.Class.{Class}
+use Rattle.pssm_acts.specs.declared.setting.Setting.{Setting}
+use Rattle.pssm_acts.specs.declared.stimulus.Stimulus.{Stimulus}
+use Rattle.pssm_acts.specs.Built.{IsBuilt, IsPlainClass}
+use Rattle.pssm_acts.specs.Journal.{object_of}
+use Rattle.pssm_acts.specs.Pool.{told_by, posts_of_entry, outs_of, posts_of, output_count}
+use Rattle.pssm_acts.specs.Behaviours.{store_of}
+use Rattle.pssm_acts.specs.Runs.{MayFollow, IsQuiet, IsFull, KeepsJournalLimits, FitsStimuli, HasEndedQuietly}
+use Rattle.pssm_system.specs.History.{History}
+use Rattle.pssm_system.proofs.Kept.{class_is}
+use Rattle.pssm_system.proofs.Rules.{outs_are_none}
+use Rattle.pssm_tool.specs.declared.run.Ended.TheVariants.{Quiet, Limit}
+use Rattle.pssm_tool.specs.Runs.{EndsRun}
+use Rattle.pssm_tool.specs.Running.{IsKnown, IsFullAt, PostsNext, IsNext, IsOver, IsRunning}
+
+-- Entries of the settings that the code runs so far have no outputs.
+pub no_outs : (setting : Setting) (J : List Entry) (e : Entry) → IsBuilt setting → MayFollow setting J e → outs_of e ≡ []
+no_outs setting J e built may =
+    let there = may A1 in
+    let plain : IsPlainClass there.0 = subst (λ (k : Class). IsPlainClass k) (sym (class_is built (object_of e) there.0 there.1).1) built.class_is in
+    may A12 there.0 there.1 ∙ outs_are_none there.0 plain (told_by J) J e (store_of there.0 (told_by J) J (object_of e))
+
+-- what std's `get` gives
+pub got : {X : Type 0} (Q : Bor X → Type 0) (xs : List X) (i : ℕ) (r : Option (Bor X)) → IfSome r (λ x. x.now ≡ get_or xs i x.now) → MatchOption r (length xs ≤ i) (λ x. (i < length xs) × Q x)
+    → option_copied r ≡ slice_get xs i
+got Q xs i None here past = sym (slice_get_past xs i past)
+got Q xs i (Some x) here within = sym (slice_get_read xs (length xs) i x.now refl within.0 here)
+
+-- The stimulus that waits is known.
+waiting_known : (setting : Setting) (stimuli : List Stimulus) (i : ℕ) → AllByRecursion (IsKnown setting) stimuli → IfSome (slice_get stimuli i) (IsKnown setting)
+waiting_known setting [] i all = tt
+waiting_known setting (x ∷ stimuli) zero all = all.0
+waiting_known setting (x ∷ stimuli) (suc i) all = waiting_known setting stimuli i all.1
+
+pub got_known : (setting own : Setting) (stimuli : List Stimulus) (i : ℕ) (r : Option (Bor Stimulus)) → own ≡ setting → option_copied r ≡ slice_get stimuli i → AllByRecursion (IsKnown setting) stimuli
+    → IfSome r (λ x. IsKnown own x.now)
+got_known setting own stimuli i None same is all = tt
+got_known setting own stimuli i (Some x) same is all =
+    let known : IfSome (Some x.now) (IsKnown setting) = subst (λ (o : Option Stimulus). IfSome o (IsKnown setting)) (sym is) (waiting_known setting stimuli i all) in
+    subst (λ (s : Setting). IsKnown s x.now) (sym same) known
+
+take_next : {X : Type 0} (xs : List X) (i : ℕ) (x : X) → slice_get xs i ≡ Some x → take (i + 1) xs ≡ take i xs ++ x ∷ []
+take_next xs i x is = rw add-one (by_place xs i is) where
+  by_place : (xs : List _) (i : ℕ) → slice_get xs i ≡ Some x → take (suc i) xs ≡ take i xs ++ x ∷ []
+  by_place [] i is = absurd cc
+  by_place (y ∷ ys) zero is = let same : y ≡ x = cc in ap (λ (z : _). z ∷ []) same
+  by_place (y ∷ ys) (suc i) is = ap (λ (zs : List _). y ∷ zs) (by_place ys i is)
+
+none_past : {X : Type 0} (xs : List X) (i : ℕ) → slice_get xs i ≡ None → length xs ≤ i
+none_past [] i is = omega arith
+none_past (y ∷ ys) zero is = absurd cc
+none_past (y ∷ ys) (suc i) is = let past = none_past ys i is in omega arith
+
+-- ---- the posts and outputs of a journal with one entry more
+
+posts_more : (J : List Entry) (e : Entry) → posts_of (J ++ e ∷ []) ≡ posts_of J ++ posts_of_entry e
+posts_more J e = flat_map-append posts_of_entry J (e ∷ []) ∙ ap (λ (t : List Stimulus). posts_of J ++ t) (append-nil (posts_of_entry e))
+
+outputs_more : (J : List Entry) (e : Entry) → output_count (J ++ e ∷ []) ≡ output_count J + (length (posts_of_entry e) + length (outs_of e))
+outputs_more J e =
+    let more = sum_by-append (λ (x : Entry). length (posts_of_entry x) + length (outs_of x)) J (e ∷ []) in
+    omega (arith, more)
+
+-- at most one post
+pub one_post : (e : Entry) → length (posts_of_entry e) ≤ 1
+one_post (Post o signal args) = omega arith
+one_post (Start o) = omega arith
+one_post (Take o number firing) = omega arith
+one_post (Done o state firing) = omega arith
+one_post (Exit o state outs) = omega arith
+one_post (Effect o transition outs) = omega arith
+one_post (Enter o state outs) = omega arith
+one_post (Opened o region mode how) = omega arith
+one_post (Pick o choice route) = omega arith
+one_post (DoStep o state step outs) = omega arith
+
+-- ---- the run
+
+pub running_start : (setting : Setting) (stimuli : List Stimulus) (limit : ℕ) (run : History) → run ≡ record { setting = setting; journal = [] } → IsRunning setting stimuli limit run 0 0
+running_start setting stimuli limit run is =
+    let start : IsRunning setting stimuli limit (record { setting = setting; journal = [] }) 0 0 = record { setting_is = refl; few = omega arith; within = omega arith; posts = refl; outputs_are = refl } in
+    subst (λ (h : History). IsRunning setting stimuli limit h 0 0) (sym is) start
+
+module _ (setting : Setting) (stimuli : List Stimulus) (limit : ℕ) (run : History) (posted outputs : ℕ) (running : IsRunning setting stimuli limit run posted outputs) where
+  -- the journal is full as the counts are
+  pub full_counted : IsFullAt limit (length run.journal) outputs → IsFull limit run.journal
+  full_counted (inl entries) = inl entries
+  full_counted (inr many) = inr (let counted = running.outputs_are in omega arith)
+
+  pub counted_full : IsFull limit run.journal → IsFullAt limit (length run.journal) outputs
+  counted_full (inl entries) = inl entries
+  counted_full (inr many) = inr (let counted = running.outputs_are in omega arith)
+
+  fits : FitsStimuli run.journal stimuli
+  fits = (drop posted stimuli, sym (take-append-drop posted stimuli) ∙ ap (λ (t : List Stimulus). t ++ drop posted stimuli) (sym running.posts))
+
+  -- It ends because it is full.
+  pub ends_full : IsFullAt limit (length run.journal) outputs → EndsRun setting stimuli limit run.journal Limit
+  ends_full full = record { fits = fits; few = running.few; ends = full_counted full }
+
+  -- It ends because nothing more can happen.
+  pub ends_quietly : (IsFullAt limit (length run.journal) outputs → ⊥) → IsOver run (slice_get stimuli posted) → EndsRun setting stimuli limit run.journal Quiet
+  ends_quietly room over =
+      let past = none_past stimuli posted over.none in
+      let all : posted ≡ length stimuli = let within = running.within in omega arith in
+      record {
+        fits = fits;
+        few = running.few;
+        ends = record {
+          not_full = λ full. room (counted_full full);
+          all_posted = running.posts ∙ ap (λ (n : ℕ). take n stimuli) all ∙ take-length stimuli;
+          quiet = subst (λ (s : Setting). IsQuiet s run.journal) running.setting_is over.quiet;
+        };
+      }
+
+  -- one entry more
+  module _ (room : IsFullAt limit (length run.journal) outputs → ⊥) (e : Entry) (next : IsNext run (slice_get stimuli posted) e) where
+    pub posted_within : posted + length (posts_of_entry e) ≤ length stimuli
+    posted_within = by_posts next.posts where
+      by_posts : PostsNext (slice_get stimuli posted) e → posted + length (posts_of_entry e) ≤ length stimuli
+      by_posts (inl none) = let n = ap length none in let within = running.within in omega arith
+      by_posts (inr some) = let n = ap length some.2 in let within = slice_get_within stimuli posted some.0 some.1 in omega arith
+
+    posts_are : posts_of (run.journal ++ e ∷ []) ≡ take (posted + length (posts_of_entry e)) stimuli
+    posts_are = posts_more run.journal e ∙ by_posts next.posts where
+      by_posts : PostsNext (slice_get stimuli posted) e → posts_of run.journal ++ posts_of_entry e ≡ take (posted + length (posts_of_entry e)) stimuli
+      by_posts (inl none) =
+          ap (λ (t : List Stimulus). posts_of run.journal ++ t) none ∙ append-nil (posts_of run.journal) ∙ running.posts
+          ∙ ap (λ (n : ℕ). take n stimuli) (let n = ap length none in omega arith)
+      by_posts (inr some) =
+          ap (λ (t : List Stimulus). posts_of run.journal ++ t) some.2 ∙ ap (λ (t : List Stimulus). t ++ some.0 ∷ []) running.posts ∙ sym (take_next stimuli posted some.0 some.1)
+          ∙ ap (λ (n : ℕ). take n stimuli) (let n = ap length some.2 in omega arith)
+
+    shorter : length run.journal < limit
+    shorter = by_length refl where
+      by_length : length run.journal ≡ length run.journal → length run.journal < limit
+      by_length e = let few = running.few in let apart : length run.journal ≢ limit = λ same. room (inl same) in omega arith
+
+    roomy : outputs ≤ 1999936
+    roomy = let apart : (1999936 < outputs) → ⊥ = λ many. room (inr many) in omega arith
+
+    more : IsRunning setting stimuli limit (record { setting = run.setting; journal = run.journal ++ e ∷ [] }) (posted + length (posts_of_entry e)) (outputs + (length (posts_of_entry e) + length (outs_of e)))
+    more = record {
+      setting_is = running.setting_is;
+      few = let n = length-append run.journal (e ∷ []) in let less = shorter in omega (arith, n, less);
+      within = posted_within;
+      posts = posts_are;
+      outputs_are = let n = outputs_more run.journal e in let counted = running.outputs_are in omega (arith, n, counted);
+    }
+
+    pub running_more : (after : History) (a b c : ℕ) → after ≡ record { setting = run.setting; journal = run.journal ++ e ∷ [] } → a ≡ length (posts_of_entry e) → b ≡ length (posts_of_entry e) → c ≡ length (outs_of e)
+        → IsRunning setting stimuli limit after (posted + a) (outputs + (b + c))
+    running_more after a b c is p q r =
+        let places : posted + a ≡ posted + length (posts_of_entry e) = omega (arith, p) in
+        let counts : outputs + (b + c) ≡ outputs + (length (posts_of_entry e) + length (outs_of e)) = omega (arith, q, r) in
+        subst (λ (h : History). IsRunning setting stimuli limit h (posted + a) (outputs + (b + c))) (sym is)
+        (subst (λ (n : ℕ). IsRunning setting stimuli limit (record { setting = run.setting; journal = run.journal ++ e ∷ [] }) n (outputs + (b + c))) (sym places)
+        (subst (λ (n : ℕ). IsRunning setting stimuli limit (record { setting = run.setting; journal = run.journal ++ e ∷ [] }) (posted + length (posts_of_entry e)) n) (sym counts) more))
+
+    -- The journal stays within its limits.
+    pub limits_more : IsBuilt setting → limit ≤ 1000000 → KeepsJournalLimits (run.journal ++ e ∷ [])
+    limits_more built low =
+        let none = ap length (no_outs run.setting run.journal e (subst (λ (s : Setting). IsBuilt s) (sym running.setting_is) built) next.follows) in
+        let one = one_post e in
+        let less = shorter in
+        let room = roomy in
+        let counted = running.outputs_are in
+        record {
+          entries = let n = length-append run.journal (e ∷ []) in omega (arith, n, less, low);
+          outputs = let n = outputs_more run.journal e in omega (arith, n, none, one, counted, room);
+        }

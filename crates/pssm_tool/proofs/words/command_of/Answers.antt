@@ -1,0 +1,25 @@
+use Rattle.std.proofs.Common.{◌≡◌, ◌∙◌, List, ℕ, IfSome, codes, ap, sym, subst}
+use Rattle.std.proofs.lemmas.Slice.Eq.{bytes_eq-Decides}
+use Rattle.pssm_tool.specs.Words.{texts, Means, meaning_of}
+use Rattle.pssm_tool.proofs.Three.{three_items}
+use Rattle.pssm_tool.proofs.WordLaws.{first_and_rest, words_first, one_meaning}
+use Rattle.pssm_tool.proofs.words.command_of.Goals as goal
+
+-- The first word is `run`.
+pub returns-in-len1-up-clause-reads : goal.returns-in-len1-up-clause-reads
+returns-in-len1-up-clause-reads c =
+    let all = first_and_rest c.args.words.now c.verb-item.result c.in-len1-up.len_at_least c.verb-item.is in
+    let verb = (bytes_eq-Decides c.as_str.result.now (codes "run")).0 (sym (c.if-eq.ensures {u = tt})) in
+    subst (λ (t : List (List ℕ)). IfSome c.run_of.result (λ command. Means t (meaning_of command)))
+    (sym (words_first c.args.words.now _ c.verb-item.result (codes "run") all (sym c.as_str.ensures.value ∙ verb))) c.run_of.ensures.reads
+
+pub returns-in-len1-up-clause-once : goal.returns-in-len1-up-clause-once
+returns-in-len1-up-clause-once c = one_meaning (texts c.args.words.now)
+
+-- The three words are the verb and the two paths that were read.
+pub returns-in-len3-clause-reads : goal.returns-in-len3-clause-reads
+returns-in-len3-clause-reads c =
+    let all = three_items c.args.words.now c.verb-item-then-words-lt4.result c.model-item.result c.journal-item.result c.in-len3.len_at_least c.in-len3.len_below c.verb-item-then-words-lt4.is c.model-item.is c.journal-item.is in
+    let verb = (bytes_eq-Decides c.as_str-then-words-lt4.result.now (codes "judge")).0 (sym (c.if-eq-2.ensures {u = tt})) in
+    let read = ap texts all in
+    cc (read, verb, c.as_str-then-words-lt4.ensures.value, c.as_str-in-len3.ensures.value, c.as_str-in-len3-2.ensures.value)

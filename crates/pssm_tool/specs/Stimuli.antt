@@ -1,0 +1,31 @@
+-- The stimuli that words name in a setting.
+use Rattle.std.specs.Prelude.{ℕ, List, [], ◌∷◌}
+use Rattle.pssm_acts.specs.declared.entry.Entry.{Entry}
+use Rattle.pssm_acts.specs.declared.entry.Entry.TheVariants.{Post}
+use Rattle.pssm_acts.specs.declared.line.Line.TheVariants as lines
+use Rattle.pssm_acts.specs.declared.setting.Setting.{Setting}
+use Rattle.pssm_acts.specs.declared.stimulus.Stimulus.{Stimulus}
+use Rattle.pssm_journal.specs.Entries.{IsEntryOf, KeepsNames}
+use Rattle.pssm_tool.specs.Words.{IsCall}
+
+-- the entry that posts a stimulus
+abbrev pub post_of : Stimulus → Entry
+post_of x = Post x.object x.signal x.args
+
+-- The line that has the word after `post` writes the entry that posts the stimulus, and all that it names is the setting's.
+pub record Names (setting : Setting) (word : List ℕ) (x : Stimulus) : Type 0 where
+  pub object : List ℕ
+  pub signal : List ℕ
+  pub call : IsCall word object signal
+  pub writes : IsEntryOf setting (lines.Post object signal []) (post_of x)
+  pub known : KeepsNames setting (post_of x)
+
+-- The words name these stimuli, one each.
+abbrev pub AreStimuli : Setting → List (List ℕ) → List Stimulus → Type 0
+AreStimuli setting [] [] = Unit {0}
+AreStimuli setting (word ∷ words) (x ∷ stimuli) = Names setting word x × AreStimuli setting words stimuli
+AreStimuli setting _ _ = ⊥
+
+-- Some word names no stimulus of the setting.
+abbrev pub NameNoStimuli : Setting → List (List ℕ) → Type 0
+NameNoStimuli setting words = (stimuli : List Stimulus) → AreStimuli setting words stimuli → ⊥
