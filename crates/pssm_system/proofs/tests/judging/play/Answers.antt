@@ -2,7 +2,7 @@
 use Rattle.std.proofs.Common.{false, sym, subst}
 use Rattle.pssm_acts.specs.Built.{IsBuilt}
 use Rattle.pssm_system.proofs.Samples.{sample_is_built, named_holds}
-use Rattle.pssm_system.proofs.tests.play.Goals as goal
+use Rattle.pssm_system.proofs.tests.judging.play.Goals as goal
 
 pub allows-requires : goal.allows-requires
 allows-requires c = record {

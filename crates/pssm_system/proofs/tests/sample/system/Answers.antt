@@ -2,7 +2,7 @@
 use Rattle.std.proofs.Common.{sym, subst}
 use Rattle.pssm_acts.specs.Built.{IsBuilt}
 use Rattle.pssm_system.proofs.Samples.{sample_is_built}
-use Rattle.pssm_system.proofs.tests.system.Goals as goal
+use Rattle.pssm_system.proofs.tests.sample.system.Goals as goal
 
 pub new-requires : goal.new-requires
 new-requires c = subst IsBuilt (sym c.in_ok-setting.ensures) (sample_is_built c.args.forked)

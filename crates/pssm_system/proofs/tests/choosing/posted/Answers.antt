@@ -1,6 +1,6 @@
 -- a post names what the sample has
 use Rattle.pssm_system.proofs.Samples.{named_holds}
-use Rattle.pssm_system.proofs.tests.posted.Goals as goal
+use Rattle.pssm_system.proofs.tests.choosing.posted.Goals as goal
 
 pub allows-requires : goal.allows-requires
 allows-requires c = record {

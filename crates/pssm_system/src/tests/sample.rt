@@ -1,0 +1,112 @@
+//! The machine of the tests, and a system of it.
+ghost use Rattle.std.specs.Prelude.{◌≡◌, IfOk, Bool};
+ghost use Rattle.pssm_system.specs.Sample.{sample_vertex, sample_transition, to_b, sample_machine, sample_setting};
+
+use crate::System;
+use crate::tests::GO;
+use pssm_acts::{Act, Class, ObjectDecl, Program, Setting, SignalDecl};
+use pssm_model::{
+    ActId, DraftMachine, Guard, Machine, Owner, RegionId, Row, SignalId, Text, TransKind,
+    Transition, Vertex, VertexId, VertexKind,
+};
+use std::alloc::{AllocError as NoMemory, Global};
+
+fn vertex(alloc: Global, kind: VertexKind) -> Vertex
+    ensures { result ≡ sample_vertex kind }
+{
+    Vertex {
+        owner: Owner::Region(RegionId(0)),
+        kind,
+        label: Text::from_vec(Vec::new(alloc)),
+        entry: ActId(0),
+        exit: ActId(0),
+        steps: Row::from_vec(Vec::new(alloc)),
+        defers: Row::from_vec(Vec::new(alloc)),
+    }
+}
+
+fn transition(source: u16, target: u16, triggers: Vec<SignalId>) -> Transition
+    ensures { result ≡ sample_transition source target triggers.items }
+{
+    Transition {
+        source: VertexId(source),
+        target: VertexId(target),
+        kind: TransKind::External,
+        triggers: Row::from_vec(triggers),
+        guard: Guard::Always,
+        effect: ActId(0),
+    }
+}
+
+/// The initial vertex, A and B; a forked machine has a second transition from A to B.
+fn draft(alloc: Global, forked: bool) -> Result<DraftMachine, NoMemory>
+    ensures { IfOk result (λ draft. draft ≡ sample_machine forked) }
+{
+    let regions = vec![in alloc; Owner::Top]?;
+    let vertices = vec![in alloc;
+        vertex(alloc, VertexKind::Initial),
+        vertex(alloc, VertexKind::State),
+        vertex(alloc, VertexKind::State),
+    ]?;
+    let mut transitions = vec![in alloc; transition(0, 1, Vec::new(alloc)), to_b(alloc)?]?;
+    if forked {
+        transitions.push(to_b(alloc)?)?;
+    }
+    Ok(DraftMachine {
+        regions: Row::from_vec(regions),
+        vertices: Row::from_vec(vertices),
+        transitions: Row::from_vec(transitions),
+    })
+}
+
+fn to_b(alloc: Global) -> Result<Transition, NoMemory>
+    ensures { IfOk result (λ transition. transition ≡ to_b) }
+{
+    Ok(transition(1, 2, vec![in alloc; GO]?))
+}
+
+fn machine(alloc: Global, forked: bool) -> Result<Machine, NoMemory>
+    ensures { IfOk result (λ machine. machine ≡ sample_machine forked) }
+{
+    Machine::new(alloc, &draft(alloc, forked)?).map_err(|_| NoMemory)
+}
+
+fn setting(alloc: Global, forked: bool) -> Result<Setting, NoMemory>
+    ensures { IfOk result (λ setting. setting ≡ sample_setting forked) }
+{
+    let go = Text::from_vec(b"Go".to_vec(alloc)?);
+    let class_name = Text::from_vec(b"M".to_vec(alloc)?);
+    let object_name = Text::from_vec(b"a".to_vec(alloc)?);
+    let act = Act {
+        stmts: Row::from_vec(Vec::new(alloc)),
+    };
+    let machine = machine(alloc, forked)?;
+    let class = Class {
+        name: class_name,
+        vars: Row::from_vec(Vec::new(alloc)),
+        machine,
+        program: Program {
+            acts: Row::from_vec(vec![in alloc; act]?),
+            guards: Row::from_vec(Vec::new(alloc)),
+            marks: Row::from_vec(Vec::new(alloc)),
+        },
+    };
+    Ok(Setting {
+        signals: Row::from_vec(vec![in alloc; SignalDecl { name: go, count: 0 }]?),
+        classes: Row::from_vec(vec![in alloc; class]?),
+        objects: Row::from_vec(vec![in alloc;
+            ObjectDecl {
+                name: object_name,
+                class: 0
+            },
+        ]?),
+    })
+}
+
+/// A system of the machine, with no entry yet.
+pub fn system(alloc: Global, forked: bool) -> Result<System, NoMemory>
+    ensures { IfOk result (λ system. system.setting ≡ sample_setting forked) }
+{
+    let setting = setting(alloc, forked)?;
+    System::new(alloc, setting)
+}
