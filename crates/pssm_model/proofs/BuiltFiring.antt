@@ -19,9 +19,9 @@ use Rattle.pssm_model.specs.Firing.{IsSound, StartsBefore, IsFiring, IsLateOrigi
 use Rattle.pssm_model.specs.Paths.{IsInitialOf}
 use Rattle.pssm_model.specs.BuiltMachine.{IsBuiltMachine}
 use Rattle.pssm_model.specs.OneRegion.{top_region, initial_vertex, first_transition, single_route}
-use Rattle.pssm_model.proofs.BuiltElements.{same_transition, initial_is_first, initial_there, no_choice, no_deep_history, no_shallow_history, some_transitions, some_vertices}
+use Rattle.pssm_model.proofs.BuiltElements.{same_transition, no_choice, no_deep_history, no_shallow_history, initial_in_range, first_in_range}
 use Rattle.pssm_model.proofs.BuiltForest.{owner_of_vertex, vertex_owned, no_vertex_in_state}
-use Rattle.pssm_model.proofs.BuiltTransitions.{nothing_in_nil, leaves_initial, first_leaves_initial}
+use Rattle.pssm_model.proofs.BuiltTransitions.{nothing_in_nil}
 use Rattle.pssm_model.proofs.BuiltRoutes.{in_one, is_one, one_in_order, none_in_order, all_of_one, single_route_same, single_source, single_is_route, route_is_single, single_guards, IsTakenBy, enabled_is_taken, taken_is_enabled, completion_enables_nothing}
 
 -- the one route of a transition out of the State that lists the signal
@@ -152,33 +152,33 @@ module _ {m : DraftMachine} (b : IsBuiltMachine m) where
       absurd (omega arith)
 
   -- the initial vertex of the one region
-  pub initial_of_is : (r : RegionId) (v : VertexId) → IsInitialOf m r v → (r ≡ top_region) × (v ≡ initial_vertex)
-  initial_of_is r v h = (let e = (owner_of_vertex b v (Region r) h.1).1 in cc, initial_is_first b v h.0)
+  pub initial_of_is : (r : RegionId) (v : VertexId) → IsInitialOf m r v → (r ≡ top_region) × (v ≡ initial_vertex m)
+  initial_of_is r v h = (let e = (owner_of_vertex b v (Region r) h.1).1 in cc, b.one_initial v h.0)
 
-  pub initial_of_region : IsInitialOf m top_region initial_vertex
-  initial_of_region = (initial_there b, vertex_owned b initial_vertex (some_vertices b))
+  pub initial_of_region : IsInitialOf m top_region (initial_vertex m)
+  initial_of_region = (b.initial_is, vertex_owned b (initial_vertex m) (initial_in_range b))
 
   -- a route goes on within a step from the initial vertex alone
-  pub late_origin_is : (v : VertexId) → IsLateOrigin m v → v ≡ initial_vertex
+  pub late_origin_is : (v : VertexId) → IsLateOrigin m v → v ≡ initial_vertex m
   late_origin_is v h =
-      ⊎_elim (initial_is_first b v)
+      ⊎_elim (b.one_initial v)
       (⊎_elim (⊎_elim (λ k. absurd (no_shallow_history b v k)) (λ k. absurd (no_deep_history b v k))) (λ k. absurd (no_choice b v k))) h
 
   pub late_route_is : (truth : Truth) (v : VertexId) (route : Route) → IsLateRoute m truth v route
-      → (v ≡ initial_vertex) × (route ≡ single_route first_transition)
+      → (v ≡ initial_vertex m) × (route ≡ single_route (first_transition m))
   late_route_is truth v route h =
       let origin = late_origin_is v h.origin_is in
       let one = route_is_single b route h.route_is in
       let same : one.0 ≡ h.leaves.0 = (let e = ap (λ (r : Route). r.starts) one.1 in cc (e, h.leaves.1)) in
-      let first = leaves_initial b h.leaves.0 (subst (λ w. Leaves m h.leaves.0 w) origin h.leaves.2) in
+      let first = b.one_first h.leaves.0 (subst (λ w. Leaves m h.leaves.0 w) origin h.leaves.2) in
       (origin, one.1 ∙ ap single_route (same ∙ first))
 
-  pub late_route_first : (truth : Truth) → IsLateRoute m truth initial_vertex (single_route first_transition)
+  pub late_route_first : (truth : Truth) → IsLateRoute m truth (initial_vertex m) (single_route (first_transition m))
   late_route_first truth = record {
-    origin_is = inl (initial_there b);
-    route_is = single_is_route b first_transition (some_transitions b);
-    leaves = (first_transition, refl, first_leaves_initial b);
-    guards = single_guards b truth first_transition (some_transitions b);
+    origin_is = inl b.initial_is;
+    route_is = single_is_route b (first_transition m) (first_in_range b);
+    leaves = (first_transition m, refl, b.first_is);
+    guards = single_guards b truth (first_transition m) (first_in_range b);
   }
 
   -- the same in both directions
@@ -201,14 +201,14 @@ module _ {m : DraftMachine} (b : IsBuiltMachine m) where
   )
 
   pub late_route_is_first : (truth : Truth) (v : VertexId) (route : Route)
-      → IsLateRoute m truth v route ↔ ((v ≡ initial_vertex) × (route ≡ single_route first_transition))
+      → IsLateRoute m truth v route ↔ ((v ≡ initial_vertex m) × (route ≡ single_route (first_transition m)))
   late_route_is_first truth v route = (
     late_route_is truth v route,
     λ h. subst (λ w. IsLateRoute m truth w route) (sym h.0)
-        (subst (λ r. IsLateRoute m truth initial_vertex r) (sym h.1) (late_route_first truth)),
+        (subst (λ r. IsLateRoute m truth (initial_vertex m) r) (sym h.1) (late_route_first truth)),
   )
 
-  pub initial_is : (r : RegionId) (v : VertexId) → IsInitialOf m r v ↔ ((r ≡ top_region) × (v ≡ initial_vertex))
+  pub initial_is : (r : RegionId) (v : VertexId) → IsInitialOf m r v ↔ ((r ≡ top_region) × (v ≡ initial_vertex m))
   initial_is r v = (
     initial_of_is r v,
     λ h. subst (λ q. IsInitialOf m q v) (sym h.0) (subst (λ w. IsInitialOf m top_region w) (sym h.1) initial_of_region),

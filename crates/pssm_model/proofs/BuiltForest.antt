@@ -10,7 +10,7 @@ use Rattle.pssm_model.specs.Forest.{vertex_at, owner_of, LiesUnder, LiesInRegion
 use Rattle.pssm_model.specs.Forest.LiesUnder.{owned, further}
 use Rattle.pssm_model.specs.BuiltMachine.{IsBuiltMachine}
 use Rattle.pssm_model.specs.OneRegion.{top_region}
-use Rattle.pssm_model.proofs.BuiltElements.{mapped_some, mapped_at, vertex_cases, vertex_there, vertex_in_range}
+use Rattle.pssm_model.proofs.BuiltElements.{mapped_some, mapped_at, vertex_plain, vertex_there, vertex_in_range}
 
 -- the one element of a list of one
 pub only_element : {X : Type 0} (x y : X) (n : ℕ) → slice_get (x ∷ []) n ≡ Some y → (n ≡ 0) × (y ≡ x)
@@ -27,7 +27,7 @@ top_lies_nowhere q (further e rest) = cc
 
 module _ {m : DraftMachine} (b : IsBuiltMachine m) where
   pub vertex_owner : (v : VertexId) (x : Vertex) → vertex_at m v ≡ Some x → x.owner ≡ Region top_region
-  vertex_owner v x e = ⊎_elim (λ i. i.1.owner) (λ s. s.2.owner) (vertex_cases b v x e)
+  vertex_owner v x e = (vertex_plain b v x e).owner
 
   -- the region owns the vertices, and the machine the region
   pub owner_of_vertex : (v : VertexId) (p : Owner) → owner_of m (State v) ≡ Some p → (v.0 < length m.vertices) × (p ≡ Region top_region)

@@ -15,7 +15,7 @@ use Rattle.pssm_model.specs.BuiltMachine.{IsBuiltMachine}
 use Rattle.pssm_model.specs.OneRegion.{top_region}
 use Rattle.pssm_model.proofs.BuiltElements.{no_join, no_fork, no_junction, no_entry_point, no_exit_point, no_terminate}
 use Rattle.pssm_model.proofs.BuiltForest.{owner_of_vertex, vertex_in_region, region_of_vertex, no_vertex_in_state, scope_is_top, top_is_scope}
-use Rattle.pssm_model.proofs.BuiltTransitions.{goes_external, source_there, target_is_state, target_range, source_in_range}
+use Rattle.pssm_model.proofs.BuiltTransitions.{goes_external, source_there, target_is_state, target_in_range, source_in_range}
 
 module _ {m : DraftMachine} (b : IsBuiltMachine m) where
   -- no transitions are joined, so a leg is one transition
@@ -57,7 +57,7 @@ module _ {m : DraftMachine} (b : IsBuiltMachine m) where
   no_some_point_passed route t h = no_point_passed route t h.0 h.1 h.2
 
   pub end_in_range : (t : TransId) (v : VertexId) → Leaves m t v ⊎ Enters m t v → v.0 < length m.vertices
-  end_in_range t v h = ⊎_elim (source_in_range b t v) (λ e. (target_range b t v e).1) h
+  end_in_range t v h = ⊎_elim (source_in_range b t v) (target_in_range b t v) h
 
   pub leg_vertex_in_range : (route : Route) (t : TransId) (v : VertexId) → IsOfLeg m route t v → v.0 < length m.vertices
   leg_vertex_in_range route t v h = end_in_range h.0 v h.2

@@ -1,5 +1,5 @@
 -- The routes of a machine of one region: each is one transition.
-use Rattle.std.proofs.Common.{◌≡◌, ◌↔◌, ◌<◌, ℕ, zero, suc, List, [], ◌∷◌, length, Contains, All, AllPairs, get_or, refl, sym, ap, subst, inl, ⊎_elim, arith}
+use Rattle.std.proofs.Common.{◌≡◌, ◌↔◌, ◌≢◌, ◌<◌, ℕ, zero, suc, List, [], ◌∷◌, length, Contains, All, AllPairs, get_or, refl, sym, ap, subst, inl, ⊎_elim, arith}
 use Rattle.std.proofs.lemmas.List.Elements.{Contains-append_left, Contains-append_right}
 use Rattle.pssm_model.specs.declared.ids.VertexId.{VertexId}
 use Rattle.pssm_model.specs.declared.ids.TransId.{TransId}
@@ -13,7 +13,7 @@ use Rattle.pssm_model.specs.Legs.{Leaves, On, transitions_of, Exits}
 use Rattle.pssm_model.specs.Routes.{Truth, IsTrueAt, GoesOnAt, IsReached, IsRoute, IsSource, IsStateRoute, Lists, Stand, IsEnabled}
 use Rattle.pssm_model.specs.Routes.IsReached.{start, on}
 use Rattle.pssm_model.specs.BuiltMachine.{IsBuiltMachine}
-use Rattle.pssm_model.specs.OneRegion.{single_route}
+use Rattle.pssm_model.specs.OneRegion.{first_transition, single_route}
 use Rattle.pssm_model.proofs.BuiltElements.{kind_unique, no_join}
 use Rattle.pssm_model.proofs.BuiltTransitions.{nothing_in_nil, target_is_state, source_there, source_is_state, leaves_state, lists_past_first, no_completion_transition, true_at, leaves_one}
 use Rattle.pssm_model.proofs.BuiltLegs.{leg_exits, exited_is}
@@ -113,18 +113,18 @@ module _ {m : DraftMachine} (b : IsBuiltMachine m) where
         (λ w further l. nothing_in_nil w further);
   }
 
-  -- the routes that start at States are those of the transitions past number 0
+  -- the routes that start at States are those of the transitions but the first
   pub state_route_is_single : (route : Route) → IsStateRoute m route
-      → (t : TransId) × (route ≡ single_route t) × (0 < t.0) × (t.0 < length m.transitions)
+      → (t : TransId) × (route ≡ single_route t) × (t ≢ first_transition m) × (t.0 < length m.transitions)
   state_route_is_single route h =
       let one = route_is_single route h.0 in
       let from = source_there b one.0 one.2 in
       let source = subst (λ r. IsSource m r from.0) (sym one.1) (single_source m one.0 from.0 from.1) in
       (one.0, one.1, leaves_state b one.0 from.0 (h.1 from.0 source) from.1, one.2)
 
-  pub single_is_state_route : (t : TransId) → 0 < t.0 → t.0 < length m.transitions → IsStateRoute m (single_route t)
-  single_is_state_route t pos lt =
-      (single_is_route t lt, λ s source. source_is_state b t s pos (single_source_is m t s source))
+  pub single_is_state_route : (t : TransId) → t ≢ first_transition m → t.0 < length m.transitions → IsStateRoute m (single_route t)
+  single_is_state_route t other lt =
+      (single_is_route t lt, λ s source. source_is_state b t s other (single_source_is m t s source))
 
   -- a route of one transition exits the active States of the machine
   pub single_exits : (Active : VertexId → Type 0) (t : TransId) (s : VertexId) → Active s → s.0 < length m.vertices → Exits m Active (single_route t) s
@@ -181,7 +181,7 @@ module _ {m : DraftMachine} (b : IsBuiltMachine m) where
   route_is route = (route_is_single route, λ h. subst (λ r. IsRoute m r) (sym h.1) (single_is_route h.0 h.2))
 
   pub state_route_is : (route : Route)
-      → IsStateRoute m route ↔ ((t : TransId) × (route ≡ single_route t) × (0 < t.0) × (t.0 < length m.transitions))
+      → IsStateRoute m route ↔ ((t : TransId) × (route ≡ single_route t) × (t ≢ first_transition m) × (t.0 < length m.transitions))
   state_route_is route = (state_route_is_single route, λ h. subst (λ r. IsStateRoute m r) (sym h.1) (single_is_state_route h.0 h.2 h.3))
 
   pub enabled_is : (stand : Stand) (truth : Truth) (signal : SignalId) (route : Route)

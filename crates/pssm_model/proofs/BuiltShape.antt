@@ -16,7 +16,7 @@ use Rattle.pssm_model.specs.BuiltMachine.{IsBuiltMachine}
 use Rattle.pssm_model.specs.OneRegion.{top_region}
 use Rattle.pssm_model.proofs.BuiltElements.{mapped_at, no_entry_point, no_exit_point, vertex_in_range, vertex_steps}
 use Rattle.pssm_model.proofs.BuiltForest.{owner_of_region, vertex_owner, vertex_owned, region_owned}
-use Rattle.pssm_model.proofs.BuiltTransitions.{source_in_range, target_range}
+use Rattle.pssm_model.proofs.BuiltTransitions.{source_in_range, target_in_range}
 
 module _ {m : DraftMachine} (b : IsBuiltMachine m) where
   pub no_point : (v : VertexId) → IsPoint m v → ⊥
@@ -52,7 +52,7 @@ module _ {m : DraftMachine} (b : IsBuiltMachine m) where
         (subst (λ q. OwnsVertex m v q) (sym (vertex_owner b v x e)) (region_may_own v), vertex_is_shallow v (vertex_in_range b v x e));
     ends = λ t x e. (
       source_in_range b t x.source (mapped_at (λ (y : Transition). y.source) (transition_at m t) x e),
-      (target_range b t x.target (mapped_at (λ (y : Transition). y.target) (transition_at m t) x e)).1,
+      target_in_range b t x.target (mapped_at (λ (y : Transition). y.target) (transition_at m t) x e),
     );
     limits = within_limits;
   }

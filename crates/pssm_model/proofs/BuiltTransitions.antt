@@ -1,5 +1,5 @@
 -- The ends, kinds and triggers of the transitions of a machine of one region.
-use Rattle.std.proofs.Common.{◌≡◌, ◌↔◌, ◌⊎◌, ◌<◌, [], length, Option, Some, None, IsSomeAnd, Contains, refl, sym, ap, subst, ◌∙◌, inl, inr, ⊎_elim, arith}
+use Rattle.std.proofs.Common.{◌≡◌, ◌↔◌, ◌≢◌, ◌⊎◌, ◌<◌, [], length, Option, Some, None, IsSomeAnd, Contains, refl, sym, ap, subst, ◌∙◌, inl, inr, ⊎_elim, arith}
 use Rattle.pssm_model.specs.declared.ids.VertexId.{VertexId}
 use Rattle.pssm_model.specs.declared.ids.TransId.{TransId}
 use Rattle.pssm_model.specs.declared.ids.SignalId.{SignalId}
@@ -17,7 +17,7 @@ use Rattle.pssm_model.specs.Legs.{Leaves, Enters, Goes}
 use Rattle.pssm_model.specs.Routes.{Truth, guard_of, IsTrueAt, Lists, HasNoTrigger}
 use Rattle.pssm_model.specs.BuiltMachine.{IsBuiltMachine}
 use Rattle.pssm_model.specs.OneRegion.{initial_vertex, first_transition}
-use Rattle.pssm_model.proofs.BuiltElements.{mapped_some, mapped_at, same_vertex, same_transition, transition_cases, transition_plain, transition_in_range, transition_there, some_transitions, state_there, state_range, some_vertices, vertex_defers, transition_guard}
+use Rattle.pssm_model.proofs.BuiltElements.{mapped_some, mapped_at, kind_unique, transition_cases, transition_plain, transition_in_range, transition_there, initial_in_range, state_in_range, state_defers, transition_guard}
 
 -- no element is in the empty list
 pub nothing_in_nil : {X : Type 0} (x : X) → Contains [] x → ⊥
@@ -80,62 +80,49 @@ module _ {m : DraftMachine} (b : IsBuiltMachine m) where
       sym at.2 ∙ (transition_plain b t at.0 at.1).kind
 
   -- every target is a State
-  pub target_range : (t : TransId) (v : VertexId) → Enters m t v → (0 < v.0) × (v.0 < length m.vertices)
-  target_range t v h =
-      let at = mapped_some (λ (x : Transition). x.target) (transition_at m t) v h in
-      let plain = transition_plain b t at.0 at.1 in
-      (subst (λ (w : VertexId). 0 < w.0) at.2 plain.target_is_state, subst (λ (w : VertexId). w.0 < length m.vertices) at.2 plain.target_in_range)
-
   pub target_is_state : (t : TransId) (v : VertexId) → Enters m t v → HasKind m v kinds.State
-  target_is_state t v h = let r = target_range t v h in state_there b v r.0 r.1
+  target_is_state t v h =
+      let at = mapped_some (λ (x : Transition). x.target) (transition_at m t) v h in
+      subst (λ w. HasKind m w kinds.State) at.2 (transition_plain b t at.0 at.1).target
 
-  -- transition 0 leaves the initial vertex, and the others leave States
+  pub target_in_range : (t : TransId) (v : VertexId) → Enters m t v → v.0 < length m.vertices
+  target_in_range t v h = state_in_range b v (target_is_state t v h)
+
+  -- the first transition leaves the initial vertex, and the others leave States
   pub source_cases : (t : TransId) (v : VertexId) → Leaves m t v
-      → ((t.0 ≡ 0) × (v.0 ≡ 0)) ⊎ ((0 < t.0) × (0 < v.0) × (v.0 < length m.vertices))
+      → ((t ≡ first_transition m) × (v ≡ initial_vertex m)) ⊎ ((t ≢ first_transition m) × HasKind m v kinds.State)
   source_cases t v h =
       let at = mapped_some (λ (x : Transition). x.source) (transition_at m t) v h in
-      ⊎_elim (λ i. inl (i.0, subst (λ (w : VertexId). w.0 ≡ 0) at.2 i.1.source))
-      (λ s. inr (s.0, subst (λ (w : VertexId). 0 < w.0) at.2 s.1.source_is_state, subst (λ (w : VertexId). w.0 < length m.vertices) at.2 s.1.source_in_range))
-      (transition_cases b t at.0 at.1)
+      ⊎_elim (λ i. inl (i.0, sym at.2 ∙ i.1)) (λ s. inr (s.0, subst (λ w. HasKind m w kinds.State) at.2 s.1)) (transition_cases b t at.0 at.1)
 
   pub source_in_range : (t : TransId) (v : VertexId) → Leaves m t v → v.0 < length m.vertices
-  source_in_range t v h = ⊎_elim (λ i. let z : v.0 ≡ 0 = i.1 in let some = some_vertices b in omega arith) (λ s. s.2) (source_cases t v h)
+  source_in_range t v h =
+      ⊎_elim (λ i. subst (λ (w : VertexId). w.0 < length m.vertices) (sym i.1) (initial_in_range b)) (λ s. state_in_range b v s.1) (source_cases t v h)
 
-  -- a transition past number 0 leaves a State, and one that leaves a State is past number 0
-  pub source_is_state : (t : TransId) (v : VertexId) → 0 < t.0 → Leaves m t v → HasKind m v kinds.State
-  source_is_state t v pos h =
-      ⊎_elim (λ i. absurd (let z : t.0 ≡ 0 = i.0 in omega arith)) (λ s. state_there b v s.1 s.2) (source_cases t v h)
+  -- a transition other than the first leaves a State, and one that leaves a State is another
+  pub source_is_state : (t : TransId) (v : VertexId) → t ≢ first_transition m → Leaves m t v → HasKind m v kinds.State
+  source_is_state t v other h = ⊎_elim (λ i. absurd (other i.0)) (λ s. s.1) (source_cases t v h)
 
-  pub leaves_state : (t : TransId) (v : VertexId) → HasKind m v kinds.State → Leaves m t v → 0 < t.0
+  pub leaves_state : (t : TransId) (v : VertexId) → HasKind m v kinds.State → Leaves m t v → t ≢ first_transition m
   leaves_state t v k h =
-      let r = state_range b v k in
-      ⊎_elim (λ i. absurd (let z : v.0 ≡ 0 = i.1 in let pos : 0 < v.0 = r.0 in omega arith)) (λ s. s.0) (source_cases t v h)
-
-  -- the one transition out of the initial vertex
-  pub leaves_initial : (t : TransId) → Leaves m t initial_vertex → t ≡ first_transition
-  leaves_initial t h =
-      ⊎_elim (λ i. same_transition t first_transition i.0) (λ s. absurd (let pos : 0 < 0 = s.1 in omega arith)) (source_cases t initial_vertex h)
-
-  pub first_leaves_initial : Leaves m first_transition initial_vertex
-  first_leaves_initial =
-      let from = source_there first_transition (some_transitions b) in
-      ⊎_elim (λ i. subst (λ (w : VertexId). Leaves m first_transition w) (same_vertex from.0 initial_vertex i.1) from.1)
-      (λ s. absurd (let pos : 0 < 0 = s.0 in omega arith)) (source_cases first_transition from.0 from.1)
+      ⊎_elim
+      (λ i. absurd (let clash = kind_unique m v kinds.State kinds.Initial k (subst (λ w. HasKind m w kinds.Initial) (sym i.1) b.initial_is) in cc))
+      (λ s. s.0) (source_cases t v h)
 
   -- every transition out of a State has a trigger, so no completion transition leaves one
-  pub without_trigger : (t : TransId) → HasNoTrigger m t → t.0 ≡ 0
+  pub without_trigger : (t : TransId) → HasNoTrigger m t → t ≡ first_transition m
   without_trigger t h =
       let at = mapped_some (λ (x : Transition). x.triggers) (transition_at m t) [] h in
-      ⊎_elim (λ i. i.0) (λ s. absurd (s.1.triggers at.2)) (transition_cases b t at.0 at.1)
+      ⊎_elim (λ i. i.0) (λ s. absurd (s.2 at.2)) (transition_cases b t at.0 at.1)
 
   pub no_completion_transition : (t : TransId) (s : VertexId) → HasNoTrigger m t → Leaves m t s → HasKind m s kinds.State → ⊥
-  no_completion_transition t s none h k = let z = without_trigger t none in let pos = leaves_state t s k h in omega arith
+  no_completion_transition t s none h k = leaves_state t s k h (without_trigger t none)
 
   -- what lists a signal leaves a State
-  pub lists_past_first : (t : TransId) (signal : SignalId) → Lists m t signal → (0 < t.0) × (t.0 < length m.transitions)
+  pub lists_past_first : (t : TransId) (signal : SignalId) → Lists m t signal → (t ≢ first_transition m) × (t.0 < length m.transitions)
   lists_past_first t signal h =
       let at = some_and (λ (x : Transition). Contains x.triggers signal) (transition_at m t) h in
-      ⊎_elim (λ i. absurd (nothing_in_nil signal (subst (λ gs. Contains gs signal) i.1.triggers at.2)))
+      ⊎_elim (λ i. absurd (nothing_in_nil signal (subst (λ gs. Contains gs signal) i.2 at.2)))
       (λ s. (s.0, transition_in_range b t at.0 at.1)) (transition_cases b t at.0 at.1)
 
   -- every guard is missing, and so true
@@ -145,18 +132,16 @@ module _ {m : DraftMachine} (b : IsBuiltMachine m) where
       inl (inl (mapped_at (λ (x : Transition). x.guard) (transition_at m t) at.0 at.1 ∙ ap Some (transition_plain b t at.0 at.1).guard))
 
   -- a transition without trigger leaves the initial vertex
-  pub completion_leaves_initial : (t : TransId) (s : VertexId) → HasNoTrigger m t → Leaves m t s → s ≡ initial_vertex
-  completion_leaves_initial t s none h =
-      ⊎_elim (λ i. same_vertex s initial_vertex i.1) (λ later. absurd (let z = without_trigger t none in let pos : 0 < t.0 = later.0 in omega arith))
-      (source_cases t s h)
+  pub completion_leaves_initial : (t : TransId) (s : VertexId) → HasNoTrigger m t → Leaves m t s → s ≡ initial_vertex m
+  completion_leaves_initial t s none h = ⊎_elim (λ i. i.1) (λ later. absurd (later.0 (without_trigger t none))) (source_cases t s h)
 
   pub no_guard : (t : TransId) (guard : Guard) → guard_of m t ≡ Some guard → guard ≡ Always
   no_guard t guard h =
       let at = mapped_some (λ (x : Transition). x.guard) (transition_at m t) guard h in
       sym at.2 ∙ transition_guard b t at.0 at.1
 
-  -- no vertex defers a signal
-  pub nothing_deferred : (v : VertexId) (signal : SignalId) → IsSomeAnd (vertex_at m v) (λ x. Contains x.defers signal) → ⊥
-  nothing_deferred v signal h =
+  -- no State defers a signal
+  pub nothing_deferred : (v : VertexId) (signal : SignalId) → HasKind m v kinds.State → IsSomeAnd (vertex_at m v) (λ x. Contains x.defers signal) → ⊥
+  nothing_deferred v signal k h =
       let at = some_and (λ (x : Vertex). Contains x.defers signal) (vertex_at m v) h in
-      nothing_in_nil signal (subst (λ gs. Contains gs signal) (vertex_defers b v at.0 at.1) at.2)
+      nothing_in_nil signal (subst (λ gs. Contains gs signal) (state_defers b v at.0 k at.1) at.2)

@@ -1,5 +1,5 @@
 -- A machine of one region breaks no rule of models.
-use Rattle.std.proofs.Common.{◌≡◌, ◌≢◌, ◌⊎◌, ◌<◌, [], Some, sym, ap, subst, ◌∙◌, ⊎_elim, arith}
+use Rattle.std.proofs.Common.{◌≡◌, ◌≢◌, ◌⊎◌, [], Some, sym, ap, subst, ◌∙◌, ⊎_elim}
 use Rattle.pssm_model.specs.declared.ids.VertexId.{VertexId}
 use Rattle.pssm_model.specs.declared.ids.RegionId.{RegionId}
 use Rattle.pssm_model.specs.declared.ids.TransId.{TransId}
@@ -9,7 +9,7 @@ use Rattle.pssm_model.specs.declared.elements.Guard.TheVariants.{Always, Otherwi
 use Rattle.pssm_model.specs.declared.elements.TransKind.TheVariants.{Local, Internal}
 use Rattle.pssm_model.specs.declared.elements.Owner.TheVariants.{Top, Region}
 use Rattle.pssm_model.specs.declared.elements.VertexKind.TheVariants as kinds
-use Rattle.pssm_model.specs.Forest.{transition_at, HasKind, LiesInRegion}
+use Rattle.pssm_model.specs.Forest.{transition_at, LiesInRegion}
 use Rattle.pssm_model.specs.Legs.{Leaves, Enters}
 use Rattle.pssm_model.specs.Routes.{guard_of}
 use Rattle.pssm_model.specs.Firing.{IsHistory}
@@ -21,9 +21,9 @@ use Rattle.pssm_model.specs.WellFormed.{HasGuard, HasElse, HasTrigger, IsTopWith
 use Rattle.pssm_model.specs.WellFormed.Breaks.{E01_top, E01, E02, E03, E04, E05, E06, E07, E08, E09, E10, E11, E12, E13, E14, E15, E16, E17, E18, E19, E20, E21}
 use Rattle.pssm_model.specs.BuiltMachine.{IsBuiltMachine}
 use Rattle.pssm_model.specs.OneRegion.{top_region, initial_vertex, first_transition}
-use Rattle.pssm_model.proofs.BuiltElements.{kind_cases, initial_is_first, initial_there, no_final, no_deep_history, no_shallow_history, no_join, no_fork, no_junction, no_choice, no_entry_point, no_exit_point, no_terminate, transition_cases}
+use Rattle.pssm_model.proofs.BuiltElements.{kind_unique, kind_cases, no_final, no_deep_history, no_shallow_history, no_join, no_fork, no_junction, no_choice, no_entry_point, no_exit_point, no_terminate, transition_cases}
 use Rattle.pssm_model.proofs.BuiltForest.{owner_of_region, owner_of_vertex, region_owned, vertex_in_region}
-use Rattle.pssm_model.proofs.BuiltTransitions.{some_and, goes_external, target_range, source_in_range, leaves_initial, first_leaves_initial, no_guard}
+use Rattle.pssm_model.proofs.BuiltTransitions.{some_and, goes_external, target_is_state, target_in_range, source_in_range, no_guard}
 use Rattle.pssm_model.proofs.BuiltFiring.{initial_of_region}
 use Rattle.pssm_model.proofs.BuiltShape.{built_is_proper}
 
@@ -35,12 +35,13 @@ module _ {m : DraftMachine} (b : IsBuiltMachine m) where
   no_branch v h = ⊎_elim (no_junction b v) (no_choice b v) h
 
   -- the one pseudostate is the initial vertex, which no transition enters
-  pub pseudostate_is_initial : (v : VertexId) → IsPseudostate m v → v ≡ initial_vertex
+  pub pseudostate_is_initial : (v : VertexId) → IsPseudostate m v → v ≡ initial_vertex m
   pseudostate_is_initial v h =
-      ⊎_elim (λ i. initial_is_first b v (subst (λ k. HasKind m v k) i.0 h.1)) (λ s. absurd (subst IsPseudostateKind s.0 h.2)) (kind_cases b v h.0 h.1)
+      ⊎_elim (λ i. i.1) (λ s. absurd (subst IsPseudostateKind s h.2)) (kind_cases b v h.0 h.1)
 
-  pub initial_not_entered : (t : TransId) → Enters m t initial_vertex → ⊥
-  initial_not_entered t h = let r : 0 < 0 = (target_range b t initial_vertex h).0 in omega arith
+  pub initial_not_entered : (t : TransId) → Enters m t (initial_vertex m) → ⊥
+  initial_not_entered t h =
+      let clash = kind_unique m (initial_vertex m) kinds.State kinds.Initial (target_is_state b t (initial_vertex m) h) b.initial_is in cc
 
   -- no transition has a guard
   pub guardless : (t : TransId) → HasGuard m t → ⊥
@@ -52,32 +53,31 @@ module _ {m : DraftMachine} (b : IsBuiltMachine m) where
   -- the region has its one initial vertex
   pub region_has_initial : (r : RegionId) → IsTopWithoutInitial m r → ⊥
   region_has_initial r h =
-      h.1 initial_vertex (initial_there b, (initial_of_region b).1 ∙ ap (λ q. Some (Region q)) (sym (owner_of_region b r Top h.0).0))
+      h.1 (initial_vertex m) (b.initial_is, (initial_of_region b).1 ∙ ap (λ q. Some (Region q)) (sym (owner_of_region b r Top h.0).0))
 
   pub one_initial : (r : RegionId) → OwnsTwo m r kinds.Initial → ⊥
-  one_initial r h = h.2 (initial_is_first b h.0 h.3 ∙ sym (initial_is_first b h.1 h.4))
+  one_initial r h = h.2 (b.one_initial h.0 h.3 ∙ sym (b.one_initial h.1 h.4))
 
   pub one_entry : (r : RegionId) → OwnsTwoEntries m r → ⊥
   one_entry r h = ⊎_elim (one_initial r) (⊎_elim (λ s. no_shallow_history b s.0 s.3) (λ d. no_deep_history b d.0 d.3)) h
 
   -- one transition leaves the initial vertex
-  pub one_out_of_initial : LacksOneOut m initial_vertex → ⊥
+  pub one_out_of_initial : LacksOneOut m (initial_vertex m) → ⊥
   one_out_of_initial h =
-      ⊎_elim (λ none. none (first_transition, first_leaves_initial b))
-      (λ two. two.2 (leaves_initial b two.0 two.3 ∙ sym (leaves_initial b two.1 two.4))) h
+      ⊎_elim (λ none. none (first_transition m, b.first_is))
+      (λ two. two.2 (b.one_first two.0 two.3 ∙ sym (b.one_first two.1 two.4))) h
 
   pub good_initial : (v : VertexId) → IsBadInitial m v → ⊥
   good_initial v h =
-      let is = initial_is_first b v h.0 in
+      let is = b.one_initial v h.0 in
       ⊎_elim one_out_of_initial (λ into. initial_not_entered into.0 into.1)
       (subst (λ w. LacksOneOut m w ⊎ HasIn m w) is h.1)
 
   -- the transition out of the initial vertex has no trigger
-  pub first_without_trigger : (t : TransId) → Leaves m t initial_vertex → HasTrigger m t → ⊥
+  pub first_without_trigger : (t : TransId) → Leaves m t (initial_vertex m) → HasTrigger m t → ⊥
   first_without_trigger t l h =
       let at = some_and (λ (x : Transition). x.triggers ≢ []) (transition_at m t) h in
-      ⊎_elim (λ i. at.2 i.1.triggers) (λ s. absurd (let z = ap (λ (u : TransId). u.0) (leaves_initial b t l) in let pos : 0 < t.0 = s.0 in omega arith))
-      (transition_cases b t at.0 at.1)
+      ⊎_elim (λ i. at.2 i.2) (λ s. s.0 (b.one_first t l)) (transition_cases b t at.0 at.1)
 
   pub triggered_rightly : (t : TransId) → IsTriggeredWrongly m t → ⊥
   triggered_rightly t h =
@@ -91,8 +91,8 @@ module _ {m : DraftMachine} (b : IsBuiltMachine m) where
 
   -- every path stays in the region
   pub path_stays : (t : TransId) (w : VertexId) → ComesAfter m t w → LiesInRegion m w top_region
-  path_stays t w (end e) = vertex_in_region b w (target_range b t w e).1
-  path_stays t w (inner u before i l e) = vertex_in_region b w (target_range b u w e).1
+  path_stays t w (end e) = vertex_in_region b w (target_in_range b t w e)
+  path_stays t w (inner u before i l e) = vertex_in_region b w (target_in_range b u w e)
 
   pub keeps_to_region : (t : TransId) (r : RegionId) → r ≡ top_region → LeavesRegion m t r → ⊥
   keeps_to_region t r e h = h.2 (subst (λ q. LiesInRegion m h.0 q) (sym e) (path_stays t h.0 h.1))
@@ -108,7 +108,7 @@ module _ {m : DraftMachine} (b : IsBuiltMachine m) where
   -- the ends of every transition lie in the region
   pub not_torn : (t : TransId) → IsTorn m t → ⊥
   not_torn t h =
-      ⊎_elim (λ apart. apart top_region (vertex_in_region b h.0 (source_in_range b t h.0 h.2)) (vertex_in_region b h.1 (target_range b t h.1 h.3).1))
+      ⊎_elim (λ apart. apart top_region (vertex_in_region b h.0 (source_in_range b t h.0 h.2)) (vertex_in_region b h.1 (target_in_range b t h.1 h.3)))
       (λ join. no_join b h.1 join.0) h.4
 
   -- no rule is broken

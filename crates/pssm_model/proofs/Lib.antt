@@ -7,6 +7,8 @@ pub mod BuiltFiring
 pub mod BuiltShape
 pub mod BuiltWellFormed
 pub mod BuiltExample
+pub mod BuiltFrom
+pub mod NotBuiltFirst
 pub mod OwnerChains
 pub mod Climbing
 pub mod Faults

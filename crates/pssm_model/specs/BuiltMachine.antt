@@ -1,58 +1,53 @@
--- The machines that the code runs so far: one region, one initial vertex, plain States, and external transitions on signals.
--- Later work widens this premise; no definition changes with it.
-use Rattle.std.specs.Prelude.{◌≡◌, ◌≢◌, ◌<◌, ◌≤◌, ℕ, List, [], ◌∷◌, length}
+-- The machines that the code runs so far: one region, one initial vertex, plain States, and external transitions on signals,
+-- in any numbering. Later work widens this premise; no definition changes with it.
+use Rattle.std.specs.Prelude.{◌≡◌, ◌≢◌, ◌⊎◌, ◌≤◌, [], ◌∷◌, length}
 use Rattle.std.specs.List.{AllByRecursion}
+use Rattle.pssm_model.specs.declared.ids.VertexId.{VertexId}
+use Rattle.pssm_model.specs.declared.ids.TransId.{TransId}
 use Rattle.pssm_model.specs.declared.elements.DraftMachine.{DraftMachine}
 use Rattle.pssm_model.specs.declared.elements.Vertex.{Vertex}
-use Rattle.pssm_model.specs.declared.elements.VertexKind.{VertexKind}
 use Rattle.pssm_model.specs.declared.elements.VertexKind.TheVariants as kinds
 use Rattle.pssm_model.specs.declared.elements.Transition.{Transition}
 use Rattle.pssm_model.specs.declared.elements.TransKind.TheVariants.{External}
 use Rattle.pssm_model.specs.declared.elements.Guard.TheVariants.{Always}
 use Rattle.pssm_model.specs.declared.elements.Owner.TheVariants.{Top, Region}
+use Rattle.pssm_model.specs.Forest.{HasKind}
+use Rattle.pssm_model.specs.Legs.{Leaves}
+use Rattle.pssm_model.specs.OneRegion.{top_region, initial_vertex, first_transition}
 
--- a vertex of this kind in region 0, without behaviours, do steps and deferred signals; it may have a label
-pub record IsPlainVertex (kind : VertexKind) (x : Vertex) : Type 0 where
-  pub owner : x.owner ≡ Region (record { 0 = 0 })
-  pub kind_is : x.kind ≡ kind
+-- an initial vertex, or a State that defers nothing
+abbrev pub IsPlainKind : Vertex → Type 0
+IsPlainKind x = (x.kind ≡ kinds.Initial) ⊎ ((x.kind ≡ kinds.State) × (x.defers ≡ []))
+
+-- such a vertex of the one region, without behaviours and do steps; it may have a label
+pub record IsPlainVertex (x : Vertex) : Type 0 where
+  pub owner : x.owner ≡ Region top_region
+  pub kind_is : IsPlainKind x
   pub entry : x.entry.0 ≡ 0
   pub exit : x.exit.0 ≡ 0
   pub steps : x.steps ≡ []
-  pub defers : x.defers ≡ []
 
--- an external transition without guard and effect that ends on a State; vertex 0 is the initial vertex, and the others are States
-pub record IsPlainTransition (vertex_count : ℕ) (x : Transition) : Type 0 where
-  pub target_is_state : 0 < x.target.0
-  pub target_in_range : x.target.0 < vertex_count
+-- The transition leaves an initial vertex and has no trigger, or a State and lists at least one signal.
+abbrev pub IsPlainStart : DraftMachine → Transition → Type 0
+IsPlainStart m x =
+    (HasKind m x.source kinds.Initial × (x.triggers ≡ [])) ⊎ (HasKind m x.source kinds.State × (x.triggers ≢ []))
+
+-- such a transition, external, without guard and effect, that ends on a State
+pub record IsPlainTransition (m : DraftMachine) (x : Transition) : Type 0 where
+  pub start : IsPlainStart m x
+  pub target : HasKind m x.target kinds.State
   pub kind : x.kind ≡ External
   pub guard : x.guard ≡ Always
   pub effect : x.effect.0 ≡ 0
 
--- transition 0 leaves the initial vertex and has no trigger
-pub record IsFirstTransition (vertex_count : ℕ) (x : Transition) : Type 0 where
-  pub plain : IsPlainTransition vertex_count x
-  pub source : x.source.0 ≡ 0
-  pub triggers : x.triggers ≡ []
-
--- every other transition leaves a State and lists at least one signal
-pub record IsSignalTransition (vertex_count : ℕ) (x : Transition) : Type 0 where
-  pub plain : IsPlainTransition vertex_count x
-  pub source_is_state : 0 < x.source.0
-  pub source_in_range : x.source.0 < vertex_count
-  pub triggers : x.triggers ≢ []
-
--- one top region, its initial vertex and its States, and their transitions, within the limits of a machine
+-- one top region with one initial vertex, one transition out of that, States and their transitions, within the limits of a machine
 pub record IsBuiltMachine (m : DraftMachine) : Type 0 where
-  pub initial : Vertex
-  pub states : List Vertex
-  pub first : Transition
-  pub others : List Transition
   pub regions : m.regions ≡ Top ∷ []
-  pub vertices : m.vertices ≡ initial ∷ states
-  pub transitions : m.transitions ≡ first ∷ others
-  pub initial_is : IsPlainVertex kinds.Initial initial
-  pub states_are : AllByRecursion (IsPlainVertex kinds.State) states
-  pub first_is : IsFirstTransition (length m.vertices) first
-  pub others_are : AllByRecursion (IsSignalTransition (length m.vertices)) others
+  pub vertices : AllByRecursion IsPlainVertex m.vertices
+  pub transitions : AllByRecursion (IsPlainTransition m) m.transitions
+  pub initial_is : HasKind m (initial_vertex m) kinds.Initial
+  pub one_initial : (v : VertexId) → HasKind m v kinds.Initial → v ≡ initial_vertex m
+  pub first_is : Leaves m (first_transition m) (initial_vertex m)
+  pub one_first : (t : TransId) → Leaves m t (initial_vertex m) → t ≡ first_transition m
   pub few_vertices : length m.vertices ≤ 4096
   pub few_transitions : length m.transitions ≤ 8192

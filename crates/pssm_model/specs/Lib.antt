@@ -7,6 +7,9 @@ pub mod Firing
 pub mod Paths
 pub mod WellFormed
 pub mod BuiltMachine
+pub mod Silent
+pub mod NotBuilt
+pub mod Found
 pub mod OneRegion
 pub mod Proper
 pub mod Equal

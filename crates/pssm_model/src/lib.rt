@@ -6,6 +6,7 @@
 #![tactic(auto)]
 
 mod boxed;
+mod built;
 mod depths;
 mod duplicate;
 mod elements;
@@ -19,6 +20,7 @@ mod steps;
 mod text;
 
 pub use boxed::Boxed;
+pub use built::{built_machine, first_not_built};
 pub use duplicate::Duplicate;
 pub use elements::{
     DraftMachine, Element, FaultPlace, Guard, Owner, Shape, TransKind, Transition, Vertex,

@@ -1,4 +1,5 @@
 //! Each public call once, with ample memory.
+mod built;
 mod places;
 mod shapes;
 
