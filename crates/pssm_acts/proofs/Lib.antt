@@ -15,3 +15,15 @@ pub mod Blocks
 pub mod ExprText
 pub mod StmtText
 pub mod ArgumentLaws
+pub mod BuiltSettings
+pub mod NumberLaws
+pub mod ReaderLaws
+pub mod TextLaws
+pub mod ExprRead
+pub mod NumberSpelled
+pub mod GuardRead
+pub mod ExprHeld
+pub mod GuardHeld
+pub mod CondLaws
+pub mod NotsLaws
+pub mod TokenLaws

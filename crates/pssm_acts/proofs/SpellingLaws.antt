@@ -197,6 +197,15 @@ pub record IsDigitStep (ds : List ℕ) (i : ℕ) : Type 0 where
 digit_value_is : (c : ℕ) → IsInRange 48 57 c → digit_value c ≡ c - 48
 digit_value_is c range = let low = range.0 in let high = range.1 in rw (le-ltb c 48 low, lt-ltb c 58 (omega arith)) refl
 
+-- one more digit
+pub digit_more : (ds : List ℕ) (i : ℕ) → list_all is_digit ds ≡ true → i < length ds → digits_value 10 (take (i + 1) ds) ≡ digits_value 10 (take i ds) * 10 + (get_or ds i 0 - 48)
+digit_more ds i all within =
+    let range = digit_at ds i (digits_model.to ds all) within in
+    digits_value_more 10 ds i within ∙ ap (λ (d : ℕ). digits_value 10 (take i ds) * 10 + d) (digit_value_is (get_or ds i 0) range)
+
+pub digit_low : (ds : List ℕ) (i : ℕ) → list_all is_digit ds ≡ true → i < length ds → 48 ≤ get_or ds i 0
+digit_low ds i all within = (digit_at ds i (digits_model.to ds all) within).0
+
 pub digit_step : (ds : List ℕ) (i : ℕ) → list_all is_digit ds ≡ true → length ds ≤ 10 → i < length ds → IsDigitStep ds i
 digit_step ds i all few within =
     let digits = digits_model.to ds all in

@@ -20,3 +20,9 @@ pub mod Equal
 pub mod Arguments
 pub mod Work
 pub mod ActText
+pub mod Tokens
+pub mod Stacks
+pub mod Numbers
+pub mod ExprReading
+pub mod GuardReading
+pub mod Grammar

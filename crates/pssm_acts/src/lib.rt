@@ -2,28 +2,38 @@
 //!
 //! The definitions that speak of entries stand in this crate's `specs/`: what a behaviour is worth, what a journal
 //! says of an object, the items of a step and their order, the rules of a run and the verdict on a journal.
-//! Of texts this crate knows how a name and a number are spelled; how a model or a journal is spelled is for the crates above.
+//! Of texts this crate knows how names, numbers, behaviours and guards are spelled, and reads guards; how a model or a
+//! journal is spelled is for the crates above.
 #![tactic(auto)]
 
+mod act_fault;
 mod args;
 mod copies;
 mod entry;
 mod equal;
+mod expr_reader;
+mod guard_reader;
 mod line;
+mod numbers;
+mod reading;
 mod running;
 mod setting;
 pub mod spelling;
+mod stack;
 mod stimulus;
 mod terms;
+mod token;
 mod tree;
 mod trees;
 mod value;
 mod worked;
 mod writing;
 
+pub use act_fault::ActFault;
 pub use args::Args;
 pub use entry::{Entry, ObjectId, Out, Rule};
 pub use line::{Line, LineOut};
+pub use reading::read_cond;
 pub use setting::{Class, Names, ObjectDecl, Outcome, Program, Setting, SignalDecl, VarDecl};
 pub use stimulus::{Stimulus, Task};
 pub use tree::{Act, Cond, Expr, Rel, Stmt};
@@ -31,5 +41,7 @@ pub use value::truth;
 pub use worked::{Worked, run};
 pub use writing::{write_act, write_cond};
 
+#[cfg(test)]
+mod reading_tests;
 #[cfg(test)]
 mod tests;

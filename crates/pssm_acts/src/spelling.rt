@@ -31,28 +31,28 @@ fn continues(c: u8) -> bool
     begins(c) || is_decimal(c)
 }
 
-fn is_decimal(c: u8) -> bool
+pub(crate) fn is_decimal(c: u8) -> bool
     ensures { result ≡ is_digit c }
 {
     matches!(c, b'0'..=b'9')
 }
 
 /// How many bytes from the first on go on with a name.
-fn name_len(bytes: &[u8]) -> usize
+pub(crate) fn name_len(bytes: &[u8]) -> usize
     ensures { result ≡ prefix_len continues_name bytes.now }
 {
     bytes.iter().take_while(|c| continues(**c)).count()
 }
 
 /// How many bytes from the first on are digits.
-fn digits_len(bytes: &[u8]) -> usize
+pub(crate) fn digits_len(bytes: &[u8]) -> usize
     ensures { result ≡ prefix_len is_digit bytes.now }
 {
     bytes.iter().take_while(|c| is_decimal(**c)).count()
 }
 
 /// Whether a name begins here.
-fn name_starts(bytes: &[u8]) -> bool
+pub(crate) fn name_starts(bytes: &[u8]) -> bool
     ensures { result ≡ starts_name bytes.now }
 {
     match bytes {
@@ -77,7 +77,7 @@ pub fn name_at(bytes: &[u8]) -> Option<(&[u8], &[u8])>
 }
 
 /// Whether these are digits of a number without leading zeros.
-fn is_plain_number(digits: &[u8]) -> bool
+pub(crate) fn is_plain_number(digits: &[u8]) -> bool
     ensures { result ≡ is_plain digits.now }
 {
     match digits {

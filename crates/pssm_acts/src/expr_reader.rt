@@ -1,0 +1,251 @@
+//! Reading an expression token by token: what has been read of it, and what the next token makes of that.
+ghost use Rattle.std.specs.Prelude.{◌≡◌, ◌≤◌, ◌<◌, length, position, bytes_eq, IfOk, IfSome};
+ghost use Rattle.pssm_acts.specs.ExprReading.{Answers, after_atom, at_atom, atom_of, closed, expr_step, expr_value, fresh_expr, level_opened, product_of, sum_of, token_of};
+
+use crate::act_fault::ActFault;
+use crate::numbers::number_of;
+use crate::setting::Names;
+use crate::stack::Stack;
+use crate::token::{Kind, Piece};
+use crate::tree::Expr;
+use pssm_model::{Boxed, Text};
+use std::alloc::{AllocError as NoMemory, Global};
+
+/// The left side of a `+` or a `-`, where one waits for its right side.
+#[derive(Drop)]
+pub enum Left {
+    Nothing,
+    Plus(Expr),
+    Minus(Expr),
+}
+
+/// What stands before an opening parenthesis: a left side, and the factors before a `*`.
+#[derive(Drop)]
+pub struct Level {
+    pub left: Left,
+    pub factor: Option<Expr>,
+}
+
+/// What comes next: an atom, perhaps behind factors and a `*`; or what may stand behind a product that has been read.
+#[derive(Drop)]
+pub enum Place {
+    Wants(Option<Expr>),
+    Has(Expr),
+}
+
+/// An expression that has been read in part: what stands before each open parenthesis, and what behind the last.
+#[derive(Drop)]
+pub struct ExprReader {
+    pub outer: Stack<Level>,
+    pub left: Left,
+    pub place: Place,
+}
+
+/// The reader of an expression of which nothing has been read.
+pub(crate) fn new_reader(alloc: Global) -> ExprReader
+    ensures { result ≡ fresh_expr }
+{
+    ExprReader {
+        outer: Stack::new(alloc),
+        left: Left::Nothing,
+        place: Place::Wants(None),
+    }
+}
+
+/// The factors and an atom behind them.
+fn product(alloc: Global, factor: Option<Expr>, atom: Expr) -> Result<Expr, NoMemory>
+    ensures { IfOk result (λ e. e ≡ product_of factor atom) }
+{
+    match factor {
+        None => Ok(atom),
+        Some(factor) => Ok(Expr::Prod(Boxed::new(alloc, factor)?, Boxed::new(alloc, atom)?)),
+    }
+}
+
+/// The left side and a product behind it.
+fn sum(alloc: Global, left: Left, term: Expr) -> Result<Expr, NoMemory>
+    ensures { IfOk result (λ e. e ≡ sum_of left term) }
+{
+    match left {
+        Left::Nothing => Ok(term),
+        Left::Plus(left) => Ok(Expr::Sum(Boxed::new(alloc, left)?, Boxed::new(alloc, term)?)),
+        Left::Minus(left) => Ok(Expr::Diff(Boxed::new(alloc, left)?, Boxed::new(alloc, term)?)),
+    }
+}
+
+/// The place of the first of these names that is spelled so.
+fn place_of(names: &[Text], name: &[u8]) -> Option<usize>
+    ensures gives { result ≡ position (λ n. bytes_eq n name.now) names.now }
+    ensures within { IfSome result (λ k. k < length names.now) }
+{
+    names.iter().position(|n| n.as_slice() == name)
+}
+
+/// The number of a variable.
+fn variable(vars: &[Text], name: &[u8]) -> Option<u16>
+    requires few { length vars.now ≤ 65536 }
+    ensures { result ≡ position (λ n. bytes_eq n name.now) vars.now }
+{
+    let place = place_of(vars, name)?;
+    Some(place as u16)
+}
+
+/// The number, variable or parameter that a token is.
+#[tactic(auto, unfolding(crate::specs::ExprReading::atom_of))]
+fn atom(piece: Piece<'_>, names: &Names) -> Result<Expr, ActFault>
+    requires few { length names.now.vars ≤ 65536 }
+    ensures { result ≡ atom_of names.now (token_of piece.entry) }
+{
+    match piece.kind {
+        Kind::Number => match number_of(piece.word, piece.at) {
+            Ok(number) => Ok(Expr::Num(number)),
+            Err(fault) => Err(fault),
+        },
+        Kind::Name => match variable(names.vars.as_slice(), piece.word) {
+            Some(number) => Ok(Expr::Var(number)),
+            None => Err(ActFault::UnknownName { at: piece.at }),
+        },
+        Kind::Param(number) => Ok(Expr::Param(number)),
+        _ => Err(ActFault::Syntax { at: piece.at }),
+    }
+}
+
+/// A parenthesis opens, where as many levels as there is room for may be open.
+#[tactic(auto, unfolding(crate::specs::ExprReading::level_opened))]
+fn opened(
+    outer: Stack<Level>,
+    level: Level,
+    piece: Piece<'_>,
+    room: usize,
+) -> Result<Stack<Level>, ActFault>
+    ensures { Answers (level_opened room outer level (token_of piece.entry)) result }
+{
+    if outer.len() >= room {
+        return Err(ActFault::TooLong { at: piece.at });
+    }
+    Ok(outer.with(level)?)
+}
+
+/// A token where an atom may stand.
+#[tactic(auto, unfolding(crate::specs::ExprReading::at_atom))]
+fn wants_atom(
+    alloc: Global,
+    outer: Stack<Level>,
+    left: Left,
+    factor: Option<Expr>,
+    piece: Piece<'_>,
+    names: &Names,
+    room: usize,
+) -> Result<ExprReader, ActFault>
+    requires few { length names.now.vars ≤ 65536 }
+    ensures { Answers (at_atom names.now room outer left factor (token_of piece.entry)) result }
+{
+    if piece.kind == Kind::Open {
+        let outer = opened(outer, Level { left, factor }, piece, room)?;
+        return Ok(ExprReader {
+            outer,
+            left: Left::Nothing,
+            place: Place::Wants(None),
+        });
+    }
+    let atom = atom(piece, names)?;
+    let place = Place::Has(product(alloc, factor, atom)?);
+    Ok(ExprReader { outer, left, place })
+}
+
+/// A closing parenthesis behind a product.
+#[tactic(auto, unfolding(crate::specs::ExprReading::closed))]
+fn close(
+    alloc: Global,
+    outer: Stack<Level>,
+    left: Left,
+    term: Expr,
+    at: u32,
+) -> Result<ExprReader, ActFault>
+    ensures { Answers (closed outer left term at) result }
+{
+    match outer.split() {
+        Some((outer, level)) => {
+            let Level {
+                left: before,
+                factor,
+            } = level;
+            let inner = sum(alloc, left, term)?;
+            let place = Place::Has(product(alloc, factor, inner)?);
+            Ok(ExprReader {
+                outer,
+                left: before,
+                place,
+            })
+        }
+        None => Err(ActFault::Syntax { at }),
+    }
+}
+
+/// A token behind a product.
+#[tactic(auto, unfolding(crate::specs::ExprReading::after_atom))]
+fn behind_atom(
+    alloc: Global,
+    outer: Stack<Level>,
+    left: Left,
+    term: Expr,
+    piece: Piece<'_>,
+) -> Result<ExprReader, ActFault>
+    ensures { Answers (after_atom outer left term (token_of piece.entry)) result }
+{
+    match piece.kind {
+        Kind::Times => Ok(ExprReader {
+            outer,
+            left,
+            place: Place::Wants(Some(term)),
+        }),
+        Kind::Plus => Ok(ExprReader {
+            outer,
+            left: Left::Plus(sum(alloc, left, term)?),
+            place: Place::Wants(None),
+        }),
+        Kind::Minus => Ok(ExprReader {
+            outer,
+            left: Left::Minus(sum(alloc, left, term)?),
+            place: Place::Wants(None),
+        }),
+        Kind::Close => close(alloc, outer, left, term, piece.at),
+        _ => Err(ActFault::Syntax { at: piece.at }),
+    }
+}
+
+/// The next token of an expression; so many levels of parentheses may be open.
+#[tactic(auto, unfolding(crate::specs::ExprReading::expr_step))]
+pub(crate) fn expr_next(
+    alloc: Global,
+    reader: ExprReader,
+    piece: Piece<'_>,
+    names: &Names,
+    room: usize,
+) -> Result<ExprReader, ActFault>
+    requires few { length names.now.vars ≤ 65536 }
+    ensures { Answers (expr_step names.now room reader (token_of piece.entry)) result }
+{
+    let ExprReader { outer, left, place } = reader;
+    match place {
+        Place::Wants(factor) => wants_atom(alloc, outer, left, factor, piece, names, room),
+        Place::Has(term) => behind_atom(alloc, outer, left, term, piece),
+    }
+}
+
+/// The expression that has been read, where it may end here; otherwise the fault of what stands at this byte.
+#[tactic(auto, unfolding(crate::specs::ExprReading::expr_value))]
+pub(crate) fn expr_end(alloc: Global, reader: ExprReader, at: u32) -> Result<Expr, ActFault>
+    ensures { Answers (expr_value reader at) result }
+{
+    let ExprReader { outer, left, place } = reader;
+    match place {
+        Place::Has(term) => {
+            if outer.len() > 0 {
+                return Err(ActFault::Syntax { at });
+            }
+            Ok(sum(alloc, left, term)?)
+        }
+        Place::Wants(_) => Err(ActFault::Syntax { at }),
+    }
+}

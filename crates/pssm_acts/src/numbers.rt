@@ -1,0 +1,90 @@
+//! Numbers in action texts.
+ghost use Rattle.std.specs.Prelude.{◌≡◌, ◌<◌, ◌^◌, negsuc, IsTrue, min};
+ghost use Rattle.std.specs.List.{list_all};
+ghost use Rattle.std.specs.Str.Parse.{digits_value};
+ghost use Rattle.pssm_acts.specs.SpellingReading.{is_digit};
+ghost use Rattle.pssm_acts.specs.Numbers.{is_natural, natural_read, negative_read, number_read};
+
+use crate::act_fault::ActFault;
+use crate::spelling::{is_decimal, is_plain_number};
+
+/// The first number past the greatest of 64 bits with a sign.
+const LIMIT: u64 = 1 << 63;
+
+/// Whether these are digits.
+fn all_digits(digits: &[u8]) -> bool
+    ensures { result ≡ list_all is_digit digits.now }
+{
+    digits.iter().all(|c| is_decimal(*c))
+}
+
+/// Whether these are digits of a number without leading zeros.
+fn natural_text(digits: &[u8]) -> bool
+    ensures { result ≡ is_natural digits.now }
+{
+    is_plain_number(digits) && all_digits(digits)
+}
+
+/// The number that the digits spell, or the greatest of 64 bits where it is beyond.
+fn magnitude(digits: &[u8]) -> u64
+    requires digits { IsTrue (list_all is_digit digits.now) }
+    ensures { result ≡ min (digits_value 10 digits.now) 18446744073709551615 }
+{
+    let mut value = 0u64;
+    for digit in digits {
+        value = value
+            .saturating_mul(10)
+            .saturating_add(u64::from(*digit - b'0'));
+    }
+    value
+}
+
+#[tactic(auto, unfolding(crate::specs::Numbers::natural_read))]
+fn natural(digits: &[u8], at: u32) -> Result<i64, ActFault>
+    ensures { result ≡ natural_read at digits.now }
+{
+    if !natural_text(digits) {
+        return Err(ActFault::Syntax { at });
+    }
+    let value = magnitude(digits);
+    if value >= LIMIT {
+        return Err(ActFault::WideNumber { at });
+    }
+    Ok(value as i64)
+}
+
+/// The number below zero before which so many others stand.
+fn below_zero(others: u64) -> i64
+    requires few { others < 2 ^ 63 }
+    ensures { result ≡ negsuc others }
+{
+    -1 - others as i64
+}
+
+#[tactic(auto, unfolding(crate::specs::Numbers::negative_read))]
+fn negative(digits: &[u8], at: u32) -> Result<i64, ActFault>
+    ensures { result ≡ negative_read at digits.now }
+{
+    if !natural_text(digits) {
+        return Err(ActFault::Syntax { at });
+    }
+    let value = magnitude(digits);
+    if value == 0 {
+        return Err(ActFault::Syntax { at });
+    }
+    if value > LIMIT {
+        return Err(ActFault::WideNumber { at });
+    }
+    Ok(below_zero(value - 1))
+}
+
+/// The number that a word of digits spells, perhaps with a `-` before them.
+#[tactic(auto, unfolding(crate::specs::Numbers::number_read))]
+pub(crate) fn number_of(word: &[u8], at: u32) -> Result<i64, ActFault>
+    ensures { result ≡ number_read at word.now }
+{
+    match word {
+        [b'-', digits @ ..] => negative(digits, at),
+        _ => natural(word, at),
+    }
+}
