@@ -15,7 +15,7 @@ use Rattle.pssm_model.specs.declared.steps.Item.TheVariants as items
 use Rattle.pssm_model.specs.Legs.{Leaves, Enters}
 use Rattle.pssm_model.specs.BuiltMachine.{IsBuiltMachine}
 use Rattle.pssm_model.specs.OneRegion.{top_region, first_transition, single_route}
-use Rattle.pssm_model.proofs.BuiltTransitions.{nothing_in_nil, source_in_range, leaving_in_range, entering_in_range, target_range}
+use Rattle.pssm_model.proofs.BuiltTransitions.{nothing_in_nil, leaving_in_range, entering_in_range, target_is_state}
 use Rattle.pssm_model.proofs.BuiltRoutes.{is_one}
 use Rattle.pssm_acts.specs.declared.entry.Entry.{Entry}
 use Rattle.pssm_acts.specs.declared.entry.Entry.TheVariants.{Post, Start, Take, Exit, Effect, Enter, Opened}
@@ -151,7 +151,7 @@ module _ {m : DraftMachine} (b : IsBuiltMachine m) where
                 (λ q is. let now = s.active q is in cc);
             fresh = λ is. absurd (cc);
           };
-          names = (source_in_range b t a leaves, leaving_in_range b t a leaves, (target_range b t to enters).1);
+          names = (s.names, leaving_in_range b t a leaves, target_is_state b t to enters);
           active = λ q is. ⊎_elim (λ enters. absurd enters) (λ was. s.active q was.0) (active_push J the_object q e is);
           active_there = λ q is. active_kept J the_object q e (s.active_there q is) (λ exits. exits);
           signals_are = s.signals_are ∙ ap (map (λ (x : Stimulus). x.signal)) same;
@@ -160,10 +160,10 @@ module _ {m : DraftMachine} (b : IsBuiltMachine m) where
         }
 
   -- the region opens
-  pub after_opened : (J : List Entry) (to : VertexId) (signals : List SignalId) (taken : ℕ) → Enters m first_transition to → StandsAt m J Opening signals taken
-      → StandsAt m (J ++ Opened the_object top_region Plain (By (single_route first_transition)) ∷ []) (Acting first_transition to) signals taken
+  pub after_opened : (J : List Entry) (to : VertexId) (signals : List SignalId) (taken : ℕ) → Enters m (first_transition m) to → StandsAt m J Opening signals taken
+      → StandsAt m (J ++ Opened the_object top_region Plain (By (single_route (first_transition m))) ∷ []) (Acting (first_transition m) to) signals taken
   after_opened J to signals taken enters s =
-      let e : Entry = Opened the_object top_region Plain (By (single_route first_transition)) in
+      let e : Entry = Opened the_object top_region Plain (By (single_route (first_transition m))) in
       let k = signals_kept m J e Opening signals taken refl (λ n. refl) s in
       let u = s.progress_is in
       record {
@@ -174,7 +174,7 @@ module _ {m : DraftMachine} (b : IsBuiltMachine m) where
           step_is = step_opened b J the_object u.step to enters (u.fresh refl) u.step_is;
           fresh = λ is. absurd (cc);
         };
-        names = (entering_in_range b first_transition to enters, (target_range b first_transition to enters).1);
+        names = (entering_in_range b (first_transition m) to enters, target_is_state b (first_transition m) to enters);
         active = λ q is. ⊎_elim (λ enters. absurd enters) (λ was. s.active q was.0) (active_push J the_object q e is);
         active_there = λ q is. active_kept J the_object q e (s.active_there q is) (λ exits. exits);
         signals_are = k.signals_are;

@@ -12,7 +12,7 @@ use Rattle.pssm_model.specs.declared.steps.Item.{Item}
 use Rattle.pssm_model.specs.declared.steps.Item.TheVariants as items
 use Rattle.pssm_model.specs.BuiltMachine.{IsBuiltMachine}
 use Rattle.pssm_model.specs.OneRegion.{first_transition, single_route}
-use Rattle.pssm_model.proofs.BuiltElements.{some_at, some_transitions}
+use Rattle.pssm_model.proofs.BuiltElements.{some_at, first_in_range, state_in_range}
 use Rattle.pssm_model.proofs.BuiltTransitions.{nothing_in_nil, leaving_in_range}
 use Rattle.pssm_acts.specs.declared.entry.ObjectId.{ObjectId}
 use Rattle.pssm_acts.specs.declared.entry.Entry.{Entry}
@@ -40,20 +40,20 @@ same_entry : (e f : Entry) → (let there : Option Entry = Some e in there) ≡ 
 same_entry e f h = cc
 
 -- what comes next is no post
-next_is_no_post : (p : Progress) (e : Entry) → next_entry p ≡ Some e → IsPost e → ⊥
-next_is_no_post Unstarted e is post = subst IsPost (sym (same_entry (Start the_object) e is)) post
-next_is_no_post Opening e is post = subst IsPost (sym (same_entry the_opening e is)) post
-next_is_no_post (Resting a) e is post = let clash : None ≡ Some e = is in absurd (cc)
-next_is_no_post (Exiting a t v) e is post = subst IsPost (sym (same_entry (Exit the_object a []) e is)) post
-next_is_no_post (Acting t v) e is post = subst IsPost (sym (same_entry (Effect the_object t []) e is)) post
-next_is_no_post (Entering v) e is post = subst IsPost (sym (same_entry (Enter the_object v []) e is)) post
+next_is_no_post : (first : TransId) (p : Progress) (e : Entry) → next_entry first p ≡ Some e → IsPost e → ⊥
+next_is_no_post first Unstarted e is post = subst IsPost (sym (same_entry (Start the_object) e is)) post
+next_is_no_post first Opening e is post = subst IsPost (sym (same_entry (the_opening first) e is)) post
+next_is_no_post first (Resting a) e is post = let clash : None ≡ Some e = is in absurd (cc)
+next_is_no_post first (Exiting a t v) e is post = subst IsPost (sym (same_entry (Exit the_object a []) e is)) post
+next_is_no_post first (Acting t v) e is post = subst IsPost (sym (same_entry (Effect the_object t []) e is)) post
+next_is_no_post first (Entering v) e is post = subst IsPost (sym (same_entry (Enter the_object v []) e is)) post
 
 -- the verdict on it
-next_is_judged : (m : DraftMachine) (p : Progress) (signals : List SignalId) (taken : ℕ) (e : Entry) → next_entry p ≡ Some e → Judges m p signals taken e None
+next_is_judged : (m : DraftMachine) (p : Progress) (signals : List SignalId) (taken : ℕ) (e : Entry) → next_entry (first_transition m) p ≡ Some e → Judges m p signals taken e None
 next_is_judged m Unstarted signals taken e is =
     subst (λ x. Judges m Unstarted signals taken x None) (same_entry (Start the_object) e is) refl
 next_is_judged m Opening signals taken e is =
-    subst (λ x. Judges m Opening signals taken x None) (same_entry the_opening e is) (([], refl), refl)
+    subst (λ x. Judges m Opening signals taken x None) (same_entry (the_opening (first_transition m)) e is) (([], refl), refl)
 next_is_judged m (Resting a) signals taken e is = let clash : None ≡ Some e = is in absurd (cc)
 next_is_judged m (Exiting a t v) signals taken e is =
     subst (λ x. Judges m (Exiting a t v) signals taken x None) (same_entry (Exit the_object a []) e is) ((items.Effect t ∷ items.Enter v ∷ [], refl), refl)
@@ -96,26 +96,26 @@ module _ {setting : Setting} (b : IsBuilt setting) where
   no_outs_known : All (IsOutOf setting b.class) []
   no_outs_known = All-from_recursion (IsOutOf setting b.class) [] tt
 
-  next_names : (J : List Entry) (p : Progress) (e : Entry) → IsProgressIn b.class.machine p → next_entry p ≡ Some e → Holds setting A1 J e
+  next_names : (J : List Entry) (p : Progress) (e : Entry) → IsProgressIn b.class.machine p → next_entry (first_transition b.class.machine) p ≡ Some e → Holds setting A1 J e
   next_names J Unstarted e known is =
       subst (Holds setting A1 J) (same_entry (Start the_object) e is) (names_hold J (Start the_object) refl tt)
   next_names J Opening e known is =
       let region : 0 < length b.class.machine.regions = rw b.class_is.machine.regions (omega arith) in
-      subst (Holds setting A1 J) (same_entry the_opening e is)
-      (names_hold J the_opening refl (region, single_known b.class.machine first_transition (some_transitions b.class_is.machine)))
+      subst (Holds setting A1 J) (same_entry (the_opening (first_transition b.class.machine)) e is)
+      (names_hold J (the_opening (first_transition b.class.machine)) refl (region, single_known b.class.machine (first_transition b.class.machine) (first_in_range b.class_is.machine)))
   next_names J (Resting a) e known is = let clash : None ≡ Some e = is in absurd (cc)
   next_names J (Exiting a t v) e known is =
-      subst (Holds setting A1 J) (same_entry (Exit the_object a []) e is) (names_hold J (Exit the_object a []) refl (known.0, no_outs_known))
+      subst (Holds setting A1 J) (same_entry (Exit the_object a []) e is) (names_hold J (Exit the_object a []) refl (state_in_range b.class_is.machine a known.0, no_outs_known))
   next_names J (Acting t v) e known is =
       subst (Holds setting A1 J) (same_entry (Effect the_object t []) e is) (names_hold J (Effect the_object t []) refl (known.0, no_outs_known))
   next_names J (Entering v) e known is =
-      subst (Holds setting A1 J) (same_entry (Enter the_object v []) e is) (names_hold J (Enter the_object v []) refl (known, no_outs_known))
+      subst (Holds setting A1 J) (same_entry (Enter the_object v []) e is) (names_hold J (Enter the_object v []) refl (state_in_range b.class_is.machine v known, no_outs_known))
 
   -- what the progress says comes next may follow
   pub next_follows : (J : List Entry) (p : Progress) (signals : List SignalId) (taken : ℕ) → StandsAt b.class.machine J p signals taken
-      → (e : Entry) → next_entry p ≡ Some e → (IsPost e → ⊥) × MayFollow setting J e
+      → (e : Entry) → next_entry (first_transition b.class.machine) p ≡ Some e → (IsPost e → ⊥) × MayFollow setting J e
   next_follows J p signals taken s e is = (
-    next_is_no_post p e is,
+    next_is_no_post (first_transition b.class.machine) p e is,
     judged b J e p signals taken s (next_names J p e s.names is) None (next_is_judged b.class.machine p signals taken e is),
   )
 
@@ -153,7 +153,7 @@ module _ {setting : Setting} (b : IsBuilt setting) where
   -- where nothing is chosen the object rests, and no signal waits
   pub none_is_idle : (p : Progress) (signals : List SignalId) (taken : ℕ) → Chooses b.class.machine p signals taken None → IsIdle p signals taken
   none_is_idle Unstarted signals taken h = let clash : None ≡ Some (Start the_object) = h in absurd (cc)
-  none_is_idle Opening signals taken h = let clash : None ≡ Some the_opening = h in absurd (cc)
+  none_is_idle Opening signals taken h = let clash : None ≡ Some (the_opening (first_transition b.class.machine)) = h in absurd (cc)
   none_is_idle (Resting a) signals taken h = h
   none_is_idle (Exiting a t v) signals taken h = let clash : None ≡ Some (Exit the_object a []) = h in absurd (cc)
   none_is_idle (Acting t v) signals taken h = let clash : None ≡ Some (Effect the_object t []) = h in absurd (cc)
@@ -208,13 +208,13 @@ module _ {setting : Setting} (b : IsBuilt setting) where
 
   -- where no entry may follow, the object rests and no signal waits
   goes_on : (J : List Entry) (p : Progress) (signals : List SignalId) (taken : ℕ) → StandsAt b.class.machine J p signals taken → IsQuiet setting J
-      → (e : Entry) → next_entry p ≡ Some e → ⊥
+      → (e : Entry) → next_entry (first_transition b.class.machine) p ≡ Some e → ⊥
   goes_on J p signals taken s quiet e is = let may = next_follows J p signals taken s e is in quiet e may.0 may.1
 
   pub quiet_is_idle : (J : List Entry) (p : Progress) (signals : List SignalId) (taken : ℕ) (rows : List (Vec Bool Global))
       → AreReactions b.class.machine rows → StandsAt b.class.machine J p signals taken → IsQuiet setting J → IsIdle p signals taken
   quiet_is_idle J Unstarted signals taken rows table s quiet = goes_on J Unstarted signals taken s quiet (Start the_object) refl
-  quiet_is_idle J Opening signals taken rows table s quiet = goes_on J Opening signals taken s quiet the_opening refl
+  quiet_is_idle J Opening signals taken rows table s quiet = goes_on J Opening signals taken s quiet (the_opening (first_transition b.class.machine)) refl
   quiet_is_idle J (Resting a) signals taken rows table s quiet =
       ⊎_elim
       (λ (waits : taken < length signals).

@@ -6,7 +6,7 @@ use Rattle.pssm_model.specs.declared.ids.TransId.{TransId}
 use Rattle.pssm_model.specs.declared.ids.SignalId.{SignalId}
 use Rattle.pssm_model.specs.declared.elements.DraftMachine.{DraftMachine}
 use Rattle.pssm_model.specs.OneRegion.{first_transition}
-use Rattle.pssm_model.proofs.BuiltElements.{some_transitions}
+use Rattle.pssm_model.proofs.BuiltElements.{first_in_range}
 use Rattle.pssm_model.proofs.BuiltTransitions.{target_there}
 use Rattle.pssm_acts.specs.declared.entry.ObjectId.{ObjectId}
 use Rattle.pssm_acts.specs.declared.entry.Entry.{Entry}
@@ -113,9 +113,10 @@ module _ {setting : Setting} (b : IsBuilt setting) where
   from_opening : (J : List Entry) (signals : List SignalId) (taken : ℕ) → StandsAt b.class.machine J Opening signals taken
       → IsAdmissibleIn setting J → CompletesWithin setting J 3
   from_opening J signals taken s admissible =
-      let to = target_there b.class_is.machine first_transition (some_transitions b.class_is.machine) in
-      completes_by J the_opening admissible (next_follows b J Opening signals taken s the_opening refl).1 2
-      (from_acting (J ++ the_opening ∷ []) first_transition to.0 signals taken (after_opened b.class_is.machine J to.0 signals taken to.1 s))
+      let first = first_transition b.class.machine in
+      let to = target_there b.class_is.machine first (first_in_range b.class_is.machine) in
+      completes_by J (the_opening first) admissible (next_follows b J Opening signals taken s (the_opening first) refl).1 2
+      (from_acting (J ++ the_opening first ∷ []) first to.0 signals taken (after_opened b.class_is.machine J to.0 signals taken to.1 s))
 
   -- from wherever the object stands
   pub completes : (J : List Entry) (p : Progress) (signals : List SignalId) (taken : ℕ) → StandsAt b.class.machine J p signals taken

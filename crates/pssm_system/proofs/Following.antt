@@ -37,7 +37,7 @@ use Rattle.pssm_system.specs.Standing.{the_object, waiting, passed, active_in, I
 use Rattle.pssm_system.specs.Judging.{FiresAt}
 use Rattle.pssm_system.specs.Advancing.{AdvancesByFiring, Advances, signals_after, taken_after}
 use Rattle.pssm_system.proofs.Steps.{first_in, in_cases}
-use Rattle.pssm_system.proofs.Signals.{IsNext, waiting_is_next, told_next}
+use Rattle.pssm_system.proofs.Signals.{IsNext, active_states, waiting_is_next, told_next}
 use Rattle.pssm_system.proofs.Kept.{asks, own_entry}
 use Rattle.pssm_system.proofs.Rules.{starts_once, not_started, step_unfinished, no_queue_head, called_item_waits, order_broken, opens_only, no_do_step, outs_are_none}
 use Rattle.pssm_system.proofs.Judged.{opening_only, no_pick_waits, fires_is}
@@ -157,7 +157,7 @@ module _ {setting : Setting} (b : IsBuilt setting) (J : List Entry) (p : Progres
 
   -- an opening that may follow is the one at the start, by the transition out of the initial vertex
   pub opens_now : (r : RegionId) (mode : Mode) (how : How) → MayFollow setting J (Opened the_object r mode how)
-      → (p ≡ Opening) × (r ≡ top_region) × (mode ≡ Plain) × (how ≡ By (single_route first_transition))
+      → (p ≡ Opening) × (r ≡ top_region) × (mode ≡ Plain) × (how ≡ By (single_route (first_transition b.class.machine)))
   opens_now r mode how may =
       let e : Entry = Opened the_object r mode how in
       let f = asks b J e A3 (λ e. cc) refl (may A3) in
@@ -180,9 +180,9 @@ module _ {setting : Setting} (b : IsBuilt setting) (J : List Entry) (p : Progres
       let e : Entry = Opened the_object r mode how in
       let now = opens_now r mode how may in
       subst (λ n. StandsAt b.class.machine (J ++ e ∷ []) n signals taken) (sym is)
-      (subst (λ g. StandsAt b.class.machine (J ++ Opened the_object g mode how ∷ []) (Acting first_transition to) signals taken) (sym now.1)
-      (subst (λ k. StandsAt b.class.machine (J ++ Opened the_object top_region k how ∷ []) (Acting first_transition to) signals taken) (sym now.2)
-      (subst (λ w. StandsAt b.class.machine (J ++ Opened the_object top_region Plain w ∷ []) (Acting first_transition to) signals taken) (sym now.3)
+      (subst (λ g. StandsAt b.class.machine (J ++ Opened the_object g mode how ∷ []) (Acting (first_transition b.class.machine) to) signals taken) (sym now.1)
+      (subst (λ k. StandsAt b.class.machine (J ++ Opened the_object top_region k how ∷ []) (Acting (first_transition b.class.machine) to) signals taken) (sym now.2)
+      (subst (λ w. StandsAt b.class.machine (J ++ Opened the_object top_region Plain w ∷ []) (Acting (first_transition b.class.machine) to) signals taken) (sym now.3)
       (after_opened b.class_is.machine J to signals taken enters (subst (λ n. StandsAt b.class.machine J n signals taken) now.0 s)))))
 
   following_start : MayFollow setting J (Start the_object) → (q : Progress) → q ≡ Opening
@@ -220,7 +220,7 @@ module _ {setting : Setting} (b : IsBuilt setting) (J : List Entry) (p : Progres
       let rests : (a : VertexId) × (p ≡ Resting a) =
       ⊎_elim (λ is. is) (λ left. absurd (step_unfinished b.class_is.machine J the_object p left.0 left.1 s.progress_is finished))
       (rests_or_left p (is_started f.0 f.1 f.2)) in
-      let next = waiting_is_next b.class b.class_is.machine J the_object taken number s.all_to_object s.taken_is (asks b J e A6 (λ e. cc) refl (may A6)) in
+      let next = waiting_is_next b.class b.class_is.machine J the_object (active_states b.class.machine J p signals taken s) taken number s.all_to_object s.taken_is (asks b J e A6 (λ e. cc) refl (may A6)) in
       let here : active_in p ≡ Some rests.0 = ap active_in rests.1 in (
         rests.0,
         next,
@@ -288,7 +288,7 @@ module _ {setting : Setting} (b : IsBuilt setting) (J : List Entry) (p : Progres
   next_waits (Take o number firing) may takes =
       let own = own_entry b J (Take o number firing) (may A1) in
       let there = subst (λ x. MayFollow setting J (Take x number firing)) own may in
-      let next = waiting_is_next b.class b.class_is.machine J the_object taken number s.all_to_object s.taken_is
+      let next = waiting_is_next b.class b.class_is.machine J the_object (active_states b.class.machine J p signals taken s) taken number s.all_to_object s.taken_is
       (asks b J (Take the_object number firing) A6 (λ e. cc) refl (there A6)) in
       let few = next.waits in
       let long = ap length s.signals_are ∙ length-map (signals_of J) (λ (x : Stimulus). x.signal) in

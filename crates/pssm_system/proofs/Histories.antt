@@ -9,7 +9,7 @@ use Rattle.pssm_model.specs.declared.elements.DraftMachine.{DraftMachine}
 use Rattle.pssm_model.specs.declared.ids.TransId.{TransId}
 use Rattle.pssm_model.specs.declared.steps.Route.{Route}
 use Rattle.pssm_model.specs.declared.steps.Firing.{Firing}
-use Rattle.pssm_model.specs.OneRegion.{single_route}
+use Rattle.pssm_model.specs.OneRegion.{first_transition, single_route}
 use Rattle.pssm_model.specs.BuiltMachine.{IsBuiltMachine}
 use Rattle.pssm_acts.specs.declared.entry.ObjectId.{ObjectId}
 use Rattle.pssm_acts.specs.declared.entry.Entry.{Entry}
@@ -38,7 +38,7 @@ use Rattle.pssm_system.specs.declared.judging.Standing.{Standing}
 use Rattle.pssm_system.specs.History.{History}
 use Rattle.pssm_system.specs.Judging.{NamesTransitions, Judges}
 use Rattle.pssm_system.specs.Reactions.{AreReactions}
-use Rattle.pssm_system.specs.Keeping.{KeepsRun}
+use Rattle.pssm_system.specs.Keeping.{KeepsRun, KeepsFirst}
 use Rattle.pssm_system.specs.Standing.{StandsAt}
 use Rattle.pssm_system.specs.Advancing.{Advances, signals_after, taken_after}
 use Rattle.pssm_system.proofs.Kept.{class_is}
@@ -183,6 +183,11 @@ module _ (h : History) (standing : Standing) (rows : List (Vec Bool Global)) (se
 
   pub params_seen : (params : List ℤ) → params ≡ no_params → (o : ObjectId) → params ≡ params_of (told_by h.journal) h.journal o
   params_seen params zeros o = zeros ∙ sym (seen (λ s js. params_of (told_by js) js o ≡ no_params) (zero_params J o k.plain))
+
+-- the transition out of the initial vertex is that of the machine that is seen
+pub first_known : (setting : Setting) (b : IsBuilt setting) (m : DraftMachine) → m ≡ b.class.machine → (first : TransId) → KeepsFirst setting first
+    → first ≡ first_transition m
+first_known setting b m machine_is first keeps = keeps b ∙ ap first_transition (sym machine_is)
 
 -- where nothing has changed, the same is kept
 pub keeps_same : (setting : Setting) (J K : List Entry) (standing next : Standing) (rows : List (Vec Bool Global)) → KeepsRun setting J standing rows → K ≡ J

@@ -17,7 +17,7 @@ use Rattle.pssm_model.specs.declared.steps.Item.TheVariants as items
 use Rattle.pssm_model.specs.Routes.{Truth, Stand}
 use Rattle.pssm_model.specs.Firing.{IsFiring}
 use Rattle.pssm_model.specs.BuiltMachine.{IsBuiltMachine}
-use Rattle.pssm_model.specs.OneRegion.{top_region}
+use Rattle.pssm_model.specs.OneRegion.{top_region, first_transition}
 use Rattle.pssm_model.proofs.BuiltTransitions.{nothing_in_nil}
 use Rattle.pssm_model.proofs.BuiltRoutes.{is_one}
 use Rattle.pssm_model.proofs.BuiltFiring.{fires_none, fires_one, fires_only}
@@ -45,7 +45,7 @@ use Rattle.pssm_system.specs.declared.progress.Progress.TheVariants.{Unstarted, 
 use Rattle.pssm_system.specs.Standing.{the_object, waiting, active_in, IsStarted, StandsAt}
 use Rattle.pssm_system.specs.Judging.{FiresAt, IsBusy, IsNumbered, JudgesStart, JudgesTake, JudgesDone, JudgesItem, JudgesWork, JudgesOpened, JudgesNever, Judges}
 use Rattle.pssm_system.proofs.Steps.{first_in, later_in, in_cases}
-use Rattle.pssm_system.proofs.Signals.{waiting_is_next, next_is_waiting, told_next}
+use Rattle.pssm_system.proofs.Signals.{active_states, waiting_is_next, next_is_waiting, told_next}
 use Rattle.pssm_system.proofs.Kept.{IsKeptBelow, kept_more, kept_first, follows, first_broken, holds, asks, own_entry}
 use Rattle.pssm_system.proofs.Rules.{never_ended, may_start, starts_once, has_started, not_started, step_finished, step_unfinished, never_queued, no_queue_head, called_item, called_item_waits, order_kept, order_broken, opens_first, opens_only, no_do_step, outs_are_none, started_of_waiting}
 
@@ -322,7 +322,7 @@ module _ {setting : Setting} (b : IsBuilt setting) where
 
   judged_opened : (J : List Entry) (r : RegionId) (mode : Mode) (how : How) (p : Progress) (signals : List SignalId) (taken : ℕ)
       → StandsAt b.class.machine J p signals taken → Holds setting A1 J (Opened the_object r mode how)
-      → (answer : Option Rule) → JudgesOpened p (items.Opened r mode) how answer → IsJudged setting J (Opened the_object r mode how) answer
+      → (answer : Option Rule) → JudgesOpened (first_transition b.class.machine) p (items.Opened r mode) how answer → IsJudged setting J (Opened the_object r mode how) answer
   judged_opened J r mode how p signals taken s names None h =
       let e : Entry = Opened the_object r mode how in
       let opening = opening_only p r mode h.0.0 h.0.1 in
@@ -487,7 +487,7 @@ module _ {setting : Setting} (b : IsBuilt setting) where
         let x = stimulus_at J signals taken signal s.signals_are numbered.1 in
         more J (Take the_object number firing) A6 6 refl (λ e. cc)
         (subst (IsFirstWaiting b.class J the_object) (sym numbered.0)
-        (next_is_waiting b.class b.class_is.machine J the_object taken s.all_to_object s.taken_is (slice_get_within (signals_of J) taken x.0 x.1)))
+        (next_is_waiting b.class b.class_is.machine J the_object (active_states b.class.machine J p signals taken s) taken s.all_to_object s.taken_is (slice_get_within (signals_of J) taken x.0 x.1)))
         (take_rests a rests)
 
     only_active : (a : VertexId) → p ≡ Resting a → (q : VertexId) → IsActive J the_object q → q ≡ a
@@ -527,7 +527,7 @@ module _ {setting : Setting} (b : IsBuilt setting) where
     judged_take (Some A6) (a, rests, none) =
         breaks J (Take the_object number firing) A6 6 refl (λ e. cc) refl
         (λ kept.
-        let next = waiting_is_next b.class b.class_is.machine J the_object taken number s.all_to_object s.taken_is kept in
+        let next = waiting_is_next b.class b.class_is.machine J the_object (active_states b.class.machine J p signals taken s) taken number s.all_to_object s.taken_is kept in
         none next.signal.signal (
           next.number_is,
           subst (λ xs. slice_get xs taken ≡ Some next.signal.signal) (sym s.signals_are)

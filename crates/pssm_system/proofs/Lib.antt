@@ -7,6 +7,7 @@ pub mod Judged
 pub mod Advancing
 pub mod Following
 pub mod Marks
+pub mod Firsts
 pub mod Histories
 pub mod Samples
 pub mod Choices

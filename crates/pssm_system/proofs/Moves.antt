@@ -218,56 +218,56 @@ module _ {m : DraftMachine} (b : IsBuiltMachine m) where
       }
 
   -- the one region opens
-  called_opened : (o : ObjectId) (step : StepAt) (to : VertexId) → Enters m first_transition to → IsFresh o step
+  called_opened : (o : ObjectId) (step : StepAt) (to : VertexId) → Enters m (first_transition m) to → IsFresh o step
       → ((item : Item) → Called m o step item → item ≡ items.Opened top_region Plain)
-      → (item : Item) → Called m o (more step (Opened o top_region Plain (By (single_route first_transition)))) item
-      → (item ≡ items.Opened top_region Plain) ⊎ Contains (items.Effect first_transition ∷ items.Enter to ∷ []) item
+      → (item : Item) → Called m o (more step (Opened o top_region Plain (By (single_route (first_transition m))))) item
+      → (item ≡ items.Opened top_region Plain) ⊎ Contains (items.Effect (first_transition m) ∷ items.Enter to ∷ []) item
   called_opened o step to e fresh was item (start h) = inl (was item (start h))
   called_opened o step to e fresh was item (run leg is h) =
-      let now = more step (Opened o top_region Plain (By (single_route first_transition))) in
+      let now = more step (Opened o top_region Plain (By (single_route (first_transition m)))) in
       ⊎_elim (λ old. absurd (fresh_no_leg o step leg fresh old))
-      (λ new. ⊎_elim (λ exits. absurd (fresh.no_route (single_route first_transition) exits.2.0))
+      (λ new. ⊎_elim (λ exits. absurd (fresh.no_route (single_route (first_transition m)) exits.2.0))
       (⊎_elim
-      (λ effect. inr (subst (Contains (items.Effect first_transition ∷ items.Enter to ∷ [])) (sym effect) (first_in (items.Effect first_transition) (items.Enter to ∷ []))))
-      (λ enters. inr (subst (Contains (items.Effect first_transition ∷ items.Enter to ∷ [])) (sym enters)
-      (later_in (items.Effect first_transition) (items.Enter to ∷ []) (items.Enter to) (in_one (items.Enter to))))))
-      (leg_runs o now leg first_transition to item (sym new.0.1) new.1 e h))
-      (leg_cases o step (Opened o top_region Plain (By (single_route first_transition))) leg is)
+      (λ effect. inr (subst (Contains (items.Effect (first_transition m) ∷ items.Enter to ∷ [])) (sym effect) (first_in (items.Effect (first_transition m)) (items.Enter to ∷ []))))
+      (λ enters. inr (subst (Contains (items.Effect (first_transition m) ∷ items.Enter to ∷ [])) (sym enters)
+      (later_in (items.Effect (first_transition m)) (items.Enter to ∷ []) (items.Enter to) (in_one (items.Enter to))))))
+      (leg_runs o now leg (first_transition m) to item (sym new.0.1) new.1 e h))
+      (leg_cases o step (Opened o top_region Plain (By (single_route (first_transition m)))) leg is)
   called_opened o step to e fresh was item (ends leg is h) = absurd (no_leg_ends b leg.route leg.first item h)
   called_opened o step to e fresh was item (opens leg is h) = absurd (no_leg_opens b leg.route leg.first item h)
   called_opened o step to e fresh was item (restored f r mode s is h same) =
       absurd (⊎_elim (λ old. fresh_no_restore o step f r mode s fresh old h)
       (λ new. subst (λ g. Restores g o r mode s) (sym new) h)
-      (Contains-push_cases step.after (Opened o top_region Plain (By (single_route first_transition))) f is))
+      (Contains-push_cases step.after (Opened o top_region Plain (By (single_route (first_transition m)))) f is))
   called_opened o step to e fresh was item (entered f s is runs h) =
-      absurd (no_enter_opens b o (more step (Opened o top_region Plain (By (single_route first_transition)))) s item h)
+      absurd (no_enter_opens b o (more step (Opened o top_region Plain (By (single_route (first_transition m))))) s item h)
 
-  pub step_opened : (J : List Entry) (o : ObjectId) (step : StepAt) (to : VertexId) → Enters m first_transition to → IsFresh o step
+  pub step_opened : (J : List Entry) (o : ObjectId) (step : StepAt) (to : VertexId) → Enters m (first_transition m) to → IsFresh o step
       → IsOpenStep m J o (waiting Opening) step
-      → IsOpenStep m (J ++ Opened o top_region Plain (By (single_route first_transition)) ∷ []) o (waiting (Acting first_transition to))
-      (more step (Opened o top_region Plain (By (single_route first_transition))))
+      → IsOpenStep m (J ++ Opened o top_region Plain (By (single_route (first_transition m))) ∷ []) o (waiting (Acting (first_transition m) to))
+      (more step (Opened o top_region Plain (By (single_route (first_transition m)))))
   step_opened J o step to e fresh h =
-      let entry : Entry = Opened o top_region Plain (By (single_route first_transition)) in
+      let entry : Entry = Opened o top_region Plain (By (single_route (first_transition m))) in
       let now = more step entry in
-      let goes : LateGoesBy entry o (single_route first_transition) = (refl, refl) in
-      let leg : IsLeg o now (single_leg first_transition) = (inr (entry, Contains-push step.after entry, goes), on_single first_transition) in
-      let effect = effect_runs o now first_transition in
-      let enters = enter_runs o now first_transition to e in
+      let goes : LateGoesBy entry o (single_route (first_transition m)) = (refl, refl) in
+      let leg : IsLeg o now (single_leg (first_transition m)) = (inr (entry, Contains-push step.after entry, goes), on_single (first_transition m)) in
+      let effect = effect_runs o now (first_transition m) in
+      let enters = enter_runs o now (first_transition m) to e in
       let was : (item : Item) → Called m o step item → item ≡ items.Opened top_region Plain =
       λ item c. ⊎_elim (is_one (items.Opened top_region Plain) item) (λ ran. absurd (fresh.nothing_run item ran)) (h.called item c) in
       record {
         last = goes_on J o step entry (λ heads. let clash : false ≡ true = heads in cc) h.last;
         waits = λ item is.
-            ⊎_elim (λ same. subst (Called m o now) (sym same) (run (single_leg first_transition) leg effect))
-            (λ last. subst (Called m o now) (sym (is_one (items.Enter to) item last)) (run (single_leg first_transition) leg enters))
-            (in_cases (items.Effect first_transition) (items.Enter to ∷ []) item is);
+            ⊎_elim (λ same. subst (Called m o now) (sym same) (run (single_leg (first_transition m)) leg effect))
+            (λ last. subst (Called m o now) (sym (is_one (items.Enter to) item last)) (run (single_leg (first_transition m)) leg enters))
+            (in_cases (items.Effect (first_transition m)) (items.Enter to ∷ []) item is);
         called = λ item is.
             ⊎_elim (λ same. inr (run_now o step entry item (refl, same))) inl (called_opened o step to e fresh was item is);
         not_run = λ item is ran.
             ⊎_elim (fresh.nothing_run item)
-            (λ runs. ⊎_elim (λ same. let clash : items.Effect first_transition ≡ items.Opened top_region Plain = sym same ∙ runs.1 in cc)
+            (λ runs. ⊎_elim (λ same. let clash : items.Effect (first_transition m) ≡ items.Opened top_region Plain = sym same ∙ runs.1 in cc)
             (λ last. let clash : items.Enter to ≡ items.Opened top_region Plain = sym (is_one (items.Enter to) item last) ∙ runs.1 in cc)
-            (in_cases (items.Effect first_transition) (items.Enter to ∷ []) item is))
+            (in_cases (items.Effect (first_transition m)) (items.Enter to ∷ []) item is))
             (run_cases o step entry item ran);
-        in_order = (effect_enter (single_leg first_transition) leg tt tt effect enters, tt);
+        in_order = (effect_enter (single_leg (first_transition m)) leg tt tt effect enters, tt);
       }

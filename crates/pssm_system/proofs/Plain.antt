@@ -58,7 +58,7 @@ module _ {setting : Setting} (b : IsBuilt setting) (J : List Entry) (p : Progres
   plain_own (Enter o v outs) own may = without_outs b J (Enter o v outs) may
   plain_own (Opened o r mode how) own may =
       let now = opens_now b J p signals taken s r mode how (subst (λ x. MayFollow setting J (Opened x r mode how)) own may) in
-      (now.2, (first_transition, now.3))
+      (now.2, ((first_transition b.class.machine), now.3))
   plain_own (Pick o v route) own may = picks_nothing b J p signals taken s v route (subst (λ x. MayFollow setting J (Pick x v route)) own may)
   plain_own (DoStep o v k outs) own may =
       let there = subst (λ x. MayFollow setting J (DoStep x v k outs)) own may in

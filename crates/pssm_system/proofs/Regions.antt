@@ -11,7 +11,7 @@ use Rattle.pssm_model.specs.Forest.{owner_of}
 use Rattle.pssm_model.specs.Legs.{Enters}
 use Rattle.pssm_model.specs.BuiltMachine.{IsBuiltMachine}
 use Rattle.pssm_model.specs.OneRegion.{first_transition, single_route}
-use Rattle.pssm_model.proofs.BuiltElements.{some_transitions}
+use Rattle.pssm_model.proofs.BuiltElements.{first_in_range}
 use Rattle.pssm_model.proofs.BuiltForest.{owner_of_vertex, region_owned}
 use Rattle.pssm_model.proofs.BuiltTransitions.{leaving_in_range, target_there}
 use Rattle.pssm_acts.specs.declared.entry.ObjectId.{ObjectId}
@@ -79,8 +79,8 @@ module _ {setting : Setting} (b : IsBuilt setting) where
   leads_on J p signals taken s (Effect o t outs) own may = (passed p, refl)
   leads_on J p signals taken s (Enter o v outs) own may = (passed p, refl)
   leads_on J p signals taken s (Opened o r mode how) own may =
-      let to = target_there b.class_is.machine first_transition (some_transitions b.class_is.machine) in
-      (Acting first_transition to.0, (to.0, to.1, refl))
+      let to = target_there b.class_is.machine (first_transition b.class.machine) (first_in_range b.class_is.machine) in
+      (Acting (first_transition b.class.machine) to.0, (to.0, to.1, refl))
   leads_on J p signals taken s (Post o g args) own may = (p, refl)
   leads_on J p signals taken s (Done o v firing) own may = (p, refl)
   leads_on J p signals taken s (Pick o v route) own may = (p, refl)

@@ -16,7 +16,7 @@ use Rattle.pssm_model.specs.Forest.{vertex_at, transition_at}
 use Rattle.pssm_model.specs.Routes.{Truth}
 use Rattle.pssm_model.specs.BuiltMachine.{IsBuiltMachine}
 use Rattle.pssm_model.specs.OneRegion.{top_region, initial_vertex, first_transition, single_route}
-use Rattle.pssm_model.proofs.BuiltElements.{no_terminate, no_final, vertex_cases}
+use Rattle.pssm_model.proofs.BuiltElements.{no_terminate, no_final, vertex_steps}
 use Rattle.pssm_model.proofs.BuiltForest.{region_owned, only_element}
 use Rattle.pssm_model.proofs.BuiltTransitions.{nothing_in_nil, no_completion_transition}
 use Rattle.pssm_model.proofs.BuiltRoutes.{is_one}
@@ -189,17 +189,17 @@ module _ {m : DraftMachine} (b : IsBuiltMachine m) where
       u.step_is.not_run found.0 left (kept found.0 u.step u.step_is.last (u.step_is.waits found.0 left) found.2)
 
   -- the region opens by the transition out of its initial vertex, and by no other way
-  pub opens_first : (truth : Truth) (J : List Entry) (o : ObjectId) → CanOpen m truth J o top_region Plain (By (single_route first_transition))
-  opens_first truth J o = (initial_vertex, initial_of_region b, late_route_first b truth)
+  pub opens_first : (truth : Truth) (J : List Entry) (o : ObjectId) → CanOpen m truth J o top_region Plain (By (single_route (first_transition m)))
+  opens_first truth J o = (initial_vertex m, initial_of_region b, late_route_first b truth)
 
-  pub opens_only : (truth : Truth) (J : List Entry) (o : ObjectId) (how : How) → CanOpen m truth J o top_region Plain how → how ≡ By (single_route first_transition)
+  pub opens_only : (truth : Truth) (J : List Entry) (o : ObjectId) (how : How) → CanOpen m truth J o top_region Plain how → how ≡ By (single_route (first_transition m))
   opens_only truth J o (By route) h = ap By (late_route_is b truth h.0 route h.2).1
   opens_only truth J o (Restore s) h = absurd h
-  opens_only truth J o Nothing h = absurd (h initial_vertex (initial_of_region b))
+  opens_only truth J o Nothing h = absurd (h (initial_vertex m) (initial_of_region b))
 
   -- no State has a do step
   pub no_do_step : (J : List Entry) (o : ObjectId) (s : VertexId) (k : ℕ) → IsNextStep m J o s k → ⊥
-  no_do_step J o s k h = no_steps (vertex_at m s) (λ x at. ⊎_elim (λ i. i.1.steps) (λ v. v.2.steps) (vertex_cases b s x at)) h.in_range
+  no_do_step J o s k h = no_steps (vertex_at m s) (vertex_steps b s) h.in_range
     where
       no_steps : (there : Option Vertex) → ((x : Vertex) → there ≡ Some x → x.steps ≡ []) → k < option_map_or (λ (x : Vertex). length x.steps) there 0 → ⊥
       no_steps None none lt = omega arith

@@ -1,9 +1,18 @@
 -- The settings of the tests are ones that the code runs.
-use Rattle.std.proofs.Common.{Some, sym, subst, ◌≡◌, ◌≤◌, List, [], ◌∷◌, length, Bool, true, false, if◌then◌else◌, refl, arith}
+use Rattle.std.proofs.Common.{Option, Some, option_map, slice_get, sym, subst, ap, inl, inr, ◌≡◌, ◌≤◌, ℕ, zero, suc, List, [], ◌∷◌, length, Bool, true, false, if◌then◌else◌, refl, arith}
 use Rattle.std.specs.List.{AllByRecursion}
+use Rattle.std.specs.Option.{option_map_or}
+use Rattle.pssm_model.specs.declared.ids.VertexId.{VertexId}
+use Rattle.pssm_model.specs.declared.ids.TransId.{TransId}
+use Rattle.pssm_model.specs.declared.elements.Vertex.{Vertex}
+use Rattle.pssm_model.specs.declared.elements.VertexKind.{VertexKind}
 use Rattle.pssm_model.specs.declared.elements.Transition.{Transition}
 use Rattle.pssm_model.specs.declared.elements.VertexKind.TheVariants as kinds
-use Rattle.pssm_model.specs.BuiltMachine.{IsBuiltMachine, IsPlainVertex, IsSignalTransition}
+use Rattle.pssm_model.specs.Forest.{HasKind}
+use Rattle.pssm_model.specs.Legs.{Leaves}
+use Rattle.pssm_model.specs.BuiltMachine.{IsBuiltMachine, IsPlainKind, IsPlainVertex, IsPlainTransition}
+use Rattle.pssm_model.specs.OneRegion.{initial_vertex, first_transition}
+use Rattle.pssm_model.proofs.BuiltElements.{same_vertex, same_transition}
 use Rattle.pssm_acts.specs.declared.entry.Entry.{Entry}
 use Rattle.pssm_acts.specs.declared.entry.Rule.TheVariants.{A1}
 use Rattle.pssm_acts.specs.declared.setting.Setting.{Setting}
@@ -13,46 +22,72 @@ use Rattle.pssm_system.proofs.Kept.{class_there}
 use Rattle.pssm_acts.specs.Built.{IsBuilt, ListsSignals}
 use Rattle.pssm_system.specs.Sample.{sample_vertex, sample_transition, to_b, sample_machine, sample_class, sample_setting, IsNamed}
 
-plain_vertex : (kind : _) → IsPlainVertex kind (sample_vertex kind)
-plain_vertex kind = record { owner = refl; kind_is = refl; entry = refl; exit = refl; steps = refl; defers = refl }
+plain_vertex : (kind : VertexKind) → IsPlainKind (sample_vertex kind) → IsPlainVertex (sample_vertex kind)
+plain_vertex kind is = record { owner = refl; kind_is = is; entry = refl; exit = refl; steps = refl }
 
-to_b_is : IsSignalTransition 3 to_b
-to_b_is = record {
-  plain = record { target_is_state = omega arith; target_in_range = omega arith; kind = refl; guard = refl; effect = refl };
-  source_is_state = omega arith;
-  source_in_range = omega arith;
-  triggers = λ none. cc;
-}
+to_b_is : (forked : Bool) → IsPlainTransition (sample_machine forked) to_b
+to_b_is forked = record { start = inr (refl, λ none. cc); target = refl; kind = refl; guard = refl; effect = refl }
 
--- the second transition of a forked machine
+first_is_plain : (forked : Bool) → IsPlainTransition (sample_machine forked) (sample_transition 2 0 [])
+first_is_plain forked = record { start = inl (refl, refl); target = refl; kind = refl; guard = refl; effect = refl }
+
+-- the second transition from A to B of a forked machine
 abbrev second_of : Bool → List Transition
 second_of forked = if forked then to_b ∷ [] else []
 
-second_is : (forked : Bool) → AllByRecursion (IsSignalTransition 3) (second_of forked)
-second_is true = (to_b_is, tt)
+second_is : (forked : Bool) → AllByRecursion (IsPlainTransition (sample_machine forked)) (second_of forked)
+second_is true = (to_b_is true, tt)
 second_is false = tt
 
 few_seconds : (forked : Bool) → length (second_of forked) ≤ 1
 few_seconds true = omega arith
 few_seconds false = omega arith
 
+-- the initial vertex is number 2, and transition 1 leaves it
+initial_place : (n : ℕ) → option_map (λ (x : Vertex). x.kind) (slice_get (sample_machine false).vertices n) ≡ Some kinds.Initial → n ≡ 2
+initial_place zero e = absurd (cc)
+initial_place (suc zero) e = absurd (cc)
+initial_place (suc (suc zero)) e = refl
+initial_place (suc (suc (suc n))) e = absurd (cc)
+
+apart : (v w : VertexId) → (v.0 ≡ w.0 → ⊥) → (let there : Option VertexId = Some v in there) ≡ Some w → ⊥
+apart v w other e = other (ap (λ (o : Option VertexId). option_map_or (λ u. u.0) o 0) e)
+
+not_two : (zero ≡ suc (suc zero)) → ⊥
+not_two e = cc
+
+first_place : (forked : Bool) (n : ℕ) → option_map (λ (x : Transition). x.source) (slice_get (sample_machine forked).transitions n) ≡ Some (record { 0 = 2 }) → n ≡ 1
+first_place forked zero e = absurd (apart (record { 0 = 0 }) (record { 0 = 2 }) not_two e)
+first_place forked (suc zero) e = refl
+first_place true (suc (suc zero)) e = absurd (apart (record { 0 = 0 }) (record { 0 = 2 }) not_two e)
+first_place true (suc (suc (suc n))) e = absurd (cc)
+first_place false (suc (suc n)) e = absurd (cc)
+
+initial_is : (forked : Bool) → HasKind (sample_machine forked) (initial_vertex (sample_machine forked)) kinds.Initial
+unfolding initial_vertex
+initial_is forked = refl
+
+one_initial : (forked : Bool) (v : VertexId) → HasKind (sample_machine forked) v kinds.Initial → v ≡ initial_vertex (sample_machine forked)
+unfolding initial_vertex
+one_initial forked v h = same_vertex v (initial_vertex (sample_machine forked)) (initial_place v.0 h)
+
+first_is : (forked : Bool) → Leaves (sample_machine forked) (first_transition (sample_machine forked)) (initial_vertex (sample_machine forked))
+unfolding initial_vertex first_transition
+first_is forked = refl
+
+one_first : (forked : Bool) (t : TransId) → Leaves (sample_machine forked) t (initial_vertex (sample_machine forked)) → t ≡ first_transition (sample_machine forked)
+unfolding initial_vertex first_transition
+one_first forked t h = same_transition t (first_transition (sample_machine forked)) (first_place forked t.0 h)
+
 machine_is_built : (forked : Bool) → IsBuiltMachine (sample_machine forked)
 machine_is_built forked = record {
-  initial = sample_vertex kinds.Initial;
-  states = sample_vertex kinds.State ∷ sample_vertex kinds.State ∷ [];
-  first = sample_transition 0 1 [];
-  others = to_b ∷ second_of forked;
   regions = refl;
-  vertices = refl;
-  transitions = refl;
-  initial_is = plain_vertex kinds.Initial;
-  states_are = (plain_vertex kinds.State, (plain_vertex kinds.State, tt));
-  first_is = record {
-    plain = record { target_is_state = omega arith; target_in_range = omega arith; kind = refl; guard = refl; effect = refl };
-    source = refl;
-    triggers = refl;
-  };
-  others_are = (to_b_is, second_is forked);
+  vertices = (plain_vertex kinds.State (inr (refl, refl)), (plain_vertex kinds.State (inr (refl, refl)), (plain_vertex kinds.Initial (inl refl), tt)));
+  transitions = (to_b_is forked, (first_is_plain forked, second_is forked));
+  initial_is = initial_is forked;
+  one_initial = one_initial forked;
+  first_is = first_is forked;
+  one_first = one_first forked;
   few_vertices = omega arith;
   few_transitions = let few = few_seconds forked in omega arith;
 }
@@ -85,7 +120,7 @@ sample_is_built forked = record {
   };
   object_name = record { spelled = refl; short = omega arith };
   object_class = refl;
-  triggers = (record { known = tt; ascending = λ i j d lt within. absurd (omega arith) }, (to_b_lists, second_lists forked));
+  triggers = (to_b_lists, (record { known = tt; ascending = λ i j d lt within. absurd (omega arith) }, second_lists forked));
 }
 
 -- an entry that names what the sample has keeps the first rule

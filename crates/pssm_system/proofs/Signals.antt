@@ -1,26 +1,31 @@
 -- The signals of a journal of one object and its pool, where no State defers a signal: the first not taken is the next.
-use Rattle.std.proofs.Common.{◌≡◌, ◌<◌, ◌≤◌, ◌+◌, ◌++◌, ℕ, zero, suc, List, [], ◌∷◌, length, Bool, true, false, cond, ◌||◌, ◌&&◌, not, eqb, drop, Some, slice_get, Contains, refl, sym, ap, subst, ◌∙◌, ⊎_elim, arith, add-one, filter, eq-eqb, length-append}
+use Rattle.std.proofs.Common.{◌≡◌, ◌<◌, ◌≤◌, ◌+◌, ◌++◌, ℕ, zero, suc, List, [], ◌∷◌, length, Bool, true, false, cond, ◌||◌, ◌&&◌, not, eqb, drop, Some, slice_get, refl, sym, ap, subst, ◌∙◌, ⊎_elim, arith, add-one, filter, eq-eqb, length-append}
 use Rattle.std.specs.List.{AllByRecursion, list_any, enumerate_from}
 use Rattle.std.proofs.lemmas.Bool.{cases_lt}
 use Rattle.std.proofs.lemmas.Bool.Decides.{eqb_tells}
 use Rattle.std.proofs.lemmas.Option.{slice_get_within}
 use Rattle.std.proofs.lemmas.List.Folds.{list_any-append}
 use Rattle.std.proofs.lemmas.Grind.{flat_map-append}
-use Rattle.pssm_model.specs.declared.elements.Vertex.{Vertex}
+use Rattle.pssm_model.specs.declared.ids.VertexId.{VertexId}
+use Rattle.pssm_model.specs.declared.ids.SignalId.{SignalId}
+use Rattle.pssm_model.specs.declared.elements.DraftMachine.{DraftMachine}
+use Rattle.pssm_model.specs.declared.elements.VertexKind.TheVariants as kinds
 use Rattle.pssm_model.specs.declared.steps.Firing.{Firing}
-use Rattle.pssm_model.specs.Forest.{vertex_at}
+use Rattle.pssm_model.specs.Forest.{HasKind}
 use Rattle.pssm_model.specs.BuiltMachine.{IsBuiltMachine}
-use Rattle.pssm_model.proofs.BuiltElements.{vertex_cases}
-use Rattle.pssm_model.proofs.BuiltTransitions.{nothing_in_nil, some_and}
+use Rattle.pssm_model.proofs.BuiltTransitions.{nothing_deferred}
 use Rattle.pssm_acts.specs.declared.entry.ObjectId.{ObjectId}
 use Rattle.pssm_acts.specs.declared.entry.Entry.{Entry}
 use Rattle.pssm_acts.specs.declared.entry.Entry.TheVariants.{Take}
 use Rattle.pssm_acts.specs.declared.stimulus.Stimulus.{Stimulus}
 use Rattle.pssm_acts.specs.declared.setting.Class.{Class}
+use Rattle.pssm_acts.specs.Journal.{IsActive}
 use Rattle.pssm_acts.specs.Pool.{Told, signals_of, signals_of_entry, takes, pool_of, told_by}
 use Rattle.pssm_acts.specs.Ways.{IsDeferred}
 use Rattle.pssm_acts.specs.Rules.{IsFirstWaiting}
-use Rattle.pssm_system.specs.Standing.{HasTaken}
+use Rattle.pssm_system.specs.declared.progress.Progress.{Progress}
+use Rattle.pssm_system.specs.declared.progress.Progress.TheVariants.{Unstarted, Opening, Resting, Exiting, Acting, Entering}
+use Rattle.pssm_system.specs.Standing.{the_object, active_in, IsProgressIn, HasTaken, StandsAt}
 
 -- the signals of a longer journal
 pub signals_push : (J : List Entry) (e : Entry) → signals_of (J ++ e ∷ []) ≡ signals_of J ++ (signals_of_entry e ++ [])
@@ -144,12 +149,26 @@ first_left n (suc k) (y ∷ ys) lt =
 get_within : {X : Type 0} (xs : List X) (k : ℕ) (x : X) → slice_get xs k ≡ Some x → k < length xs
 get_within xs k x e = slice_get_within xs k x e
 
+-- what is active is a State
+abbrev AreStatesActive : Class → List Entry → ObjectId → Type 0
+AreStatesActive c J o = (s : VertexId) → IsActive J o s → HasKind c.machine s kinds.State
+
+state_active : (m : DraftMachine) (p : Progress) (s : VertexId) → IsProgressIn m p → active_in p ≡ Some s → HasKind m s kinds.State
+state_active m Unstarted s names is = absurd (cc)
+state_active m Opening s names is = absurd (cc)
+state_active m (Resting a) s names is = let same : a ≡ s = cc in subst (λ v. HasKind m v kinds.State) same names
+state_active m (Exiting a t v) s names is = let same : a ≡ s = cc in subst (λ w. HasKind m w kinds.State) same names.0
+state_active m (Acting t v) s names is = absurd (cc)
+state_active m (Entering v) s names is = absurd (cc)
+
+pub active_states : (m : DraftMachine) (J : List Entry) (p : Progress) (signals : List SignalId) (taken : ℕ) → StandsAt m J p signals taken
+    → (v : VertexId) → IsActive J the_object v → HasKind m v kinds.State
+active_states m J p signals taken s v is = state_active m p v s.names (s.active v is)
+
 -- a State of a machine of one region defers nothing
-pub defers_nothing : (c : Class) → IsBuiltMachine c.machine → (told : Told) (J : List Entry) (o : ObjectId) (x : Stimulus) → IsDeferred c told J o x → ⊥
-defers_nothing c b told J o x h =
-    let at = some_and (λ (y : Vertex). Contains y.defers x.signal) (vertex_at c.machine h.0) h.2 in
-    let none : at.0.defers ≡ [] = ⊎_elim (λ i. i.1.defers) (λ s. s.2.defers) (vertex_cases b h.0 at.0 at.1) in
-    nothing_in_nil x.signal (subst (λ gs. Contains gs x.signal) none at.2)
+pub defers_nothing : (c : Class) → IsBuiltMachine c.machine → (told : Told) (J : List Entry) (o : ObjectId) (x : Stimulus) → AreStatesActive c J o
+    → IsDeferred c told J o x → ⊥
+defers_nothing c b told J o x states h = nothing_deferred b h.0 x.signal (states h.0 h.1) h.2
 
 -- the signal with the next number
 pub told_next : (J : List Entry) (taken : ℕ) (x : Stimulus) → slice_get (signals_of J) taken ≡ Some x → told_by J (taken + 1) ≡ Some x
@@ -162,9 +181,9 @@ pub record IsNext (J : List Entry) (taken number : ℕ) : Type 0 where
   pub waits : taken < length (signals_of J)
   pub there : slice_get (signals_of J) taken ≡ Some signal
 
-pub waiting_is_next : (c : Class) → IsBuiltMachine c.machine → (J : List Entry) (o : ObjectId) (taken number : ℕ)
+pub waiting_is_next : (c : Class) → IsBuiltMachine c.machine → (J : List Entry) (o : ObjectId) → AreStatesActive c J o → (taken number : ℕ)
     → AllByRecursion (λ (x : Stimulus). x.object ≡ o) (signals_of J) → HasTaken J o taken → IsFirstWaiting c J o number → IsNext J taken number
-waiting_is_next c b J o taken number own h (held, rest, x, e, deferred, kept) =
+waiting_is_next c b J o states taken number own h (held, rest, x, e, deferred, kept) =
     let none : held ≡ [] = nothing_held held deferred in
     let left : drop taken (enumerate_from 1 (signals_of J)) ≡ (number, x) ∷ rest = sym (pool_is J o taken own h) ∙ e ∙ ap (λ hs. hs ++ (number, x) ∷ rest) none in
     let first = first_left_is 1 taken (signals_of J) number x rest left in
@@ -172,11 +191,11 @@ waiting_is_next c b J o taken number own h (held, rest, x, e, deferred, kept) =
   where
     nothing_held : (held : List (ℕ × Stimulus)) → AllByRecursion (λ w. IsDeferred c (told_by J) J o w.1) held → held ≡ []
     nothing_held [] all = refl
-    nothing_held (w ∷ ws) all = absurd (defers_nothing c b (told_by J) J o w.1 all.0)
+    nothing_held (w ∷ ws) all = absurd (defers_nothing c b (told_by J) J o w.1 states all.0)
 
-pub next_is_waiting : (c : Class) → IsBuiltMachine c.machine → (J : List Entry) (o : ObjectId) (taken : ℕ)
+pub next_is_waiting : (c : Class) → IsBuiltMachine c.machine → (J : List Entry) (o : ObjectId) → AreStatesActive c J o → (taken : ℕ)
     → AllByRecursion (λ (x : Stimulus). x.object ≡ o) (signals_of J) → HasTaken J o taken → taken < length (signals_of J) → IsFirstWaiting c J o (taken + 1)
-next_is_waiting c b J o taken own h lt =
+next_is_waiting c b J o states taken own h lt =
     let first = first_left 1 taken (signals_of J) lt in
     let number : 1 + taken ≡ taken + 1 = omega arith in
-    ([], first.1, first.0, pool_is J o taken own h ∙ first.2 ∙ ap (λ i. (i, first.0) ∷ first.1) number, tt, defers_nothing c b (told_by J) J o first.0)
+    ([], first.1, first.0, pool_is J o taken own h ∙ first.2 ∙ ap (λ i. (i, first.0) ∷ first.1) number, tt, defers_nothing c b (told_by J) J o first.0 states)

@@ -26,7 +26,8 @@ Advances m progress (Take o number firing) next = AdvancesByFiring m progress fi
 Advances m progress (Exit o state outs) next = next ≡ passed progress
 Advances m progress (Effect o transition outs) next = next ≡ passed progress
 Advances m progress (Enter o state outs) next = next ≡ passed progress
-Advances m progress (Opened o region mode how) next = (to : VertexId) × Enters m first_transition to × (next ≡ Acting first_transition to)
+Advances m progress (Opened o region mode how) next =
+    (to : VertexId) × Enters m (first_transition m) to × (next ≡ Acting (first_transition m) to)
 Advances m progress _ next = next ≡ progress
 
 -- the signals after the entry

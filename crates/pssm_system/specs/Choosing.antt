@@ -17,18 +17,18 @@ use Rattle.pssm_system.specs.declared.progress.Progress.TheVariants.{Unstarted, 
 use Rattle.pssm_system.specs.Standing.{the_object}
 use Rattle.pssm_system.specs.Judging.{FiresAt, IsNumbered}
 
--- the opening of the one region
-abbrev pub the_opening : Entry
-the_opening = Opened the_object top_region Plain (By (single_route first_transition))
+-- the opening of the one region by the transition out of its initial vertex
+abbrev pub the_opening : TransId → Entry
+the_opening first = Opened the_object top_region Plain (By (single_route first))
 
 -- the start, or what the open step runs next; nothing where the object rests
-abbrev pub next_entry : Progress → Option Entry
-next_entry Unstarted = Some (Start the_object)
-next_entry Opening = Some the_opening
-next_entry (Resting state) = None
-next_entry (Exiting from by to) = Some (Exit the_object from [])
-next_entry (Acting by to) = Some (Effect the_object by [])
-next_entry (Entering to) = Some (Enter the_object to [])
+abbrev pub next_entry : TransId → Progress → Option Entry
+next_entry first Unstarted = Some (Start the_object)
+next_entry first Opening = Some (the_opening first)
+next_entry first (Resting state) = None
+next_entry first (Exiting from by to) = Some (Exit the_object from [])
+next_entry first (Acting by to) = Some (Effect the_object by [])
+next_entry first (Entering to) = Some (Enter the_object to [])
 
 -- The object rests, and no signal waits.
 abbrev pub IsIdle : Progress → List SignalId → ℕ → Type 0
@@ -45,7 +45,7 @@ ChoosesTake m s signals taken (Some _) = ⊥
 -- what comes next: the take of the next signal where the object rests, and else what the progress says
 abbrev pub Chooses : DraftMachine → Progress → List SignalId → ℕ → Option Entry → Type 0
 Chooses m (Resting state) signals taken chosen = ChoosesTake m state signals taken chosen
-Chooses m progress signals taken chosen = chosen ≡ next_entry progress
+Chooses m progress signals taken chosen = chosen ≡ next_entry (first_transition m) progress
 
 -- the transitions below a number that leave the State and list the signal
 pub record AreEnabledBelow (m : DraftMachine) (s : VertexId) (signal : SignalId) (n : ℕ) (found : List TransId) : Type 0 where

@@ -91,11 +91,11 @@ JudgesWork progress item outs None = JudgesItem progress item None × (outs ≡ 
 JudgesWork progress item outs (Some A12) = JudgesItem progress item None × (outs ≡ [] → ⊥)
 JudgesWork progress item outs (Some rule) = JudgesItem progress item (Some rule)
 
--- the verdict on an opening with its way
-abbrev pub JudgesOpened : Progress → Item → How → Option Rule → Type 0
-JudgesOpened progress item how None = JudgesItem progress item None × (how ≡ By (single_route first_transition))
-JudgesOpened progress item how (Some A10) = JudgesItem progress item None × (how ≡ By (single_route first_transition) → ⊥)
-JudgesOpened progress item how (Some rule) = JudgesItem progress item (Some rule)
+-- the verdict on an opening with its way, where this transition leaves the initial vertex
+abbrev pub JudgesOpened : TransId → Progress → Item → How → Option Rule → Type 0
+JudgesOpened first progress item how None = JudgesItem progress item None × (how ≡ By (single_route first))
+JudgesOpened first progress item how (Some A10) = JudgesItem progress item None × (how ≡ By (single_route first) → ⊥)
+JudgesOpened first progress item how (Some rule) = JudgesItem progress item (Some rule)
 
 -- the verdict on what never comes: a pick or a do step
 abbrev pub JudgesNever : Progress → Rule → Option Rule → Type 0
@@ -117,6 +117,7 @@ Judges m progress signals taken (Done o state firing) answer = JudgesDone progre
 Judges m progress signals taken (Exit o state outs) answer = JudgesWork progress (items.Exit state) outs answer
 Judges m progress signals taken (Effect o transition outs) answer = JudgesWork progress (items.Effect transition) outs answer
 Judges m progress signals taken (Enter o state outs) answer = JudgesWork progress (items.Enter state) outs answer
-Judges m progress signals taken (Opened o region mode how) answer = JudgesOpened progress (items.Opened region mode) how answer
+Judges m progress signals taken (Opened o region mode how) answer =
+    JudgesOpened (first_transition m) progress (items.Opened region mode) how answer
 Judges m progress signals taken (Pick o choice route) answer = JudgesNever progress A8 answer
 Judges m progress signals taken (DoStep o state step outs) answer = JudgesNever progress A11 answer

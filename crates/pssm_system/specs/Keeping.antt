@@ -2,6 +2,8 @@
 use Rattle.std.specs.Prelude.{◌≡◌, ℤ, List, [], Bool, Vec}
 use Rattle.std.specs.List.{AllByRecursion}
 use Rattle.std.specs.declared.alloc.Global.{Global}
+use Rattle.pssm_model.specs.declared.ids.TransId.{TransId}
+use Rattle.pssm_model.specs.OneRegion.{first_transition}
 use Rattle.pssm_acts.specs.declared.entry.Entry.{Entry}
 use Rattle.pssm_acts.specs.declared.setting.Setting.{Setting}
 use Rattle.pssm_acts.specs.Values.{no_params}
@@ -24,3 +26,7 @@ pub record KeepsRun (setting : Setting) (J : List Entry) (standing : Standing) (
 pub record KeepsValues (store params : List ℤ) : Type 0 where
   pub store_is : store ≡ []
   pub params_are : params ≡ no_params
+
+-- the transition out of the initial vertex of the machine of the one class
+abbrev pub KeepsFirst : Setting → TransId → Type 0
+KeepsFirst setting first = (b : IsBuilt setting) → first ≡ first_transition b.class.machine

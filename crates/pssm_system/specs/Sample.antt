@@ -28,14 +28,14 @@ sample_transition source target triggers =
 
 -- the transition from A to B on Go
 abbrev pub to_b : Transition
-to_b = sample_transition 1 2 (record { 0 = 0 } ∷ [])
+to_b = sample_transition 0 1 (record { 0 = 0 } ∷ [])
 
--- the initial vertex, A and B; a forked machine has a second transition from A to B
+-- A, B and the initial vertex; the transition out of that comes second, and a forked machine has another from A to B behind it
 abbrev pub sample_machine : Bool → DraftMachine
 sample_machine forked = record {
   regions = Top ∷ [];
-  vertices = sample_vertex kinds.Initial ∷ sample_vertex kinds.State ∷ sample_vertex kinds.State ∷ [];
-  transitions = sample_transition 0 1 [] ∷ to_b ∷ (if forked then to_b ∷ [] else []);
+  vertices = sample_vertex kinds.State ∷ sample_vertex kinds.State ∷ sample_vertex kinds.Initial ∷ [];
+  transitions = to_b ∷ sample_transition 2 0 [] ∷ (if forked then to_b ∷ [] else []);
 }
 
 -- the class `M`, which has no behaviour but the empty one

@@ -5,17 +5,18 @@ use Rattle.pssm_model.specs.declared.ids.VertexId.{VertexId}
 use Rattle.pssm_model.specs.declared.ids.TransId.{TransId}
 use Rattle.pssm_model.specs.declared.ids.SignalId.{SignalId}
 use Rattle.pssm_model.specs.declared.elements.DraftMachine.{DraftMachine}
+use Rattle.pssm_model.specs.declared.elements.VertexKind.TheVariants as kinds
 use Rattle.pssm_model.specs.declared.steps.Route.{Route}
 use Rattle.pssm_model.specs.declared.steps.Mode.TheVariants.{Plain}
 use Rattle.pssm_model.specs.declared.steps.Item.{Item}
 use Rattle.pssm_model.specs.declared.steps.Item.TheVariants as items
+use Rattle.pssm_model.specs.Forest.{HasKind}
 use Rattle.pssm_model.specs.OneRegion.{top_region}
 use Rattle.pssm_acts.specs.declared.entry.ObjectId.{ObjectId}
 use Rattle.pssm_acts.specs.declared.entry.Entry.{Entry}
 use Rattle.pssm_acts.specs.Journal.{StepAt, IsLastStep, IsActive, IsPost, IsStart}
 use Rattle.pssm_acts.specs.Items.{Called, Before, HasRun, HeadGoesBy}
 use Rattle.pssm_acts.specs.Pool.{signals_of, takes}
-use Rattle.pssm_acts.specs.Known.{IsVertexOf}
 use Rattle.pssm_system.specs.declared.progress.Progress.{Progress}
 use Rattle.pssm_system.specs.declared.progress.Progress.TheVariants.{Unstarted, Opening, Resting, Exiting, Acting, Entering}
 
@@ -54,12 +55,12 @@ IsStarted _ = Unit {0}
 abbrev pub IsTransitionOf : DraftMachine → TransId → Type 0
 IsTransitionOf m t = t.0 < length m.transitions
 
--- What the progress names is of the machine.
+-- What the progress names are States and transitions of the machine.
 abbrev pub IsProgressIn : DraftMachine → Progress → Type 0
-IsProgressIn m (Resting state) = IsVertexOf m state
-IsProgressIn m (Exiting from by to) = IsVertexOf m from × IsTransitionOf m by × IsVertexOf m to
-IsProgressIn m (Acting by to) = IsTransitionOf m by × IsVertexOf m to
-IsProgressIn m (Entering to) = IsVertexOf m to
+IsProgressIn m (Resting state) = HasKind m state kinds.State
+IsProgressIn m (Exiting from by to) = HasKind m from kinds.State × IsTransitionOf m by × HasKind m to kinds.State
+IsProgressIn m (Acting by to) = IsTransitionOf m by × HasKind m to kinds.State
+IsProgressIn m (Entering to) = HasKind m to kinds.State
 IsProgressIn m _ = Unit {0}
 
 -- each of the items comes before the next

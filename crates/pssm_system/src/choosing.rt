@@ -1,12 +1,13 @@
 //! The entry that may come next, where the object stands as is told.
 ghost use Rattle.std.specs.Prelude.{◌≡◌, ◌≤◌, ◌↔◌, [], IsTrue, IfOk, length};
+ghost use Rattle.pssm_model.specs.OneRegion.{first_transition};
 ghost use Rattle.pssm_system.specs.Standing.{the_object};
 ghost use Rattle.pssm_system.specs.Judging.{FiresAt};
 ghost use Rattle.pssm_system.specs.Choosing.{the_opening, IsIdle, ChoosesTake, Chooses, AreEnabledBelow};
 
 use crate::judging::{Standing, reacts_in};
 use crate::progress::{Progress, TOP_REGION};
-use crate::routes::{FIRST_TRANSITION, single_route};
+use crate::routes::single_route;
 use pssm_acts::{Entry, ObjectId};
 use pssm_model::{Firing, How, Machine, Mode, Row, SignalId, TransId, VertexId};
 use std::alloc::{AllocError as NoMemory, Global};
@@ -29,20 +30,23 @@ impl Standing {
         }
     }
 
-    /// The entry that comes next, if one does; of several transitions the word picks one.
+    /// The entry that comes next, if one does; `first` is the transition out of the initial vertex, and of several
+    /// transitions the word picks one.
     pub fn choose(
         &self,
         alloc: Global,
         machine: &Machine,
+        first: TransId,
         word: u64,
     ) -> Result<Option<Entry>, NoMemory>
+        requires first { first ≡ first_transition machine.now }
         requires few { length self.now.signals.items ≤ 2000000 }
         ensures { IfOk result (λ chosen. Chooses machine.now self.now.progress self.now.signals.items self.now.taken chosen) }
     {
         match self.progress {
             Progress::Resting(state) => self.choose_take(alloc, machine, state, word),
             Progress::Unstarted => Ok(Some(Entry::Start { object: OBJECT })),
-            Progress::Opening => Ok(Some(opening(alloc)?)),
+            Progress::Opening => Ok(Some(opening(alloc, first)?)),
             Progress::Exiting { from, .. } => Ok(Some(exit(alloc, from))),
             Progress::Acting { by, .. } => Ok(Some(effect(alloc, by))),
             Progress::Entering { to } => Ok(Some(enter(alloc, to))),
@@ -104,15 +108,15 @@ fn enter(alloc: Global, state: VertexId) -> Entry
     }
 }
 
-/// The opening of the region by the transition out of its initial vertex.
-fn opening(alloc: Global) -> Result<Entry, NoMemory>
-    ensures { IfOk result (λ entry. entry ≡ the_opening) }
+/// The opening of the region by the first transition, the one out of its initial vertex.
+fn opening(alloc: Global, first: TransId) -> Result<Entry, NoMemory>
+    ensures { IfOk result (λ entry. entry ≡ the_opening first) }
 {
     Ok(Entry::Opened {
         object: OBJECT,
         region: TOP_REGION,
         mode: Mode::Plain,
-        how: How::By(single_route(alloc, FIRST_TRANSITION)?),
+        how: How::By(single_route(alloc, first)?),
     })
 }
 

@@ -7,9 +7,9 @@ ghost use Rattle.pssm_system.specs.Judging.{IsReaction, FiresAt, IsNumbered, Jud
 
 use crate::progress::Progress;
 use crate::reactions::Reactions;
-use crate::routes::{FIRST_TRANSITION, single_start};
+use crate::routes::single_start;
 use pssm_acts::{Entry, Out, Rule};
-use pssm_model::{Firing, How, Item, Machine, Route, SignalId, Transition, VertexId};
+use pssm_model::{Firing, How, Item, Machine, Route, SignalId, TransId, Transition, VertexId};
 
 /// What is kept of the journal beside its entries.
 #[derive(Drop)]
@@ -23,8 +23,15 @@ pub struct Standing {
 }
 
 impl Standing {
-    /// The first rule that the entry breaks, if it breaks one.
-    pub fn judge(&self, machine: &Machine, reactions: &Reactions, entry: &Entry) -> Option<Rule>
+    /// The first rule that the entry breaks, if it breaks one; `first` is the transition out of the initial vertex.
+    pub fn judge(
+        &self,
+        machine: &Machine,
+        first: TransId,
+        reactions: &Reactions,
+        entry: &Entry,
+    ) -> Option<Rule>
+        requires first { first ≡ first_transition machine.now }
         requires names { NamesTransitions machine.now entry.now }
         requires table { AreReactions machine.now reactions.now.rows.items }
         ensures { Judges machine.now self.now.progress self.now.signals.items self.now.taken entry.now result }
@@ -56,7 +63,7 @@ impl Standing {
                 mode,
                 how,
                 ..
-            } => judge_opened(self.progress, Item::Opened(*region, *mode), how),
+            } => judge_opened(first, self.progress, Item::Opened(*region, *mode), how),
             Entry::Pick { .. } => judge_never(self.progress, Rule::A8),
             Entry::DoStep { .. } => judge_never(self.progress, Rule::A11),
         }
@@ -229,14 +236,14 @@ fn judge_work(progress: Progress, item: Item, outs: &[Out]) -> Option<Rule>
     }
 }
 
-/// The verdict on an opening: the region opens by the transition out of its initial vertex.
-fn judge_opened(progress: Progress, item: Item, how: &How) -> Option<Rule>
-    ensures { JudgesOpened progress item how.now result }
+/// The verdict on an opening: the region opens by the first transition, the one out of its initial vertex.
+fn judge_opened(first: TransId, progress: Progress, item: Item, how: &How) -> Option<Rule>
+    ensures { JudgesOpened first progress item how.now result }
 {
     match judge_item(progress, item) {
         Some(rule) => Some(rule),
         None => {
-            if goes_by_first(how) {
+            if goes_by(first, how) {
                 None
             } else {
                 Some(Rule::A10)
@@ -245,13 +252,13 @@ fn judge_opened(progress: Progress, item: Item, how: &How) -> Option<Rule>
     }
 }
 
-/// Whether the way is the transition out of the initial vertex.
-fn goes_by_first(how: &How) -> bool
-    ensures { IsTrue result ↔ (how.now ≡ How.By (single_route first_transition)) }
+/// Whether the way is the route of this transition.
+fn goes_by(transition: TransId, how: &How) -> bool
+    ensures { IsTrue result ↔ (how.now ≡ How.By (single_route transition)) }
 {
     match how {
         How::By(route) => match single_start(route) {
-            Some(start) => start == FIRST_TRANSITION,
+            Some(start) => start == transition,
             None => false,
         },
         How::Restore(_) | How::Nothing => false,

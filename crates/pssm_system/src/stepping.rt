@@ -1,18 +1,25 @@
 //! Where the object stands after an entry that may follow.
 ghost use Rattle.std.specs.Prelude.{◌≡◌, ◌++◌, ◌∷◌, [], ◌+◌, ℕ, List, MatchOption, MatchBool};
 ghost use Rattle.pssm_model.specs.BuiltMachine.{IsBuiltMachine};
+ghost use Rattle.pssm_model.specs.OneRegion.{first_transition};
 ghost use Rattle.pssm_acts.specs.Known.{IsFiringOf};
 ghost use Rattle.pssm_system.specs.Judging.{NamesTransitions};
 ghost use Rattle.pssm_system.specs.Advancing.{AdvancesByFiring, Advances, signals_after, taken_after};
 
 use crate::progress::Progress;
-use crate::routes::{FIRST_TRANSITION, single_start};
+use crate::routes::single_start;
 use pssm_acts::Entry;
-use pssm_model::{Firing, Machine, SignalId};
+use pssm_model::{Firing, Machine, SignalId, TransId};
 
-/// The progress after the entry.
-pub fn progress_after(machine: &Machine, progress: Progress, entry: &Entry) -> Progress
+/// The progress after the entry; `first` is the transition out of the initial vertex.
+pub fn progress_after(
+    machine: &Machine,
+    first: TransId,
+    progress: Progress,
+    entry: &Entry,
+) -> Progress
     requires built { IsBuiltMachine machine.now }
+    requires first { first ≡ first_transition machine.now }
     requires names { NamesTransitions machine.now entry.now }
     ensures { Advances machine.now progress entry.now result }
 {
@@ -21,8 +28,8 @@ pub fn progress_after(machine: &Machine, progress: Progress, entry: &Entry) -> P
         Entry::Take { firing, .. } => after_firing(machine, progress, firing),
         Entry::Exit { .. } | Entry::Effect { .. } | Entry::Enter { .. } => progress.passed(),
         Entry::Opened { .. } => Progress::Acting {
-            by: FIRST_TRANSITION,
-            to: machine.transition(FIRST_TRANSITION).target,
+            by: first,
+            to: machine.transition(first).target,
         },
         Entry::Post { .. } | Entry::Done { .. } | Entry::Pick { .. } | Entry::DoStep { .. } =>
             progress,

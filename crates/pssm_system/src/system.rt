@@ -7,9 +7,10 @@ ghost use Rattle.pssm_acts.specs.Built.{IsBuilt, IsPlainEntry};
 use crate::judging::Standing;
 use crate::progress::Progress;
 use crate::reactions::{Reactions, reactions_of};
+use crate::routes::first_transition;
 use crate::stepping::{posted_signal, progress_after, takes_signal};
 use pssm_acts::{Args, Entry, ObjectId, Rule, Setting};
-use pssm_model::Machine;
+use pssm_model::{Machine, TransId};
 use std::alloc::{AllocError as NoMemory, Global};
 use std::marker::Model;
 
@@ -24,6 +25,8 @@ pub struct System {
     entries: Vec<Entry>,
     standing: Standing,
     reactions: Reactions,
+    /// The transition out of the initial vertex of the machine.
+    first: TransId,
     /// The values of the variables of the class, which has none.
     store: Vec<i64>,
     /// The parameters of the object's step: eight zeros, since no signal has arguments.
@@ -41,11 +44,11 @@ impl Model for System {
 
     ghost coded = { Prim.hlevel (codes, stmt.the_row.coded, cond.the_row.coded, expr.the_row.coded) };
 
-    ghost use Rattle.pssm_system.specs.Keeping.{KeepsRun, KeepsValues};
+    ghost use Rattle.pssm_system.specs.Keeping.{KeepsRun, KeepsValues, KeepsFirst};
 
     ghost view = { λ s. record { setting = s.setting; journal = s.entries.items } };
 
-    ghost invariant = { λ s. KeepsRun s.setting s.entries.items s.standing s.reactions.rows.items × KeepsValues s.store.items s.params };
+    ghost invariant = { λ s. KeepsRun s.setting s.entries.items s.standing s.reactions.rows.items × KeepsValues s.store.items s.params × KeepsFirst s.setting s.first };
 }
 
 impl System {
@@ -72,6 +75,7 @@ impl System {
             machine_of(&setting),
             setting.signals.as_slice().len(),
         )?;
+        let first = first_transition(machine_of(&setting));
         let params = zero_params(alloc)?;
         Ok(System {
             alloc,
@@ -83,6 +87,7 @@ impl System {
                 taken: 0,
             },
             reactions,
+            first,
             store: Vec::new(alloc),
             params,
         })
@@ -116,9 +121,10 @@ impl System {
         ensures keeps { IfOk result (λ rule. IfNone rule (MayFollow self.now.setting self.now.journal entry.now)) }
         ensures breaks { IfOk result (λ rule. IfSome rule (λ broken. IsFirstBroken (Holds self.now.setting) self.now.journal entry.now broken)) }
     {
+        let machine = machine_of(&self.setting);
         Ok(
             self.standing
-                .judge(machine_of(&self.setting), &self.reactions, entry),
+                .judge(machine, self.first, &self.reactions, entry),
         )
     }
 
@@ -131,7 +137,12 @@ impl System {
         ensures ok { OnOk result (self.new ≡ record { setting = self.old.setting; journal = self.old.journal ++ entry ∷ [] }) }
         ensures err { OnErr result (self.new ≡ self.old) }
     {
-        let progress = progress_after(machine_of(&self.setting), self.standing.progress, &entry);
+        let progress = progress_after(
+            machine_of(&self.setting),
+            self.first,
+            self.standing.progress,
+            &entry,
+        );
         let posted = posted_signal(&entry);
         let takes = takes_signal(&entry);
         self.standing.signals.reserve(1)?;
@@ -155,7 +166,7 @@ impl System {
         ensures none { IfOk result (λ o. IfNone o (IsQuiet self.now.setting self.now.journal)) }
     {
         self.standing
-            .choose(self.alloc, machine_of(&self.setting), word)
+            .choose(self.alloc, machine_of(&self.setting), self.first, word)
     }
 
     /// The values of the object's variables, as they are now.

@@ -73,9 +73,9 @@ fn fired(entries: &[Entry]) -> Option<TransId> {
 
 /// A word, and the transition that it picks of the two from A to B.
 const WORDS: [(u64, TransId); 4] = [
-    (0, TransId(1)),
+    (0, TransId(0)),
     (1, TransId(2)),
-    (6, TransId(1)),
+    (6, TransId(0)),
     (u64::MAX, TransId(2)),
 ];
 

@@ -46,8 +46,8 @@ fn state_number(state: State) -> u16
     ensures { result < 3 }
 {
     match state {
-        State::A => 1,
-        State::B => 2,
+        State::A => 0,
+        State::B => 1,
     }
 }
 
@@ -55,8 +55,8 @@ fn edge_number(edge: Edge) -> u16
     ensures { result < 2 }
 {
     match edge {
-        Edge::ToA => 0,
-        Edge::ToB => 1,
+        Edge::ToA => 1,
+        Edge::ToB => 0,
     }
 }
 

@@ -38,17 +38,18 @@ fn transition(source: u16, target: u16, triggers: Vec<SignalId>) -> Transition
     }
 }
 
-/// The initial vertex, A and B; a forked machine has a second transition from A to B.
+/// A, B and the initial vertex; the transition out of that comes second, and a forked machine has another from A to B
+/// behind it.
 fn draft(alloc: Global, forked: bool) -> Result<DraftMachine, NoMemory>
     ensures { IfOk result (λ draft. draft ≡ sample_machine forked) }
 {
     let regions = vec![in alloc; Owner::Top]?;
     let vertices = vec![in alloc;
+        vertex(alloc, VertexKind::State),
+        vertex(alloc, VertexKind::State),
         vertex(alloc, VertexKind::Initial),
-        vertex(alloc, VertexKind::State),
-        vertex(alloc, VertexKind::State),
     ]?;
-    let mut transitions = vec![in alloc; transition(0, 1, Vec::new(alloc)), to_b(alloc)?]?;
+    let mut transitions = vec![in alloc; to_b(alloc)?, transition(2, 0, Vec::new(alloc))]?;
     if forked {
         transitions.push(to_b(alloc)?)?;
     }
@@ -62,7 +63,7 @@ fn draft(alloc: Global, forked: bool) -> Result<DraftMachine, NoMemory>
 fn to_b(alloc: Global) -> Result<Transition, NoMemory>
     ensures { IfOk result (λ transition. transition ≡ to_b) }
 {
-    Ok(transition(1, 2, vec![in alloc; GO]?))
+    Ok(transition(0, 1, vec![in alloc; GO]?))
 }
 
 fn machine(alloc: Global, forked: bool) -> Result<Machine, NoMemory>

@@ -5,12 +5,16 @@ use Rattle.pssm_system.specs.declared.judging.Standing.{Standing}
 use Rattle.std.specs.Option.{option_to_list}
 use Rattle.pssm_system.specs.Advancing.{Advances}
 use Rattle.pssm_system.specs.Keeping.{KeepsRun}
-use Rattle.pssm_system.proofs.Histories.{machine_built, names_known, keeps_same, keeps_longer, signal_waits, signals_match, taken_match, takes_one}
+use Rattle.pssm_system.proofs.Histories.{machine_built, names_known, first_known, keeps_same, keeps_longer, signal_waits, signals_match, taken_match, takes_one}
 use Rattle.pssm_system.proofs.system.System.apply.Goals as goal
 
 pub progress_after-progress-requires-clause-built : goal.progress_after-progress-requires-clause-built
 progress_after-progress-requires-clause-built c =
     machine_built c.args.self.now c.self.inside.standing c.self.inside.reactions.rows.items c.self.inside.setting c.self.inside.entries.items c.self.invariant.0 c.machine_of.result.now (c.machine_of.ensures c.self.invariant.0.built) c.self.view_is c.args.entry
+
+pub progress_after-progress-requires-clause-first : goal.progress_after-progress-requires-clause-first
+progress_after-progress-requires-clause-first c =
+    first_known c.self.inside.setting c.self.invariant.0.built c.machine_of.result.now (c.machine_of.ensures c.self.invariant.0.built) c.self.inside.first c.self.invariant.2
 
 pub progress_after-progress-requires-clause-names : goal.progress_after-progress-requires-clause-names
 progress_after-progress-requires-clause-names c =
@@ -22,6 +26,7 @@ invariant_of-self c =
       keeps_same c.self.inside.setting c.self.inside.entries.items c.self.inside.entries.items c.self.inside.standing next c.self.inside.reactions.rows.items
           c.self.invariant.0 refl refl c.in_err-reserve.ensures.items refl,
       c.self.invariant.1,
+      c.self.invariant.2,
     )
 
 pub invariant_of-self-in_err-push : goal.invariant_of-self-in_err-push
@@ -30,6 +35,7 @@ invariant_of-self-in_err-push c =
       keeps_same c.self.inside.setting c.self.inside.entries.items c.push.new.self.items c.self.inside.standing next c.self.inside.reactions.rows.items
           c.self.invariant.0 c.in_err-push.ensures.items refl c.in_ok-reserve.ensures.items refl,
       c.self.invariant.1,
+      c.self.invariant.2,
     )
 
 pub advance-requires-clause-few : goal.advance-requires-clause-few
@@ -47,4 +53,4 @@ invariant_of-self-2 c =
     (c.advance.ensures.signals ∙ ap (λ gs. gs ++ option_to_list c.posted_signal-posted.result) c.in_ok-reserve.ensures.items
     ∙ signals_match c.posted_signal-posted.result c.self.inside.standing.signals.items c.args.entry c.posted_signal-posted.ensures)
     (c.advance.ensures.taken ∙ taken_match c.takes_signal-takes.result c.self.inside.standing.taken c.args.entry c.takes_signal-takes.ensures) in
-    (subst (λ js. KeepsRun c.self.inside.setting js c.advance.new.self c.self.inside.reactions.rows.items) (sym c.in_ok-push.ensures.items) longer, c.self.invariant.1)
+    (subst (λ js. KeepsRun c.self.inside.setting js c.advance.new.self c.self.inside.reactions.rows.items) (sym c.in_ok-push.ensures.items) longer, c.self.invariant.1, c.self.invariant.2)
