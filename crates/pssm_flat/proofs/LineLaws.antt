@@ -1,150 +1,191 @@
--- What is read as a line is that line, and each line is read again.
-use Rattle.std.proofs.Common.{◌≡◌, ℕ, ◌<◌, false, eqb, List, [], ◌∷◌, ◌++◌, eq-eqb, Some, refl, sym, ap, subst, ◌∙◌, append_assoc, arith, lit≤}
+-- What is read as a line is spelled so, and each line is read again.
+use Rattle.std.proofs.Common.{◌≡◌, ℕ, ◌<◌, Bool, true, false, cond, eqb, ltb, ◌&&◌, List, [], ◌∷◌, ◌++◌, length, Option, Some, None, refl, sym, ap, subst, ◌∙◌, arith, lit≤}
 use Rattle.std.specs.Prelude.{codes}
+use Rattle.std.specs.Option.{option_map}
+use Rattle.std.specs.List.{list_all}
+use Rattle.std.specs.Str.{is_utf8, bytes_eq}
 use Rattle.std.specs.Fmt.{decimal}
-use Rattle.std.proofs.lemmas.Fmt.{decimal_digit}
-use Rattle.std.proofs.lemmas.Bool.{eqb-true}
-use Rattle.pssm_acts.specs.declared.setting.SignalDecl.{SignalDecl}
-use Rattle.pssm_acts.specs.Spelling.{IsName}
-use Rattle.pssm_acts.specs.SpellingReading.{stripped}
-use Rattle.pssm_acts.specs.Built.{IsPlainSignal}
+use Rattle.std.proofs.lemmas.Bool.{eqb-true, and_parts, lt-ltb}
+use Rattle.std.proofs.lemmas.List.{append-nil, nil_from_length}
+use Rattle.std.proofs.lemmas.Str.{IsUtf8-from_is_utf8, is_utf8-from_IsUtf8, IsUtf8-nil}
+use Rattle.std.proofs.lemmas.Slice.Eq.{bytes_eq-Decides}
+use Rattle.pssm_model.specs.declared.ids.RegionId.{RegionId}
+use Rattle.pssm_model.specs.declared.ids.VertexId.{VertexId}
+use Rattle.pssm_model.specs.declared.elements.Owner.{Owner}
+use Rattle.pssm_model.specs.declared.elements.Owner.TheVariants as owners
+use Rattle.pssm_model.specs.declared.elements.VertexKind.{VertexKind}
+use Rattle.pssm_model.specs.declared.elements.VertexKind.TheVariants as kinds
+use Rattle.pssm_model.specs.declared.elements.TransKind.{TransKind}
+use Rattle.pssm_model.specs.declared.elements.TransKind.TheVariants.{External, Local, Internal}
+use Rattle.pssm_acts.specs.Spelling.{IsName, continues_name}
+use Rattle.pssm_acts.specs.SpellingReading.{EndsRun, is_digit, stripped, name_taken, index_taken}
 use Rattle.pssm_acts.proofs.SpellingLaws.{stripped_takes, stripped_again, name_takes, name_again, number_takes, number_again}
-use Rattle.pssm_flat.specs.Text.{line, label_text, signal_line}
-use Rattle.pssm_flat.specs.Flat.{IsLabel}
-use Rattle.pssm_flat.specs.Reading.{has_name, plain_signal, signal_at, names_at, vertex_label_at, ends_at}
-use Rattle.pssm_flat.proofs.Bind.{bind_then, chosen_some, refused_some, some_is}
-use Rattle.pssm_flat.proofs.LabelLaws.{label_end_takes, label_end_again}
+use Rattle.pssm_flat.specs.Text.{owner_word, kind_word, transition_word, label_text}
+use Rattle.pssm_flat.specs.Flat.{is_label_byte, IsLabel}
+use Rattle.pssm_flat.specs.Lines.{or_else, ended, named_taken, top_taken, region_taken, vertex_taken, owner_taken, kind_among, kind_of, transition_among, transition_of, label_of, label_taken}
+use Rattle.pssm_flat.proofs.Bind.{bind_then, chosen_some, some_is}
 
 -- what stands behind a front that is there on both sides
 pub behind : (front : List ℕ) {a b : List ℕ} → a ≡ b → front ++ a ≡ front ++ b
 behind front e = ap (λ (t : List ℕ). front ++ t) e
 
--- ---- signals
+pub or_then : {A P : Type 0} (a b : Option A) (y : A) → or_else a b ≡ Some y → (a ≡ Some y → P) → (b ≡ Some y → P) → P
+or_then None b y e first second = second e
+or_then (Some x) b y e first second = first e
 
--- the signal has no arguments and a name of its own
-pub record IsNewSignal (seen : List SignalDecl) (x : SignalDecl) : Type 0 where
-  pub plain : IsPlainSignal x
-  pub new : has_name seen x.name ≡ false
+pub mapped : {A B P : Type 0} (f : A → B) (o : Option A) (y : B) → option_map f o ≡ Some y → ((x : A) → o ≡ Some x → f x ≡ y → P) → P
+mapped f None y e k = absurd cc
+mapped f (Some x) y e k = k x refl (some_is (f x) y e)
 
-pub no_arguments : decimal 0 ≡ codes "0"
-no_arguments = decimal_digit 0 (omega arith)
+pub ended_takes : {A : Type 0} (read : A × List ℕ) (x : A) → ended read ≡ Some x → (read.1 ≡ []) × (read.0 ≡ x)
+ended_takes read x e =
+    let last = chosen_some (eqb (length read.1) 0) (Some read.0) x e in
+    (nil_from_length read.1 (eqb-true (length read.1) 0 last.0), some_is read.0 x last.1)
 
-signal_text : (name rest : List ℕ) → signal_line (plain_signal name) ++ rest ≡ codes "signal " ++ (name ++ (line (codes " 0") ++ rest))
-signal_text name rest = simp append_assoc (rw no_arguments refl)
+-- ---- the parts of lines
 
-pub record IsSignalFront (seen : List SignalDecl) (bytes : List ℕ) (x : SignalDecl) (rest : List ℕ) : Type 0 where
-  pub parts : bytes ≡ signal_line x ++ rest
-  pub fits : IsNewSignal seen x
+-- numbers that a line can hold
+abbrev pub IsSmallOwner : Owner → Type 0
+IsSmallOwner owners.Top = Unit {0}
+IsSmallOwner (owners.Region r) = r.0 < 65536
+IsSmallOwner (owners.State v) = v.0 < 65536
 
-pub signal_takes : (seen : List SignalDecl) (bytes : List ℕ) (x : SignalDecl) (rest : List ℕ) → signal_at seen bytes ≡ Some (x, rest) → IsSignalFront seen bytes x rest
-unfolding signal_at
-signal_takes seen bytes x rest e =
-    bind_then _ _ _ e (λ a at_a e. bind_then _ _ _ e (λ name at_name e. bind_then _ _ _ e (λ c at_c e.
-    let new = refused_some (has_name seen name.0) (Some (plain_signal name.0, c)) (x, rest) e in
-    let name_is = name_takes a name.0 name.1 at_name in
-    let whole : bytes ≡ signal_line (plain_signal name.0) ++ c =
-    stripped_takes (codes "signal ") bytes a at_a ∙ behind (codes "signal ") (name_is.parts ∙ behind name.0 (stripped_takes (line (codes " 0")) name.1 c at_c)) ∙ sym (signal_text name.0 c) in
-    let made : IsSignalFront seen bytes (plain_signal name.0) c = record { parts = whole; fits = record { plain = record { name = name_is.name; count = refl }; new = new.0 } } in
-    subst (λ (y : SignalDecl × List ℕ). IsSignalFront seen bytes y.0 y.1) (some_is (plain_signal name.0, c) (x, rest) new.1) made)))
+pub named_takes : (word bytes name : List ℕ) → named_taken word bytes ≡ Some name → (bytes ≡ word ++ name) × IsName name
+unfolding named_taken
+named_takes word bytes name e =
+    bind_then _ _ _ e (λ (rest : List ℕ) at_rest e. bind_then _ _ _ e (λ (x : List ℕ × List ℕ) at_x e.
+    let is = name_takes rest x.0 x.1 at_x in
+    let end = ended_takes x name e in
+    let spelled : rest ≡ x.0 = is.parts ∙ ap (λ (t : List ℕ). x.0 ++ t) end.0 ∙ append-nil x.0 in
+    (stripped_takes word bytes rest at_rest ∙ behind word (spelled ∙ end.1), subst (λ (t : List ℕ). IsName t) end.1 is.name)))
 
-pub signal_again : (seen : List SignalDecl) (x : SignalDecl) (rest : List ℕ) → IsNewSignal seen x → signal_at seen (signal_line x ++ rest) ≡ Some (x, rest)
-unfolding signal_at
-signal_again seen x rest fits =
-    let same : x ≡ plain_signal x.name = ap (λ n. let y : SignalDecl = record { name = x.name; count = n } in y) fits.plain.count in
-    let text : signal_line x ++ rest ≡ codes "signal " ++ (x.name ++ (line (codes " 0") ++ rest)) = ap (λ (y : SignalDecl). signal_line y ++ rest) same ∙ signal_text x.name rest in
-    ap (signal_at seen) text ∙ rw (stripped_again (codes "signal ") (x.name ++ (line (codes " 0") ++ rest)), name_again x.name (line (codes " 0") ++ rest) fits.plain.name refl, stripped_again (line (codes " 0")) rest, fits.new) (ap (λ (y : SignalDecl). Some (y, rest)) (sym same))
+pub name_alone : (name : List ℕ) → IsName name → name_taken name ≡ Some (name, [])
+name_alone name is = ap name_taken (sym (append-nil name)) ∙ name_again name [] is tt
 
--- ---- the names of the class and its object
+pub named_again : (word name : List ℕ) → IsName name → named_taken word (word ++ name) ≡ Some name
+unfolding named_taken
+named_again word name is = rw (stripped_again word name, name_alone name is) refl
 
-unfoldable pub names_text : List ℕ → List ℕ → List ℕ → List ℕ
-names_text class object rest =
-    codes "class " ++ (class ++ ((line [] ++ codes "object ") ++ (object ++ (codes " " ++ (class ++ ((line [] ++ codes "machine ") ++ (class ++ ((line [] ++ line (codes "region r0 top")) ++ rest))))))))
+pub index_takes : (bytes : List ℕ) (n : ℕ) (rest : List ℕ) → index_taken bytes ≡ Some (n, rest) → (bytes ≡ decimal n ++ rest) × (n < 65536)
+index_takes bytes n rest e = let is = number_takes 65536 bytes n rest (lit≤ tt) e in (is.parts, is.small)
 
-pub record IsNamesFront (bytes : List ℕ) (class object rest : List ℕ) : Type 0 where
-  pub parts : bytes ≡ names_text class object rest
-  pub class_is : IsName class
-  pub object_is : IsName object
+pub index_again : (n : ℕ) (rest : List ℕ) → n < 65536 → EndsRun is_digit rest → index_taken (decimal n ++ rest) ≡ Some (n, rest)
+index_again n rest small ends = number_again 65536 n rest (lit≤ tt) small ends
 
-pub names_take : (bytes class object rest : List ℕ) → names_at bytes ≡ Some ((class, object), rest) → IsNamesFront bytes class object rest
-unfolding names_at names_text
-names_take bytes class object rest e =
-    bind_then _ _ _ e (λ a at_a e. bind_then _ _ _ e (λ name at_name e. bind_then _ _ _ e (λ c at_c e. bind_then _ _ _ e (λ own at_own e.
-    bind_then _ _ _ e (λ f at_f e. bind_then _ _ _ e (λ g at_g e. bind_then _ _ _ e (λ h at_h e. bind_then _ _ _ e (λ i at_i e. bind_then _ _ _ e (λ j at_j e.
-    let name_is = name_takes a name.0 name.1 at_name in
-    let own_is = name_takes c own.0 own.1 at_own in
-    let whole : bytes ≡ names_text name.0 own.0 j =
-    stripped_takes (codes "class ") bytes a at_a ∙ behind (codes "class ") (name_is.parts ∙ behind name.0 (
-    stripped_takes (line [] ++ codes "object ") name.1 c at_c ∙ behind (line [] ++ codes "object ") (own_is.parts ∙ behind own.0 (
-    stripped_takes (codes " ") own.1 f at_f ∙ behind (codes " ") (stripped_takes name.0 f g at_g ∙ behind name.0 (
-    stripped_takes (line [] ++ codes "machine ") g h at_h ∙ behind (line [] ++ codes "machine ") (stripped_takes name.0 h i at_i ∙ behind name.0 (
-    stripped_takes (line [] ++ line (codes "region r0 top")) i j at_j)))))))) in
-    let made : IsNamesFront bytes name.0 own.0 j = record { parts = whole; class_is = name_is.name; object_is = own_is.name } in
-    subst (λ (y : (List ℕ × List ℕ) × List ℕ). IsNamesFront bytes y.0.0 y.0.1 y.1) (some_is ((name.0, own.0), j) ((class, object), rest) e) made)))))))))
+pub owner_takes : (bytes : List ℕ) (o : Owner) (rest : List ℕ) → owner_taken bytes ≡ Some (o, rest) → (bytes ≡ owner_word o ++ rest) × IsSmallOwner o
+unfolding owner_taken region_taken vertex_taken
+owner_takes bytes o rest e =
+    let P : Owner × List ℕ → Type 0 = λ y. (bytes ≡ owner_word y.0 ++ y.1) × IsSmallOwner y.0 in
+    or_then (top_taken bytes) (or_else (region_taken bytes) (vertex_taken bytes)) (o, rest) e
+    (λ e. mapped _ _ _ e (λ (x : List ℕ) at_x same. subst P same (stripped_takes (codes "top") bytes x at_x, tt)))
+    (λ e. or_then (region_taken bytes) (vertex_taken bytes) (o, rest) e
+    (λ e. bind_then _ _ _ e (λ (digits : List ℕ) at_digits e. mapped _ _ _ e (λ (x : ℕ × List ℕ) at_x same.
+    let is = index_takes digits x.0 x.1 at_x in
+    subst P same (stripped_takes (codes "r") bytes digits at_digits ∙ behind (codes "r") is.0, is.1))))
+    (λ e. bind_then _ _ _ e (λ (digits : List ℕ) at_digits e. mapped _ _ _ e (λ (x : ℕ × List ℕ) at_x same.
+    let is = index_takes digits x.0 x.1 at_x in
+    subst P same (stripped_takes (codes "v") bytes digits at_digits ∙ behind (codes "v") is.0, is.1)))))
 
-pub names_again : (class object rest : List ℕ) → IsName class → IsName object → names_at (names_text class object rest) ≡ Some ((class, object), rest)
-unfolding names_at names_text
-names_again class object rest is own =
-    rw (stripped_again (codes "class ") _, name_again class _ is refl, stripped_again (line [] ++ codes "object ") _, name_again object _ own refl, stripped_again (codes " ") _, stripped_again class _, stripped_again (line [] ++ codes "machine ") _, stripped_again class _, stripped_again (line [] ++ line (codes "region r0 top")) rest) refl
+no_top : (b : ℕ) (bytes : List ℕ) → eqb b 116 ≡ false → top_taken (b ∷ bytes) ≡ None
+unfolding stripped
+no_top b bytes e = rw e refl
 
--- ---- vertices
+no_region : (bytes : List ℕ) → region_taken (118 ∷ bytes) ≡ None
+unfolding region_taken stripped
+no_region bytes = refl
 
-unfoldable pub vertex_text : List ℕ → ℕ → List ℕ → List ℕ → List ℕ
-vertex_text word number label rest = codes "vertex v" ++ (decimal number ++ (codes " r0 " ++ (word ++ (label_text label ++ 10 ∷ rest))))
+region_again : (r : RegionId) (rest : List ℕ) → r.0 < 65536 → EndsRun is_digit rest → region_taken (codes "r" ++ (decimal r.0 ++ rest)) ≡ Some (owners.Region r, rest)
+unfolding region_taken
+region_again r rest small ends = rw (stripped_again (codes "r") (decimal r.0 ++ rest), index_again r.0 rest small ends) refl
 
-pub record IsVertexFront (word : List ℕ) (number : ℕ) (bytes label rest : List ℕ) : Type 0 where
-  pub parts : bytes ≡ vertex_text word number label rest
-  pub label_is : IsLabel label
-  pub small : number < 65536
+vertex_again : (v : VertexId) (rest : List ℕ) → v.0 < 65536 → EndsRun is_digit rest → vertex_taken (codes "v" ++ (decimal v.0 ++ rest)) ≡ Some (owners.State v, rest)
+unfolding vertex_taken
+vertex_again v rest small ends = rw (stripped_again (codes "v") (decimal v.0 ++ rest), index_again v.0 rest small ends) refl
 
-pub vertex_takes : (word : List ℕ) (number : ℕ) (bytes label rest : List ℕ) → vertex_label_at word number bytes ≡ Some (label, rest) → IsVertexFront word number bytes label rest
-unfolding vertex_label_at vertex_text
-vertex_takes word number bytes label rest e =
-    bind_then _ _ _ e (λ a at_a e. bind_then _ _ _ e (λ n at_n e. bind_then _ _ _ e (λ c at_c e. bind_then _ _ _ e (λ d at_d e.
-    let numbered = chosen_some (eqb n.0 number) (stripped (codes " r0 ") n.1) c at_c in
-    let n_is = number_takes 65536 a n.0 n.1 (lit≤ tt) at_n in
-    let same : n.0 ≡ number = eqb-true n.0 number numbered.0 in
-    let end = label_end_takes d label rest e in
-    record {
-      parts =
-          stripped_takes (codes "vertex v") bytes a at_a ∙ behind (codes "vertex v") (n_is.parts ∙ ap (λ k. decimal k ++ n.1) same ∙ behind (decimal number) (
-          stripped_takes (codes " r0 ") n.1 c numbered.1 ∙ behind (codes " r0 ") (stripped_takes word c d at_d ∙ behind word end.parts)));
-      label_is = end.label_is;
-      small = subst (λ k. k < 65536) same n_is.small;
-    }))))
+pub owner_again : (o : Owner) (rest : List ℕ) → IsSmallOwner o → EndsRun is_digit rest → owner_taken (owner_word o ++ rest) ≡ Some (o, rest)
+unfolding owner_taken
+owner_again owners.Top rest small ends = rw (stripped_again (codes "top") rest) refl
+owner_again (owners.Region r) rest small ends = rw (no_top 114 (decimal r.0 ++ rest) refl, region_again r rest small ends) refl
+owner_again (owners.State v) rest small ends = rw (no_top 118 (decimal v.0 ++ rest) refl, no_region (decimal v.0 ++ rest), vertex_again v rest small ends) refl
 
-pub vertex_again : (word : List ℕ) (number : ℕ) (label rest : List ℕ) → number < 65536 → IsLabel label → vertex_label_at word number (vertex_text word number label rest) ≡ Some (label, rest)
-unfolding vertex_label_at vertex_text
-vertex_again word number label rest low is =
-    rw (stripped_again (codes "vertex v") _, number_again 65536 number _ (omega arith) low refl, eq-eqb number number refl, stripped_again (codes " r0 ") _, stripped_again word _) (label_end_again label rest is)
+kind_among_takes : (ks : List VertexKind) (word : List ℕ) (k : VertexKind) → kind_among ks word ≡ Some k → word ≡ kind_word k
+kind_among_takes [] word k e = absurd cc
+kind_among_takes (x ∷ ks) word k e = by_test (bytes_eq word (kind_word x)) refl e (kind_among_takes ks word k) where
+  by_test : (t : Bool) → bytes_eq word (kind_word x) ≡ t → cond t (Some x) (kind_among ks word) ≡ Some k → (kind_among ks word ≡ Some k → word ≡ kind_word k) → word ≡ kind_word k
+  by_test true same e more = (bytes_eq-Decides word (kind_word x)).0 same ∙ ap kind_word (some_is x k e)
+  by_test false other e more = more e
 
--- ---- transitions
+pub kind_takes : (word : List ℕ) (k : VertexKind) → kind_of word ≡ Some k → word ≡ kind_word k
+kind_takes word k e = kind_among_takes (kinds.State ∷ kinds.Final ∷ kinds.Initial ∷ kinds.DeepHistory ∷ kinds.ShallowHistory ∷ kinds.Join ∷ kinds.Fork ∷ kinds.Junction ∷ kinds.Choice ∷ kinds.EntryPoint ∷ kinds.ExitPoint ∷ kinds.Terminate ∷ []) word k e
 
-unfoldable pub ends_text : ℕ → ℕ → ℕ → List ℕ → List ℕ
-ends_text number source target rest = codes "transition t" ++ (decimal number ++ (codes " v" ++ (decimal source ++ (codes " v" ++ (decimal target ++ (line (codes " external") ++ rest))))))
+pub kind_again : (k : VertexKind) → kind_of (kind_word k) ≡ Some k
+kind_again kinds.State = refl
+kind_again kinds.Final = refl
+kind_again kinds.Initial = refl
+kind_again kinds.DeepHistory = refl
+kind_again kinds.ShallowHistory = refl
+kind_again kinds.Join = refl
+kind_again kinds.Fork = refl
+kind_again kinds.Junction = refl
+kind_again kinds.Choice = refl
+kind_again kinds.EntryPoint = refl
+kind_again kinds.ExitPoint = refl
+kind_again kinds.Terminate = refl
 
-pub record IsEndsFront (number : ℕ) (bytes : List ℕ) (source target : ℕ) (rest : List ℕ) : Type 0 where
-  pub parts : bytes ≡ ends_text number source target rest
-  pub small : number < 65536
+pub kind_is_name : (k : VertexKind) → IsName (kind_word k)
+kind_is_name kinds.State = record { spelled = refl; short = lit≤ tt }
+kind_is_name kinds.Final = record { spelled = refl; short = lit≤ tt }
+kind_is_name kinds.Initial = record { spelled = refl; short = lit≤ tt }
+kind_is_name kinds.DeepHistory = record { spelled = refl; short = lit≤ tt }
+kind_is_name kinds.ShallowHistory = record { spelled = refl; short = lit≤ tt }
+kind_is_name kinds.Join = record { spelled = refl; short = lit≤ tt }
+kind_is_name kinds.Fork = record { spelled = refl; short = lit≤ tt }
+kind_is_name kinds.Junction = record { spelled = refl; short = lit≤ tt }
+kind_is_name kinds.Choice = record { spelled = refl; short = lit≤ tt }
+kind_is_name kinds.EntryPoint = record { spelled = refl; short = lit≤ tt }
+kind_is_name kinds.ExitPoint = record { spelled = refl; short = lit≤ tt }
+kind_is_name kinds.Terminate = record { spelled = refl; short = lit≤ tt }
 
-pub ends_take : (number : ℕ) (bytes : List ℕ) (source target : ℕ) (rest : List ℕ) → ends_at number bytes ≡ Some ((source, target), rest) → IsEndsFront number bytes source target rest
-unfolding ends_at ends_text
-ends_take number bytes source target rest e =
-    bind_then _ _ _ e (λ a at_a e. bind_then _ _ _ e (λ n at_n e. bind_then _ _ _ e (λ c at_c e. bind_then _ _ _ e (λ s at_s e.
-    bind_then _ _ _ e (λ f at_f e. bind_then _ _ _ e (λ t at_t e. bind_then _ _ _ e (λ h at_h e.
-    let numbered = chosen_some (eqb n.0 number) (stripped (codes " v") n.1) c at_c in
-    let n_is = number_takes 65536 a n.0 n.1 (lit≤ tt) at_n in
-    let same : n.0 ≡ number = eqb-true n.0 number numbered.0 in
-    let s_is = number_takes 65536 c s.0 s.1 (lit≤ tt) at_s in
-    let t_is = number_takes 65536 f t.0 t.1 (lit≤ tt) at_t in
-    let whole : bytes ≡ ends_text number s.0 t.0 h =
-    stripped_takes (codes "transition t") bytes a at_a ∙ behind (codes "transition t") (n_is.parts ∙ ap (λ k. decimal k ++ n.1) same ∙ behind (decimal number) (
-    stripped_takes (codes " v") n.1 c numbered.1 ∙ behind (codes " v") (s_is.parts ∙ behind (decimal s.0) (
-    stripped_takes (codes " v") s.1 f at_f ∙ behind (codes " v") (t_is.parts ∙ behind (decimal t.0) (
-    stripped_takes (line (codes " external")) t.1 h at_h)))))) in
-    let made : IsEndsFront number bytes s.0 t.0 h = record { parts = whole; small = subst (λ k. k < 65536) same n_is.small } in
-    subst (λ (y : (ℕ × ℕ) × List ℕ). IsEndsFront number bytes y.0.0 y.0.1 y.1) (some_is ((s.0, t.0), h) ((source, target), rest) e) made)))))))
+transition_among_takes : (ks : List TransKind) (word : List ℕ) (k : TransKind) → transition_among ks word ≡ Some k → word ≡ transition_word k
+transition_among_takes [] word k e = absurd cc
+transition_among_takes (x ∷ ks) word k e = by_test (bytes_eq word (transition_word x)) refl e (transition_among_takes ks word k) where
+  by_test : (t : Bool) → bytes_eq word (transition_word x) ≡ t → cond t (Some x) (transition_among ks word) ≡ Some k → (transition_among ks word ≡ Some k → word ≡ transition_word k) → word ≡ transition_word k
+  by_test true same e more = (bytes_eq-Decides word (transition_word x)).0 same ∙ ap transition_word (some_is x k e)
+  by_test false other e more = more e
 
-pub ends_again : (number source target : ℕ) (rest : List ℕ) → number < 65536 → source < 65536 → target < 65536 → ends_at number (ends_text number source target rest) ≡ Some ((source, target), rest)
-unfolding ends_at ends_text
-ends_again number source target rest low from to =
-    rw (stripped_again (codes "transition t") _, number_again 65536 number _ (omega arith) low refl, eq-eqb number number refl, stripped_again (codes " v") _, number_again 65536 source _ (omega arith) from refl, stripped_again (codes " v") _, number_again 65536 target _ (omega arith) to refl, stripped_again (line (codes " external")) rest) refl
+pub transition_takes : (word : List ℕ) (k : TransKind) → transition_of word ≡ Some k → word ≡ transition_word k
+transition_takes word k e = transition_among_takes (External ∷ Local ∷ Internal ∷ []) word k e
+
+pub transition_again : (k : TransKind) → transition_of (transition_word k) ≡ Some k
+transition_again External = refl
+transition_again Local = refl
+transition_again Internal = refl
+
+-- no label
+pub no_label : IsLabel []
+no_label = record { text = IsUtf8-nil; no_control = refl }
+
+label_of_takes : (bytes label : List ℕ) → label_of bytes ≡ Some label → (32 ∷ bytes ≡ label_text label) × IsLabel label
+label_of_takes [] label e = absurd cc
+label_of_takes (c ∷ bytes) label e =
+    let all : List ℕ = c ∷ bytes in
+    let found = chosen_some (ltb 0 (length all) && (list_all is_label_byte all && is_utf8 all)) (Some all) label e in
+    let tests = and_parts (ltb 0 (length all)) (list_all is_label_byte all && is_utf8 all) found.0 in
+    let both = and_parts (list_all is_label_byte all) (is_utf8 all) tests.1 in
+    let made : (32 ∷ all ≡ label_text all) × IsLabel all = (refl, record { text = IsUtf8-from_is_utf8 all both.1; no_control = both.0 }) in
+    subst (λ (t : List ℕ). (32 ∷ all ≡ label_text t) × IsLabel t) (some_is all label found.1) made
+
+pub label_takes : (bytes label : List ℕ) → label_taken bytes ≡ Some label → (bytes ≡ label_text label) × IsLabel label
+label_takes [] label e = let same : [] ≡ label = some_is [] label e in subst (λ (t : List ℕ). ([] ≡ label_text t) × IsLabel t) same (refl, no_label)
+label_takes (b ∷ bytes) label e =
+    let found = chosen_some (eqb b 32) (label_of bytes) label e in
+    let is = label_of_takes bytes label found.1 in
+    (ap (λ (c : ℕ). c ∷ bytes) (eqb-true b 32 found.0) ∙ is.0, is.1)
+
+pub label_again : (label : List ℕ) → IsLabel label → label_taken (label_text label) ≡ Some label
+label_again [] is = refl
+label_again (b ∷ label) is = rw (lt-ltb 0 (length (b ∷ label)) (omega arith), is.no_control, is_utf8-from_IsUtf8 (b ∷ label) is.text) refl
+
+pub label_ends : (label : List ℕ) → EndsRun continues_name (label_text label)
+label_ends [] = tt
+label_ends (b ∷ label) = refl

@@ -15,9 +15,13 @@ use Rattle.pssm_model.specs.declared.ids.SignalId.{SignalId}
 use Rattle.pssm_acts.specs.declared.setting.SignalDecl.{SignalDecl}
 use Rattle.pssm_acts.specs.Built.{IsPlainSignal}
 use Rattle.pssm_flat.specs.Text.{signal_name}
-use Rattle.pssm_flat.specs.Reading.{has_name, number_from}
+use Rattle.pssm_flat.specs.Drafts.{has_name, number_from}
 use Rattle.pssm_flat.proofs.Items.{AllFit}
-use Rattle.pssm_flat.proofs.LineLaws.{IsNewSignal}
+
+-- the signal has no arguments and a name of its own
+pub record IsNewSignal (seen : List SignalDecl) (x : SignalDecl) : Type 0 where
+  pub plain : IsPlainSignal x
+  pub new : has_name seen x.name ≡ false
 
 -- names of two signals differ
 abbrev pub Differ : SignalDecl → SignalDecl → Type 0

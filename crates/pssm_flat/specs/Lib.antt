@@ -1,3 +1,6 @@
 pub mod Text
 pub mod Flat
-pub mod Reading
+pub mod Faults
+pub mod Lines
+pub mod Drafts
+pub mod Places

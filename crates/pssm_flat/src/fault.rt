@@ -2,14 +2,17 @@
 ghost use Rattle.std.specs.Prelude.{◌≡◌};
 ghost use Rattle.pssm_flat.specs.declared.fault.FlatFault.TheVariants.{NoMemory};
 
+use pssm_model::Shape;
 use std::alloc::AllocError;
 
-/// Why a flat text could not be read.
+/// Why a flat text could not be read (this profile's choice).
 ///
-/// `BadModel`: the text is not the flat form of any setting. `NoMemory`: memory ran out before the text was read.
+/// `BadLine`: the line, counted from 1, is the first that cannot stand there. `Shape`: a machine lacks the shape of
+/// one, and the element that the fault names stands on the line. `NoMemory`: memory ran out before the text was read.
 #[derive(Clone, Copy, Debug, PartialEq, Eq)]
 pub enum FlatFault {
-    BadModel,
+    BadLine { line: u32 },
+    Shape { line: u32, shape: Shape },
     NoMemory,
 }
 

@@ -1,18 +1,22 @@
-//! The flat form of a model: a text of lines, read exactly.
+//! The flat form of a model: a text of lines, read exactly and written back.
 //!
 //! The one text of a setting stands in this crate's `specs/`, and what is read is spelled so.
 //! This crate knows nothing of files, journals or runs.
 #![tactic(auto)]
 
+mod block;
+mod draft;
 mod fault;
-mod lines;
+mod line;
+mod parts;
+mod pieces;
+mod places;
 mod reading;
-mod signals;
-mod transitions;
-mod vertices;
+mod writing;
 
 pub use fault::FlatFault;
-pub use reading::{one_setting, read_flat};
+pub use reading::{one_reading, read_flat};
+pub use writing::write_flat;
 
 #[cfg(test)]
 mod tests;

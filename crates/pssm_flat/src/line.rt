@@ -1,0 +1,210 @@
+//! The lines of the flat form, one by one.
+ghost use Rattle.std.specs.Prelude.{◌≡◌, IfOk};
+ghost use Rattle.std.specs.Option.{option_map};
+ghost use Rattle.pssm_flat.specs.Lines.{signal_taken, object_taken, region_line_taken, vertex_line_taken, transition_line_taken, head_line_taken, block_line_taken, line_taken};
+
+use crate::parts::{end_at, kind_of, label_at, named, owner_at, transition_of};
+use pssm_acts::spelling::{index_at, name_at, strip};
+use pssm_model::{Owner, Text, TransKind, VertexId, VertexKind};
+use std::alloc::{AllocError, Global};
+
+/// A line of the grammar (this profile's choice). `Otherwise` is the line `else`.
+#[derive(Drop)]
+pub(crate) enum Line {
+    Header,
+    Signal {
+        name: Text,
+    },
+    Class {
+        name: Text,
+    },
+    Object {
+        name: Text,
+        class: Text,
+    },
+    Machine {
+        name: Text,
+    },
+    Region {
+        number: u16,
+        owner: Owner,
+    },
+    Vertex {
+        number: u16,
+        owner: Owner,
+        kind: VertexKind,
+        label: Text,
+    },
+    Defer {
+        signal: Text,
+    },
+    Transition {
+        number: u16,
+        source: VertexId,
+        target: VertexId,
+        kind: TransKind,
+    },
+    On {
+        signal: Text,
+    },
+    Otherwise,
+    End,
+}
+
+fn text_of(alloc: Global, bytes: &[u8]) -> Result<Text, AllocError>
+    ensures { IfOk result (λ t. t ≡ bytes.now) }
+{
+    Ok(Text::from_vec(bytes.to_vec(alloc)?))
+}
+
+/// `signal NAME 0`: the name.
+#[tactic(auto, unfolding(crate::specs::Lines::signal_taken))]
+fn signal_at(bytes: &[u8]) -> Option<&[u8]>
+    ensures { option_map (λ x. x.now) result ≡ signal_taken bytes.now }
+{
+    let rest = strip(bytes, b"signal ")?;
+    let (name, end) = name_at(rest)?;
+    if end == b" 0".as_slice() {
+        Some(name)
+    } else {
+        None
+    }
+}
+
+/// `object NAME CLASS`: both names.
+#[tactic(auto, unfolding(crate::specs::Lines::object_taken))]
+fn object_at(bytes: &[u8]) -> Option<(&[u8], &[u8])>
+    ensures { option_map (λ x. (x.0.now, x.1.now)) result ≡ object_taken bytes.now }
+{
+    let rest = strip(bytes, b"object ")?;
+    let (name, rest) = name_at(rest)?;
+    let class = named(b" ", rest)?;
+    Some((name, class))
+}
+
+/// `region rI OWNER`.
+#[tactic(auto, unfolding(crate::specs::Lines::region_line_taken))]
+fn region_at(bytes: &[u8]) -> Option<Line>
+    ensures { result ≡ region_line_taken bytes.now }
+{
+    let digits = strip(bytes, b"region r")?;
+    let (number, rest) = index_at(digits)?;
+    let rest = strip(rest, b" ")?;
+    let (owner, end) = owner_at(rest)?;
+    if end.is_empty() {
+        Some(Line::Region { number, owner })
+    } else {
+        None
+    }
+}
+
+/// `vertex vI OWNER KIND`, or `vertex vI OWNER KIND LABEL`: the four parts.
+#[tactic(auto, unfolding(crate::specs::Lines::vertex_line_taken))]
+fn vertex_at(bytes: &[u8]) -> Option<(u16, Owner, VertexKind, &[u8])>
+    ensures { option_map (λ x. (x.0, x.1, x.2, x.3.now)) result ≡ vertex_line_taken bytes.now }
+{
+    let digits = strip(bytes, b"vertex v")?;
+    let (number, rest) = index_at(digits)?;
+    let rest = strip(rest, b" ")?;
+    let (owner, rest) = owner_at(rest)?;
+    let word = strip(rest, b" ")?;
+    let (name, rest) = name_at(word)?;
+    let kind = kind_of(name)?;
+    let label = label_at(rest)?;
+    Some((number, owner, kind, label))
+}
+
+/// `transition tI vS vT KIND`: the four parts.
+#[tactic(auto, unfolding(crate::specs::Lines::transition_line_taken))]
+fn transition_at(bytes: &[u8]) -> Option<(u16, u16, u16, TransKind)>
+    ensures { result ≡ transition_line_taken bytes.now }
+{
+    let digits = strip(bytes, b"transition t")?;
+    let (number, rest) = index_at(digits)?;
+    let (source, rest) = end_at(rest)?;
+    let (target, rest) = end_at(rest)?;
+    let word = strip(rest, b" ")?;
+    let kind = transition_of(word)?;
+    Some((number, source, target, kind))
+}
+
+/// A line of the head: the header, a signal, a class, an object, or the first line of a block.
+#[tactic(auto, unfolding(crate::specs::Lines::head_line_taken))]
+fn head_line_of(alloc: Global, bytes: &[u8]) -> Result<Option<Line>, AllocError>
+    ensures { IfOk result (λ l. l ≡ head_line_taken bytes.now) }
+{
+    if bytes == b"pssm-flat 1".as_slice() {
+        return Ok(Some(Line::Header));
+    }
+    if let Some(name) = signal_at(bytes) {
+        let name = text_of(alloc, name)?;
+        return Ok(Some(Line::Signal { name }));
+    }
+    if let Some(name) = named(b"class ", bytes) {
+        let name = text_of(alloc, name)?;
+        return Ok(Some(Line::Class { name }));
+    }
+    if let Some((name, class)) = object_at(bytes) {
+        let name = text_of(alloc, name)?;
+        let class = text_of(alloc, class)?;
+        return Ok(Some(Line::Object { name, class }));
+    }
+    if let Some(name) = named(b"machine ", bytes) {
+        let name = text_of(alloc, name)?;
+        return Ok(Some(Line::Machine { name }));
+    }
+    Ok(None)
+}
+
+/// A line of a block behind its first, or the last line of the text.
+#[tactic(auto, unfolding(crate::specs::Lines::block_line_taken))]
+fn block_line_of(alloc: Global, bytes: &[u8]) -> Result<Option<Line>, AllocError>
+    ensures { IfOk result (λ l. l ≡ block_line_taken bytes.now) }
+{
+    if let Some(line) = region_at(bytes) {
+        return Ok(Some(line));
+    }
+    if let Some((number, owner, kind, label)) = vertex_at(bytes) {
+        let label = text_of(alloc, label)?;
+        return Ok(Some(Line::Vertex {
+            number,
+            owner,
+            kind,
+            label,
+        }));
+    }
+    if let Some(signal) = named(b"defer ", bytes) {
+        let signal = text_of(alloc, signal)?;
+        return Ok(Some(Line::Defer { signal }));
+    }
+    if let Some((number, source, target, kind)) = transition_at(bytes) {
+        return Ok(Some(Line::Transition {
+            number,
+            source: VertexId(source),
+            target: VertexId(target),
+            kind,
+        }));
+    }
+    if let Some(signal) = named(b"on ", bytes) {
+        let signal = text_of(alloc, signal)?;
+        return Ok(Some(Line::On { signal }));
+    }
+    if bytes == b"else".as_slice() {
+        return Ok(Some(Line::Otherwise));
+    }
+    if bytes == b"end".as_slice() {
+        return Ok(Some(Line::End));
+    }
+    Ok(None)
+}
+
+/// The line that the bytes spell, which are those of a line without its line feed. None where they spell none.
+#[tactic(auto, unfolding(crate::specs::Lines::line_taken))]
+pub(crate) fn line_of(alloc: Global, bytes: &[u8]) -> Result<Option<Line>, AllocError>
+    ensures { IfOk result (λ l. l ≡ line_taken bytes.now) }
+{
+    if let Some(line) = head_line_of(alloc, bytes)? {
+        return Ok(Some(line));
+    }
+    block_line_of(alloc, bytes)
+}

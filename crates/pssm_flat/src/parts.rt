@@ -1,0 +1,168 @@
+//! The parts of a line: each function reads what stands at the front, and gives the bytes behind it.
+//!
+//! None of them takes memory: names and labels are lent from the text.
+ghost use Rattle.std.specs.Prelude.{◌≡◌};
+ghost use Rattle.std.specs.List.{list_all};
+ghost use Rattle.std.specs.Option.{option_map, option_copied};
+ghost use Rattle.std.specs.Str.{is_utf8};
+ghost use Rattle.pssm_flat.specs.Flat.{is_label_byte};
+ghost use Rattle.pssm_flat.specs.Lines.{named_taken, top_taken, region_taken, vertex_taken, owner_taken, kind_of as kind_named, transition_of as transition_named, label_of as label_word, label_taken, end_taken};
+
+use pssm_acts::spelling::{index_at, name_at, strip};
+use pssm_model::{Owner, RegionId, TransKind, VertexId, VertexKind};
+
+/// A word and a name, and nothing behind it: the name.
+#[tactic(auto, unfolding(crate::specs::Lines::named_taken))]
+pub(crate) fn named<'a>(word: &[u8], bytes: &'a [u8]) -> Option<&'a [u8]>
+    ensures { option_map (λ x. x.now) result ≡ named_taken word.now bytes.now }
+{
+    let rest = strip(bytes, word)?;
+    let (name, end) = name_at(rest)?;
+    if end.is_empty() { Some(name) } else { None }
+}
+
+/// `top`, and the bytes behind it.
+fn top_at(bytes: &[u8]) -> Option<(Owner, &[u8])>
+    ensures { option_map (λ x. (x.0, x.1.now)) result ≡ top_taken bytes.now }
+{
+    let rest = strip(bytes, b"top")?;
+    Some((Owner::Top, rest))
+}
+
+/// A region by its number, and the bytes behind it.
+#[tactic(auto, unfolding(crate::specs::Lines::region_taken))]
+fn region_at(bytes: &[u8]) -> Option<(Owner, &[u8])>
+    ensures { option_map (λ x. (x.0, x.1.now)) result ≡ region_taken bytes.now }
+{
+    let digits = strip(bytes, b"r")?;
+    let (number, rest) = index_at(digits)?;
+    Some((Owner::Region(RegionId(number)), rest))
+}
+
+/// A vertex by its number, and the bytes behind it.
+#[tactic(auto, unfolding(crate::specs::Lines::vertex_taken))]
+fn vertex_at(bytes: &[u8]) -> Option<(Owner, &[u8])>
+    ensures { option_map (λ x. (x.0, x.1.now)) result ≡ vertex_taken bytes.now }
+{
+    let digits = strip(bytes, b"v")?;
+    let (number, rest) = index_at(digits)?;
+    Some((Owner::State(VertexId(number)), rest))
+}
+
+/// An owner, and the bytes behind it.
+#[tactic(auto, unfolding(crate::specs::Lines::owner_taken))]
+pub(crate) fn owner_at(bytes: &[u8]) -> Option<(Owner, &[u8])>
+    ensures { option_map (λ x. (x.0, x.1.now)) result ≡ owner_taken bytes.now }
+{
+    if let Some(read) = top_at(bytes) {
+        return Some(read);
+    }
+    if let Some(read) = region_at(bytes) {
+        return Some(read);
+    }
+    vertex_at(bytes)
+}
+
+/// The kind of vertex that a word names.
+pub(crate) fn kind_of(word: &[u8]) -> Option<VertexKind>
+    ensures { result ≡ kind_named word.now }
+{
+    if word == b"state".as_slice() {
+        Some(VertexKind::State)
+    } else if word == b"final".as_slice() {
+        Some(VertexKind::Final)
+    } else if word == b"initial".as_slice() {
+        Some(VertexKind::Initial)
+    } else if word == b"deepHistory".as_slice() {
+        Some(VertexKind::DeepHistory)
+    } else if word == b"shallowHistory".as_slice() {
+        Some(VertexKind::ShallowHistory)
+    } else if word == b"join".as_slice() {
+        Some(VertexKind::Join)
+    } else if word == b"fork".as_slice() {
+        Some(VertexKind::Fork)
+    } else if word == b"junction".as_slice() {
+        Some(VertexKind::Junction)
+    } else if word == b"choice".as_slice() {
+        Some(VertexKind::Choice)
+    } else if word == b"entryPoint".as_slice() {
+        Some(VertexKind::EntryPoint)
+    } else if word == b"exitPoint".as_slice() {
+        Some(VertexKind::ExitPoint)
+    } else if word == b"terminate".as_slice() {
+        Some(VertexKind::Terminate)
+    } else {
+        None
+    }
+}
+
+/// The kind of transition that a word names.
+pub(crate) fn transition_of(word: &[u8]) -> Option<TransKind>
+    ensures { result ≡ transition_named word.now }
+{
+    if word == b"external".as_slice() {
+        Some(TransKind::External)
+    } else if word == b"local".as_slice() {
+        Some(TransKind::Local)
+    } else if word == b"internal".as_slice() {
+        Some(TransKind::Internal)
+    } else {
+        None
+    }
+}
+
+/// Whether the byte is no part of a control character (U+0000 to U+001F, and U+007F).
+fn stands_in_label(byte: u8) -> bool
+    ensures { result ≡ is_label_byte byte }
+{
+    byte >= 32 && byte != 127
+}
+
+/// Whether all bytes can stand in a label.
+fn stand_in_label(bytes: &[u8]) -> bool
+    ensures { result ≡ list_all is_label_byte bytes.now }
+{
+    bytes.iter().all(|byte| stands_in_label(*byte))
+}
+
+/// Whether the bytes are UTF-8.
+#[tactic(auto, using(crate::proofs::LabelLaws::reads_utf8, crate::proofs::LabelLaws::reads_no_utf8))]
+fn is_text(bytes: &[u8]) -> bool
+    ensures { result ≡ is_utf8 bytes.now }
+{
+    match std::str::from_utf8(bytes) {
+        Ok(_) => true,
+        Err(_) => false,
+    }
+}
+
+/// A label of at least one byte: UTF-8 without control characters (this profile's choice).
+fn label_of(bytes: &[u8]) -> Option<&[u8]>
+    ensures { option_map (λ x. x.now) result ≡ label_word bytes.now }
+{
+    if !bytes.is_empty() && stand_in_label(bytes) && is_text(bytes) {
+        Some(bytes)
+    } else {
+        None
+    }
+}
+
+/// What follows the kind of a vertex: nothing, or one blank and a label.
+pub(crate) fn label_at(bytes: &[u8]) -> Option<&[u8]>
+    ensures { option_map (λ x. x.now) result ≡ label_taken bytes.now }
+{
+    match bytes {
+        [] => Some(&[]),
+        [b' ', label @ ..] => label_of(label),
+        _ => None,
+    }
+}
+
+/// The number of a vertex at which a transition begins or ends, behind a blank, and the bytes behind it.
+#[tactic(auto, unfolding(crate::specs::Lines::end_taken))]
+pub(crate) fn end_at(bytes: &[u8]) -> Option<(u16, &[u8])>
+    ensures { option_map (λ x. (x.0, x.1.now)) result ≡ end_taken bytes.now }
+{
+    let digits = strip(bytes, b" v")?;
+    index_at(digits)
+}
