@@ -3,43 +3,57 @@ use Rattle.std.proofs.Common.{◌≡◌, ◌≢◌, ◌⊎◌, ◌<◌, ◌≤�
 use Rattle.pssm_base.specs.Faults.{Rose, NoneFell}
 use Rattle.pssm_base.specs.Reading.{Contents, ReadsWhole, HoldsMore, SameContent}
 use Rattle.pssm_acts.specs.declared.setting.Setting.{Setting}
-use Rattle.pssm_acts.specs.declared.stimulus.Stimulus.{Stimulus}
 use Rattle.pssm_judge.specs.declared.verdict.Verdict.{Verdict}
 use Rattle.pssm_judge.specs.declared.verdict.Verdict.TheVariants as verdicts
 use Rattle.pssm_judge.specs.declared.verdict.JudgeFault.{JudgeFault}
 use Rattle.pssm_judge.specs.declared.verdict.JudgeFault.TheVariants as faults
 use Rattle.pssm_judge.specs.Verdicts.{IsVerdictFor, IsFaultFor}
-use Rattle.pssm_tool.specs.declared.words.Options.{Options}
 use Rattle.pssm_tool.specs.declared.answer.Answer.{Answer}
-use Rattle.pssm_tool.specs.declared.answer.Answer.TheVariants.{Accept, Refuse, Limit, Usage, BadModel, BadJournal, TooLarge}
+use Rattle.pssm_tool.specs.declared.answer.Answer.TheVariants.{Accept, Refuse, Limit, BadJournal, TooLarge}
 use Rattle.pssm_tool.specs.declared.reply.Reply.{Reply}
-use Rattle.pssm_tool.specs.declared.reply.Reply.TheVariants.{Line, Journal}
+use Rattle.pssm_tool.specs.declared.reply.Reply.TheVariants.{Line}
 use Rattle.pssm_tool.specs.declared.stop.Stop.{Stop}
 use Rattle.pssm_tool.specs.declared.stop.Stop.TheVariants.{Answered, ReadFault, NoMemory}
-use Rattle.pssm_tool.specs.Words.{IsJudge, IsRun, Meaning, Judges, Runs, Means}
-use Rattle.pssm_tool.specs.Stimuli.{NameNoStimuli}
+use Rattle.pssm_tool.specs.Words.{IsJudge, Meaning, Judges, Runs, Checks, Prints, Means}
 use Rattle.pssm_tool.specs.Verdicts.{IsVerdict, said}
-use Rattle.pssm_tool.specs.Due.{model_of, NamesPath, ReadsModel, LacksModel, large_model, bad_model, IsDueForJournal, large_journal, judged, IsDue, no_model, judge, unfit, IsContinued, ReadFailed}
-use Rattle.pssm_tool.specs.Stops.{StopsModel, GoesOn, StopsAll}
+use Rattle.pssm_tool.specs.Due.{model_of, NamesPath, IsAboutRuns, HasBuiltModel, IsDueForJournal, large_journal, judged, IsDue, large_model, judge, refused, unbuilt, IsOwed, IsContinued, ReadFailed}
+use Rattle.pssm_tool.specs.Stops.{LacksModel, holds_more, is_refused, LacksBuiltModel, no_model, not_built, StopsModel, StopsBuiltModel, GoesOn, StopsAll}
 
 -- ---- the model
 
 pub model_named : (meaning : Meaning) → NamesPath meaning (model_of meaning)
 model_named (Judges model journal) = inl refl
 model_named (Runs options model stimuli) = refl
+model_named (Checks model) = refl
+model_named (Prints model) = refl
 
--- An answer for want of a model accepts nothing.
-lacks_goes_on : (words : List (List ℕ)) (contents : Contents) (model : List ℕ) (answer : Answer) → LacksModel contents model answer → GoesOn words contents (Line answer)
-lacks_goes_on words contents model answer (large_model large is) = subst (λ (a : Answer). GoesOn words contents (Line a)) (sym is) tt
-lacks_goes_on words contents model answer (bad_model bad is) = subst (λ (a : Answer). GoesOn words contents (Line a)) (sym is) tt
+-- A reply that is owed, and that accepts no journal or one that goes on.
+abbrev IsGiven : List (List ℕ) → Contents → Reply → Type 0
+IsGiven words contents reply = IsOwed words contents reply × GoesOn words contents reply
+
+-- What is replied where there is no model is owed.
+lacks_owed : (words : List (List ℕ)) (meaning : Meaning) (contents : Contents) (reply : Reply) → Means words meaning → LacksModel contents (model_of meaning) reply → IsGiven words contents reply
+lacks_owed words meaning contents reply means (holds_more more is) = subst (λ (r : Reply). IsGiven words contents r) (sym is) (large_model meaning means more refl, tt)
+lacks_owed words meaning contents reply means (is_refused text wrong is) = subst (λ (r : Reply). IsGiven words contents r) (sym is) (refused meaning means wrong, tt)
+
+lacks_built_owed : (words : List (List ℕ)) (meaning : Meaning) (contents : Contents) (reply : Reply) → Means words meaning → IsAboutRuns meaning → LacksBuiltModel contents (model_of meaning) reply
+    → IsGiven words contents reply
+lacks_built_owed words meaning contents reply means about (no_model wrong) = lacks_owed words meaning contents reply means wrong
+lacks_built_owed words meaning contents reply means about (not_built text wrong is) = subst (λ (r : Reply). IsGiven words contents r) (sym is) (unbuilt meaning means about wrong, tt)
 
 -- The work ended at the model.
 pub stops_at_model : (words : List (List ℕ)) (meaning : Meaning) (contents : Contents) (before after : List ℕ → ℕ) (stop : Stop) → Means words meaning
     → StopsModel contents (before (model_of meaning)) (after (model_of meaning)) (model_of meaning) stop → StopsAll words contents before after stop
-stops_at_model words meaning contents before after (Answered answer) means lacks =
-    (no_model meaning means lacks, lacks_goes_on words contents (model_of meaning) answer lacks)
+stops_at_model words meaning contents before after (Answered reply) means wrong = lacks_owed words meaning contents reply means wrong
 stops_at_model words meaning contents before after ReadFault means rose = record { meaning = meaning; path = model_of meaning; means = means; named = model_named meaning; rose = rose }
 stops_at_model words meaning contents before after NoMemory means none = tt
+
+-- The work ended at a model that runs are about.
+pub stops_at_built_model : (words : List (List ℕ)) (meaning : Meaning) (contents : Contents) (before after : List ℕ → ℕ) (stop : Stop) → Means words meaning → IsAboutRuns meaning
+    → StopsBuiltModel contents (before (model_of meaning)) (after (model_of meaning)) (model_of meaning) stop → StopsAll words contents before after stop
+stops_at_built_model words meaning contents before after (Answered reply) means about wrong = lacks_built_owed words meaning contents reply means about wrong
+stops_at_built_model words meaning contents before after ReadFault means about rose = record { meaning = meaning; path = model_of meaning; means = means; named = model_named meaning; rose = rose }
+stops_at_built_model words meaning contents before after NoMemory means about none = tt
 
 -- ---- the journal
 
@@ -62,7 +76,7 @@ rose_after a b c fell rose below = let up : b < c = rose below in omega arith
 
 -- the model that was read, and what the judge said of the journal
 module _ (words : List (List ℕ)) (contents then : Contents) (before mid after : List ℕ → ℕ) (model journal : List ℕ) (setting : Setting) (is : IsJudge words model journal)
-    (reads : ReadsModel contents model setting) (same : SameContent contents then) (fell : NoneFell before mid) (r : Result Verdict JudgeFault)
+    (reads : HasBuiltModel contents model setting) (same : SameContent contents then) (fell : NoneFell before mid) (r : Result Verdict JudgeFault)
     (verdict : IfOk r (IsVerdictFor setting then journal)) (fault : IfErr r (IsFaultFor setting then (mid journal) (after journal) journal)) where
   due_said : (r : Result Verdict JudgeFault) → IfOk r (IsVerdictFor setting then journal) → IfErr r (IsFaultFor setting then (mid journal) (after journal) journal)
       → (answer : Answer) → said r ≡ Ok answer → IsDueForJournal then setting journal answer
@@ -89,7 +103,7 @@ module _ (words : List (List ℕ)) (contents then : Contents) (before mid after 
         setting = setting;
         bytes = v.bytes;
         entries = n;
-        model_is = reads;
+        model_is = reads.loads.reads;
         journal_is = same_bytes contents then journal v.bytes same v.reads;
         prefix = v.says.1;
       })))

@@ -1,9 +1,13 @@
+pub mod Regrouped
 pub mod Three
 pub mod NumberLaws
 pub mod WordLaws
 pub mod CallLaws
 pub mod RunLaws
 pub mod TextLaws
+pub mod RefusalLaws
+pub mod BuiltLaws
+pub mod LoadLaws
 pub mod DueLaws
 pub mod DueOnce
 pub mod ReplyLaws

@@ -1,6 +1,12 @@
 -- A list of three items is told by its items.
 use Rattle.std.proofs.Common.{◌≡◌, ◌≤◌, ◌<◌, List, [], ◌∷◌, length, get_or, arith}
 
+pub two_items : {X : Type 0} (xs : List X) (a b : X) → 2 ≤ length xs → length xs < 3 → a ≡ get_or xs 0 a → b ≡ get_or xs 1 b → xs ≡ a ∷ b ∷ []
+two_items [] a b low high p q = absurd (omega arith)
+two_items (x ∷ []) a b low high p q = absurd (omega arith)
+two_items (x ∷ y ∷ []) a b low high p q = cc
+two_items (x ∷ y ∷ z ∷ rest) a b low high p q = absurd (omega arith)
+
 pub three_items : {X : Type 0} (xs : List X) (a b c : X) → 3 ≤ length xs → length xs < 4 → a ≡ get_or xs 0 a → b ≡ get_or xs 1 b → c ≡ get_or xs 2 c → xs ≡ a ∷ b ∷ c ∷ []
 three_items [] a b c low high p q r = absurd (omega arith)
 three_items (x ∷ []) a b c low high p q r = absurd (omega arith)

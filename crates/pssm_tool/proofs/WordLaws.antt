@@ -3,7 +3,7 @@ use Rattle.std.proofs.Common.{◌≡◌, ◌<◌, ◌≤◌, ◌-◌, ◌^◌, �
 use Rattle.std.specs.declared.alloc.Global.{Global}
 use Rattle.std.specs.List.{AllByRecursion}
 use Rattle.pssm_tool.specs.declared.words.Options.{Options}
-use Rattle.pssm_tool.specs.Words.{texts, IsNumber, BeginWith, HasOption, given, left_out, BeginsWithDashes, IsStimulusText, IsJudge, IsRun, Meaning, Judges, Runs, Means, IsUsage}
+use Rattle.pssm_tool.specs.Words.{texts, IsNumber, BeginWith, HasOption, given, left_out, BeginsWithDashes, IsStimulusText, IsJudge, IsRun, IsCheck, IsPrint, Meaning, Judges, Runs, Checks, Prints, Means, IsUsage}
 use Rattle.pssm_tool.proofs.NumberLaws.{one_number}
 
 all_taken : {X : Type 0} (xs : List X) → take (length xs) xs ≡ xs
@@ -93,15 +93,33 @@ HasWorkers words rest n = HasOption (codes "--workers") 1 16 1 words rest n
 abbrev pub HasLimit : List (List ℕ) → List (List ℕ) → ℕ → Type 0
 HasLimit words rest n = HasOption (codes "--limit") 0 1000000 10000 words rest n
 
--- The first word of a run is not that of a judgement.
-no_judgement : (words : List (List ℕ)) (model journal : List ℕ) → IsJudge (codes "run" ∷ words) model journal → ⊥
-no_judgement words model journal e = let first : codes "run" ≡ codes "judge" = cc in cc
+-- the word that says which command it is
+abbrev pub verb_of : Meaning → List ℕ
+verb_of (Judges model journal) = codes "judge"
+verb_of (Runs options model stimuli) = codes "run"
+verb_of (Checks model) = codes "check"
+verb_of (Prints model) = codes "flat"
+
+begins : (words : List (List ℕ)) (meaning : Meaning) → Means words meaning → BeginWith words (verb_of meaning)
+begins words (Judges model journal) is = (model ∷ journal ∷ [], is)
+begins words (Runs options model stimuli) is = (is.after_run, is.verb)
+begins words (Checks model) is = (model ∷ [], is)
+begins words (Prints model) is = (model ∷ [], is)
+
+one_begin : (words : List (List ℕ)) (v w : List ℕ) → BeginWith words v → BeginWith words w → v ≡ w
+one_begin words v w p q = let e : v ∷ p.0 ≡ w ∷ q.0 = sym p.1 ∙ q.1 in cc
+
+-- Words have one verb.
+one_verb : (words : List (List ℕ)) (a b : Meaning) → Means words a → Means words b → verb_of a ≡ verb_of b
+one_verb words a b p q = one_begin words (verb_of a) (verb_of b) (begins words a p) (begins words b q)
 
 -- Words after `run` that are no run mean nothing.
 usage_from : (words : List (List ℕ)) → ((options : Options) (model : List ℕ) (stimuli : List (List ℕ)) → IsRun (codes "run" ∷ words) options model stimuli → ⊥)
     → IsUsage (codes "run" ∷ words)
-usage_from words none (Judges model journal) is = no_judgement words model journal is
 usage_from words none (Runs options model stimuli) is = none options model stimuli is
+usage_from words none (Judges model journal) is = let first : codes "run" ≡ codes "judge" = cc in cc
+usage_from words none (Checks model) is = let first : codes "run" ≡ codes "check" = cc in cc
+usage_from words none (Prints model) is = let first : codes "run" ≡ codes "flat" = cc in cc
 
 -- the words after `run`
 seed_of : (words : List (List ℕ)) (options : Options) (model : List ℕ) (stimuli : List (List ℕ)) → (p : IsRun (codes "run" ∷ words) options model stimuli)
@@ -193,11 +211,21 @@ one_run words o k m n s t p q =
 -- Words mean one thing at most.
 pub one_meaning : (words : List (List ℕ)) (a b : Meaning) → Means words a → Means words b → a ≡ b
 one_meaning words (Judges m j) (Judges n k) p q = let e : codes "judge" ∷ m ∷ j ∷ [] ≡ codes "judge" ∷ n ∷ k ∷ [] = sym p ∙ q in cc
-one_meaning words (Judges m j) (Runs o n s) p q =
-    absurd (no_judgement q.after_run m j (sym q.verb ∙ p))
-one_meaning words (Runs o m s) (Judges n j) p q =
-    absurd (no_judgement p.after_run n j (sym p.verb ∙ q))
 one_meaning words (Runs o m s) (Runs k n t) p q = one_run words o k m n s t p q
+one_meaning words (Checks m) (Checks n) p q = let e : codes "check" ∷ m ∷ [] ≡ codes "check" ∷ n ∷ [] = sym p ∙ q in cc
+one_meaning words (Prints m) (Prints n) p q = let e : codes "flat" ∷ m ∷ [] ≡ codes "flat" ∷ n ∷ [] = sym p ∙ q in cc
+one_meaning words (Judges m j) (Runs o n s) p q = let e : codes "judge" ≡ codes "run" = one_verb words (Judges m j) (Runs o n s) p q in cc
+one_meaning words (Judges m j) (Checks n) p q = let e : codes "judge" ≡ codes "check" = one_verb words (Judges m j) (Checks n) p q in cc
+one_meaning words (Judges m j) (Prints n) p q = let e : codes "judge" ≡ codes "flat" = one_verb words (Judges m j) (Prints n) p q in cc
+one_meaning words (Runs o m s) (Judges n j) p q = let e : codes "run" ≡ codes "judge" = one_verb words (Runs o m s) (Judges n j) p q in cc
+one_meaning words (Runs o m s) (Checks n) p q = let e : codes "run" ≡ codes "check" = one_verb words (Runs o m s) (Checks n) p q in cc
+one_meaning words (Runs o m s) (Prints n) p q = let e : codes "run" ≡ codes "flat" = one_verb words (Runs o m s) (Prints n) p q in cc
+one_meaning words (Checks m) (Judges n j) p q = let e : codes "check" ≡ codes "judge" = one_verb words (Checks m) (Judges n j) p q in cc
+one_meaning words (Checks m) (Runs o n s) p q = let e : codes "check" ≡ codes "run" = one_verb words (Checks m) (Runs o n s) p q in cc
+one_meaning words (Checks m) (Prints n) p q = let e : codes "check" ≡ codes "flat" = one_verb words (Checks m) (Prints n) p q in cc
+one_meaning words (Prints m) (Judges n j) p q = let e : codes "flat" ≡ codes "judge" = one_verb words (Prints m) (Judges n j) p q in cc
+one_meaning words (Prints m) (Runs o n s) p q = let e : codes "flat" ≡ codes "run" = one_verb words (Prints m) (Runs o n s) p q in cc
+one_meaning words (Prints m) (Checks n) p q = let e : codes "flat" ≡ codes "check" = one_verb words (Prints m) (Checks n) p q in cc
 
 -- The limit of a run is in its range.
 pub limit_low : (words : List (List ℕ)) (options : Options) (model : List ℕ) (stimuli : List (List ℕ)) → IsRun words options model stimuli → options.limit ≤ 1000000

@@ -4,9 +4,9 @@ use Rattle.std.specs.Fmt.{decimal}
 use Rattle.pssm_acts.specs.declared.entry.Rule.{Rule}
 use Rattle.pssm_acts.specs.declared.entry.Rule.TheVariants.{A1, A2, A3, A4, A5, A6, A7, A8, A9, A10, A11, A12}
 use Rattle.pssm_tool.specs.declared.answer.Answer.{Answer}
-use Rattle.pssm_tool.specs.declared.answer.Answer.TheVariants.{Accept, Refuse, Limit, Usage, BadModel, BadJournal, TooLarge}
+use Rattle.pssm_tool.specs.declared.answer.Answer.TheVariants.{Accept, Refuse, Limit, WellFormed, Usage, BadJournal, TooLarge}
 use Rattle.pssm_tool.specs.declared.reply.Reply.{Reply}
-use Rattle.pssm_tool.specs.declared.reply.Reply.TheVariants.{Line, Journal}
+use Rattle.pssm_tool.specs.declared.reply.Reply.TheVariants.{Line, Journal, Flat, BadModel}
 use Rattle.pssm_tool.specs.declared.run.Ended.{Ended}
 use Rattle.pssm_tool.specs.declared.run.Ended.TheVariants as ends
 
@@ -38,8 +38,8 @@ abbrev pub text_of : Answer → List ℕ
 text_of (Accept entries) = line (codes "accept " ++ decimal entries)
 text_of (Refuse entry rule) = refusal_line entry (number_of_rule rule)
 text_of (Limit entry) = line (codes "limit " ++ decimal entry)
+text_of WellFormed = line (codes "well formed")
 text_of Usage = line (codes "usage")
-text_of BadModel = line (codes "bad model")
 text_of BadJournal = line (codes "bad journal")
 text_of TooLarge = line (codes "too large")
 
@@ -47,8 +47,8 @@ text_of TooLarge = line (codes "too large")
 abbrev pub code_of : Answer → ℕ
 code_of (Accept entries) = 0
 code_of (Refuse entry rule) = 1
+code_of WellFormed = 0
 code_of Usage = 2
-code_of BadModel = 3
 code_of BadJournal = 4
 code_of (Limit entry) = 8
 code_of TooLarge = 9
@@ -62,11 +62,15 @@ code_of_end ends.Limit = 8
 abbrev pub reply_text : Reply → List ℕ
 reply_text (Line answer) = text_of answer
 reply_text (Journal text ended) = text
+reply_text (Flat text) = text
+reply_text (BadModel text) = text
 
 -- the status that goes with it
 abbrev pub reply_code : Reply → ℕ
 reply_code (Line answer) = code_of answer
 reply_code (Journal text ended) = code_of_end ended
+reply_code (Flat text) = 0
+reply_code (BadModel text) = 3
 
 -- the statuses of the program: 0 to 9
 abbrev pub IsStatus : ℕ → Type 0

@@ -1,5 +1,5 @@
 -- What the program owes for its words and files: first the words decide, then the model, then the stimuli, and then the journal or the run.
-use Rattle.std.specs.Prelude.{◌≡◌, ◌⊎◌, ℕ, List, Option, IsSome}
+use Rattle.std.specs.Prelude.{◌≡◌, ◌≢◌, ◌⊎◌, ℕ, List, [], Option, IsSome}
 use Rattle.std.specs.Io.KnownBytes.{Appends}
 use Rattle.pssm_base.specs.Faults.{Rose}
 use Rattle.pssm_base.specs.Reading.{Contents, ReadsWhole, HoldsMore}
@@ -7,17 +7,20 @@ use Rattle.pssm_acts.specs.declared.setting.Setting.{Setting}
 use Rattle.pssm_acts.specs.declared.stimulus.Stimulus.{Stimulus}
 use Rattle.pssm_flat.specs.Flat.{IsFlat}
 use Rattle.pssm_flat.specs.Text.{flat_text}
+use Rattle.pssm_flat.specs.declared.fault.FlatFault.{FlatFault}
+use Rattle.pssm_flat.specs.Faults.{IsFlatFault}
 use Rattle.pssm_journal.specs.Judged.{IsJudged, Accepted}
 use Rattle.pssm_judge.specs.Verdicts.{IsPrefixText}
 use Rattle.pssm_tool.specs.declared.words.Options.{Options}
 use Rattle.pssm_tool.specs.declared.answer.Answer.{Answer}
-use Rattle.pssm_tool.specs.declared.answer.Answer.TheVariants.{Usage, BadModel, TooLarge}
+use Rattle.pssm_tool.specs.declared.answer.Answer.TheVariants.{WellFormed, Usage, TooLarge}
 use Rattle.pssm_tool.specs.declared.reply.Reply.{Reply}
-use Rattle.pssm_tool.specs.declared.reply.Reply.TheVariants.{Line, Journal}
+use Rattle.pssm_tool.specs.declared.reply.Reply.TheVariants.{Line, Journal, Flat, BadModel}
 use Rattle.pssm_tool.specs.declared.run.Ended.{Ended}
-use Rattle.pssm_tool.specs.Words.{IsJudge, IsRun, Meaning, Judges, Runs, Means, IsUsage}
+use Rattle.pssm_tool.specs.Words.{IsJudge, IsRun, IsCheck, IsPrint, Meaning, Judges, Runs, Checks, Prints, Means, IsUsage}
 use Rattle.pssm_tool.specs.Stimuli.{AreStimuli, NameNoStimuli}
 use Rattle.pssm_tool.specs.Runs.{IsRunText}
+use Rattle.pssm_tool.specs.Refusals.{flat_fault_line, AreFaultLines, KeepRules, AreBuilt, IsNotBuiltLine}
 use Rattle.pssm_tool.specs.Answers.{reply_text}
 use Rattle.pssm_tool.specs.Verdicts.{IsVerdict}
 
@@ -29,11 +32,22 @@ most_bytes = 16777216
 abbrev pub model_of : Meaning → List ℕ
 model_of (Judges model journal) = model
 model_of (Runs options model stimuli) = model
+model_of (Checks model) = model
+model_of (Prints model) = model
 
 -- a path that the command names
 abbrev pub NamesPath : Meaning → List ℕ → Type 0
 NamesPath (Judges model journal) path = (path ≡ model) ⊎ (path ≡ journal)
 NamesPath (Runs options model stimuli) path = path ≡ model
+NamesPath (Checks model) path = path ≡ model
+NamesPath (Prints model) path = path ≡ model
+
+-- The command is about runs of the model, so the code has to know its forms.
+abbrev pub IsAboutRuns : Meaning → Type 0
+IsAboutRuns (Judges model journal) = Unit {0}
+IsAboutRuns (Runs options model stimuli) = Unit {0}
+IsAboutRuns (Checks model) = ⊥
+IsAboutRuns (Prints model) = ⊥
 
 -- The bytes of the path are the flat text of the setting.
 pub record ReadsModel (contents : Contents) (path : List ℕ) (setting : Setting) : Type 0 where
@@ -42,16 +56,26 @@ pub record ReadsModel (contents : Contents) (path : List ℕ) (setting : Setting
   pub flat : IsFlat setting
   pub spelled : bytes ≡ flat_text setting
 
--- The bytes of the path are the flat text of no setting.
-pub record ReadsNoModel (contents : Contents) (path : List ℕ) : Type 0 where
-  pub bytes : List ℕ
-  pub reads : ReadsWhole contents path most_bytes bytes
-  pub no_model : (setting : Setting) → IsFlat setting → bytes ≡ flat_text setting → ⊥
+-- The path has the flat text of the setting, which breaks no rule of models.
+pub record LoadsModel (contents : Contents) (path : List ℕ) (setting : Setting) : Type 0 where
+  pub reads : ReadsModel contents path setting
+  pub rules : KeepRules setting.classes
 
--- There is no model: the path holds too much, or the text of no setting.
-pub data LacksModel (contents : Contents) (model : List ℕ) (answer : Answer) : Type 0 where
-  large_model : HoldsMore contents model most_bytes → answer ≡ TooLarge → LacksModel contents model answer
-  bad_model : ReadsNoModel contents model → answer ≡ BadModel → LacksModel contents model answer
+-- It has such a setting, and the code runs every element of it.
+pub record HasBuiltModel (contents : Contents) (path : List ℕ) (setting : Setting) : Type 0 where
+  pub loads : LoadsModel contents path setting
+  pub built : AreBuilt setting.classes
+
+-- These lines say what is wrong with the model: its text has a fault, or its machines break rules of models.
+pub data IsRefused (contents : Contents) (model text : List ℕ) : Type 0 where
+  bad_text : (bytes : List ℕ) (fault : FlatFault) → ReadsWhole contents model most_bytes bytes → IsFlatFault bytes fault → text ≡ flat_fault_line fault → IsRefused contents model text
+  broken : (setting : Setting) → ReadsModel contents model setting → AreFaultLines setting.classes text → text ≢ [] → IsRefused contents model text
+
+-- This line names the first element of the model that the code does not run yet.
+pub record IsUnbuilt (contents : Contents) (model text : List ℕ) : Type 0 where
+  pub setting : Setting
+  pub loads : LoadsModel contents model setting
+  pub line : IsNotBuiltLine setting.classes text
 
 -- The answer is owed for the journal's path.
 pub data IsDueForJournal (contents : Contents) (setting : Setting) (journal : List ℕ) (answer : Answer) : Type 0 where
@@ -61,10 +85,24 @@ pub data IsDueForJournal (contents : Contents) (setting : Setting) (journal : Li
 -- The line of the answer is owed for the words and the files.
 pub data IsDue (words : List (List ℕ)) (contents : Contents) (answer : Answer) : Type 0 where
   usage : IsUsage words → answer ≡ Usage → IsDue words contents answer
-  no_model : (meaning : Meaning) → Means words meaning → LacksModel contents (model_of meaning) answer → IsDue words contents answer
-  judge : (model journal : List ℕ) (setting : Setting) → IsJudge words model journal → ReadsModel contents model setting → IsDueForJournal contents setting journal answer → IsDue words contents answer
-  unfit : (options : Options) (model : List ℕ) (stimuli : List (List ℕ)) (setting : Setting) → IsRun words options model stimuli → ReadsModel contents model setting
+  large_model : (meaning : Meaning) → Means words meaning → HoldsMore contents (model_of meaning) most_bytes → answer ≡ TooLarge → IsDue words contents answer
+  judge : (model journal : List ℕ) (setting : Setting) → IsJudge words model journal → HasBuiltModel contents model setting → IsDueForJournal contents setting journal answer → IsDue words contents answer
+  unfit : (options : Options) (model : List ℕ) (stimuli : List (List ℕ)) (setting : Setting) → IsRun words options model stimuli → HasBuiltModel contents model setting
       → NameNoStimuli setting stimuli → answer ≡ Usage → IsDue words contents answer
+  well_formed : (model : List ℕ) (setting : Setting) → IsCheck words model → LoadsModel contents model setting → answer ≡ WellFormed → IsDue words contents answer
+
+-- The lines on what is wrong with the model are owed for the words and the files.
+pub data IsDueRefusal (words : List (List ℕ)) (contents : Contents) (text : List ℕ) : Type 0 where
+  refused : (meaning : Meaning) → Means words meaning → IsRefused contents (model_of meaning) text → IsDueRefusal words contents text
+  unbuilt : (meaning : Meaning) → Means words meaning → IsAboutRuns meaning → IsUnbuilt contents (model_of meaning) text → IsDueRefusal words contents text
+
+-- The flat text of the model is owed for the words and the files.
+pub record IsDueText (words : List (List ℕ)) (contents : Contents) (text : List ℕ) : Type 0 where
+  pub model : List ℕ
+  pub setting : Setting
+  pub print : IsPrint words model
+  pub loads : LoadsModel contents model setting
+  pub text_is : text ≡ flat_text setting
 
 -- A run of the setting with these stimuli and this limit is owed for the words and the files.
 pub record IsRunDue (words : List (List ℕ)) (contents : Contents) (setting : Setting) (stimuli : List Stimulus) (limit : ℕ) : Type 0 where
@@ -72,7 +110,7 @@ pub record IsRunDue (words : List (List ℕ)) (contents : Contents) (setting : S
   pub model : List ℕ
   pub named : List (List ℕ)
   pub run : IsRun words options model named
-  pub reads : ReadsModel contents model setting
+  pub model_is : HasBuiltModel contents model setting
   pub stimuli_are : AreStimuli setting named stimuli
   pub limit_is : limit ≡ options.limit
 
@@ -84,10 +122,12 @@ pub record IsDueJournal (words : List (List ℕ)) (contents : Contents) (text : 
   pub due : IsRunDue words contents setting stimuli limit
   pub ran : IsRunText setting stimuli limit text ended
 
--- The reply is owed: the line of an answer, or the journal of a run.
+-- The reply is owed: the line of an answer, the journal of a run, a model's flat text, or the lines on what is wrong with it.
 abbrev pub IsOwed : List (List ℕ) → Contents → Reply → Type 0
 IsOwed words contents (Line answer) = IsDue words contents answer
 IsOwed words contents (Journal text ended) = IsDueJournal words contents text ended
+IsOwed words contents (Flat text) = IsDueText words contents text
+IsOwed words contents (BadModel text) = IsDueRefusal words contents text
 
 -- The reply is owed, and its text was written.
 pub record Gives (words : List (List ℕ)) (contents : Contents) (before after : Option (List ℕ)) (reply : Reply) : Type 0 where

@@ -6,3 +6,4 @@ pub mod Answers
 pub mod Verdicts
 pub mod Due
 pub mod Stops
+pub mod Refusals

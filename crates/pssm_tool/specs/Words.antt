@@ -7,7 +7,7 @@ use Rattle.pssm_acts.specs.Spelling.{IsName}
 use Rattle.pssm_journal.specs.LineText.{call_text}
 use Rattle.pssm_tool.specs.declared.words.Options.{Options}
 use Rattle.pssm_tool.specs.declared.words.Command.{Command}
-use Rattle.pssm_tool.specs.declared.words.Command.TheVariants.{Judge, Run}
+use Rattle.pssm_tool.specs.declared.words.Command.TheVariants.{Judge, Run, Check, Flat}
 
 -- the words as texts
 abbrev pub texts : List (String Global) → List (List ℕ)
@@ -58,14 +58,26 @@ pub record IsRun (words : List (List ℕ)) (options : Options) (model : List ℕ
   pub no_option : BeginsWithDashes model → ⊥
   pub spelled : AllByRecursion IsStimulusText stimuli
 
--- what words can mean: to judge a journal of a model, or to run a model with stimuli
+-- `check MODEL`
+abbrev pub IsCheck : List (List ℕ) → List ℕ → Type 0
+IsCheck words model = words ≡ codes "check" ∷ model ∷ []
+
+-- `flat MODEL`
+abbrev pub IsPrint : List (List ℕ) → List ℕ → Type 0
+IsPrint words model = words ≡ codes "flat" ∷ model ∷ []
+
+-- what words can mean: to judge a journal of a model, to run a model with stimuli, to check a model, or to print its flat text
 pub data Meaning : Type 0 where
   Judges : (model journal : List ℕ) → Meaning
   Runs : (options : Options) (model : List ℕ) (stimuli : List (List ℕ)) → Meaning
+  Checks : (model : List ℕ) → Meaning
+  Prints : (model : List ℕ) → Meaning
 
 abbrev pub Means : List (List ℕ) → Meaning → Type 0
 Means words (Judges model journal) = IsJudge words model journal
 Means words (Runs options model stimuli) = IsRun words options model stimuli
+Means words (Checks model) = IsCheck words model
+Means words (Prints model) = IsPrint words model
 
 -- The words mean nothing.
 abbrev pub IsUsage : List (List ℕ) → Type 0
@@ -75,3 +87,5 @@ IsUsage words = (meaning : Meaning) → Means words meaning → ⊥
 abbrev pub meaning_of : Command → Meaning
 meaning_of (Judge model journal) = Judges model.now journal.now
 meaning_of (Run options model stimuli) = Runs options model.now (texts stimuli.now)
+meaning_of (Check model) = Checks model.now
+meaning_of (Flat model) = Prints model.now

@@ -15,10 +15,10 @@ pub enum Answer {
     Refuse { entry: u32, rule: Rule },
     /// With this entry, counted from 1, the journal passes its limits, and no earlier entry breaks a rule.
     Limit { entry: u32 },
+    /// The model reads, and its machines keep the rules of models.
+    WellFormed,
     /// The words mean no command, or a stimulus among them names what the model does not have.
     Usage,
-    /// The model is no text of the flat form, as far as it is built.
-    BadModel,
     /// The journal is no text of the journal form, as far as it is built, and no earlier line breaks a rule.
     BadJournal,
     /// A file has more than 16,777,216 bytes.
@@ -31,10 +31,9 @@ impl Answer {
         ensures { result.code ≡ code_of self.now }
     {
         let code = match self {
-            Answer::Accept { .. } => 0,
+            Answer::Accept { .. } | Answer::WellFormed => 0,
             Answer::Refuse { .. } => 1,
             Answer::Usage => 2,
-            Answer::BadModel => 3,
             Answer::BadJournal => 4,
             Answer::Limit { .. } => 8,
             Answer::TooLarge => 9,
@@ -50,8 +49,8 @@ impl Answer {
             Answer::Accept { entries } => format!(in alloc; "accept {entries}\n"),
             Answer::Refuse { entry, rule } => refusal(alloc, entry, number(rule)),
             Answer::Limit { entry } => format!(in alloc; "limit {entry}\n"),
+            Answer::WellFormed => String::from_str(alloc, "well formed\n"),
             Answer::Usage => String::from_str(alloc, "usage\n"),
-            Answer::BadModel => String::from_str(alloc, "bad model\n"),
             Answer::BadJournal => String::from_str(alloc, "bad journal\n"),
             Answer::TooLarge => String::from_str(alloc, "too large\n"),
         }

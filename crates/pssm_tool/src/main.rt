@@ -1,5 +1,6 @@
-//! `zawhiroke judge MODEL JOURNAL` says whether a journal of a state machine's run is what UML says, and
-//! `zawhiroke run MODEL STIMULUS*` runs a state machine and writes the journal.
+//! `zawhiroke judge MODEL JOURNAL` says whether a journal of a state machine's run is what UML says,
+//! `zawhiroke run MODEL STIMULUS*` runs a state machine and writes the journal, `zawhiroke check MODEL` says what is
+//! wrong with a model, and `zawhiroke flat MODEL` writes its flat text.
 //!
 //! [`top::pssm`] does all of it, over inputs and a sink that it is handed; its clauses are what the program promises.
 //! `main` only hands it the words, the system's files and standard output.
@@ -9,6 +10,7 @@ mod answer;
 mod commands;
 mod load;
 mod numbers;
+mod refusal;
 mod reply;
 mod run;
 mod status;

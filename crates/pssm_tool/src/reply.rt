@@ -1,4 +1,4 @@
-//! What the program replies: an answer of one line, or the journal of a run.
+//! What the program replies: an answer of one line, the journal of a run, a model's text, or what is wrong with it.
 ghost use Rattle.std.specs.Prelude.{◌≡◌};
 ghost use Rattle.pssm_tool.specs.Answers.{code_of_end, reply_code};
 
@@ -14,6 +14,11 @@ pub enum Reply {
     Line(Answer),
     /// The text of a run's journal, and how the run ended.
     Journal { text: Text, ended: Ended },
+    /// The flat text of a model.
+    Flat(Text),
+    /// Why the model is refused: a fault of its text, the rules of models that it breaks, a line each, or the first
+    /// element that the code does not run yet.
+    BadModel(Text),
 }
 
 impl Reply {
@@ -24,6 +29,8 @@ impl Reply {
         match self {
             Reply::Line(answer) => answer.status(),
             Reply::Journal { ended, .. } => status_of(*ended),
+            Reply::Flat(_) => Status { code: 0 },
+            Reply::BadModel(_) => Status { code: 3 },
         }
     }
 }

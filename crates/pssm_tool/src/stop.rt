@@ -2,14 +2,14 @@
 ghost use Rattle.std.specs.Prelude.{◌≡◌};
 ghost use Rattle.pssm_tool.specs.declared.stop.Stop.TheVariants.{NoMemory as Memory};
 
-use crate::answer::Answer;
+use crate::reply::Reply;
 use std::alloc::AllocError;
 
-/// An answer that came early, or no reply at all.
-#[derive(Clone, Copy, PartialEq, Eq, Debug)]
+/// A reply that came early, or no reply at all.
+#[derive(Drop)]
 pub enum Stop {
-    /// The answer is this one.
-    Answered(Answer),
+    /// The reply is this one.
+    Answered(Reply),
     /// A file could not be read: the count of its path's faults rose.
     ReadFault,
     /// There was not enough memory.

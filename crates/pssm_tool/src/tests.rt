@@ -1,6 +1,7 @@
 //! Rows of the top call: words and files, and the status and the text that they deserve.
 mod faults;
 mod judging;
+mod models;
 mod running;
 mod usage;
 

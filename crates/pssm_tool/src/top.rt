@@ -12,11 +12,11 @@ ghost use Rattle.pssm_base.specs.Faults.{Rose};
 ghost use Rattle.pssm_base.specs.Putting.{TookPart};
 ghost use Rattle.pssm_tool.specs.Words.{texts, IsJudge, IsRun};
 ghost use Rattle.pssm_tool.specs.Answers.{reply_text, reply_code, code_of, IsStatus, IsFailure};
-ghost use Rattle.pssm_tool.specs.Due.{IsDue, IsRunDue, IsOwed, IsTold, Gives, IsContinued, IsAcceptedText, ReadFailed};
+ghost use Rattle.pssm_tool.specs.Due.{IsDue, IsDueRefusal, IsDueText, IsRunDue, IsOwed, IsTold, Gives, IsContinued, IsAcceptedText, ReadFailed};
 ghost use Rattle.pssm_tool.specs.Stops.{StopsAll, GoesOn};
 
 use crate::answer::Answer;
-use crate::commands::{judge_journal, run_model};
+use crate::commands::{check_model, judge_journal, print_model, run_model};
 use crate::reply::Reply;
 use crate::status::Status;
 use crate::stop::{Failure, Stop};
@@ -27,8 +27,8 @@ use std::alloc::Global;
 /// Does what the words say, and answers how the program ends. `words` are those after the program's name.
 ///
 /// `judge MODEL JOURNAL` judges a journal of a run of the model, and writes one line.
-/// `run [--seed N] [--workers W] [--limit L] MODEL STIMULUS*` runs the model and writes the journal. What is written
-/// goes to `out` at once, after all else is done; before that nothing is written. `rt` and `gate` are for commands
+/// `run [--seed N] [--workers W] [--limit L] MODEL STIMULUS*` runs the model and writes the journal. `check MODEL` says
+/// whether the model is well formed, and `flat MODEL` writes its flat text. What is written goes to `out` at once, after all else is done; before that nothing is written. `rt` and `gate` are for commands
 /// that start workers, of which there is none yet.
 pub fn pssm<R, I: Inputs, S: Sink, G: Gate + Sync>(
     _rt: &R,
@@ -39,12 +39,17 @@ pub fn pssm<R, I: Inputs, S: Sink, G: Gate + Sync>(
     _gate: &G,
 ) -> Status
     // 0: the journal is admissible, and `accept N` says how many entries it has; or the journal was written of a run
-    // that ended where nothing more can happen.
+    // that ended where nothing more can happen; or the model keeps the rules of models, and `well formed` or its flat
+    // text was written.
     ensures accepted { result.code ≡ 0
         → ((n : ℕ) × Gives (texts words.now) (I.content inputs.old)
         (S.taken out.old) (S.taken out.new) (Reply.Line (Answer.Accept n)))
         ⊎ ((text : List ℕ) × Gives (texts words.now) (I.content inputs.old)
-        (S.taken out.old) (S.taken out.new) (Reply.Journal text Ended.Quiet)) }
+        (S.taken out.old) (S.taken out.new) (Reply.Journal text Ended.Quiet))
+        ⊎ Gives (texts words.now) (I.content inputs.old)
+        (S.taken out.old) (S.taken out.new) (Reply.Line Answer.WellFormed)
+        ⊎ ((text : List ℕ) × Gives (texts words.now) (I.content inputs.old)
+        (S.taken out.old) (S.taken out.new) (Reply.Flat text)) }
 
     // The journal that was accepted is the beginning of a complete run.
     ensures continued { result.code ≡ 0 → (model journal : List ℕ) → IsJudge (texts words.now) model journal
@@ -58,9 +63,10 @@ pub fn pssm<R, I: Inputs, S: Sink, G: Gate + Sync>(
     ensures usage { result.code ≡ 2 → Gives (texts words.now) (I.content inputs.old)
         (S.taken out.old) (S.taken out.new) (Reply.Line Answer.Usage) }
 
-    // 3: the model's bytes are no flat text.
-    ensures bad_model { result.code ≡ 3 → Gives (texts words.now) (I.content inputs.old)
-        (S.taken out.old) (S.taken out.new) (Reply.Line Answer.BadModel) }
+    // 3: the model's bytes are no flat text, or its machines break rules of models, or `judge` or `run` does not know
+    // one of its forms yet; the lines say which and where.
+    ensures bad_model { result.code ≡ 3 → (text : List ℕ) × Gives (texts words.now) (I.content inputs.old)
+        (S.taken out.old) (S.taken out.new) (Reply.BadModel text) }
 
     // 4: the journal's bytes are no journal text, and no earlier line breaks a rule.
     ensures bad_journal { result.code ≡ 4 → Gives (texts words.now) (I.content inputs.old)
@@ -103,6 +109,13 @@ pub fn pssm<R, I: Inputs, S: Sink, G: Gate + Sync>(
     ensures exactly { (answer : Answer) → IsTold (texts words.now) (I.content inputs.old)
         → IsDue (texts words.now) (I.content inputs.old) answer → (result.code ≡ code_of answer) ⊎ IsFailure result.code }
 
+    // Where it is told what the files hold and a refusal of the model is owed, one comes, unless reading, writing or
+    // memory failed; and likewise the flat text of a model.
+    ensures refuses { (text : List ℕ) → IsTold (texts words.now) (I.content inputs.old)
+        → IsDueRefusal (texts words.now) (I.content inputs.old) text → (result.code ≡ 3) ⊎ IsFailure result.code }
+    ensures prints { (text : List ℕ) → IsTold (texts words.now) (I.content inputs.old)
+        → IsDueText (texts words.now) (I.content inputs.old) text → (result.code ≡ 0) ⊎ IsFailure result.code }
+
     // Where a run is owed, its journal comes with one of its two ends, unless reading, writing or memory failed.
     ensures runs { (setting : Setting) (stimuli : List Stimulus) (limit : ℕ) → IsTold (texts words.now) (I.content inputs.old)
         → IsRunDue (texts words.now) (I.content inputs.old) setting stimuli limit
@@ -128,7 +141,11 @@ fn tell<S: Sink>(alloc: Global, reply: &Reply, out: &mut S) -> Status
             Ok(text) => put(text.as_bytes(), reply.status(), out),
             Err(_) => Status { code: 7 },
         },
-        Reply::Journal { text, .. } => put(text.as_slice(), reply.status(), out),
+        Reply::Journal { text, .. } | Reply::Flat(text) | Reply::BadModel(text) => put(
+            text.as_slice(),
+            reply.status(),
+            out,
+        ),
     }
 }
 
@@ -154,7 +171,7 @@ fn owed<I: Inputs>(alloc: Global, words: &[String], inputs: &mut I) -> Result<Re
 {
     match reply(alloc, words, inputs) {
         Ok(reply) => Ok(reply),
-        Err(Stop::Answered(answer)) => Ok(Reply::Line(answer)),
+        Err(Stop::Answered(reply)) => Ok(reply),
         Err(Stop::ReadFault) => Err(Failure::ReadFault),
         Err(Stop::NoMemory) => Err(Failure::NoMemory),
     }
@@ -176,6 +193,8 @@ fn reply<I: Inputs>(alloc: Global, words: &[String], inputs: &mut I) -> Result<R
                 stimuli,
             },
         ) => run_model(alloc, inputs, options, model, stimuli),
+        Some(Command::Check { model }) => check_model(alloc, inputs, model),
+        Some(Command::Flat { model }) => print_model(alloc, inputs, model),
         None => Ok(Reply::Line(Answer::Usage)),
     }
 }

@@ -30,6 +30,14 @@ pub enum Command<'a> {
         model: &'a str,
         stimuli: &'a [String],
     },
+    /// Check the model.
+    Check {
+        model: &'a str,
+    },
+    /// Print the flat text of the model.
+    Flat {
+        model: &'a str,
+    },
 }
 
 /// The command that the words mean, if they mean one. They mean no more than one.
@@ -43,6 +51,12 @@ pub fn command_of(words: &[String]) -> Option<Command<'_>>
         [verb, model, journal] if verb.as_str() == "judge" => Some(Command::Judge {
             model: model.as_str(),
             journal: journal.as_str(),
+        }),
+        [verb, model] if verb.as_str() == "check" => Some(Command::Check {
+            model: model.as_str(),
+        }),
+        [verb, model] if verb.as_str() == "flat" => Some(Command::Flat {
+            model: model.as_str(),
         }),
         _ => None,
     }

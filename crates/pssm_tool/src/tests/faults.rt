@@ -46,6 +46,9 @@ fn reports_faults(rt: HostRuntime) -> Result<(), Fail> {
         ("run model", 9, 2, 6, "pssm-j"),
         ("run --limit 0 model", 9, 0, 6, ""),
         ("run model b.Go()", 9, 1, 6, "usa"),
+        ("check model", 0, 9, 5, ""),
+        ("check model", 9, 1, 6, "wel"),
+        ("flat model", 9, 1, 6, "pss"),
     ];
     for (line, read, write, code, text) in rows {
         let (status, written) = with_faults(&rt, line, read, write)?;
@@ -62,7 +65,12 @@ fn reports_faults(rt: HostRuntime) -> Result<(), Fail> {
 #[test]
 fn refuses_large_files(rt: HostRuntime) -> Result<(), Fail> {
     let alloc = rt.alloc();
-    for line in ["judge large large", "run large a.Go()"] {
+    for line in [
+        "judge large large",
+        "run large a.Go()",
+        "check large",
+        "flat large",
+    ] {
         let words = words(alloc, line)?;
         let mut files = Vec::new(alloc);
         files.push((

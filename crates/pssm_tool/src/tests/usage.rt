@@ -13,6 +13,8 @@ fn reads_words(rt: HostRuntime) -> Result<(), Fail> {
         "judge model",
         "judge model journal more",
         "Judge model journal",
+        "Check model",
+        "flat model journal",
         "run",
         "Run model",
         "run --seed 5",
@@ -88,12 +90,12 @@ fn answers_in_order(rt: HostRuntime) -> Result<(), Fail> {
     let rows = [
         ("judge other journal", GO, 5, ""),
         ("judge model other", GO, 5, ""),
-        ("judge model journal", "", 3, "bad model/"),
-        ("judge model other", "no model/", 3, "bad model/"),
+        ("judge model journal", "", 3, "flat line 1 bad line/"),
+        ("judge model other", "no model/", 3, "flat line 1 bad line/"),
         ("run other", GO, 5, ""),
         ("run other b.Go()", GO, 5, ""),
-        ("run model", "", 3, "bad model/"),
-        ("run model b.Go()", "no model/", 3, "bad model/"),
+        ("run model", "", 3, "flat line 1 bad line/"),
+        ("run model b.Go()", "no model/", 3, "flat line 1 bad line/"),
     ];
     for (line, model, code, text) in rows {
         let (status, written) = answer(&rt, line, model, spelled(rt.alloc(), "#")?)?;

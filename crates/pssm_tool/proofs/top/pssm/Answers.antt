@@ -1,6 +1,6 @@
 use Rattle.std.proofs.Common.{◌⊎◌, ◌≡◌, sym, ◌∙◌, inl, inr, arith}
 use Rattle.pssm_tool.specs.Words.{texts}
-use Rattle.pssm_tool.proofs.ReplyLaws.{gives_good, gives_refuse, gives_usage, gives_bad_model, gives_bad_journal, gives_limit, gives_too_large, run_accepted, accepted_goes_on, exactly_due, runs_due}
+use Rattle.pssm_tool.proofs.ReplyLaws.{gives_good, gives_refuse, gives_usage, gives_bad_model, gives_bad_journal, gives_limit, gives_too_large, run_accepted, accepted_goes_on, exactly_due, refusal_due, text_due, runs_due}
 use Rattle.pssm_tool.proofs.top.pssm.Goals as goal
 
 pub returns-in-Ok-clause-accepted : goal.returns-in-Ok-clause-accepted
@@ -62,6 +62,15 @@ returns-in-Ok-clause-accepts_runs g c options model stimuli is code = elim code 
 pub returns-in-Ok-clause-exactly : goal.returns-in-Ok-clause-exactly
 returns-in-Ok-clause-exactly g c answer known due =
     exactly_due (texts c.args.words.now) (g.I.Inputs.content c.args.inputs.now) c.tell.result.code c.in-Ok.reply answer known c.in-Ok.ensures.owed c.tell.ensures.told due
+
+-- A refusal of the model that is owed comes, and so does a flat text.
+pub returns-in-Ok-clause-refuses : goal.returns-in-Ok-clause-refuses
+returns-in-Ok-clause-refuses g c text known due =
+    refusal_due (texts c.args.words.now) (g.I.Inputs.content c.args.inputs.now) c.tell.result.code c.in-Ok.reply text known c.in-Ok.ensures.owed c.tell.ensures.told due
+
+pub returns-in-Ok-clause-prints : goal.returns-in-Ok-clause-prints
+returns-in-Ok-clause-prints g c text known due =
+    text_due (texts c.args.words.now) (g.I.Inputs.content c.args.inputs.now) c.tell.result.code c.in-Ok.reply text known c.in-Ok.ensures.owed c.tell.ensures.told due
 
 -- The run that is owed comes.
 pub returns-in-Ok-clause-runs : goal.returns-in-Ok-clause-runs

@@ -1,7 +1,7 @@
 use Rattle.std.proofs.Common.{◌≡◌, ◌∙◌, List, ℕ, IfSome, codes, ap, sym, subst}
 use Rattle.std.proofs.lemmas.Slice.Eq.{bytes_eq-Decides}
 use Rattle.pssm_tool.specs.Words.{texts, Means, meaning_of}
-use Rattle.pssm_tool.proofs.Three.{three_items}
+use Rattle.pssm_tool.proofs.Three.{two_items, three_items}
 use Rattle.pssm_tool.proofs.WordLaws.{first_and_rest, words_first, one_meaning}
 use Rattle.pssm_tool.proofs.words.command_of.Goals as goal
 
@@ -19,7 +19,22 @@ returns-in-len1-up-clause-once c = one_meaning (texts c.args.words.now)
 -- The three words are the verb and the two paths that were read.
 pub returns-in-len3-clause-reads : goal.returns-in-len3-clause-reads
 returns-in-len3-clause-reads c =
-    let all = three_items c.args.words.now c.verb-item-then-words-lt4.result c.model-item.result c.journal-item.result c.in-len3.len_at_least c.in-len3.len_below c.verb-item-then-words-lt4.is c.model-item.is c.journal-item.is in
-    let verb = (bytes_eq-Decides c.as_str-then-words-lt4.result.now (codes "judge")).0 (sym (c.if-eq-2.ensures {u = tt})) in
+    let all = three_items c.args.words.now c.verb-item-then-words-lt4.result c.model-item-then-words-lt4.result c.journal-item.result c.in-len3.len_at_least c.in-len3.len_below c.verb-item-then-words-lt4.is c.model-item-then-words-lt4.is c.journal-item.is in
+    let verb = (bytes_eq-Decides c.as_str-then-words-lt4.result.now (codes "judge")).0 (sym (c.if-eq-4.ensures {u = tt})) in
     let read = ap texts all in
     cc (read, verb, c.as_str-then-words-lt4.ensures.value, c.as_str-in-len3.ensures.value, c.as_str-in-len3-2.ensures.value)
+
+-- The two words are the verb and the path that was read.
+pub returns-in-len2-clause-reads : goal.returns-in-len2-clause-reads
+returns-in-len2-clause-reads c =
+    let all = two_items c.args.words.now c.verb-item-then-words-lt3.result c.model-item.result c.in-len2.len_at_least c.in-len2.len_below c.verb-item-then-words-lt3.is c.model-item.is in
+    let verb = (bytes_eq-Decides c.as_str-then-words-lt3.result.now (codes "check")).0 (sym (c.if-eq-2.ensures {u = tt})) in
+    let read = ap texts all in
+    cc (read, verb, c.as_str-then-words-lt3.ensures.value, c.as_str-in-len2.ensures.value)
+
+pub returns-in-len2-2-clause-reads : goal.returns-in-len2-2-clause-reads
+returns-in-len2-2-clause-reads c =
+    let all = two_items c.args.words.now c.verb-item-then-words-lt3-2.result c.model-item-then-words-lt3.result c.in-len2.len_at_least c.in-len2.len_below c.verb-item-then-words-lt3-2.is c.model-item-then-words-lt3.is in
+    let verb = (bytes_eq-Decides c.as_str-then-words-lt3-2.result.now (codes "flat")).0 (sym (c.if-eq-3.ensures {u = tt})) in
+    let read = ap texts all in
+    cc (read, verb, c.as_str-then-words-lt3-2.ensures.value, c.as_str-in-len2-2.ensures.value)

@@ -1,0 +1,27 @@
+-- A model that loads and is built whole is one that the code runs.
+use Rattle.std.proofs.Common.{◌≡◌, List, ℕ, [], ◌∷◌, subst}
+use Rattle.std.specs.List.{AllByRecursion}
+use Rattle.pssm_base.specs.Reading.{Contents}
+use Rattle.pssm_model.specs.Shape.{HasShape}
+use Rattle.pssm_model.specs.WellFormed.{KeepsModelRules}
+use Rattle.pssm_model.proofs.BuiltFrom.{built_from_rules}
+use Rattle.pssm_acts.specs.declared.setting.Class.{Class}
+use Rattle.pssm_acts.specs.declared.setting.Setting.{Setting}
+use Rattle.pssm_acts.specs.Built.{IsBuilt}
+use Rattle.pssm_acts.proofs.BuiltSettings.{built_setting}
+use Rattle.pssm_flat.specs.Flat.{IsFlat}
+use Rattle.pssm_tool.specs.Refusals.{IsBuiltWhole}
+use Rattle.pssm_tool.specs.Due.{HasBuiltModel}
+
+-- The machines of a setting that was read have the shape of machines.
+pub have_shape : (s : Setting) → IsFlat s → AllByRecursion (λ (x : Class). HasShape x.machine) s.classes
+have_shape s flat = flat.shape
+
+pub is_built : (contents : Contents) (path : List ℕ) (s : Setting) → HasBuiltModel contents path s → IsBuilt s
+is_built contents path s has =
+    let silent = has.loads.reads.flat.written.silent in
+    let one : (P : Class → Type 0) → AllByRecursion P s.classes → P silent.class = λ P all. (subst (λ xs. AllByRecursion P xs) silent.classes all).0 in
+    built_setting silent (built_from_rules silent.class_is.machine
+    (one (λ x. HasShape x.machine) (have_shape s has.loads.reads.flat))
+    (one (λ x. KeepsModelRules x.machine) has.loads.rules)
+    (one IsBuiltWhole has.built))

@@ -1,0 +1,7 @@
+use Rattle.std.proofs.Common.{◌≡◌, ◌++◌, List, ℕ, codes, append_assoc}
+use Rattle.std.specs.Fmt.{decimal}
+use Rattle.pssm_tool.proofs.Regrouped.{regrouped}
+use Rattle.pssm_tool.proofs.refusal.shape_line.Goals as goal
+
+pub returns : goal.returns
+returns c = regrouped c.format.result _ (codes "flat line " ++ decimal c.args.line ++ codes " shape " ++ c.args.shape.now ++ codes "\n") c.format.ensures.ok (simp append_assoc)
