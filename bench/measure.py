@@ -37,7 +37,7 @@ def measure(words, output=subprocess.DEVNULL):
     return seconds, usage.ru_maxrss
 
 
-def report(name, entries, seconds, memory):
+def report(name, count, seconds, memory, unit='entries'):
     """One line on a call."""
-    print('%-13s %9d entries  %7.3f s  %10.0f entries/s  %7.1f MiB'
-          % (name, entries, seconds, entries / seconds, memory / 1024))
+    print('%-14s %9d %s  %7.3f s  %10.0f %s/s  %7.1f MiB'
+          % (name, count, unit, seconds, count / seconds, unit, memory / 1024))
