@@ -1,23 +1,26 @@
 -- The arrows of a walk, as they are put into lists.
-use Rattle.std.proofs.Common.{◌≡◌, ◌↔◌, ◌⊎◌, ◌<◌, ◌≤◌, ◌+◌, ◌==◌, ℕ, List, [], ◌∷◌, ◌++◌, if◌then◌else◌, length, Bool, get_or, Contains, Vec, Global, Some, refl, sym, ap, subst, ◌∙◌, inl, inr, ⊎_elim, arith, eq-eqb}
+use Rattle.std.proofs.Common.{◌≡◌, ◌↔◌, ◌⊎◌, ◌<◌, ◌≤◌, ◌+◌, ◌==◌, ℕ, List, [], ◌∷◌, ◌++◌, if◌then◌else◌, length, Bool, Contains, Vec, Global, refl, sym, ap, subst, ◌∙◌, inl, inr, ⊎_elim, arith, eq-eqb}
 use Rattle.std.proofs.lemmas.Bool.{cases_eq, ne_eqb}
 use Rattle.std.proofs.lemmas.List.{append-nil}
 use Rattle.std.proofs.lemmas.List.Elements.{Contains-append_left, Contains-append_right, Contains-append_cases, Contains-push, Contains-push_cases}
 use Rattle.pssm_model.specs.declared.ids.VertexId.{VertexId}
-use Rattle.pssm_model.specs.declared.ids.TransId.{TransId}
+use Rattle.pssm_model.specs.declared.ids.RegionId.{RegionId}
 use Rattle.pssm_model.specs.declared.elements.DraftMachine.{DraftMachine}
+use Rattle.pssm_model.specs.declared.elements.VertexKind.TheVariants as kinds
+use Rattle.pssm_model.specs.declared.elements.Owner.TheVariants.{State}
 use Rattle.pssm_model.specs.Legs.{Leaves, Enters}
 use Rattle.pssm_model.specs.Shape.{HasShape}
-use Rattle.pssm_model.specs.Firing.{IsLateOrigin}
+use Rattle.pssm_model.specs.Firing.{IsHistory, IsLateOrigin}
 use Rattle.pssm_wellformed.specs.declared.survey.End.TheVariants.{Source, Target}
 use Rattle.pssm_wellformed.specs.declared.walks.Walk.{Walk}
 use Rattle.pssm_wellformed.specs.declared.walks.Walk.TheVariants.{Through}
 use Rattle.pssm_wellformed.specs.Lists.{list_at}
-use Rattle.pssm_wellformed.specs.Survey.{HasEnd, vertex_number, transition_number}
-use Rattle.pssm_wellformed.specs.Walks.{Passes, near_end, far_end, LeadsWalk, AreArrowsBelow, AreArrows, IsDefault, AreLeadsBelow, AreLeads, IsLateTarget, IsLateTargetBelow}
+use Rattle.pssm_wellformed.specs.Survey.{HasEnd, OwnsOfKind, vertex_number, region_number, transition_number}
+use Rattle.pssm_wellformed.specs.Walks.{Passes, near_end, far_end, AreArrowsBelow, AreArrows, AreArrowsAlong, AreArrowsWith, IsDefault, number_of_region, LeadsThrough, LeadsToRegion, LeadsFromRegion, AreLeads, IsLateTarget, IsLateTargetBelow}
 use Rattle.pssm_wellformed.specs.Reach.{StaysWithin}
 use Rattle.pssm_wellformed.proofs.Listing.{puts_here, puts_there}
-use Rattle.pssm_wellformed.proofs.Places.{end_there, end_only, kind_there}
+use Rattle.pssm_wellformed.proofs.Places.{end_there, end_only, kind_there, owning_region_there, one_region}
+use Rattle.pssm_wellformed.proofs.Walking.{only_first}
 
 pub arrows_begin : (m : DraftMachine) (walk : Walk) (onward : List (Vec ℕ Global)) → length onward ≡ length m.vertices → ((k : ℕ) → list_at onward k ≡ [])
     → AreArrowsBelow m walk 0 onward
@@ -100,27 +103,29 @@ arrows_within m shape walk onward h a b c =
     let w = (h.arrows a b).0 c in
     subst (λ k. b < k) (sym h.width) (end_there m shape (far_end walk) w.0 (vertex_number b) w.1.2).1
 
--- arrows of history vertices without transitions
-pub leads_begin : (m : DraftMachine) (onward : List (Vec ℕ Global)) → AreArrows m Through onward → AreLeadsBelow m 0 onward
-leads_begin m onward h = record {
-  width = h.width;
-  arrows = λ a b. (λ c. inl ((h.arrows a b).0 c), λ w. ⊎_elim (λ t. (h.arrows a b).1 t) (λ d. absurd (let lt = d.0 in omega arith)) w);
+-- before the first number from which the second relation leads there are only arrows along the first
+pub with_begins : (count count' n : ℕ) (Leads More : ℕ → ℕ → Type 0) (onward : List (Vec ℕ Global)) → ((a b : ℕ) → More a b → n ≤ a) → count ≡ count'
+    → AreArrowsAlong count Leads onward → AreArrowsWith count' n Leads More onward
+with_begins count count' n Leads More onward from is h = record {
+  width = h.width ∙ is;
+  arrows = λ a b. (λ c. inl ((h.arrows a b).0 c), λ w. ⊎_elim (λ l. (h.arrows a b).1 l) (λ d. absurd (let lt = d.0 in let le = from a b d.1 in omega arith)) w);
 }
 
-pub leads_more : (m : DraftMachine) (n : ℕ) (old new : List (Vec ℕ Global)) (items : List ℕ) → ((b : ℕ) → Contains items b ↔ IsDefault m n b)
-    → length new ≡ length old → ((k : ℕ) → list_at new k ≡ list_at old k ++ (if k == n then items else []))
-    → AreLeadsBelow m n old → AreLeadsBelow m (n + 1) new
-leads_more m n old new items are width puts h = record {
-  width = width ∙ h.width;
+-- the ends of one number more are put
+pub with_more : (count count' n : ℕ) (Leads More : ℕ → ℕ → Type 0) (old new : List (Vec ℕ Global)) (items : List ℕ) → ((b : ℕ) → Contains items b ↔ More n b)
+    → length new ≡ count' → ((k : ℕ) → list_at new k ≡ list_at old k ++ (if k == n then items else []))
+    → AreArrowsWith count n Leads More old → AreArrowsWith count' (n + 1) Leads More new
+with_more count count' n Leads More old new items are width puts h = record {
+  width = width;
   arrows = λ a b. ⊎_elim
       (λ (here : a ≡ n).
       let is : list_at new a ≡ list_at old a ++ items = puts a ∙ ap (λ (x : Bool). list_at old a ++ (if x then items else [])) (eq-eqb a n here) in (
         λ c. ⊎_elim (λ old'. ⊎_elim inl (λ d. inr ((let lt = d.0 in omega arith), d.1)) ((h.arrows a b).0 old'))
-            (λ more. inr (omega arith, subst (λ k. IsDefault m k b) (sym here) ((are b).0 more)))
+            (λ more. inr (omega arith, subst (λ k. More k b) (sym here) ((are b).0 more)))
             (Contains-append_cases (list_at old a) items b (subst (λ xs. Contains xs b) is c)),
         λ w. subst (λ xs. Contains xs b) (sym is) (⊎_elim
-            (λ t. Contains-append_left (list_at old a) items b ((h.arrows a b).1 (inl t)))
-            (λ d. Contains-append_right (list_at old a) items b ((are b).1 (subst (λ k. IsDefault m k b) here d.1))) w),
+            (λ l. Contains-append_left (list_at old a) items b ((h.arrows a b).1 (inl l)))
+            (λ d. Contains-append_right (list_at old a) items b ((are b).1 (subst (λ k. More k b) here d.1))) w),
       ))
       (λ (other : a ≡ n → ⊥).
       let is : list_at new a ≡ list_at old a =
@@ -131,21 +136,77 @@ leads_more m n old new items are width puts h = record {
       (cases_eq a n);
 }
 
-pub leads_end : (m : DraftMachine) (n : ℕ) (onward : List (Vec ℕ Global)) → ((a b : ℕ) → IsDefault m a b → a < n) → AreLeadsBelow m n onward → AreLeads m onward
-leads_end m n onward within h = record {
+-- the second relation does not lead from a number
+pub with_none : (count n : ℕ) (Leads More : ℕ → ℕ → Type 0) (onward : List (Vec ℕ Global)) → ((b : ℕ) → More n b → ⊥)
+    → AreArrowsWith count n Leads More onward → AreArrowsWith count (n + 1) Leads More onward
+with_none count n Leads More onward none h = record {
   width = h.width;
+  arrows = λ a b. (
+    λ c. ⊎_elim inl (λ d. inr ((let lt = d.0 in omega arith), d.1)) ((h.arrows a b).0 c),
+    λ w. (h.arrows a b).1 (⊎_elim inl
+        (λ d. ⊎_elim (λ (here : a ≡ n). absurd (none b (subst (λ k. More k b) here d.1))) (λ (other : a ≡ n → ⊥). inr ((let lt = d.0 in omega arith), d.1)) (cases_eq a n))
+        w),
+  );
+}
+
+-- past the last number from which the second relation leads there are the arrows along both
+pub with_ends : (count count' n : ℕ) (Leads More : ℕ → ℕ → Type 0) (onward : List (Vec ℕ Global)) → ((a b : ℕ) → More a b → a < n) → count ≡ count'
+    → AreArrowsWith count n Leads More onward → AreArrowsAlong count' (λ a b. Leads a b ⊎ More a b) onward
+with_ends count count' n Leads More onward within is h = record {
+  width = h.width ∙ is;
   arrows = λ a b. (
     λ c. ⊎_elim inl (λ d. inr d.1) ((h.arrows a b).0 c),
     λ w. (h.arrows a b).1 (⊎_elim inl (λ d. inr (within a b d, d)) w),
   );
 }
 
-pub default_there : (m : DraftMachine) (a b : ℕ) → IsDefault m a b → (a < length m.vertices) × (b < length m.vertices)
-default_there m a b d = (⊎_elim (λ s. kind_there m (vertex_number a) _ s) (λ s. kind_there m (vertex_number a) _ s) d.1, kind_there m (vertex_number b) _ d.4.0)
+-- the arrows of the walk through pseudostates
+pub through_along : (m : DraftMachine) (onward : List (Vec ℕ Global)) → AreArrows m Through onward → AreArrowsAlong (length m.vertices) (LeadsThrough m) onward
+through_along m onward h = record { width = h.width; arrows = h.arrows }
 
+-- a history vertex is there
+pub history_there : (m : DraftMachine) (v : VertexId) → IsHistory m v → v.0 < length m.vertices
+history_there m v h = ⊎_elim (λ s. kind_there m v _ s) (λ d. kind_there m v _ d) h
+
+-- arrows from regions come from numbers behind those of the vertices, and end at vertices
+pub from_region_there : (m : DraftMachine) → HasShape m → (a b : ℕ) → LeadsFromRegion m a b → (length m.vertices ≤ a) × (a < length m.vertices + length m.regions) × (b < length m.vertices)
+from_region_there m shape a b d =
+    let there = owning_region_there m shape (vertex_number b) d.0 d.2.1 in
+    let is = d.1 in
+    (omega arith, omega arith, kind_there m (vertex_number b) _ d.2.0)
+
+-- arrows to regions come from vertices, and end at numbers behind theirs
+pub to_region_there : (m : DraftMachine) → HasShape m → (a b : ℕ) → LeadsToRegion m a b → (a < length m.vertices) × (length m.vertices ≤ b) × (b < length m.vertices + length m.regions)
+to_region_there m shape a b d =
+    let there = owning_region_there m shape (vertex_number a) d.0 d.2.2 in
+    let is = d.1 in
+    (history_there m (vertex_number a) d.2.0, omega arith, omega arith)
+
+-- a vertex leads by default to no region but its own
+pub only_default : (m : DraftMachine) (v : VertexId) (r : RegionId) (place : ℕ) → place ≡ number_of_region m r → IsDefault m v r
+    → (b : ℕ) → Contains (place ∷ []) b ↔ LeadsToRegion m v.0 b
+only_default m v r place is default b = (
+  λ c. (r, sym (only_first place b c) ∙ is, default),
+  λ d. subst (Contains (place ∷ [])) (is ∙ ap (number_of_region m) (one_region m (State v) r d.0 default.2 d.2.2) ∙ sym d.1) (0, omega arith, refl),
+)
+
+-- the number of a region leads to the initial vertices of that region alone
+pub region_leads : (m : DraftMachine) (r : RegionId) (items : List ℕ) → ((b : ℕ) → Contains items b ↔ OwnsOfKind m kinds.Initial r (vertex_number b))
+    → (b : ℕ) → Contains items b ↔ LeadsFromRegion m (number_of_region m r) b
+region_leads m r items are b = (
+  λ c. (r, refl, (are b).0 c),
+  λ d.
+      let same : d.0 ≡ r = ap region_number (let is = d.1 in omega arith) in
+      (are b).1 (subst (λ q. OwnsOfKind m kinds.Initial q (vertex_number b)) same d.2),
+)
+
+-- every arrow ends at a number that has a list
 pub leads_within : (m : DraftMachine) → HasShape m → (onward : List (Vec ℕ Global)) → AreLeads m onward → StaysWithin onward
 leads_within m shape onward h a b c =
-    subst (λ k. b < k) (sym h.width) (⊎_elim (λ t. (end_there m shape Target t.0 (vertex_number b) t.1.2).1) (λ d. (default_there m a b d).1) ((h.arrows a b).0 c))
+    subst (λ k. b < k) (sym h.width) (⊎_elim
+    (λ out. ⊎_elim (λ t. let lt = (end_there m shape Target t.0 (vertex_number b) t.1.2).1 in omega arith) (λ d. (to_region_there m shape a b d).2) out)
+    (λ d. let lt = (from_region_there m shape a b d).2 in omega arith)
+    ((h.arrows a b).0 c))
 
 -- where late transitions end: one more, or passed over
 pub late_more : (m : DraftMachine) (n : ℕ) (xs : List ℕ) (source target : VertexId) → Leaves m (transition_number n) source → Enters m (transition_number n) target

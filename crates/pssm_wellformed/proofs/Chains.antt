@@ -1,16 +1,14 @@
 -- Owner chains: what lies under what.
-use Rattle.std.proofs.Common.{◌≡◌, ◌⊎◌, ◌<◌, ℕ, length, Some, refl, sym, ap, subst, ◌∙◌, inl, inr, ⊎_elim}
-use Rattle.std.proofs.lemmas.Bool.{cases_eq}
+use Rattle.std.proofs.Common.{◌≡◌, ◌⊎◌, ◌<◌, ℕ, length, Some, sym, subst, inl, inr, ⊎_elim}
 use Rattle.pssm_model.specs.declared.ids.VertexId.{VertexId}
 use Rattle.pssm_model.specs.declared.ids.RegionId.{RegionId}
 use Rattle.pssm_model.specs.declared.elements.DraftMachine.{DraftMachine}
 use Rattle.pssm_model.specs.declared.elements.Owner.{Owner}
 use Rattle.pssm_model.specs.declared.elements.Owner.TheVariants.{Top, Region, State}
-use Rattle.pssm_model.specs.Forest.{owner_of, LiesUnder, LiesInRegion, LiesInState, HasRegionsAbove}
+use Rattle.pssm_model.specs.Forest.{owner_of, LiesUnder, LiesInRegion, HasRegionsAbove}
 use Rattle.pssm_model.specs.Forest.LiesUnder.{owned, further}
 use Rattle.pssm_model.specs.Forest.HasRegionsAbove.{region, state, machine}
 use Rattle.pssm_model.specs.Shape.{HasShape}
-use Rattle.pssm_model.proofs.BuiltElements.{some_at}
 use Rattle.pssm_wellformed.proofs.Places.{owner_may, owning_region_there}
 
 -- Chains follow on each other.
@@ -39,25 +37,15 @@ chain_region_there m shape (State v) r (owned e) = owning_region_there m shape v
 chain_region_there m shape p r (further {q = x} e h) = chain_region_there m shape x r h
 
 -- A region lies under a top region, or is one; and so does a vertex.
-top_above : (m : DraftMachine) → HasShape m → (p : Owner) (n : ℕ) → HasRegionsAbove m p n
+pub top_above : (m : DraftMachine) → HasShape m → (p : Owner) (n : ℕ) → HasRegionsAbove m p n
     → (owner_of m p ≡ Some Top) ⊎ ((q : RegionId) × (owner_of m (Region q) ≡ Some Top) × LiesUnder m p (Region q))
 top_above m shape _ _ (machine e) = inl e
 top_above m shape _ _ (region {r = r} {n = n} e h) = inr (⊎_elim (λ top. (r, top, owned e)) (λ w. (w.0, w.1, further e w.2)) (top_above m shape (Region r) n h))
 top_above m shape _ _ (state {s = s} {n = n} e h) =
     ⊎_elim (λ top. absurd (owner_may m shape s Top top)) (λ w. inr (w.0, w.1, further e w.2)) (top_above m shape (State s) n h)
 
--- Two vertices with a region in common have a top region in common.
-pub common_top : (m : DraftMachine) → HasShape m → (v w : VertexId) (r : RegionId) → LiesInRegion m v r → LiesInRegion m w r
-    → (q : RegionId) × (owner_of m (Region q) ≡ Some Top) × LiesInRegion m v q × LiesInRegion m w q
-common_top m shape v w r h g =
-    let at = some_at m.regions r.0 (chain_region_there m shape (State v) r h) in
-    let above = (shape.regions r at.0 at.1).1 in
-    ⊎_elim (λ top. (r, top, h, g))
-    (λ up. (up.0, up.1, under_under m (State v) (Region r) (Region up.0) h up.2, under_under m (State w) (Region r) (Region up.0) g up.2))
-    (top_above m shape (Region r) above.0 above.2)
-
 -- Nothing lies over the machine, and what a top place lies under is the machine.
-nothing_over : (m : DraftMachine) (p : Owner) → LiesUnder m Top p → ⊥
+pub nothing_over : (m : DraftMachine) (p : Owner) → LiesUnder m Top p → ⊥
 nothing_over m p (owned e) = cc
 nothing_over m p (further e h) = cc
 
@@ -88,22 +76,3 @@ one_region_inside m shape v s r q owner other h g =
     no_cycle m (Region b) above.0 above.2 (further own' (beyond m (Region a) (State s) (Region b) own (λ e. cc) under)) in
     ⊎_elim (λ same. cc) (⊎_elim (λ under. absurd (apart r q owner other under)) (λ under. absurd (apart q r other owner under)))
     (one_chain m (State v) (Region r) (Region q) h g)
-
--- Whether a place lies under a region is decided.
-region_decided : (m : DraftMachine) (p : Owner) (n : ℕ) (r : RegionId) → HasRegionsAbove m p n → LiesUnder m p (Region r) ⊎ (LiesUnder m p (Region r) → ⊥)
-region_decided m p _ r (machine e) = inr (λ h. nothing_over m (Region r) (beyond m p Top (Region r) e (λ f. cc) h))
-region_decided m p _ r (region {r = q} {n = n} e h) = ⊎_elim
-    (λ (same : q.0 ≡ r.0). inl (owned (e ∙ ap (λ k. let x : RegionId = record { 0 = k } in Some (Region x)) same)))
-    (λ (other : q.0 ≡ r.0 → ⊥). ⊎_elim (λ under. inl (further e under))
-    (λ none. inr (λ u. none (beyond m p (Region q) (Region r) e (λ f. other (let g : q ≡ r = cc in ap (λ (x : RegionId). x.0) g)) u)))
-    (region_decided m (Region q) n r h))
-    (cases_eq q.0 r.0)
-region_decided m p _ r (state {s = s} {n = n} e h) =
-    ⊎_elim (λ under. inl (further e under)) (λ none. inr (λ u. none (beyond m p (State s) (Region r) e (λ f. cc) u))) (region_decided m (State s) n r h)
-
--- What does not lie outside a region lies in it.
-pub lies_stable : (m : DraftMachine) → HasShape m → (v : VertexId) (r : RegionId) → v.0 < length m.vertices → ((LiesInRegion m v r → ⊥) → ⊥) → LiesInRegion m v r
-lies_stable m shape v r lt not_out =
-    let at = some_at m.vertices v.0 lt in
-    let above = (shape.vertices v at.0 at.1).1 in
-    ⊎_elim (λ h. h) (λ out. absurd (not_out out)) (region_decided m (State v) above.0 r above.2)

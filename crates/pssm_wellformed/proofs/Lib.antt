@@ -6,6 +6,16 @@ pub mod Together
 pub mod Arrows
 pub mod Closures
 pub mod Backwards
+pub mod Climbing
+pub mod Meeting
+pub mod Pushing
+pub mod Lowest
+pub mod Marking
 pub mod Straying
+pub mod Groups
+pub mod Settling
+pub mod Searching
+pub mod Closing
 pub mod Numbered
 pub mod Order
+pub mod Stamping

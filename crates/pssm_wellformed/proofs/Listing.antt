@@ -1,5 +1,5 @@
 -- Lists by number, as they are filled.
-use Rattle.std.proofs.Common.{◌≡◌, ◌≢◌, ◌↔◌, ◌⊎◌, ◌<◌, ◌≤◌, ◌+◌, ◌==◌, ℕ, zero, suc, List, [], ◌∷◌, ◌++◌, if◌then◌else◌, length, Bool, true, false, IsTrue, not, nat_lt, get_or, take, slice_get, Some, Contains, Vec, Global, refl, sym, ap, subst, ◌∙◌, inl, inr, ⊎_elim, arith, eq-eqb, length-append, slice_index_or}
+use Rattle.std.proofs.Common.{◌≡◌, ◌≢◌, ◌↔◌, ◌<◌, ◌≤◌, ◌+◌, ◌==◌, ℕ, List, [], ◌∷◌, ◌++◌, if◌then◌else◌, length, Bool, true, IsTrue, not, nat_lt, get_or, take, Contains, Vec, Global, refl, sym, ap, subst, ◌∙◌, ⊎_elim, arith, eq-eqb}
 use Rattle.std.specs.List.{AllPairs}
 use Rattle.std.proofs.lemmas.Bool.{cases_eq, ne_eqb, false≢true, ltb-true, lt-ltb}
 use Rattle.std.proofs.lemmas.List.{get_or_default, append-nil, take_more, take_all}
@@ -133,16 +133,6 @@ none_more P xs i lt none h t c p =
 
 pub none_at_all : (P : ℕ → Type 0) (xs : List ℕ) (i : ℕ) → length xs ≤ i → ((t : ℕ) → Contains (take i xs) t → P t → ⊥) → (t : ℕ) → Contains xs t → P t → ⊥
 none_at_all P xs i le h t c p = h t (subst (λ ys. Contains ys t) (sym (take_all i xs le)) c) p
-
--- all of the first so many items have a property: one item more, and all of them
-pub all_more : (P : ℕ → Type 0) (xs : List ℕ) (i : ℕ) → i < length xs → P (get_or xs i 0)
-    → ((t : ℕ) → Contains (take i xs) t → P t) → (t : ℕ) → Contains (take (i + 1) xs) t → P t
-all_more P xs i lt has h t c =
-    ⊎_elim (λ old. h t old) (λ (e : get_or xs i 0 ≡ t). subst P e has)
-    (Contains-push_cases (take i xs) (get_or xs i 0) t (subst (λ ys. Contains ys t) (take_more xs i 0 lt) c))
-
-pub all_at_end : (P : ℕ → Type 0) (xs : List ℕ) (i : ℕ) → length xs ≤ i → ((t : ℕ) → Contains (take i xs) t → P t) → (t : ℕ) → Contains xs t → P t
-all_at_end P xs i le h t c = h t (subst (λ ys. Contains ys t) (sym (take_all i xs le)) c)
 
 -- in an ascending list an item stands at one place, and of two different items one stands before the other
 pub placed_apart : (xs : List ℕ) → AllPairs (λ i j. i < j) xs → (j k : ℕ) → j < k → k < length xs → get_or xs j 0 ≡ get_or xs k 0 → ⊥

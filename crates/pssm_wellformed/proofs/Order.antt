@@ -1,6 +1,5 @@
 -- The list of faults, as it grows.
-use Rattle.std.proofs.Common.{◌≡◌, ◌≢◌, ◌↔◌, ◌⊎◌, ◌<◌, ◌≤◌, ◌+◌, ℕ, List, [], ◌∷◌, ◌++◌, length, get_or, Contains, refl, sym, ap, subst, ◌∙◌, inl, inr, ⊎_elim, arith}
-use Rattle.std.specs.List.{AllPairs}
+use Rattle.std.proofs.Common.{◌≡◌, ◌↔◌, ◌<◌, ◌≤◌, ◌+◌, ℕ, List, [], ◌∷◌, ◌++◌, length, get_or, Contains, refl, sym, ap, subst, ◌∙◌, inl, inr, ⊎_elim, arith}
 use Rattle.std.proofs.lemmas.Bool.{cases_eq}
 use Rattle.std.proofs.lemmas.List.Elements.{Contains-append_left, Contains-push, Contains-push_cases, Contains-get_or}
 use Rattle.std.proofs.lemmas.List.Quantifiers.{all_pairs_push}
@@ -15,7 +14,7 @@ use Rattle.pssm_model.specs.Shape.{HasShape}
 use Rattle.pssm_model.specs.WellFormed.{Breaks, KeepsModelRules}
 use Rattle.pssm_wellformed.specs.declared.fault.Fault.{Fault}
 use Rattle.pssm_wellformed.specs.Faults.{IsEarlierPlace, IsEarlierFault}
-use Rattle.pssm_wellformed.specs.Checked.{IsPlace, place_number, IsBefore, IsCheckedBelow}
+use Rattle.pssm_wellformed.specs.Checked.{IsPlace, place_number, IsCheckedBelow}
 use Rattle.pssm_wellformed.proofs.Numbered.{rule_range, breaks_there}
 
 -- Places of one number are one.

@@ -1,5 +1,5 @@
 -- What the shape of a machine says of numbers: what is named is there, and each thing has one of each.
-use Rattle.std.proofs.Common.{◌≡◌, ◌<◌, length, Some, sym, subst, ap, ◌∙◌, ⊎_elim}
+use Rattle.std.proofs.Common.{◌≡◌, ◌<◌, length, Some, subst, ap, ◌∙◌, ⊎_elim}
 use Rattle.std.proofs.lemmas.Option.{slice_get_within}
 use Rattle.pssm_model.specs.declared.ids.VertexId.{VertexId}
 use Rattle.pssm_model.specs.declared.ids.RegionId.{RegionId}
@@ -11,13 +11,13 @@ use Rattle.pssm_model.specs.declared.elements.VertexKind.{VertexKind}
 use Rattle.pssm_model.specs.declared.elements.VertexKind.TheVariants as kinds
 use Rattle.pssm_model.specs.WellFormed.{OwnsSome}
 use Rattle.pssm_model.specs.declared.elements.Owner.{Owner}
-use Rattle.pssm_model.specs.declared.elements.Owner.TheVariants.{Top, Region, State}
+use Rattle.pssm_model.specs.declared.elements.Owner.TheVariants.{Region, State}
 use Rattle.pssm_model.specs.Forest.{transition_at, vertex_at, owner_of, HasKind}
 use Rattle.pssm_model.specs.Shape.{HasShape, OwnsVertex}
 use Rattle.pssm_model.proofs.BuiltElements.{mapped_some, mapped_at, some_at, kind_unique}
 use Rattle.pssm_wellformed.specs.declared.survey.End.{End}
 use Rattle.pssm_wellformed.specs.declared.survey.End.TheVariants.{Source, Target}
-use Rattle.pssm_wellformed.specs.Survey.{HasEnd, OwnsOfKind, vertex_number, region_number, transition_number}
+use Rattle.pssm_wellformed.specs.Survey.{HasEnd}
 
 -- Both the transition and the vertex at its end are there.
 pub end_there : (m : DraftMachine) → HasShape m → (end : End) (t : TransId) (v : VertexId) → HasEnd m end t v → (t.0 < length m.transitions) × (v.0 < length m.vertices)

@@ -1,5 +1,5 @@
 -- Lists of faults in their order.
-use Rattle.std.specs.Prelude.{◌≡◌, ◌⊎◌, ◌<◌, List}
+use Rattle.std.specs.Prelude.{◌≡◌, ◌⊎◌, ◌<◌}
 use Rattle.pssm_model.specs.declared.elements.FaultPlace.{FaultPlace}
 use Rattle.pssm_model.specs.declared.elements.FaultPlace.TheVariants.{Top, At}
 use Rattle.pssm_model.specs.Shape.{IsEarlier}

@@ -1,6 +1,5 @@
 -- What can be reached over arrows, which are given by the list of each number's ends.
 use Rattle.std.specs.Prelude.{◌≡◌, ◌↔◌, ◌⊎◌, ◌<◌, ◌≤◌, ℕ, suc, List, [], ◌∷◌, Bool, true, false, length, slice_index_or, Contains, Vec}
-use Rattle.std.specs.List.{All}
 use Rattle.std.specs.declared.alloc.Global.{Global}
 use Rattle.pssm_wellformed.specs.Lists.{list_at}
 

@@ -1,33 +1,37 @@
 -- Where paths stray, as the rules of paths ask of one transition.
-use Rattle.std.specs.Prelude.{◌≡◌, ◌≢◌, ◌↔◌, ◌⊎◌, ◌<◌, ℕ, List, [], ◌∷◌, true, false, length, slice_index_or, Contains, Some}
+use Rattle.std.specs.Prelude.{◌≡◌, ◌↔◌, List, [], ◌∷◌, true, false, length, slice_index_or, Some}
 use Rattle.pssm_model.specs.declared.ids.VertexId.{VertexId}
 use Rattle.pssm_model.specs.declared.ids.RegionId.{RegionId}
 use Rattle.pssm_model.specs.declared.ids.TransId.{TransId}
 use Rattle.pssm_model.specs.declared.elements.DraftMachine.{DraftMachine}
 use Rattle.pssm_model.specs.declared.elements.Owner.{Owner}
 use Rattle.pssm_model.specs.declared.elements.Owner.TheVariants.{Top, Region, State}
-use Rattle.pssm_model.specs.Forest.{owner_of, LiesInRegion, LiesInState}
-use Rattle.pssm_model.specs.Legs.{Leaves, Enters}
+use Rattle.pssm_model.specs.Forest.{owner_of, LiesInRegion}
+use Rattle.pssm_model.specs.Legs.{Enters}
 use Rattle.pssm_model.specs.Firing.{IsLateOrigin}
 use Rattle.pssm_model.specs.Paths.{IsJunctionPath, Reaches}
-use Rattle.pssm_model.specs.WellFormed.{LeavesRegion, HoldsRestOfPath}
-use Rattle.pssm_wellformed.specs.declared.paths.Arrows.{Arrows}
+use Rattle.pssm_model.specs.WellFormed.{IsOnCycle, LeavesRegion, HoldsRestOfPath}
+use Rattle.pssm_wellformed.specs.declared.paths.VertexMarks.{VertexMarks}
 use Rattle.pssm_wellformed.specs.declared.walks.Walk.TheVariants.{Junctions, Inner, Back}
-use Rattle.pssm_wellformed.specs.Survey.{vertex_number}
-use Rattle.pssm_wellformed.specs.Walks.{AreArrows, AreLeads}
+use Rattle.pssm_wellformed.specs.declared.survey.End.TheVariants.{Source, Target}
+use Rattle.pssm_wellformed.specs.Apart.{AreApartMarks}
+use Rattle.pssm_wellformed.specs.Marks.{AreStrayMarks}
 
 -- Some initial, history or choice vertex reaches the vertex through pseudostates.
 abbrev pub IsReachedLate : DraftMachine → VertexId → Type 0
 IsReachedLate m v = (w : VertexId) × IsLateOrigin m w × Reaches m w v
 
--- the arrows of a machine
-pub record AreAllArrows (m : DraftMachine) (arrows : Arrows) : Type 0 where
-  pub junctions : AreArrows m Junctions arrows.junctions.items
-  pub inner : AreArrows m Inner arrows.inner.items
-  pub back : AreArrows m Back arrows.back.items
-  pub leads : AreLeads m arrows.leads.items
-  pub width : length arrows.late.items ≡ length m.vertices
-  pub late : (v : VertexId) → (slice_index_or arrows.late.items v.0 false ≡ true) ↔ IsReachedLate m v
+-- the marks of a machine
+pub record AreVertexMarks (m : DraftMachine) (marks : VertexMarks) : Type 0 where
+  pub junctions : AreStrayMarks m Junctions marks.junctions.items
+  pub inner : AreStrayMarks m Inner marks.inner.items
+  pub back : AreStrayMarks m Back marks.back.items
+  pub width : length marks.late.items ≡ length m.vertices
+  pub late : (v : VertexId) → (slice_index_or marks.late.items v.0 false ≡ true) ↔ IsReachedLate m v
+  pub cyclic_width : length marks.cyclic.items ≡ length m.vertices
+  pub cyclic : (v : VertexId) → (slice_index_or marks.cyclic.items v.0 false ≡ true) ↔ IsOnCycle m v
+  pub sources_apart : AreApartMarks m Target Source (length m.vertices) marks.sources_apart.items
+  pub targets_apart : AreApartMarks m Source Target (length m.vertices) marks.targets_apart.items
 
 -- An inner path that begins with the transition leaves the region of the State in which the transition ends.
 abbrev pub LeavesItsRegion : DraftMachine → TransId → VertexId → Type 0

@@ -1,5 +1,5 @@
 -- What stands where in a machine, looked up once.
-use Rattle.std.specs.Prelude.{◌≡◌, ◌↔◌, ◌<◌, ℕ, List, Some, length, Contains, Vec}
+use Rattle.std.specs.Prelude.{◌≡◌, ◌↔◌, ℕ, Some, length, Contains}
 use Rattle.pssm_model.specs.declared.ids.VertexId.{VertexId}
 use Rattle.pssm_model.specs.declared.ids.RegionId.{RegionId}
 use Rattle.pssm_model.specs.declared.ids.TransId.{TransId}
@@ -10,6 +10,7 @@ use Rattle.pssm_model.specs.declared.elements.Owner.TheVariants.{Top, Region, St
 use Rattle.pssm_model.specs.Forest.{HasKind, owner_of}
 use Rattle.pssm_model.specs.Legs.{Leaves, Enters}
 use Rattle.pssm_model.specs.Shape.{HasShape}
+use Rattle.pssm_model.specs.WellFormed.{HasElse}
 use Rattle.pssm_wellformed.specs.declared.survey.End.{End}
 use Rattle.pssm_wellformed.specs.declared.survey.End.TheVariants.{Source, Target}
 use Rattle.pssm_wellformed.specs.declared.survey.Survey.{Survey}
@@ -46,6 +47,10 @@ IsListedKind _ = ⊥
 abbrev pub IsEndOf : DraftMachine → End → ℕ → ℕ → Type 0
 IsEndOf m end v t = HasEnd m end (transition_number t) (vertex_number v)
 
+-- by number, the transitions out of a vertex that have `else`
+abbrev pub IsElseOf : DraftMachine → ℕ → ℕ → Type 0
+IsElseOf m v t = Leaves m (transition_number t) (vertex_number v) × HasElse m (transition_number t)
+
 -- by number, the vertices of a kind that a region owns
 abbrev pub IsOwnerOf : DraftMachine → VertexKind → ℕ → ℕ → Type 0
 IsOwnerOf m kind r v = OwnsOfKind m kind (region_number r) (vertex_number v)
@@ -59,6 +64,7 @@ pub record IsSurvey (m : DraftMachine) (survey : Survey) : Type 0 where
   pub shape : HasShape m
   pub outgoing : AreListed (length m.vertices) (IsEndOf m Source) survey.outgoing.items
   pub incoming : AreListed (length m.vertices) (IsEndOf m Target) survey.incoming.items
+  pub elses : AreListed (length m.vertices) (IsElseOf m) survey.elses.items
   pub regions : AreListed (length m.vertices) (HasRegion m) survey.regions.items
   pub initials : AreListed (length m.regions) (IsOwnerOf m kinds.Initial) survey.initials.items
   pub shallows : AreListed (length m.regions) (IsOwnerOf m kinds.ShallowHistory) survey.shallows.items

@@ -1,5 +1,5 @@
 -- The arrows that the rules of paths follow.
-use Rattle.std.specs.Prelude.{◌≡◌, ◌≢◌, ◌↔◌, ◌⊎◌, ◌<◌, ℕ, List, [], ◌∷◌, length, Contains, Option, Some, Vec}
+use Rattle.std.specs.Prelude.{◌≡◌, ◌↔◌, ◌⊎◌, ◌<◌, ◌+◌, ℕ, List, [], ◌∷◌, length, Contains, Some, Vec}
 use Rattle.std.specs.declared.alloc.Global.{Global}
 use Rattle.pssm_model.specs.declared.ids.VertexId.{VertexId}
 use Rattle.pssm_model.specs.declared.ids.RegionId.{RegionId}
@@ -51,23 +51,46 @@ pub record AreArrows (m : DraftMachine) (walk : Walk) (onward : List (Vec ℕ Gl
   pub width : length onward ≡ length m.vertices
   pub arrows : (a b : ℕ) → Contains (list_at onward a) b ↔ ((t : TransId) × LeadsWalk m walk t (vertex_number a) (vertex_number b))
 
--- The second vertex is an initial vertex of the region of the first, which is a history vertex without transitions.
-abbrev pub IsDefault : DraftMachine → ℕ → ℕ → Type 0
-IsDefault m a b =
-    (r : RegionId) × IsHistory m (vertex_number a) × (HasOut m (vertex_number a) → ⊥) × (owner_of m (State (vertex_number a)) ≡ Some (Region r))
-    × IsInitialOf m r (vertex_number b)
+-- Arrows lead where the relation does.
+pub record AreArrowsAlong (count : ℕ) (Leads : ℕ → ℕ → Type 0) (onward : List (Vec ℕ Global)) : Type 0 where
+  pub width : length onward ≡ count
+  pub arrows : (a b : ℕ) → Contains (list_at onward a) b ↔ Leads a b
 
--- the arrows through pseudostates, and those of history vertices below a number without transitions
-pub record AreLeadsBelow (m : DraftMachine) (n : ℕ) (onward : List (Vec ℕ Global)) : Type 0 where
-  pub width : length onward ≡ length m.vertices
-  pub arrows : (a b : ℕ) → Contains (list_at onward a) b
-      ↔ (((t : TransId) × LeadsWalk m Through t (vertex_number a) (vertex_number b)) ⊎ ((a < n) × IsDefault m a b))
+-- Arrows lead where the first relation does, and from the numbers below a number where the second does.
+abbrev pub AreArrowsWith : ℕ → ℕ → (ℕ → ℕ → Type 0) → (ℕ → ℕ → Type 0) → List (Vec ℕ Global) → Type 0
+AreArrowsWith count n Leads More onward = AreArrowsAlong count (λ a b. Leads a b ⊎ ((a < n) × More a b)) onward
 
--- the arrows through pseudostates, and those of history vertices without transitions
-pub record AreLeads (m : DraftMachine) (onward : List (Vec ℕ Global)) : Type 0 where
-  pub width : length onward ≡ length m.vertices
-  pub arrows : (a b : ℕ) → Contains (list_at onward a) b
-      ↔ (((t : TransId) × LeadsWalk m Through t (vertex_number a) (vertex_number b)) ⊎ IsDefault m a b)
+-- The vertex is a history vertex of the region, without transitions: it leads by default to the initial vertices of the region.
+abbrev pub IsDefault : DraftMachine → VertexId → RegionId → Type 0
+IsDefault m v r = IsHistory m v × (HasOut m v → ⊥) × (owner_of m (State v) ≡ Some (Region r))
+
+-- the number of a region among arrows, behind the numbers of all vertices
+abbrev pub number_of_region : DraftMachine → RegionId → ℕ
+number_of_region m r = length m.vertices + r.0
+
+-- A transition leads from the first vertex, which is a pseudostate, to the second.
+abbrev pub LeadsThrough : DraftMachine → ℕ → ℕ → Type 0
+LeadsThrough m a b = (t : TransId) × LeadsWalk m Through t (vertex_number a) (vertex_number b)
+
+-- A history vertex without transitions leads to the number of its region.
+abbrev pub LeadsToRegion : DraftMachine → ℕ → ℕ → Type 0
+LeadsToRegion m a b = (r : RegionId) × (b ≡ number_of_region m r) × IsDefault m (vertex_number a) r
+
+-- The number of a region leads to its initial vertices.
+abbrev pub LeadsFromRegion : DraftMachine → ℕ → ℕ → Type 0
+LeadsFromRegion m a b = (r : RegionId) × (a ≡ number_of_region m r) × IsInitialOf m r (vertex_number b)
+
+-- Vertices lead to vertices and to the numbers of regions.
+abbrev pub LeadsOut : DraftMachine → ℕ → ℕ → Type 0
+LeadsOut m a b = LeadsThrough m a b ⊎ LeadsToRegion m a b
+
+-- the arrows out of vertices
+abbrev pub AreLeadsOut : DraftMachine → List (Vec ℕ Global) → Type 0
+AreLeadsOut m onward = AreArrowsAlong (length m.vertices) (LeadsOut m) onward
+
+-- the arrows through pseudostates, and by the numbers of regions those of history vertices without transitions
+abbrev pub AreLeads : DraftMachine → List (Vec ℕ Global) → Type 0
+AreLeads m onward = AreArrowsAlong (length m.vertices + length m.regions) (λ a b. LeadsOut m a b ⊎ LeadsFromRegion m a b) onward
 
 -- by number, the vertices at which the transitions out of initial, history and choice vertices end
 abbrev pub IsLateTarget : DraftMachine → ℕ → Type 0
@@ -84,16 +107,12 @@ LiesIn m v Top = Unit {0}
 LiesIn m v (Region r) = LiesInRegion m v r
 LiesIn m v (State s) = LiesInState m v s
 
--- The region or State is there.
+-- The region is there, or the vertex is a State.
 abbrev pub IsThere : DraftMachine → Owner → Type 0
 IsThere m Top = Unit {0}
 IsThere m (Region r) = r.0 < length m.regions
-IsThere m (State s) = s.0 < length m.vertices
-
--- It is not the vertex that is left out, and lies outside the place.
-abbrev pub IsAstray : DraftMachine → Owner → Option VertexId → VertexId → Type 0
-IsAstray m place but w = (but ≢ Some w) × (LiesIn m w place → ⊥)
+IsThere m (State s) = HasKind m s kinds.State
 
 -- A walk from the vertex comes to one that lies outside the place.
-abbrev pub Strays : DraftMachine → List (Vec ℕ Global) → VertexId → Owner → Option VertexId → Type 0
-Strays m onward start place but = (w : ℕ) × IsReached onward (start.0 ∷ []) w × IsAstray m place but (vertex_number w)
+abbrev pub Strays : DraftMachine → List (Vec ℕ Global) → VertexId → Owner → Type 0
+Strays m onward start place = (w : ℕ) × IsReached onward (start.0 ∷ []) w × (LiesIn m (vertex_number w) place → ⊥)

@@ -3,12 +3,12 @@ ghost use Rattle.std.specs.Prelude.{◌≡◌, ◌↔◌, ◌<◌, ◌+◌, [], 
 ghost use Rattle.pssm_model.specs.Shape.{HasShape};
 ghost use Rattle.pssm_model.specs.WellFormed.{Breaks, KeepsModelRules};
 ghost use Rattle.pssm_wellformed.specs.Survey.{IsSurvey};
-ghost use Rattle.pssm_wellformed.specs.Strays.{AreAllArrows};
+ghost use Rattle.pssm_wellformed.specs.Strays.{AreVertexMarks};
 ghost use Rattle.pssm_wellformed.specs.Faults.{IsEarlierFault};
 ghost use Rattle.pssm_wellformed.specs.Checked.{IsPlace, place_number, IsCheckedBelow};
 
 use crate::fault::Fault;
-use crate::paths::Arrows;
+use crate::paths::VertexMarks;
 use crate::rules::breaks;
 use crate::survey::Survey;
 use pssm_model::{Element, FaultPlace, Machine, RegionId, TransId, VertexId};
@@ -47,21 +47,20 @@ fn place_at(machine: &Machine, number: u16) -> FaultPlace
 
 /// Lists the faults at one place more.
 fn list_faults(
-    alloc: Global,
     machine: &Machine,
     survey: &Survey,
-    arrows: &Arrows,
+    marks: &VertexMarks,
     place: FaultPlace,
     faults: &mut Vec<Fault>,
 ) -> Result<(), NoMemory>
     requires survey { IsSurvey machine.now survey.now }
-    requires arrows { AreAllArrows machine.now arrows.now }
+    requires marks { AreVertexMarks machine.now marks.now }
     requires there { IsPlace machine.now place }
     requires before { IsCheckedBelow machine.now (place_number machine.now place) 1 faults.old.items }
     ensures { OnOk result (IsCheckedBelow machine.now (place_number machine.now place + 1) 1 faults.new.items) }
 {
     for rule in 1..LAST_RULE + 1 {
-        if breaks(alloc, machine, survey, arrows, place, rule)? {
+        if breaks(machine, survey, marks, place, rule) {
             let element = place;
             faults.push(Fault { element, rule })?;
         }
@@ -80,11 +79,11 @@ pub fn check(alloc: Global, machine: &Machine) -> Result<Vec<Fault>, NoMemory>
     ensures keeps_rules { IfOk result (λ list. (list.items ≡ []) ↔ KeepsModelRules machine.now) }
 {
     let survey = Survey::of(alloc, machine)?;
-    let arrows = Arrows::of(alloc, machine, &survey)?;
+    let marks = VertexMarks::of(alloc, machine, &survey)?;
     let mut faults = Vec::new(alloc);
     for number in 0..places(machine) {
         let place = place_at(machine, number);
-        list_faults(alloc, machine, &survey, &arrows, place, &mut faults)?;
+        list_faults(machine, &survey, &marks, place, &mut faults)?;
     }
     Ok(faults)
 }

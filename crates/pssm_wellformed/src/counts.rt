@@ -1,5 +1,5 @@
 //! How many transitions meet at a vertex.
-ghost use Rattle.std.specs.Prelude.{◌≢◌, ◌↔◌, ◌⊎◌, ◌<◌, length, IsTrue};
+ghost use Rattle.std.specs.Prelude.{◌≢◌, ◌↔◌, ◌⊎◌, IsTrue};
 ghost use Rattle.pssm_wellformed.specs.Survey.{HasEnd, IsSurvey};
 
 use crate::survey::{End, Survey, meeting};

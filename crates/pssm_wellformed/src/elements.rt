@@ -1,5 +1,5 @@
 //! What is asked of one vertex or transition.
-ghost use Rattle.std.specs.Prelude.{◌≡◌, ◌↔◌, ◌<◌, length, IsTrue};
+ghost use Rattle.std.specs.Prelude.{◌↔◌, ◌<◌, length, IsTrue};
 ghost use Rattle.pssm_model.specs.Forest.{HasKind, IsStateOrFinal};
 ghost use Rattle.pssm_model.specs.Shape.{HasShape};
 ghost use Rattle.pssm_wellformed.specs.Survey.{HasEnd};

@@ -1,7 +1,5 @@
 //! Which numbers can be reached over arrows.
 ghost use Rattle.std.specs.Prelude.{◌≡◌, ◌↔◌, ◌<◌, ℕ, true, false, length, slice_index_or, Contains, IfOk, OnOk};
-ghost use Rattle.std.specs.List.{All};
-ghost use Rattle.pssm_wellformed.specs.Lists.{list_at};
 ghost use Rattle.pssm_wellformed.specs.Reach.{IsReached, StaysWithin, AreMarked, FindsMore};
 
 use std::alloc::{AllocError as NoMemory, Global};
@@ -23,20 +21,12 @@ fn find_more(marks: &mut Vec<bool>, found: &mut Vec<u16>, further: &[u16]) -> Re
     Ok(())
 }
 
-/// The numbers that can be reached, each once, and a mark for each of them.
-#[derive(Drop)]
-pub struct Reached {
-    pub marks: Vec<bool>,
-    pub found: Vec<u16>,
-}
-
-/// What can be reached from the first numbers. Each number is walked once.
-pub fn walk_from(alloc: Global, onward: &[Vec<u16>], first: &[u16]) -> Result<Reached, NoMemory>
+/// A mark for each number that can be reached from the first ones. Each number is walked once.
+pub fn walk_from(alloc: Global, onward: &[Vec<u16>], first: &[u16]) -> Result<Vec<bool>, NoMemory>
     requires within { StaysWithin onward.now }
     requires there { (b : ℕ) → Contains first.now b → b < length onward.now }
-    ensures width { IfOk result (λ all. length all.marks.items ≡ length onward.now) }
-    ensures marks { IfOk result (λ all. (b : ℕ) → (slice_index_or all.marks.items b false ≡ true) ↔ IsReached onward.now first.now b) }
-    ensures found { IfOk result (λ all. (b : ℕ) → Contains all.found.items b ↔ IsReached onward.now first.now b) }
+    ensures width { IfOk result (λ marks. length marks.items ≡ length onward.now) }
+    ensures marks { IfOk result (λ marks. (b : ℕ) → (slice_index_or marks.items b false ≡ true) ↔ IsReached onward.now first.now b) }
 {
     let mut marks = vec![in alloc; false; onward.len()]?;
     let mut found = Vec::new(alloc);
@@ -47,5 +37,5 @@ pub fn walk_from(alloc: Global, onward: &[Vec<u16>], first: &[u16]) -> Result<Re
         find_more(&mut marks, &mut found, onward[number].as_slice())?;
         place += 1;
     }
-    Ok(Reached { marks, found })
+    Ok(marks)
 }

@@ -1,5 +1,5 @@
 //! The rules of regions: E01 and E02.
-ghost use Rattle.std.specs.Prelude.{◌≢◌, ◌↔◌, ◌<◌, length, IsTrue};
+ghost use Rattle.std.specs.Prelude.{◌↔◌, ◌<◌, length, IsTrue};
 ghost use Rattle.pssm_model.specs.WellFormed.{HasNoTopRegion, IsTopWithoutInitial, OwnsTwo, OwnsTwoEntries};
 ghost use Rattle.pssm_wellformed.specs.Survey.{IsListedKind, OwnsOfKind, IsSurvey};
 

@@ -2,11 +2,13 @@
 ghost use Rattle.std.specs.Prelude.{◌≡◌, ◌↔◌, ◌<◌, ℕ, Some, AllPairs, Contains, length, IfOk, IsTrue, MatchOption};
 ghost use Rattle.pssm_model.specs.declared.elements.Owner.TheVariants.{Top, Region, State};
 ghost use Rattle.pssm_model.specs.Forest.{owner_of};
+ghost use Rattle.pssm_model.specs.Legs.{Leaves};
 ghost use Rattle.pssm_model.specs.Shape.{HasShape};
-ghost use Rattle.pssm_wellformed.specs.Lists.{list_at, AreListed};
-ghost use Rattle.pssm_wellformed.specs.Survey.{IsListedKind, HasEnd, OwnsOfKind, IsEndOf, IsOwnerOf, HasRegion, IsSurvey, vertex_number, region_number, transition_number};
+ghost use Rattle.pssm_model.specs.WellFormed.{HasElse};
+ghost use Rattle.pssm_wellformed.specs.Lists.{AreListed};
+ghost use Rattle.pssm_wellformed.specs.Survey.{IsListedKind, HasEnd, OwnsOfKind, IsEndOf, IsElseOf, IsOwnerOf, HasRegion, IsSurvey, vertex_number, region_number, transition_number};
 
-use crate::elements::{end_of, has_kind};
+use crate::elements::{end_of, has_else, has_kind};
 use crate::lists::{empty_lists, list_of, put};
 use pssm_model::{Machine, Owner, RegionId, TransId, VertexId, VertexKind};
 use std::alloc::{AllocError as NoMemory, Global};
@@ -18,11 +20,13 @@ pub enum End {
     Target,
 }
 
-/// By vertex its outgoing and incoming transitions and its regions, by region its vertices of four kinds, and the top regions.
+/// By vertex its outgoing and incoming transitions, the outgoing ones with `else` and its regions, by region its vertices of four kinds,
+/// and the top regions.
 #[derive(Drop)]
 pub struct Survey {
     pub outgoing: Vec<Vec<u16>>,
     pub incoming: Vec<Vec<u16>>,
+    pub elses: Vec<Vec<u16>>,
     pub regions: Vec<Vec<u16>>,
     pub initials: Vec<Vec<u16>>,
     pub shallows: Vec<Vec<u16>>,
@@ -40,6 +44,32 @@ fn transitions_at(alloc: Global, machine: &Machine, end: End) -> Result<Vec<Vec<
     for number in 0..machine.transitions() {
         let vertex = end_of(machine, TransId(number), end);
         put(&mut lists, vertex.0, number)?;
+    }
+    Ok(lists)
+}
+
+/// The source of the transition, where that has `else`.
+fn source_with_else(machine: &Machine, transition: TransId) -> Option<VertexId>
+    requires { transition.0 < length machine.now.transitions }
+    ensures { MatchOption result (HasElse machine.now transition → ⊥) (λ v. Leaves machine.now transition v × HasElse machine.now transition) }
+{
+    if has_else(machine, transition) {
+        return Some(machine.transition(transition).source);
+    }
+    None
+}
+
+/// By vertex the transitions out of it that have `else`.
+fn elses_of(alloc: Global, machine: &Machine) -> Result<Vec<Vec<u16>>, NoMemory>
+    requires { HasShape machine.now }
+    ensures { IfOk result (λ lists. AreListed (length machine.now.vertices) (IsElseOf machine.now) lists.items) }
+{
+    let mut lists = empty_lists(alloc, machine.vertices())?;
+    for number in 0..machine.transitions() {
+        match source_with_else(machine, TransId(number)) {
+            Some(source) => put(&mut lists, source.0, number)?,
+            None => {}
+        }
     }
     Ok(lists)
 }
@@ -133,6 +163,7 @@ impl Survey {
         Ok(Survey {
             outgoing: transitions_at(alloc, machine, End::Source)?,
             incoming: transitions_at(alloc, machine, End::Target)?,
+            elses: elses_of(alloc, machine)?,
             regions: regions_of(alloc, machine)?,
             initials: vertices_of(alloc, machine, VertexKind::Initial)?,
             shallows: vertices_of(alloc, machine, VertexKind::ShallowHistory)?,
@@ -154,6 +185,15 @@ pub fn meeting<'a>(machine: &Machine, survey: &'a Survey, vertex: VertexId, end:
         End::Source => list_of(&survey.outgoing, vertex.0),
         End::Target => list_of(&survey.incoming, vertex.0),
     }
+}
+
+/// The transitions out of the vertex that have `else`, ascending.
+pub fn elses_at<'a>(machine: &Machine, survey: &'a Survey, vertex: VertexId) -> &'a [u16]
+    requires { IsSurvey machine.now survey.now }
+    ensures items { (t : ℕ) → Contains result.now t ↔ IsElseOf machine.now vertex.0 t }
+    ensures ascending { AllPairs (λ t u. t < u) result.now }
+{
+    list_of(&survey.elses, vertex.0)
 }
 
 /// The regions of the State.

@@ -14,6 +14,7 @@ use pssm_model::{
 use std::alloc::Global;
 use std::test::Fail;
 
+mod cycles;
 mod paths;
 mod samples;
 mod single;

@@ -1,15 +1,15 @@
 //! The rules of single transitions: E10, E13, E17 and E21.
-ghost use Rattle.std.specs.Prelude.{◌≡◌, ◌↔◌, ◌<◌, length, Contains, IsTrue, ℕ};
-ghost use Rattle.pssm_model.specs.Legs.{Leaves, Goes};
-ghost use Rattle.pssm_model.specs.WellFormed.{HasElse, IsTriggeredWrongly, IsBadInternal, IsBadElse, IsTorn};
-ghost use Rattle.pssm_wellformed.specs.Survey.{HasEnd, IsSurvey, transition_number};
+ghost use Rattle.std.specs.Prelude.{◌↔◌, ◌<◌, ℕ, AllPairs, Contains, length, IsTrue};
+ghost use Rattle.pssm_model.specs.Legs.{Goes};
+ghost use Rattle.pssm_model.specs.WellFormed.{IsTriggeredWrongly, IsBadInternal, IsBadElse, IsTorn};
+ghost use Rattle.pssm_wellformed.specs.Survey.{IsSurvey};
 
 use crate::elements::{
     end_of, has_else, has_guard, has_kind, has_trigger, is_branch, is_pseudostate,
     is_unguarded_kind,
 };
 use crate::inside::share_region;
-use crate::survey::{End, Survey, meeting};
+use crate::survey::{End, Survey, elses_at};
 use pssm_model::{Machine, TransId, TransKind, VertexKind};
 
 /// Whether the transition is of the kind.
@@ -43,25 +43,15 @@ pub fn is_bad_internal(machine: &Machine, survey: &Survey, transition: TransId) 
         && (!has_kind(machine, source, VertexKind::State) || target.0 != source.0)
 }
 
-/// Whether the first transition is earlier than the second and has `else`.
-fn is_earlier_else(machine: &Machine, first: TransId, second: TransId) -> bool
-    requires { first.0 < length machine.now.transitions }
-    ensures { IsTrue result ↔ (first.0 < second.0) × HasElse machine.now first }
+/// Whether one of these transitions is earlier.
+fn some_earlier(transitions: &[u16], transition: TransId) -> bool
+    requires { AllPairs (λ t u. t < u) transitions.now }
+    ensures { IsTrue result ↔ ((t : ℕ) × Contains transitions.now t × (t < transition.0)) }
 {
-    first.0 < second.0 && has_else(machine, first)
-}
-
-/// Whether an earlier one of these transitions has `else`.
-fn has_earlier_else(machine: &Machine, transitions: &[u16], transition: TransId) -> bool
-    requires { (t : ℕ) → Contains transitions.now t → t < length machine.now.transitions }
-    ensures { IsTrue result ↔ ((t : ℕ) × Contains transitions.now t × (t < transition.0) × HasElse machine.now (transition_number t)) }
-{
-    for number in transitions {
-        if is_earlier_else(machine, TransId(*number), transition) {
-            return true;
-        }
+    match transitions.get(0) {
+        Some(first) => *first < transition.0,
+        None => false,
     }
-    false
 }
 
 /// E17: whether it has `else` and leaves no junction or choice, or is not the first such of its source.
@@ -73,11 +63,7 @@ pub fn is_bad_else(machine: &Machine, survey: &Survey, transition: TransId) -> b
     let source = end_of(machine, transition, End::Source);
     has_else(machine, transition)
         && (!is_branch(machine, source)
-            || has_earlier_else(
-                machine,
-                meeting(machine, survey, source, End::Source),
-                transition,
-            ))
+            || some_earlier(elses_at(machine, survey, source), transition))
 }
 
 /// E21: whether its ends lie in no common region, or it ends on a join and leaves no State.
@@ -88,7 +74,7 @@ pub fn is_torn(machine: &Machine, survey: &Survey, transition: TransId) -> bool
 {
     let source = end_of(machine, transition, End::Source);
     let target = end_of(machine, transition, End::Target);
-    !share_region(machine, survey, source, target)
+    !share_region(machine, source, target)
         || (has_kind(machine, target, VertexKind::Join)
             && !has_kind(machine, source, VertexKind::State))
 }

@@ -1,17 +1,14 @@
-//! The arrows that the rules of paths follow, and whether a walk over them strays.
-ghost use Rattle.std.specs.Prelude.{◌≡◌, ◌≢◌, ◌↔◌, ◌<◌, ◌++◌, ◌==◌, ℕ, [], if◌then◌else◌, Option, Some, Contains, length, IfOk, OnOk, IsTrue};
+//! The arrows that the rules of paths follow.
+ghost use Rattle.std.specs.Prelude.{◌≡◌, ◌↔◌, ◌<◌, ℕ, Contains, length, IfOk, IsTrue, MatchOption};
 ghost use Rattle.pssm_model.specs.Shape.{HasShape};
-ghost use Rattle.pssm_wellformed.specs.Lists.{list_at};
-ghost use Rattle.pssm_wellformed.specs.Reach.{StaysWithin};
-ghost use Rattle.pssm_wellformed.specs.Survey.{IsSurvey, vertex_number};
-ghost use Rattle.pssm_wellformed.specs.Walks.{Passes, near_end, far_end, AreArrows, AreLeads, IsDefault, IsLateTarget, LiesIn, IsThere, IsAstray, Strays};
+ghost use Rattle.pssm_wellformed.specs.Survey.{IsSurvey};
+ghost use Rattle.pssm_wellformed.specs.Walks.{Passes, near_end, far_end, AreArrows, IsDefault, number_of_region, AreLeadsOut, AreLeads, IsLateTarget};
 
 use crate::counts::meets_some;
 use crate::elements::{end_of, has_kind, is_history, is_inner, is_late_origin, is_pseudostate};
-use crate::lists::{empty_lists, put, put_all};
-use crate::reach::walk_from;
+use crate::lists::{empty_lists, put, put_behind};
 use crate::survey::{End, Survey, owned};
-use pssm_model::{Machine, Owner, TransId, VertexId, VertexKind};
+use pssm_model::{Machine, Owner, RegionId, TransId, VertexId, VertexKind};
 use std::alloc::{AllocError as NoMemory, Global};
 
 /// A way to walk over transitions: forwards through junctions, forwards as inner paths do, backwards through junctions, and forwards
@@ -72,22 +69,47 @@ pub fn arrows_of(alloc: Global, machine: &Machine, walk: Walk) -> Result<Vec<Vec
     Ok(onward)
 }
 
-/// The initial vertices to which the vertex leads by default: those of its region, where it is a history vertex without transitions.
-fn defaults_of<'a>(machine: &Machine, survey: &'a Survey, vertex: VertexId) -> &'a [u16]
+/// The region to whose initial vertices the vertex leads by default: its own, where it is a history vertex without transitions.
+fn default_region(machine: &Machine, survey: &Survey, vertex: VertexId) -> Option<RegionId>
     requires survey { IsSurvey machine.now survey.now }
     requires there { vertex.0 < length machine.now.vertices }
-    ensures { (b : ℕ) → Contains result.now b ↔ IsDefault machine.now vertex.0 b }
+    ensures { MatchOption result ((r : RegionId) → IsDefault machine.now vertex r → ⊥) (λ r. IsDefault machine.now vertex r) }
 {
     if !is_history(machine, vertex) || meets_some(machine, survey, vertex, End::Source) {
-        return &[];
+        return None;
     }
     match machine.vertex(vertex).owner {
-        Owner::Region(region) => owned(machine, survey, region, VertexKind::Initial),
-        _ => &[],
+        Owner::Region(region) => Some(region),
+        _ => None,
     }
 }
 
-/// The arrows through pseudostates, and those of history vertices without transitions.
+/// The number of the region behind those of the vertices.
+fn number_behind(machine: &Machine, region: RegionId) -> u16
+    requires shape { HasShape machine.now }
+    requires there { region.0 < length machine.now.regions }
+    ensures { result ≡ number_of_region machine.now region }
+{
+    machine.vertices() + region.0
+}
+
+/// The arrows out of vertices: through pseudostates, and from each history vertex without transitions to the number of its region.
+fn leads_out(alloc: Global, machine: &Machine, survey: &Survey) -> Result<Vec<Vec<u16>>, NoMemory>
+    requires { IsSurvey machine.now survey.now }
+    ensures { IfOk result (λ onward. AreLeadsOut machine.now onward.items) }
+{
+    let mut onward = arrows_of(alloc, machine, Walk::Through)?;
+    for number in 0..machine.vertices() {
+        match default_region(machine, survey, VertexId(number)) {
+            Some(region) => put(&mut onward, number, number_behind(machine, region))?,
+            None => {}
+        }
+    }
+    Ok(onward)
+}
+
+/// The arrows through pseudostates, and those of history vertices without transitions. Each of these leads to the number of its region,
+/// and that to the region's initial vertices, so that there are no more arrows than vertices and transitions.
 pub fn leads_of(
     alloc: Global,
     machine: &Machine,
@@ -96,12 +118,12 @@ pub fn leads_of(
     requires { IsSurvey machine.now survey.now }
     ensures { IfOk result (λ onward. AreLeads machine.now onward.items) }
 {
-    let mut onward = arrows_of(alloc, machine, Walk::Through)?;
-    for number in 0..machine.vertices() {
-        put_all(
+    let mut onward = leads_out(alloc, machine, survey)?;
+    for number in 0..machine.regions() {
+        put_behind(
+            alloc,
             &mut onward,
-            number,
-            defaults_of(machine, survey, VertexId(number)),
+            owned(machine, survey, RegionId(number), VertexKind::Initial),
         )?;
     }
     Ok(onward)
@@ -120,69 +142,4 @@ pub fn late_targets(alloc: Global, machine: &Machine) -> Result<Vec<u16>, NoMemo
         }
     }
     Ok(list)
-}
-
-/// Whether the vertex lies in the region or State.
-fn lies_in(machine: &Machine, vertex: VertexId, place: Owner) -> bool
-    requires vertex { vertex.0 < length machine.now.vertices }
-    requires place { IsThere machine.now place }
-    ensures { IsTrue result ↔ LiesIn machine.now vertex place }
-{
-    match place {
-        Owner::Top => true,
-        Owner::Region(region) => machine.lies_in_region(vertex, region),
-        Owner::State(state) => machine.lies_in_state(vertex, state),
-    }
-}
-
-/// Whether the vertex is not the one that is left out.
-fn counts(but: Option<VertexId>, vertex: VertexId) -> bool
-    ensures { IsTrue result ↔ (but ≢ Some vertex) }
-{
-    match but {
-        Some(other) => other.0 != vertex.0,
-        None => true,
-    }
-}
-
-/// Whether the vertex is not the one that is left out, and lies outside the place.
-fn is_astray(machine: &Machine, vertex: VertexId, place: Owner, but: Option<VertexId>) -> bool
-    requires vertex { vertex.0 < length machine.now.vertices }
-    requires place { IsThere machine.now place }
-    ensures { IsTrue result ↔ IsAstray machine.now place but vertex }
-{
-    counts(but, vertex) && !lies_in(machine, vertex, place)
-}
-
-/// Whether one of these vertices is astray.
-fn some_astray(machine: &Machine, vertices: &[u16], place: Owner, but: Option<VertexId>) -> bool
-    requires vertices { (w : ℕ) → Contains vertices.now w → w < length machine.now.vertices }
-    requires place { IsThere machine.now place }
-    ensures { IsTrue result ↔ ((w : ℕ) × Contains vertices.now w × IsAstray machine.now place but (vertex_number w)) }
-{
-    for number in vertices {
-        if is_astray(machine, VertexId(*number), place, but) {
-            return true;
-        }
-    }
-    false
-}
-
-/// Whether a walk from the vertex comes to one that lies outside the place.
-pub fn strays(
-    alloc: Global,
-    machine: &Machine,
-    onward: &[Vec<u16>],
-    start: VertexId,
-    place: Owner,
-    but: Option<VertexId>,
-) -> Result<bool, NoMemory>
-    requires width { length onward.now ≡ length machine.now.vertices }
-    requires within { StaysWithin onward.now }
-    requires there { start.0 < length machine.now.vertices }
-    requires place { IsThere machine.now place }
-    ensures { IfOk result (λ b. IsTrue b ↔ Strays machine.now onward.now start place but) }
-{
-    let reached = walk_from(alloc, onward, &[start.0])?;
-    Ok(some_astray(machine, reached.found.as_slice(), place, but))
 }

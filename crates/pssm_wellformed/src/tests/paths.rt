@@ -104,6 +104,53 @@ fn paths_past_points_and_forks(rt: HostRuntime) -> Result<(), Fail> {
     Ok(())
 }
 
+/// Two choices that lead to one junction in the inner of two nested regions, which stays there, leaves it, or leaves the outer one too.
+#[test]
+fn paths_in_nested_regions(rt: HostRuntime) -> Result<(), Fail> {
+    let alloc = rt.alloc();
+    let vertices = b"0i0s0s1i1s1s2i2s2c1c2u";
+    assert!(rt; has_faults(alloc, b"tBE", vertices, b"01.34.67.78!8:.59!9:.:7.", b"")?);
+    assert!(rt; has_faults(alloc, b"tBE", vertices, b"01.34.67.78!8:.59!9:.:5.", b"v8t")?);
+    assert!(rt;
+        has_faults(
+            alloc,
+            b"tBE",
+            vertices,
+            b"01.34.67.78!8:.59!9:.:2.",
+            b"v8tv9t"
+        )?
+    );
+    Ok(())
+}
+
+/// Local transitions past a junction into the other region of their State, and out of the inner of two States alone.
+#[test]
+fn local_paths_between_regions(rt: HostRuntime) -> Result<(), Fail> {
+    let alloc = rt.alloc();
+    assert!(rt; has_faults(alloc, b"tBB", b"0i0s1i1s1u2i2s", b"01.23.56.14l46.", b"")?);
+    assert!(rt;
+        has_faults(
+            alloc,
+            b"tBE",
+            b"0i0s0s1i1s1s2i2s2u",
+            b"01.34.67.48l18l85.",
+            b"t3n"
+        )?
+    );
+    Ok(())
+}
+
+/// A junction before an exit point to which another exit point leads, of a State inside or of the same one; and one to which it leads itself.
+#[test]
+fn exit_points_in_a_chain(rt: HostRuntime) -> Result<(), Fail> {
+    let alloc = rt.alloc();
+    let led = b"01.34.89.97!76.62.25.";
+    assert!(rt; has_faults(alloc, b"tBE", b"0i0sBx1i1s0s1uEx2i2s", led, b"")?);
+    assert!(rt; has_faults(alloc, b"tBE", b"0i0sBx1i1s0s1uBx2i2s", led, b"v2pv7p")?);
+    assert!(rt; has_faults(alloc, b"tB", b"0i0sBx1s0u", b"01.32!24.42.", b"v2pv2sv4s")?);
+    Ok(())
+}
+
 /// A chain of diamonds of junctions: 4,094 vertices, and more paths than can be counted.
 fn diamonds(alloc: Global) -> Result<DraftMachine, Fail> {
     let mut vertices = Vec::new(alloc);

@@ -88,6 +88,42 @@ fn joins(rt: HostRuntime) -> Result<(), Fail> {
     Ok(())
 }
 
+/// Two joins of the same regions, and joins of what lies deeper in them; and forks without a segment out.
+#[test]
+fn regions_met_again(rt: HostRuntime) -> Result<(), Fail> {
+    let alloc = rt.alloc();
+    assert!(rt;
+        has_faults(
+            alloc,
+            b"tBB",
+            b"0i0s1i1s2i2s0j0s0j",
+            b"01.23.45.36.56.67.38.58.87.",
+            b""
+        )?
+    );
+    assert!(rt;
+        has_faults(
+            alloc,
+            b"tBBD",
+            b"0i0s1i1s2i2s0j0s3i3s",
+            b"01.23.45.96.56.67.89.",
+            b""
+        )?
+    );
+    assert!(rt;
+        has_faults(
+            alloc,
+            b"tBBD",
+            b"0i0s1i1s2i2s0j0s3i3s",
+            b"01.23.45.96.36.67.89.",
+            b"v6g"
+        )?
+    );
+    assert!(rt; has_faults(alloc, b"t", b"0i0k", b"01.", b"v1fv1h")?);
+    assert!(rt; has_faults(alloc, b"t", b"0i0k0s", b"01.", b"v1f")?);
+    Ok(())
+}
+
 /// A fork whose segments are too few or too many, are guarded, or lead to one region; and the same mended.
 #[test]
 fn forks(rt: HostRuntime) -> Result<(), Fail> {
@@ -150,6 +186,7 @@ fn open_ends(rt: HostRuntime) -> Result<(), Fail> {
     assert!(rt; has_faults(alloc, b"t", b"0i0s0f", b"01.12!21!", b"v2k")?);
     assert!(rt; has_faults(alloc, b"t", b"0i0s0f", b"01.12!", b"")?);
     assert!(rt; has_faults(alloc, b"t", b"0i0s0t", b"01.12!21.", b"v2l")?);
+    assert!(rt; has_faults(alloc, b"t", b"0i0s0t", b"01.12!21.21.", b"v2l")?);
     assert!(rt; has_faults(alloc, b"t", b"0i0s0t", b"01.12!22.", b"v2lv2s")?);
     assert!(rt; has_faults(alloc, b"t", b"0i0s0t", b"01.12!", b"")?);
     Ok(())
@@ -167,6 +204,7 @@ fn triggers_and_kinds(rt: HostRuntime) -> Result<(), Fail> {
     assert!(rt; has_faults(alloc, b"t", b"0i0s0s", b"01.12e", b"t1q")?);
     assert!(rt; has_faults(alloc, b"t", b"0i0s0c", b"01.12!21e21e", b"t3q")?);
     assert!(rt; has_faults(alloc, b"t", b"0i0s0c", b"01.12!21?21e", b"")?);
+    assert!(rt; has_faults(alloc, b"t", b"0i0s0c0c", b"01.12!21e23e31e", b"t3q")?);
     Ok(())
 }
 
@@ -185,6 +223,7 @@ fn entry_points(rt: HostRuntime) -> Result<(), Fail> {
 fn common_regions(rt: HostRuntime) -> Result<(), Fail> {
     let alloc = rt.alloc();
     assert!(rt; has_faults(alloc, b"tt", b"0i0s1i1s", b"01.23.13!", b"t2u")?);
+    assert!(rt; has_faults(alloc, b"tt", b"0i0s1i1s", b"01.23.31!", b"t2u")?);
     assert!(rt; has_faults(alloc, b"tt", b"0i0s1i1s", b"01.23.30!", b"v0ct2u")?);
     assert!(rt; has_faults(alloc, b"tt", b"0i0s1i1s", b"01.23.33!", b"")?);
     Ok(())

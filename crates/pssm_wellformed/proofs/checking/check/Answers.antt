@@ -1,7 +1,5 @@
 -- one place after the other
-use Rattle.std.proofs.Common.{◌≡◌, ℕ, List, length, sym, subst, ap, arith}
-use Rattle.pssm_wellformed.specs.declared.fault.Fault.{Fault}
-use Rattle.pssm_wellformed.specs.Checked.{IsCheckedBelow}
+use Rattle.std.proofs.Common.{arith}
 use Rattle.pssm_wellformed.proofs.Order.{none_checked, all_checked, none_listed}
 use Rattle.pssm_wellformed.proofs.checking.check.Goals as goal
 

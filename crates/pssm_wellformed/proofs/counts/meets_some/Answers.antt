@@ -1,4 +1,3 @@
-use Rattle.pssm_model.specs.declared.ids.TransId.{TransId}
 use Rattle.pssm_wellformed.specs.Survey.{transition_number}
 use Rattle.pssm_wellformed.proofs.Listing.{not_empty_iff}
 use Rattle.pssm_wellformed.proofs.counts.meets_some.Goals as goal

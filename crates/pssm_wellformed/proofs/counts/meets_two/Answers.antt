@@ -1,4 +1,4 @@
-use Rattle.std.proofs.Common.{◌≡◌, ap}
+use Rattle.std.proofs.Common.{ap}
 use Rattle.pssm_model.specs.declared.ids.TransId.{TransId}
 use Rattle.pssm_model.proofs.BuiltElements.{same_transition}
 use Rattle.pssm_wellformed.specs.Survey.{transition_number}

@@ -1,8 +1,6 @@
 -- the arrows of one number after the other are walked
-use Rattle.std.proofs.Common.{◌≡◌, ◌<◌, ℕ, length, get_or, refl, sym, subst, ap, ◌∙◌, arith, Contains, false, replicate}
+use Rattle.std.proofs.Common.{◌<◌, length, get_or, sym, subst, ◌∙◌, arith, Contains}
 use Rattle.std.proofs.lemmas.List.{get_or_default}
-use Rattle.pssm_wellformed.specs.Reach.{AreMarked}
-use Rattle.pssm_wellformed.specs.Lists.{list_at}
 use Rattle.pssm_wellformed.proofs.Walking.{blank_marks, walk_begins, walk_goes_on, walk_ends, walk_has_room, found_within, walk_list}
 use Rattle.pssm_wellformed.proofs.reach.walk_from.Goals as goal
 
@@ -52,12 +50,6 @@ loop-place-preserved c =
     walk_goes_on c.args.onward.now c.args.first.now c.loop-place.place c.loop-place.marks.items c.find_more-in-loop-place.new.marks.items
     c.loop-place.found.items c.find_more-in-loop-place.new.found.items c.as_slice.result.now c.loop-place.invariant lt (list ∙ sym c.as_slice.ensures.value)
     c.in_ok-find_more-2.ensures.width c.in_ok-find_more-2.ensures.marked c.in_ok-find_more-2.ensures.more
-
-pub returns-clause-found : goal.returns-clause-found
-returns-clause-found c =
-    let ok = c.loop-place.found.ok.0 in
-    walk_ends c.args.onward.now c.args.first.now c.loop-place.place c.loop-place.marks.items c.loop-place.found.items c.loop-place.invariant
-    (let t = c.loop-place-test.false in let l = c.len.ensures in omega arith)
 
 pub returns-clause-marks : goal.returns-clause-marks
 returns-clause-marks c b =

@@ -1,4 +1,4 @@
-use Rattle.std.proofs.Common.{◌≡◌, ap}
+use Rattle.std.proofs.Common.{ap}
 use Rattle.pssm_model.specs.declared.ids.VertexId.{VertexId}
 use Rattle.pssm_model.proofs.BuiltElements.{same_vertex}
 use Rattle.pssm_wellformed.specs.Survey.{vertex_number}

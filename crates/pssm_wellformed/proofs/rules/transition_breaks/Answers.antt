@@ -1,10 +1,5 @@
 -- each rule under its number
-use Rattle.std.proofs.Common.{◌↔◌, Bool, IsTrue}
-use Rattle.pssm_model.specs.declared.elements.FaultPlace.TheVariants.{At}
-use Rattle.pssm_model.specs.declared.elements.Element.TheVariants as elements
-use Rattle.pssm_model.specs.WellFormed.{Breaks, IsBadLocal}
 use Rattle.pssm_wellformed.proofs.Numbered.{transition_iff_10, transition_iff_13, transition_iff_14, transition_iff_17, transition_iff_21}
-use Rattle.pssm_wellformed.proofs.Straying.{ok_by}
 use Rattle.pssm_wellformed.proofs.rules.transition_breaks.Goals as goal
 
 pub returns-in-10 : goal.returns-in-10
@@ -14,9 +9,7 @@ pub returns-in-13 : goal.returns-in-13
 returns-in-13 c = transition_iff_13 c.args.machine.now c.args.transition c.args.rule c.is_bad_internal.result c.in-13.is c.is_bad_internal.ensures
 
 pub returns-in-14 : goal.returns-in-14
-returns-in-14 c =
-    ok_by (λ b. IsTrue b ↔ IsBadLocal c.args.machine.now c.args.transition) (λ b. IsTrue b ↔ Breaks c.args.machine.now (At (elements.Transition c.args.transition)) c.args.rule)
-    c.is_bad_local.result c.is_bad_local.ensures (λ b h. transition_iff_14 c.args.machine.now c.args.transition c.args.rule b c.in-14.is h)
+returns-in-14 c = transition_iff_14 c.args.machine.now c.args.transition c.args.rule c.is_bad_local.result c.in-14.is c.is_bad_local.ensures
 
 pub returns-in-17 : goal.returns-in-17
 returns-in-17 c = transition_iff_17 c.args.machine.now c.args.transition c.args.rule c.is_bad_else.result c.in-17.is c.is_bad_else.ensures

@@ -1,10 +1,5 @@
 -- each rule under its number
-use Rattle.std.proofs.Common.{◌↔◌, Bool, IsTrue}
-use Rattle.pssm_model.specs.declared.elements.FaultPlace.TheVariants.{At}
-use Rattle.pssm_model.specs.declared.elements.Element.TheVariants as elements
-use Rattle.pssm_model.specs.WellFormed.{Breaks, IsBadExitPoint, IsOnCycle, GoesOutside}
 use Rattle.pssm_wellformed.proofs.Numbered.{vertex_iff_3, vertex_iff_4, vertex_iff_5, vertex_iff_6, vertex_iff_7, vertex_iff_8, vertex_iff_9, vertex_iff_11, vertex_iff_12, vertex_iff_15, vertex_iff_16, vertex_iff_18, vertex_iff_19, vertex_iff_20}
-use Rattle.pssm_wellformed.proofs.Straying.{ok_by}
 use Rattle.pssm_wellformed.proofs.rules.vertex_breaks.Goals as goal
 
 pub returns-in-3 : goal.returns-in-3
@@ -38,19 +33,13 @@ pub returns-in-15 : goal.returns-in-15
 returns-in-15 c = vertex_iff_15 c.args.machine.now c.args.vertex c.args.rule c.is_bad_entry_point.result c.in-15.is c.is_bad_entry_point.ensures
 
 pub returns-in-16 : goal.returns-in-16
-returns-in-16 c =
-    ok_by (λ b. IsTrue b ↔ IsBadExitPoint c.args.machine.now c.args.vertex) (λ b. IsTrue b ↔ Breaks c.args.machine.now (At (elements.Vertex c.args.vertex)) c.args.rule)
-    c.is_bad_exit_point.result c.is_bad_exit_point.ensures (λ b h. vertex_iff_16 c.args.machine.now c.args.vertex c.args.rule b c.in-16.is h)
+returns-in-16 c = vertex_iff_16 c.args.machine.now c.args.vertex c.args.rule c.is_bad_exit_point.result c.in-16.is c.is_bad_exit_point.ensures
 
 pub returns-in-18 : goal.returns-in-18
 returns-in-18 c = vertex_iff_18 c.args.machine.now c.args.vertex c.args.rule c.may_find_none.result c.in-18.is c.may_find_none.ensures
 
 pub returns-in-19 : goal.returns-in-19
-returns-in-19 c =
-    ok_by (λ b. IsTrue b ↔ IsOnCycle c.args.machine.now c.args.vertex) (λ b. IsTrue b ↔ Breaks c.args.machine.now (At (elements.Vertex c.args.vertex)) c.args.rule)
-    c.is_on_cycle.result c.is_on_cycle.ensures (λ b h. vertex_iff_19 c.args.machine.now c.args.vertex c.args.rule b c.in-19.is h)
+returns-in-19 c = vertex_iff_19 c.args.machine.now c.args.vertex c.args.rule c.is_on_cycle.result c.in-19.is c.is_on_cycle.ensures
 
 pub returns-in-20 : goal.returns-in-20
-returns-in-20 c =
-    ok_by (λ b. IsTrue b ↔ GoesOutside c.args.machine.now c.args.vertex) (λ b. IsTrue b ↔ Breaks c.args.machine.now (At (elements.Vertex c.args.vertex)) c.args.rule)
-    c.goes_outside.result c.goes_outside.ensures (λ b h. vertex_iff_20 c.args.machine.now c.args.vertex c.args.rule b c.in-20.is h)
+returns-in-20 c = vertex_iff_20 c.args.machine.now c.args.vertex c.args.rule c.goes_outside.result c.in-20.is c.goes_outside.ensures

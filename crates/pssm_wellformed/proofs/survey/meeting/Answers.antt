@@ -1,5 +1,4 @@
 -- each list of the survey is the one of its end
-use Rattle.pssm_model.specs.declared.ids.TransId.{TransId}
 use Rattle.std.proofs.Common.{subst, Contains}
 use Rattle.pssm_wellformed.specs.declared.survey.End.TheVariants.{Source, Target}
 use Rattle.pssm_wellformed.specs.Survey.{transition_number}

@@ -1,5 +1,5 @@
 -- each region is put to its State
-use Rattle.std.proofs.Common.{◌≡◌, ◌<◌, ℕ, length, ap, subst, sym, arith, Vec, Global, List, [], ◌∷◌, ◌++◌, ◌==◌, if◌then◌else◌}
+use Rattle.std.proofs.Common.{◌≡◌, ℕ, length, ap, subst, sym, arith, Vec, Global, [], ◌∷◌, ◌++◌, ◌==◌, if◌then◌else◌}
 use Rattle.std.proofs.lemmas.Option.{slice_get_within}
 use Rattle.pssm_model.specs.declared.ids.VertexId.{VertexId}
 use Rattle.pssm_model.specs.declared.elements.Owner.TheVariants.{Region, State}

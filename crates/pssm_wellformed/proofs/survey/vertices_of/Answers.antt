@@ -1,5 +1,5 @@
 -- each vertex of the kind is put to its region
-use Rattle.std.proofs.Common.{◌≡◌, ◌<◌, ℕ, length, ap, subst, sym, arith, Vec, Global, List, [], ◌∷◌, ◌++◌, ◌==◌, if◌then◌else◌}
+use Rattle.std.proofs.Common.{◌≡◌, ℕ, length, ap, subst, sym, arith, Vec, Global, [], ◌∷◌, ◌++◌, ◌==◌, if◌then◌else◌}
 use Rattle.pssm_model.specs.declared.ids.RegionId.{RegionId}
 use Rattle.pssm_model.specs.declared.elements.Owner.TheVariants.{State}
 use Rattle.pssm_wellformed.specs.Lists.{AreListedBelow, list_at}

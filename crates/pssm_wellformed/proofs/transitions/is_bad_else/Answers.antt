@@ -1,6 +1,4 @@
 use Rattle.std.proofs.Common.{◌≡◌, refl, subst, sym, inr, ⊎_elim}
-use Rattle.pssm_model.specs.declared.ids.VertexId.{VertexId}
-use Rattle.pssm_model.specs.declared.ids.TransId.{TransId}
 use Rattle.pssm_model.specs.Legs.{Leaves}
 use Rattle.pssm_model.specs.WellFormed.{IsBranch}
 use Rattle.pssm_wellformed.specs.declared.survey.End.TheVariants.{Source}
@@ -12,11 +10,12 @@ pub returns-else-not-is_branch : goal.returns-else-not-is_branch
 returns-else-not-is_branch c =
     let m = c.args.machine.now in
     let source = c.end_of-source.result in
-    let is = c.meeting.ensures.items in (
-      λ t. let some = c.has_earlier_else.ensures.0 t in
-          (c.if-has_else.ensures.0 refl, (source, c.end_of-source.ensures.is, inr (transition_number some.0, some.2, (is some.0).0 some.1, some.3))),
+    let is = c.elses_at.ensures.items in (
+      λ t. let some = c.some_earlier.ensures.0 t in
+          let one = (is some.0).0 some.1 in
+          (c.if-has_else.ensures.0 refl, (source, c.end_of-source.ensures.is, inr (transition_number some.0, some.2, one.0, one.1))),
       λ h.
           let same : h.1.0 ≡ source = end_only m Source c.args.transition h.1.0 source h.1.1 c.end_of-source.ensures.is in
           ⊎_elim (λ none. absurd (none (subst (IsBranch m) (sym same) (c.if-not-is_branch.ensures.0 refl))))
-          (λ some. c.has_earlier_else.ensures.1 (some.0.0, (is some.0.0).1 (subst (Leaves m some.0) same some.2), some.1, some.3)) h.1.2,
+          (λ some. c.some_earlier.ensures.1 (some.0.0, (is some.0.0).1 (subst (Leaves m some.0) same some.2, some.3), some.1)) h.1.2,
     )

@@ -1,5 +1,5 @@
 -- each transition out of an initial, history or choice vertex is kept
-use Rattle.std.proofs.Common.{◌↔◌, ◌+◌, ℕ, length, Contains, refl, sym, subst, arith, Vec, Global}
+use Rattle.std.proofs.Common.{◌↔◌, ◌+◌, ℕ, Contains, refl, sym, subst, arith, Vec, Global}
 use Rattle.std.proofs.lemmas.Bool.{false≢true}
 use Rattle.pssm_wellformed.specs.Walks.{IsLateTargetBelow}
 use Rattle.pssm_wellformed.proofs.Arrows.{late_more, late_passed, late_all}

@@ -1,7 +1,0 @@
-use Rattle.std.proofs.Common.{ℕ, take, Contains}
-use Rattle.pssm_wellformed.specs.Survey.{transition_number}
-use Rattle.pssm_wellformed.specs.Strays.{ComesFromAfar}
-use Rattle.pssm_wellformed.proofs.paths.some_come_from_afar.Given as goal
-
-abbrev pub invariant-loop-number : goal.invariant-loop-number
-invariant-loop-number l = (t : ℕ) → Contains (take l.number-index l.transitions) t → ComesFromAfar l.machine l.vertex l.state (transition_number t) → ⊥

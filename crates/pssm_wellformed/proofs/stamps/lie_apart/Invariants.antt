@@ -1,0 +1,6 @@
+use Rattle.std.proofs.Common.{◌+◌}
+use Rattle.pssm_wellformed.specs.Apart.{AreStamped}
+use Rattle.pssm_wellformed.proofs.stamps.lie_apart.Given as goal
+
+abbrev pub invariant-loop-number : goal.invariant-loop-number
+invariant-loop-number l = AreStamped l.machine l.end l.state l.transitions l.number-index (l.last + 1) l.stamps.items

@@ -1,0 +1,144 @@
+//! The rule of exit points, E16.
+ghost use Rattle.std.specs.Prelude.{◌≡◌, ◌↔◌, ◌<◌, ℕ, Some, Contains, length, IsTrue};
+ghost use Rattle.pssm_model.specs.declared.elements.Owner.TheVariants.{State};
+ghost use Rattle.pssm_model.specs.Forest.{HasKind, owner_of};
+ghost use Rattle.pssm_model.specs.Legs.{Enters};
+ghost use Rattle.pssm_model.specs.WellFormed.{StaysInside, IsComeToFromAfar, IsBadExitPoint};
+ghost use Rattle.pssm_wellformed.specs.Survey.{IsSurvey, transition_number};
+ghost use Rattle.pssm_wellformed.specs.Strays.{AreVertexMarks, ComesFromAfar};
+
+use crate::counts::lacks_one;
+use crate::elements::{end_of, has_kind};
+use crate::inside::region_inside;
+use crate::marks::strays;
+use crate::paths::VertexMarks;
+use crate::questions::{Question, holds_at};
+use crate::survey::{End, Survey, meeting, regions_in};
+use pssm_model::{Machine, Owner, TransId, VertexId, VertexKind};
+
+/// Whether the other vertices of some junction path to the vertex that ends with the transition do not all lie in one region of the State.
+fn comes_from_afar(
+    machine: &Machine,
+    survey: &Survey,
+    marks: &VertexMarks,
+    transition: TransId,
+    vertex: VertexId,
+    state: VertexId,
+) -> bool
+    requires survey { IsSurvey machine.now survey.now }
+    requires marks { AreVertexMarks machine.now marks.now }
+    requires there { transition.0 < length machine.now.transitions }
+    requires enters { Enters machine.now transition vertex }
+    requires point { HasKind machine.now vertex VertexKind.ExitPoint }
+    requires owner { owner_of machine.now (State vertex) ≡ Some (State state) }
+    requires leaves { StaysInside machine.now vertex → ⊥ }
+    ensures { IsTrue result ↔ ComesFromAfar machine.now vertex state transition }
+{
+    let source = end_of(machine, transition, End::Source);
+    // A path that ends with a transition from the exit point to itself has no other vertex, so any region of the State holds it.
+    if source.0 == vertex.0 {
+        return regions_in(machine, survey, state).is_empty();
+    }
+    match region_inside(machine, source, state) {
+        Some(region) => strays(
+            machine,
+            marks.back.as_slice(),
+            source,
+            Owner::Region(region),
+        ),
+        None => true,
+    }
+}
+
+/// Whether that is so for one of these transitions.
+fn some_come_from_afar(
+    machine: &Machine,
+    survey: &Survey,
+    marks: &VertexMarks,
+    transitions: &[u16],
+    vertex: VertexId,
+    state: VertexId,
+) -> bool
+    requires survey { IsSurvey machine.now survey.now }
+    requires marks { AreVertexMarks machine.now marks.now }
+    requires there { (t : ℕ) → Contains transitions.now t → t < length machine.now.transitions }
+    requires enter { (t : ℕ) → Contains transitions.now t → Enters machine.now (transition_number t) vertex }
+    requires point { HasKind machine.now vertex VertexKind.ExitPoint }
+    requires owner { owner_of machine.now (State vertex) ≡ Some (State state) }
+    requires leaves { StaysInside machine.now vertex → ⊥ }
+    ensures { IsTrue result ↔ ((t : ℕ) × Contains transitions.now t × ComesFromAfar machine.now vertex state (transition_number t)) }
+{
+    for number in transitions {
+        if comes_from_afar(machine, survey, marks, TransId(*number), vertex, state) {
+            return true;
+        }
+    }
+    false
+}
+
+/// Whether the other vertices of some junction path to the exit point do not all lie in one region of its State.
+fn is_come_to_from_afar(
+    machine: &Machine,
+    survey: &Survey,
+    marks: &VertexMarks,
+    vertex: VertexId,
+) -> bool
+    requires survey { IsSurvey machine.now survey.now }
+    requires marks { AreVertexMarks machine.now marks.now }
+    requires point { HasKind machine.now vertex VertexKind.ExitPoint }
+    requires there { vertex.0 < length machine.now.vertices }
+    requires leaves { StaysInside machine.now vertex → ⊥ }
+    ensures { IsTrue result ↔ IsComeToFromAfar machine.now vertex }
+{
+    match machine.vertex(vertex).owner {
+        Owner::State(state) => some_come_from_afar(
+            machine,
+            survey,
+            marks,
+            meeting(machine, survey, vertex, End::Target),
+            vertex,
+            state,
+        ),
+        _ => false,
+    }
+}
+
+/// Whether a transition out of the exit point ends in its State.
+fn stays_inside(machine: &Machine, survey: &Survey, vertex: VertexId) -> bool
+    requires survey { IsSurvey machine.now survey.now }
+    requires there { vertex.0 < length machine.now.vertices }
+    ensures { IsTrue result ↔ StaysInside machine.now vertex }
+{
+    match machine.vertex(vertex).owner {
+        Owner::State(state) => holds_at(
+            machine,
+            survey,
+            vertex,
+            End::Source,
+            Question::EndsInside(state),
+        ),
+        _ => false,
+    }
+}
+
+/// E16: whether it is an exit point with not exactly one transition out, or with one that ends in its State, or to which some junction
+/// path comes from more than one region of its State, or from outside.
+pub fn is_bad_exit_point(
+    machine: &Machine,
+    survey: &Survey,
+    marks: &VertexMarks,
+    vertex: VertexId,
+) -> bool
+    requires survey { IsSurvey machine.now survey.now }
+    requires marks { AreVertexMarks machine.now marks.now }
+    requires there { vertex.0 < length machine.now.vertices }
+    ensures { IsTrue result ↔ IsBadExitPoint machine.now vertex }
+{
+    if !has_kind(machine, vertex, VertexKind::ExitPoint) {
+        return false;
+    }
+    if lacks_one(machine, survey, vertex, End::Source) || stays_inside(machine, survey, vertex) {
+        return true;
+    }
+    is_come_to_from_afar(machine, survey, marks, vertex)
+}

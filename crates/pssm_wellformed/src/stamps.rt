@@ -1,0 +1,164 @@
+//! Whether the ends of the transitions that meet at a vertex lie in different regions of a State, marked once for all vertices.
+//!
+//! Each region has a stamp: one more than the number of the last vertex across which an end was found in it, and 0 before there is one. So
+//! an end that comes to a region with its own vertex's stamp comes to it second, and each transition is looked at once.
+ghost use Rattle.std.specs.Prelude.{◌≡◌, ◌↔◌, ◌<◌, ◌+◌, ℕ, AllPairs, Contains, length, slice_index_or, IfOk, IsTrue, MatchOption};
+ghost use Rattle.pssm_model.specs.Shape.{HasShape};
+ghost use Rattle.pssm_model.specs.WellFormed.{LieApart};
+ghost use Rattle.pssm_wellformed.specs.Survey.{OwnsOfKind, HasRegion, IsSurvey};
+ghost use Rattle.pssm_wellformed.specs.Apart.{EndLiesIn, EndLiesInside, AreEnds, IsAround, LieApartAround, IsFitting, AreApartMarks, AreStamps};
+
+use crate::elements::end_of;
+use crate::inside::{region_inside, state_inside};
+use crate::survey::{End, Survey, meeting, owned};
+use pssm_model::{Machine, Owner, RegionId, TransId, VertexId, VertexKind};
+use std::alloc::{AllocError as NoMemory, Global};
+
+/// The region of the State in which the transition's end lies, where there is one.
+fn region_of_end(
+    machine: &Machine,
+    transition: TransId,
+    end: End,
+    state: VertexId,
+) -> Option<RegionId>
+    requires shape { HasShape machine.now }
+    requires there { transition.0 < length machine.now.transitions }
+    ensures { MatchOption result (EndLiesInside machine.now end state transition → ⊥) (λ r. HasRegion machine.now state.0 r.0 × EndLiesIn machine.now end r transition) }
+{
+    region_inside(machine, end_of(machine, transition, end), state)
+}
+
+/// Puts the stamp on the region. Whether it had it before.
+fn put_stamp(stamps: &mut Vec<u16>, region: RegionId, stamp: u16) -> bool
+    requires { region.0 < length stamps.old.items }
+    ensures before { IsTrue result ↔ (slice_index_or stamps.old.items region.0 0 ≡ stamp) }
+    ensures width { length stamps.new.items ≡ length stamps.old.items }
+    ensures here { slice_index_or stamps.new.items region.0 0 ≡ stamp }
+    ensures elsewhere { (r : ℕ) → (r ≡ region.0 → ⊥) → slice_index_or stamps.new.items r 0 ≡ slice_index_or stamps.old.items r 0 }
+{
+    let before = stamps[region.0 as usize] == stamp;
+    stamps[region.0 as usize] = stamp;
+    before
+}
+
+/// Whether the ends of these transitions lie in different regions of the State. The regions met get a stamp later than the last.
+fn lie_apart(
+    machine: &Machine,
+    transitions: &[u16],
+    end: End,
+    state: VertexId,
+    stamps: &mut Vec<u16>,
+    last: u16,
+) -> bool
+    requires shape { HasShape machine.now }
+    requires there { (t : ℕ) → Contains transitions.now t → t < length machine.now.transitions }
+    requires ascending { AllPairs (λ t u. t < u) transitions.now }
+    requires stamps { AreStamps machine.now last stamps.old.items }
+    requires few { last < 65535 }
+    ensures apart { IsTrue result ↔ LieApart machine.now state (AreEnds machine.now end transitions.now) }
+    ensures stamps { AreStamps machine.now (last + 1) stamps.new.items }
+{
+    for number in transitions {
+        match region_of_end(machine, TransId(*number), end, state) {
+            Some(region) => {
+                if put_stamp(stamps, region, last + 1) {
+                    return false;
+                }
+            }
+            None => return false,
+        }
+    }
+    true
+}
+
+/// A State that the region owns, where it owns any.
+fn some_state(machine: &Machine, survey: &Survey, region: RegionId) -> Option<VertexId>
+    requires { IsSurvey machine.now survey.now }
+    ensures { MatchOption result ((s : VertexId) → OwnsOfKind machine.now VertexKind.State region s → ⊥) (λ s. OwnsOfKind machine.now VertexKind.State region s) }
+{
+    match owned(machine, survey, region, VertexKind::State).get(0) {
+        Some(number) => Some(VertexId(*number)),
+        None => None,
+    }
+}
+
+/// A State that the region owns, and in whose regions the ends of these transitions lie apart, if they do so in those of any.
+fn state_beside(
+    machine: &Machine,
+    survey: &Survey,
+    region: RegionId,
+    transitions: &[u16],
+    end: End,
+) -> Option<VertexId>
+    requires survey { IsSurvey machine.now survey.now }
+    requires there { (t : ℕ) → Contains transitions.now t → t < length machine.now.transitions }
+    ensures { MatchOption result ((s : VertexId) → OwnsOfKind machine.now VertexKind.State region s → LieApart machine.now s (AreEnds machine.now end transitions.now) → ⊥) (λ s. IsFitting machine.now (λ q. OwnsOfKind machine.now VertexKind.State region q) (AreEnds machine.now end transitions.now) s) }
+{
+    if transitions.is_empty() {
+        return some_state(machine, survey, region);
+    }
+    let first = end_of(machine, TransId(transitions[0]), end);
+    state_inside(machine, first, region)
+}
+
+/// A State around the vertex, in whose regions the ends of these transitions lie apart, if they do so in those of any.
+fn state_around(
+    machine: &Machine,
+    survey: &Survey,
+    vertex: VertexId,
+    transitions: &[u16],
+    end: End,
+) -> Option<VertexId>
+    requires survey { IsSurvey machine.now survey.now }
+    requires vertex { vertex.0 < length machine.now.vertices }
+    requires there { (t : ℕ) → Contains transitions.now t → t < length machine.now.transitions }
+    ensures { MatchOption result ((s : VertexId) → IsAround machine.now vertex s → LieApart machine.now s (AreEnds machine.now end transitions.now) → ⊥) (λ s. IsFitting machine.now (λ q. IsAround machine.now vertex q) (AreEnds machine.now end transitions.now) s) }
+{
+    match machine.vertex(vertex).owner {
+        Owner::Region(region) => state_beside(machine, survey, region, transitions, end),
+        Owner::State(state) => Some(state),
+        Owner::Top => None,
+    }
+}
+
+/// Whether the ends across the vertex lie in different regions of a State around it.
+fn lie_apart_around(
+    machine: &Machine,
+    survey: &Survey,
+    vertex: VertexId,
+    near: End,
+    far: End,
+    stamps: &mut Vec<u16>,
+) -> bool
+    requires survey { IsSurvey machine.now survey.now }
+    requires there { vertex.0 < length machine.now.vertices }
+    requires stamps { AreStamps machine.now vertex.0 stamps.old.items }
+    ensures apart { IsTrue result ↔ LieApartAround machine.now near far vertex }
+    ensures stamps { AreStamps machine.now (vertex.0 + 1) stamps.new.items }
+{
+    let transitions = meeting(machine, survey, vertex, near);
+    match state_around(machine, survey, vertex, transitions, far) {
+        Some(state) => lie_apart(machine, transitions, far, state, stamps, vertex.0),
+        None => false,
+    }
+}
+
+/// A mark for each vertex across which the ends lie in different regions of a State around it.
+pub fn apart_marks(
+    alloc: Global,
+    machine: &Machine,
+    survey: &Survey,
+    near: End,
+    far: End,
+) -> Result<Vec<bool>, NoMemory>
+    requires { IsSurvey machine.now survey.now }
+    ensures { IfOk result (λ marks. AreApartMarks machine.now near far (length machine.now.vertices) marks.items) }
+{
+    let mut stamps = vec![in alloc; 0; machine.regions() as usize]?;
+    let mut marks = Vec::new(alloc);
+    for number in 0..machine.vertices() {
+        let apart = lie_apart_around(machine, survey, VertexId(number), near, far, &mut stamps);
+        marks.push(apart)?;
+    }
+    Ok(marks)
+}
