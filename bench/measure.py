@@ -25,14 +25,14 @@ def make_room():
     resource.setrlimit(resource.RLIMIT_STACK, (ROOM_FOR_WORDS, hard))
 
 
-def measure(words, output=subprocess.DEVNULL):
-    """Seconds and peak memory in KiB of one call that ends with status 0."""
+def measure(words, output=subprocess.DEVNULL, wanted=0):
+    """Seconds and peak memory in KiB of one call that ends with the wanted status."""
     began = time.perf_counter()
     child = subprocess.Popen([PROGRAM] + words, stdout=output, preexec_fn=make_room)
     _, status, usage = os.wait4(child.pid, 0)
     seconds = time.perf_counter() - began
     child.returncode = os.waitstatus_to_exitcode(status)
-    if child.returncode != 0:
+    if child.returncode != wanted:
         sys.exit('%s ended with status %d' % (' '.join(words[:3]), child.returncode))
     return seconds, usage.ru_maxrss
 

@@ -1,16 +1,14 @@
 -- What one more entry at the end of a journal changes: what is active, the last step, what has run, and what is admissible.
-use Rattle.std.proofs.Common.{◌≡◌, ◌⊎◌, ◌++◌, List, [], ◌∷◌, Contains, refl, sym, ap, subst, ◌∙◌, inl, inr, ⊎_elim, append_assoc}
+use Rattle.std.proofs.Common.{◌≡◌, ◌⊎◌, ◌++◌, List, [], ◌∷◌, refl, sym, ap, subst, ◌∙◌, inl, inr, ⊎_elim, append_assoc}
 use Rattle.std.specs.List.{AllByRecursion}
 use Rattle.std.proofs.lemmas.List.Elements.{Contains-append_left, Contains-push, Contains-push_cases}
 use Rattle.pssm_model.specs.declared.ids.VertexId.{VertexId}
 use Rattle.pssm_model.specs.declared.steps.Item.{Item}
 use Rattle.pssm_acts.specs.declared.entry.ObjectId.{ObjectId}
 use Rattle.pssm_acts.specs.declared.entry.Entry.{Entry}
-use Rattle.pssm_acts.specs.declared.entry.Rule.{Rule}
 use Rattle.pssm_acts.specs.declared.setting.Setting.{Setting}
 use Rattle.pssm_acts.specs.Journal.{Splits, StepAt, IsLastStep, IsActive, Heads, EntersAt, ExitsAt}
 use Rattle.pssm_acts.specs.Items.{Runs, HasRun}
-use Rattle.pssm_acts.specs.Rules.{Holds}
 use Rattle.pssm_acts.specs.Runs.{MayFollow, IsAdmissibleIn}
 
 -- facts about each element, with one more

@@ -1,5 +1,5 @@
 -- What a block of statements in code is to a definition that goes by cases: a row of them.
-use Rattle.std.proofs.Common.{◌≡◌, ℕ, zero, suc, ◌+◌, ◌*◌, ◌<◌, ◌≤◌, refl, sym, ap, ◌∙◌, subst, arith, List, [], ◌∷◌, ◌++◌, length, take, slice_index_or, All, Bool, true, false, Option, Some, None}
+use Rattle.std.proofs.Common.{◌≡◌, ℕ, zero, suc, ◌+◌, ◌<◌, ◌≤◌, refl, sym, ap, ◌∙◌, subst, arith, List, [], ◌∷◌, ◌++◌, length, take, slice_index_or, All, true, false, Option, Some, None}
 use Rattle.std.proofs.lemmas.List.{take_more}
 use denote.Hole.Carrier.{hidden}
 use Rattle.pssm_acts.specs.declared.entry.ObjectId.{ObjectId}
@@ -17,7 +17,7 @@ unfolding shape-the_row-Stmt-0 hidden-the_row-Stmt-0 hidden
 block_after [] own params was = refl
 block_after (s ∷ rest) own params was = block_after rest own params (after_stmt s own params was)
 
-block_counts : (body : List Stmt) → block_count (hidden-the_row-Stmt-0 body) ≡ stmts_count body
+pub block_counts : (body : List Stmt) → block_count (hidden-the_row-Stmt-0 body) ≡ stmts_count body
 unfolding shape-the_row-Stmt-0 hidden-the_row-Stmt-0 hidden
 block_counts [] = refl
 block_counts (s ∷ rest) = ap (λ n. stmt_count s + n) (block_counts rest)

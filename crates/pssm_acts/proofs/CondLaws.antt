@@ -15,14 +15,14 @@ use Rattle.pssm_acts.proofs.TokenLaws.{spelled_fits}
 use Rattle.pssm_acts.proofs.GuardRead.{guard_spelled}
 use Rattle.pssm_acts.proofs.GuardHeld.{spelled_guard}
 
-reading_spelled : (names : Names) (text : List ℕ) (c : Cond) → cond_reading names text ≡ Ok c → SpellsCond names text c
+pub reading_spelled : (names : Names) (text : List ℕ) (c : Cond) → cond_reading names text ≡ Ok c → SpellsCond names text c
 unfolding cond_reading
 reading_spelled names text c is = go (ltb 4096 (length text)) refl is where
   go : (b : Bool) → ltb 4096 (length text) ≡ b → (if b then Err (TooLong 0) else text_reading names text) ≡ Ok c → SpellsCond names text c
   go true e is = absurd cc
   go false e is = record { short = ltb-false 4096 (length text) e; spelled = spelled_guard names (length text) (tokens_of text) c is }
 
-spelled_reading : (names : Names) (text : List ℕ) (c : Cond) → SpellsCond names text c → cond_reading names text ≡ Ok c
+pub spelled_reading : (names : Names) (text : List ℕ) (c : Cond) → SpellsCond names text c → cond_reading names text ≡ Ok c
 unfolding cond_reading
 spelled_reading names text c spells = rw (le-ltb 4096 (length text) spells.short) (guard_spelled names (length text) (tokens_of text) c spells.spelled)
 

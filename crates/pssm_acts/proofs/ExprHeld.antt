@@ -15,7 +15,7 @@ use Rattle.pssm_acts.specs.declared.expr_reader.Level.{Level}
 use Rattle.pssm_acts.specs.declared.expr_reader.Place.{Place}
 use Rattle.pssm_acts.specs.declared.expr_reader.Place.TheVariants.{Wants, Has}
 use Rattle.pssm_acts.specs.declared.expr_reader.ExprReader.{ExprReader}
-use Rattle.pssm_acts.specs.Numbers.{number_read}
+use Rattle.pssm_acts.specs.NumberReading.{number_read}
 use Rattle.pssm_acts.specs.Tokens.{Token}
 use Rattle.pssm_acts.specs.ExprReading.{and_then, product_of, sum_of, variable_read, atom_by, atom_of, level_opened, at_atom, closed, after_atom, expr_step, expr_value}
 use Rattle.pssm_acts.specs.Grammar.{Part, Atom, Product, Sum, SpellsExpr, number, variable, parameter, parentheses, atom, times, product, plus, minus}

@@ -12,7 +12,7 @@ use Rattle.pssm_acts.specs.declared.expr_reader.Level.{Level}
 use Rattle.pssm_acts.specs.declared.expr_reader.Place.{Place}
 use Rattle.pssm_acts.specs.declared.expr_reader.Place.TheVariants.{Wants, Has}
 use Rattle.pssm_acts.specs.declared.expr_reader.ExprReader.{ExprReader}
-use Rattle.pssm_acts.specs.Numbers.{number_read}
+use Rattle.pssm_acts.specs.NumberReading.{number_read}
 use Rattle.pssm_acts.specs.Tokens.{Token}
 use Rattle.pssm_acts.specs.ExprReading.{and_then, product_of, sum_of, atom_of, level_opened, at_atom, closed, after_atom, expr_step}
 use Rattle.pssm_acts.specs.Grammar.{Part, Atom, Product, Sum, SpellsExpr, number, variable, parameter, parentheses, atom, times, product, plus, minus}
@@ -46,40 +46,40 @@ pub chain : (names : Names) (room : ℕ) (r n : ExprReader) (ts us : List Token)
 chain names room r n ts us res first second = run_append names room r ts us ∙ ap (λ x. and_then x (λ next. expr_run names room next us)) first ∙ second
 
 module _ (names : Names) (room : ℕ) (outer : List Level) (left : Left) where
-  step_number : (factor : Option Expr) (t : Token) (n : ℤ) → t.kind ≡ kinds.Number → number_read t.at t.word ≡ Ok n
+  pub step_number : (factor : Option Expr) (t : Token) (n : ℤ) → t.kind ≡ kinds.Number → number_read t.at t.word ≡ Ok n
       → expr_step names room (reader_at outer left (Wants factor)) t ≡ Ok (reader_at outer left (Has (product_of factor (Num n))))
   unfolding expr_step at_atom atom_of
   step_number factor t n is read = simp (is, read) refl
 
-  step_name : (factor : Option Expr) (t : Token) (x : ℕ) → t.kind ≡ kinds.Name → position (λ n. bytes_eq n t.word) names.vars ≡ Some x
+  pub step_name : (factor : Option Expr) (t : Token) (x : ℕ) → t.kind ≡ kinds.Name → position (λ n. bytes_eq n t.word) names.vars ≡ Some x
       → expr_step names room (reader_at outer left (Wants factor)) t ≡ Ok (reader_at outer left (Has (product_of factor (Var x))))
   unfolding expr_step at_atom atom_of
   step_name factor t x is found = simp (is, found) refl
 
-  step_parameter : (factor : Option Expr) (t : Token) (k : ℕ) → t.kind ≡ kinds.Param k
+  pub step_parameter : (factor : Option Expr) (t : Token) (k : ℕ) → t.kind ≡ kinds.Param k
       → expr_step names room (reader_at outer left (Wants factor)) t ≡ Ok (reader_at outer left (Has (product_of factor (Param k))))
   unfolding expr_step at_atom atom_of
   step_parameter factor t k is = simp is refl
 
-  step_open : (factor : Option Expr) (t : Token) → t.kind ≡ kinds.Open → length outer < room
+  pub step_open : (factor : Option Expr) (t : Token) → t.kind ≡ kinds.Open → length outer < room
       → expr_step names room (reader_at outer left (Wants factor)) t ≡ Ok (reader_at (record { left = left; factor = factor } ∷ outer) Nothing (Wants None))
   unfolding expr_step at_atom level_opened
   step_open factor t is within = simp (is, lt-ltb (length outer) room within) refl
 
-  step_close : (level : Level) (term : Expr) (t : Token) → t.kind ≡ kinds.Close
+  pub step_close : (level : Level) (term : Expr) (t : Token) → t.kind ≡ kinds.Close
       → expr_step names room (reader_at (level ∷ outer) left (Has term)) t ≡ Ok (reader_at outer level.left (Has (product_of level.factor (sum_of left term))))
   unfolding expr_step after_atom closed
   step_close level term t is = simp is refl
 
-  step_times : (term : Expr) (t : Token) → t.kind ≡ kinds.Times → expr_step names room (reader_at outer left (Has term)) t ≡ Ok (reader_at outer left (Wants (Some term)))
+  pub step_times : (term : Expr) (t : Token) → t.kind ≡ kinds.Times → expr_step names room (reader_at outer left (Has term)) t ≡ Ok (reader_at outer left (Wants (Some term)))
   unfolding expr_step after_atom
   step_times term t is = simp is refl
 
-  step_plus : (term : Expr) (t : Token) → t.kind ≡ kinds.Plus → expr_step names room (reader_at outer left (Has term)) t ≡ Ok (reader_at outer (Plus (sum_of left term)) (Wants None))
+  pub step_plus : (term : Expr) (t : Token) → t.kind ≡ kinds.Plus → expr_step names room (reader_at outer left (Has term)) t ≡ Ok (reader_at outer (Plus (sum_of left term)) (Wants None))
   unfolding expr_step after_atom
   step_plus term t is = simp is refl
 
-  step_minus : (term : Expr) (t : Token) → t.kind ≡ kinds.Minus → expr_step names room (reader_at outer left (Has term)) t ≡ Ok (reader_at outer (Minus (sum_of left term)) (Wants None))
+  pub step_minus : (term : Expr) (t : Token) → t.kind ≡ kinds.Minus → expr_step names room (reader_at outer left (Has term)) t ≡ Ok (reader_at outer (Minus (sum_of left term)) (Wants None))
   unfolding expr_step after_atom
   step_minus term t is = simp is refl
 

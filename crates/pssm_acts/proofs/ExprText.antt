@@ -1,5 +1,5 @@
 -- How operations and chains of guards are spelled, by what code sees of a tree, and how much there is to write.
-use Rattle.std.proofs.Common.{◌≡◌, ℕ, ◌+◌, ◌++◌, List, refl, sym, ap, ◌∙◌, append_assoc, codes}
+use Rattle.std.proofs.Common.{◌≡◌, ℕ, ◌+◌, ◌++◌, List, refl, ap, ◌∙◌, append_assoc, codes}
 use Rattle.pssm_acts.specs.declared.setting.Names.{Names}
 use Rattle.pssm_acts.specs.declared.tree.Expr.{Expr, end_of-Expr, more_of-Expr}
 use Rattle.pssm_acts.specs.declared.tree.Expr.TheViews as views

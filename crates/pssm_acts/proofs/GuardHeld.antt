@@ -26,78 +26,78 @@ use Rattle.pssm_acts.proofs.ExprHeld.{ExprHeld, token_as, expr_more, expr_whole,
 use Rattle.pssm_acts.proofs.GuardRead.{guard_at}
 
 -- the tokens of a chain with its sign, at the end of which its right side is still to come
-record Joined (names : Names) (part : GuardPart) (l : ℕ) (sign : Kind) (us : List Token) (a : Cond) : Type 0 where
-  tokens : List Token
-  mark : Token
-  spelled : SpellsGuard names part l tokens a
-  is : mark.kind ≡ sign
-  whole : us ≡ tokens ++ mark ∷ []
+pub record Joined (names : Names) (part : GuardPart) (l : ℕ) (sign : Kind) (us : List Token) (a : Cond) : Type 0 where
+  pub tokens : List Token
+  pub mark : Token
+  pub spelled : SpellsGuard names part l tokens a
+  pub is : mark.kind ≡ sign
+  pub whole : us ≡ tokens ++ mark ∷ []
 
-abbrev EitherHeld : Names → ℕ → List Token → Option Cond → Type 0
+abbrev pub EitherHeld : Names → ℕ → List Token → Option Cond → Type 0
 EitherHeld names l us None = us ≡ []
 EitherHeld names l us (Some a) = Joined names Either l kinds.Or us a
 
-abbrev BothHeld : Names → ℕ → List Token → Option Cond → Type 0
+abbrev pub BothHeld : Names → ℕ → List Token → Option Cond → Type 0
 BothHeld names l us None = us ≡ []
 BothHeld names l us (Some a) = Joined names Both l kinds.And us a
 
 -- so many `!`
-abbrev NotsHeld : ℕ → List Token → Type 0
+abbrev pub NotsHeld : ℕ → List Token → Type 0
 NotsHeld zero ns = ns ≡ []
 NotsHeld (suc n) ns = (t : Token) × (rest : List Token) × (t.kind ≡ kinds.Not) × NotsHeld n rest × (ns ≡ t ∷ rest)
 
-record BeforeHeld (names : Names) (l : ℕ) (vs : List Token) (before : Before) : Type 0 where
-  bs : List Token
-  ns : List Token
-  both : BothHeld names l bs before.both
-  nots : NotsHeld before.nots ns
-  whole : vs ≡ bs ++ ns
+pub record BeforeHeld (names : Names) (l : ℕ) (vs : List Token) (before : Before) : Type 0 where
+  pub bs : List Token
+  pub ns : List Token
+  pub both : BothHeld names l bs before.both
+  pub nots : NotsHeld before.nots ns
+  pub whole : vs ≡ bs ++ ns
 
-record SideHeld (names : Names) (l : ℕ) (vs : List Token) (before : Before) (side : ExprReader) : Type 0 where
-  front : List Token
-  ws : List Token
-  ahead : BeforeHeld names l front before
-  held : ExprHeld names l side ws
-  whole : vs ≡ front ++ ws
+pub record SideHeld (names : Names) (l : ℕ) (vs : List Token) (before : Before) (side : ExprReader) : Type 0 where
+  pub front : List Token
+  pub ws : List Token
+  pub ahead : BeforeHeld names l front before
+  pub held : ExprHeld names l side ws
+  pub whole : vs ≡ front ++ ws
 
-record HalfHeld (names : Names) (l : ℕ) (vs : List Token) (half : Half) : Type 0 where
-  front : List Token
-  more : List Token
-  t : Token
-  ws : List Token
-  before : BeforeHeld names l front half.before
-  left : SpellsExpr names Sum l more half.left
-  is : t.kind ≡ kinds.Relation half.rel
-  held : ExprHeld names l half.side ws
-  whole : vs ≡ front ++ (more ++ t ∷ ws)
+pub record HalfHeld (names : Names) (l : ℕ) (vs : List Token) (half : Half) : Type 0 where
+  pub front : List Token
+  pub more : List Token
+  pub t : Token
+  pub ws : List Token
+  pub before : BeforeHeld names l front half.before
+  pub left : SpellsExpr names Sum l more half.left
+  pub is : t.kind ≡ kinds.Relation half.rel
+  pub held : ExprHeld names l half.side ws
+  pub whole : vs ≡ front ++ (more ++ t ∷ ws)
 
-abbrev StageHeld : Names → ℕ → List Token → Stage → Type 0
+abbrev pub StageHeld : Names → ℕ → List Token → Stage → Type 0
 StageHeld names l vs (Wants before) = BeforeHeld names l vs before
 StageHeld names l vs (First before side) = SideHeld names l vs before side
 StageHeld names l vs (Second half) = HalfHeld names l vs half
 StageHeld names l vs (Has c) = SpellsGuard names Both l vs c
 
 -- the tokens before and with an opening bracket
-abbrev OutsideHeld : Names → List Bracket → ℕ → List Token → Type 0
-OutsideHeld names [] l ts = (l ≡ 16) × (ts ≡ [])
-OutsideHeld names (bracket ∷ outer) l ts =
+abbrev pub OutsideHeld : Names → ℕ → List Bracket → ℕ → List Token → Type 0
+OutsideHeld names room [] l ts = (l ≡ room) × (ts ≡ [])
+OutsideHeld names room (bracket ∷ outer) l ts =
     (front : List Token) × (us : List Token) × (vs : List Token) × (opening : Token)
-    × OutsideHeld names outer (suc l) front × EitherHeld names (suc l) us bracket.either × BeforeHeld names (suc l) vs bracket.before
+    × OutsideHeld names room outer (suc l) front × EitherHeld names (suc l) us bracket.either × BeforeHeld names (suc l) vs bracket.before
     × (opening.kind ≡ kinds.OpenBracket) × (ts ≡ front ++ (us ++ (vs ++ opening ∷ [])))
 
-depth_held : (names : Names) (outer : List Bracket) (l : ℕ) (ts : List Token) → OutsideHeld names outer l ts → length outer + l ≡ 16
-depth_held names [] l ts h = let e = h.0 in omega arith
-depth_held names (bracket ∷ outer) l ts h = let e = depth_held names outer (suc l) h.0 h.4 in omega arith
+depth_held : (names : Names) (room : ℕ) (outer : List Bracket) (l : ℕ) (ts : List Token) → OutsideHeld names room outer l ts → length outer + l ≡ room
+depth_held names room [] l ts h = let e = h.0 in omega arith
+depth_held names room (bracket ∷ outer) l ts h = let e = depth_held names room outer (suc l) h.0 h.4 in omega arith
 
-record GuardHeld (names : Names) (outer : List Bracket) (either : Option Cond) (stage : Stage) (ts : List Token) : Type 0 where
-  l : ℕ
-  front : List Token
-  us : List Token
-  vs : List Token
-  outside : OutsideHeld names outer l front
-  before : EitherHeld names l us either
-  here : StageHeld names l vs stage
-  whole : ts ≡ front ++ (us ++ vs)
+pub record GuardHeld (names : Names) (room : ℕ) (outer : List Bracket) (either : Option Cond) (stage : Stage) (ts : List Token) : Type 0 where
+  pub l : ℕ
+  pub front : List Token
+  pub us : List Token
+  pub vs : List Token
+  pub outside : OutsideHeld names room outer l front
+  pub before : EitherHeld names l us either
+  pub here : StageHeld names l vs stage
+  pub whole : ts ≡ front ++ (us ++ vs)
 
 -- ---- what parts make together
 
@@ -146,9 +146,9 @@ nothing_held names l = record { bs = []; ns = []; both = refl; nots = refl; whol
 tail : (ts front us vs more : List Token) → ts ≡ front ++ (us ++ vs) → ts ++ more ≡ front ++ (us ++ (vs ++ more))
 tail ts front us vs more whole = ap (λ x. x ++ more) whole ∙ append_assoc front (us ++ vs) more ∙ ap (λ x. front ++ x) (append_assoc us vs more)
 
-module _ (names : Names) (outer : List Bracket) (either' : Option Cond) where
+module _ (names : Names) (room : ℕ) (outer : List Bracket) (either' : Option Cond) where
   -- a unit of one or more tokens
-  unit_read : (before : Before) (ts more : List Token) (c : Cond) → GuardHeld names outer either' (Wants before) ts → ((l : ℕ) → SpellsGuard names Unit' l more c) → GuardHeld names outer either' (Has (unit_of before c)) (ts ++ more)
+  unit_read : (before : Before) (ts more : List Token) (c : Cond) → GuardHeld names room outer either' (Wants before) ts → ((l : ℕ) → SpellsGuard names Unit' l more c) → GuardHeld names room outer either' (Has (unit_of before c)) (ts ++ more)
   unit_read before ts more c h spelled = record {
     l = h.l;
     front = h.front;
@@ -160,7 +160,7 @@ module _ (names : Names) (outer : List Bracket) (either' : Option Cond) where
     whole = tail ts h.front h.us h.vs more h.whole;
   }
 
-  not_read : (before : Before) (ts : List Token) (t : Token) → GuardHeld names outer either' (Wants before) ts → t.kind ≡ kinds.Not → GuardHeld names outer either' (Wants (record { both = before.both; nots = before.nots + 1 })) (ts ++ t ∷ [])
+  not_read : (before : Before) (ts : List Token) (t : Token) → GuardHeld names room outer either' (Wants before) ts → t.kind ≡ kinds.Not → GuardHeld names room outer either' (Wants (record { both = before.both; nots = before.nots + 1 })) (ts ++ t ∷ [])
   not_read before ts t h is =
       let b = h.here in
       let more = subst (λ n. NotsHeld n (b.ns ++ t ∷ [])) (sym (add-one before.nots)) (not_more before.nots b.ns t b.nots is) in
@@ -175,11 +175,11 @@ module _ (names : Names) (outer : List Bracket) (either' : Option Cond) where
         whole = tail ts h.front h.us h.vs (t ∷ []) h.whole;
       }
 
-  bracket_read : (before : Before) (ts : List Token) (t : Token) → GuardHeld names outer either' (Wants before) ts → t.kind ≡ kinds.OpenBracket → length outer < 16
-      → GuardHeld names (record { either = either'; before = before } ∷ outer) None (Wants nothing_before) (ts ++ t ∷ [])
+  bracket_read : (before : Before) (ts : List Token) (t : Token) → GuardHeld names room outer either' (Wants before) ts → t.kind ≡ kinds.OpenBracket → length outer < room
+      → GuardHeld names room (record { either = either'; before = before } ∷ outer) None (Wants nothing_before) (ts ++ t ∷ [])
   bracket_read before ts t h is within = go h.l h.outside h.before h.here where
-    go : (l : ℕ) → OutsideHeld names outer l h.front → EitherHeld names l h.us either' → BeforeHeld names l h.vs before → GuardHeld names (record { either = either'; before = before } ∷ outer) None (Wants nothing_before) (ts ++ t ∷ [])
-    go zero outside chain here = absurd (omega (arith, depth_held names outer zero h.front outside))
+    go : (l : ℕ) → OutsideHeld names room outer l h.front → EitherHeld names l h.us either' → BeforeHeld names l h.vs before → GuardHeld names room (record { either = either'; before = before } ∷ outer) None (Wants nothing_before) (ts ++ t ∷ [])
+    go zero outside chain here = absurd (omega (arith, depth_held names room outer zero h.front outside))
     go (suc l) outside chain here = record {
       l = l;
       front = h.front ++ (h.us ++ (h.vs ++ t ∷ []));
@@ -191,10 +191,10 @@ module _ (names : Names) (outer : List Bracket) (either' : Option Cond) where
       whole = tail ts h.front h.us h.vs (t ∷ []) h.whole ∙ sym (append-nil (h.front ++ (h.us ++ (h.vs ++ t ∷ []))));
     }
 
-  begun : (before : Before) (n : ExprReader) (ts : List Token) (kind : Kind) (at : ℕ) (word : List ℕ) → expr_step names (16 - length outer) fresh_expr (token_as at kind word) ≡ Ok n → GuardHeld names outer either' (Wants before) ts
-      → GuardHeld names outer either' (First before n) (ts ++ token_as at kind word ∷ [])
+  begun : (before : Before) (n : ExprReader) (ts : List Token) (kind : Kind) (at : ℕ) (word : List ℕ) → expr_step names (room - length outer) fresh_expr (token_as at kind word) ≡ Ok n → GuardHeld names room outer either' (Wants before) ts
+      → GuardHeld names room outer either' (First before n) (ts ++ token_as at kind word ∷ [])
   begun before n ts kind at word step h =
-      let deep : 16 - length outer ≡ h.l = omega (arith, depth_held names outer h.l h.front h.outside) in
+      let deep : room - length outer ≡ h.l = omega (arith, depth_held names room outer h.l h.front h.outside) in
       let side : ExprHeld names h.l n (token_as at kind word ∷ []) = expr_more names h.l [] fresh_expr.left fresh_expr.place n [] kind at word (subst (λ x. expr_step names x fresh_expr (token_as at kind word) ≡ Ok n) deep step) (expr_start names h.l) in
       record {
         l = h.l;
@@ -207,11 +207,11 @@ module _ (names : Names) (outer : List Bracket) (either' : Option Cond) where
         whole = tail ts h.front h.us h.vs (token_as at kind word ∷ []) h.whole;
       }
 
-  first_more : (before : Before) (side n : ExprReader) (ts : List Token) (kind : Kind) (at : ℕ) (word : List ℕ) → expr_step names (16 - length outer) side (token_as at kind word) ≡ Ok n → GuardHeld names outer either' (First before side) ts
-      → GuardHeld names outer either' (First before n) (ts ++ token_as at kind word ∷ [])
+  first_more : (before : Before) (side n : ExprReader) (ts : List Token) (kind : Kind) (at : ℕ) (word : List ℕ) → expr_step names (room - length outer) side (token_as at kind word) ≡ Ok n → GuardHeld names room outer either' (First before side) ts
+      → GuardHeld names room outer either' (First before n) (ts ++ token_as at kind word ∷ [])
   first_more before side n ts kind at word step h =
       let s = h.here in
-      let deep : 16 - length outer ≡ h.l = omega (arith, depth_held names outer h.l h.front h.outside) in
+      let deep : room - length outer ≡ h.l = omega (arith, depth_held names room outer h.l h.front h.outside) in
       let more = expr_more names h.l side.outer side.left side.place n s.ws kind at word (subst (λ x. expr_step names x side (token_as at kind word) ≡ Ok n) deep step) s.held in
       record {
         l = h.l;
@@ -224,8 +224,8 @@ module _ (names : Names) (outer : List Bracket) (either' : Option Cond) where
         whole = tail ts h.front h.us h.vs (token_as at kind word ∷ []) h.whole;
       }
 
-  first_ended : (before : Before) (side : ExprReader) (a : Expr) (rel : Rel) (at : ℕ) (ts : List Token) (t : Token) → expr_value side at ≡ Ok a → t.kind ≡ kinds.Relation rel → GuardHeld names outer either' (First before side) ts
-      → GuardHeld names outer either' (Second (record { before = before; rel = rel; left = a; side = fresh_expr })) (ts ++ t ∷ [])
+  first_ended : (before : Before) (side : ExprReader) (a : Expr) (rel : Rel) (at : ℕ) (ts : List Token) (t : Token) → expr_value side at ≡ Ok a → t.kind ≡ kinds.Relation rel → GuardHeld names room outer either' (First before side) ts
+      → GuardHeld names room outer either' (Second (record { before = before; rel = rel; left = a; side = fresh_expr })) (ts ++ t ∷ [])
   first_ended before side a rel at ts t value is h =
       let s = h.here in
       record {
@@ -239,11 +239,11 @@ module _ (names : Names) (outer : List Bracket) (either' : Option Cond) where
         whole = tail ts h.front h.us h.vs (t ∷ []) h.whole;
       }
 
-  second_more : (half : Half) (n : ExprReader) (ts : List Token) (kind : Kind) (at : ℕ) (word : List ℕ) → expr_step names (16 - length outer) half.side (token_as at kind word) ≡ Ok n → GuardHeld names outer either' (Second half) ts
-      → GuardHeld names outer either' (Second (record { before = half.before; rel = half.rel; left = half.left; side = n })) (ts ++ token_as at kind word ∷ [])
+  second_more : (half : Half) (n : ExprReader) (ts : List Token) (kind : Kind) (at : ℕ) (word : List ℕ) → expr_step names (room - length outer) half.side (token_as at kind word) ≡ Ok n → GuardHeld names room outer either' (Second half) ts
+      → GuardHeld names room outer either' (Second (record { before = half.before; rel = half.rel; left = half.left; side = n })) (ts ++ token_as at kind word ∷ [])
   second_more half n ts kind at word step h =
       let s = h.here in
-      let deep : 16 - length outer ≡ h.l = omega (arith, depth_held names outer h.l h.front h.outside) in
+      let deep : room - length outer ≡ h.l = omega (arith, depth_held names room outer h.l h.front h.outside) in
       let side = half.side in
       let more = expr_more names h.l side.outer side.left side.place n s.ws kind at word (subst (λ x. expr_step names x side (token_as at kind word) ≡ Ok n) deep step) s.held in
       record {
@@ -267,10 +267,10 @@ module _ (names : Names) (outer : List Bracket) (either' : Option Cond) where
         whole = tail ts h.front h.us h.vs (token_as at kind word ∷ []) h.whole;
       }
 
-  second_ended : (half : Half) (c : Cond) (at : ℕ) (ts : List Token) → compared half at ≡ Ok c → GuardHeld names outer either' (Second half) ts → GuardHeld names outer either' (Has c) ts
+  second_ended : (half : Half) (c : Cond) (at : ℕ) (ts : List Token) → compared half at ≡ Ok c → GuardHeld names room outer either' (Second half) ts → GuardHeld names room outer either' (Has c) ts
   second_ended half c at ts is h = record { l = h.l; front = h.front; us = h.us; vs = h.vs; outside = h.outside; before = h.before; here = half_held names h.l h.vs half at c is h.here; whole = h.whole }
 
-  and_read : (c : Cond) (ts : List Token) (t : Token) → GuardHeld names outer either' (Has c) ts → t.kind ≡ kinds.And → GuardHeld names outer either' (Wants (record { both = Some c; nots = 0 })) (ts ++ t ∷ [])
+  and_read : (c : Cond) (ts : List Token) (t : Token) → GuardHeld names room outer either' (Has c) ts → t.kind ≡ kinds.And → GuardHeld names room outer either' (Wants (record { both = Some c; nots = 0 })) (ts ++ t ∷ [])
   and_read c ts t h is = record {
     l = h.l;
     front = h.front;
@@ -282,7 +282,7 @@ module _ (names : Names) (outer : List Bracket) (either' : Option Cond) where
     whole = tail ts h.front h.us h.vs (t ∷ []) h.whole;
   }
 
-  or_read : (c : Cond) (ts : List Token) (t : Token) → GuardHeld names outer either' (Has c) ts → t.kind ≡ kinds.Or → GuardHeld names outer (Some (disjunction_of either' c)) (Wants nothing_before) (ts ++ t ∷ [])
+  or_read : (c : Cond) (ts : List Token) (t : Token) → GuardHeld names room outer either' (Has c) ts → t.kind ≡ kinds.Or → GuardHeld names room outer (Some (disjunction_of either' c)) (Wants nothing_before) (ts ++ t ∷ [])
   or_read c ts t h is = record {
     l = h.l;
     front = h.front;
@@ -294,8 +294,8 @@ module _ (names : Names) (outer : List Bracket) (either' : Option Cond) where
     whole = ap (λ x. x ++ t ∷ []) h.whole ∙ append_assoc h.front (h.us ++ h.vs) (t ∷ []) ∙ ap (λ x. h.front ++ x) (sym (append-nil ((h.us ++ h.vs) ++ t ∷ [])));
   }
 
-  bracket_ended : (bracket : Bracket) (c : Cond) (ts : List Token) (t : Token) → GuardHeld names (bracket ∷ outer) either' (Has c) ts → t.kind ≡ kinds.CloseBracket
-      → GuardHeld names outer bracket.either (Has (unit_of bracket.before (disjunction_of either' c))) (ts ++ t ∷ [])
+  bracket_ended : (bracket : Bracket) (c : Cond) (ts : List Token) (t : Token) → GuardHeld names room (bracket ∷ outer) either' (Has c) ts → t.kind ≡ kinds.CloseBracket
+      → GuardHeld names room outer bracket.either (Has (unit_of bracket.before (disjunction_of either' c))) (ts ++ t ∷ [])
   bracket_ended bracket c ts t h is =
       let o = h.outside in
       let group = o.3 ∷ ((h.us ++ h.vs) ++ t ∷ []) in
@@ -310,124 +310,134 @@ module _ (names : Names) (outer : List Bracket) (either' : Option Cond) where
         whole = ap (λ x. x ++ t ∷ []) h.whole ∙ ap (λ x. (x ++ (h.us ++ h.vs)) ++ t ∷ []) o.8 ∙ simp append_assoc;
       }
 
-abbrev Held : Names → GuardReader → List Token → Type 0
-Held names r ts = GuardHeld names r.outer r.either r.stage ts
+abbrev pub Held : Names → ℕ → GuardReader → List Token → Type 0
+Held names room r ts = GuardHeld names room r.outer r.either r.stage ts
 
-after_held : (names : Names) (outer : List Bracket) (either' : Option Cond) (c : Cond) (n : GuardReader) (ts : List Token) (kind : Kind) (at : ℕ) (word : List ℕ)
-    → after_unit outer either' c (token_as at kind word) ≡ Ok n → GuardHeld names outer either' (Has c) ts → Held names n (ts ++ token_as at kind word ∷ [])
+after_held : (names : Names) (room : ℕ) (outer : List Bracket) (either' : Option Cond) (c : Cond) (n : GuardReader) (ts : List Token) (kind : Kind) (at : ℕ) (word : List ℕ)
+    → after_unit outer either' c (token_as at kind word) ≡ Ok n → GuardHeld names room outer either' (Has c) ts → Held names room n (ts ++ token_as at kind word ∷ [])
 unfolding after_unit bracket_closed
-after_held names outer either' c n ts kinds.And at word step h =
+after_held names room outer either' c n ts kinds.And at word step h =
     let same : guard_at outer either' (Wants (record { both = Some c; nots = 0 })) ≡ n = cc in
-    subst (λ x. Held names x (ts ++ token_as at kinds.And word ∷ [])) same (and_read names outer either' c ts (token_as at kinds.And word) h refl)
-after_held names outer either' c n ts kinds.Or at word step h =
+    subst (λ x. Held names room x (ts ++ token_as at kinds.And word ∷ [])) same (and_read names room outer either' c ts (token_as at kinds.And word) h refl)
+after_held names room outer either' c n ts kinds.Or at word step h =
     let same : guard_at outer (Some (disjunction_of either' c)) (Wants nothing_before) ≡ n = cc in
-    subst (λ x. Held names x (ts ++ token_as at kinds.Or word ∷ [])) same (or_read names outer either' c ts (token_as at kinds.Or word) h refl)
-after_held names [] either' c n ts kinds.CloseBracket at word step h = absurd cc
-after_held names (bracket ∷ outer) either' c n ts kinds.CloseBracket at word step h =
+    subst (λ x. Held names room x (ts ++ token_as at kinds.Or word ∷ [])) same (or_read names room outer either' c ts (token_as at kinds.Or word) h refl)
+after_held names room [] either' c n ts kinds.CloseBracket at word step h = absurd cc
+after_held names room (bracket ∷ outer) either' c n ts kinds.CloseBracket at word step h =
     let same : guard_at outer bracket.either (Has (unit_of bracket.before (disjunction_of either' c))) ≡ n = cc in
-    subst (λ x. Held names x (ts ++ token_as at kinds.CloseBracket word ∷ [])) same (bracket_ended names outer either' bracket c ts (token_as at kinds.CloseBracket word) h refl)
-after_held names outer either' c n ts kind at word step h = absurd cc
+    subst (λ x. Held names room x (ts ++ token_as at kinds.CloseBracket word ∷ [])) same (bracket_ended names room outer either' bracket c ts (token_as at kinds.CloseBracket word) h refl)
+after_held names room outer either' c n ts kind at word step h = absurd cc
 
-wants_held : (names : Names) (outer : List Bracket) (either' : Option Cond) (before : Before) (n : GuardReader) (ts : List Token) (kind : Kind) (at : ℕ) (word : List ℕ)
-    → unit_wanted names 16 outer either' before (token_as at kind word) ≡ Ok n → GuardHeld names outer either' (Wants before) ts → Held names n (ts ++ token_as at kind word ∷ [])
+wants_held : (names : Names) (room : ℕ) (outer : List Bracket) (either' : Option Cond) (before : Before) (n : GuardReader) (ts : List Token) (kind : Kind) (at : ℕ) (word : List ℕ)
+    → unit_wanted names room outer either' before (token_as at kind word) ≡ Ok n → GuardHeld names room outer either' (Wants before) ts → Held names room n (ts ++ token_as at kind word ∷ [])
 unfolding unit_wanted bracket_opened side_begun
-wants_held names outer either' before n ts kinds.OpenBracket at word step h = go (ltb (length outer) 16) refl step where
-  go : (b : Bool) → ltb (length outer) 16 ≡ b → (if b then Ok (guard_at (record { either = either'; before = before } ∷ outer) None (Wants nothing_before)) else Err (TooLong at)) ≡ Ok n → Held names n (ts ++ token_as at kinds.OpenBracket word ∷ [])
+wants_held names room outer either' before n ts kinds.OpenBracket at word step h = go (ltb (length outer) room) refl step where
+  go : (b : Bool) → ltb (length outer) room ≡ b → (if b then Ok (guard_at (record { either = either'; before = before } ∷ outer) None (Wants nothing_before)) else Err (TooLong at)) ≡ Ok n → Held names room n (ts ++ token_as at kinds.OpenBracket word ∷ [])
   go true e is =
       let same : guard_at (record { either = either'; before = before } ∷ outer) None (Wants nothing_before) ≡ n = cc in
-      subst (λ x. Held names x (ts ++ token_as at kinds.OpenBracket word ∷ [])) same (bracket_read names outer either' before ts (token_as at kinds.OpenBracket word) h refl (ltb-true (length outer) 16 e))
+      subst (λ x. Held names room x (ts ++ token_as at kinds.OpenBracket word ∷ [])) same (bracket_read names room outer either' before ts (token_as at kinds.OpenBracket word) h refl (ltb-true (length outer) room e))
   go false e is = absurd cc
-wants_held names outer either' before n ts kinds.Not at word step h =
+wants_held names room outer either' before n ts kinds.Not at word step h =
     let same : guard_at outer either' (Wants (record { both = before.both; nots = before.nots + 1 })) ≡ n = cc in
-    subst (λ x. Held names x (ts ++ token_as at kinds.Not word ∷ [])) same (not_read names outer either' before ts (token_as at kinds.Not word) h refl)
-wants_held names outer either' before n ts kinds.True at word step h =
+    subst (λ x. Held names room x (ts ++ token_as at kinds.Not word ∷ [])) same (not_read names room outer either' before ts (token_as at kinds.Not word) h refl)
+wants_held names room outer either' before n ts kinds.True at word step h =
     let same : guard_at outer either' (Has (unit_of before True)) ≡ n = cc in
-    subst (λ x. Held names x (ts ++ token_as at kinds.True word ∷ [])) same (unit_read names outer either' before ts (token_as at kinds.True word ∷ []) True h (λ l. truth refl))
-wants_held names outer either' before n ts kinds.False at word step h =
+    subst (λ x. Held names room x (ts ++ token_as at kinds.True word ∷ [])) same (unit_read names room outer either' before ts (token_as at kinds.True word ∷ []) True h (λ l. truth refl))
+wants_held names room outer either' before n ts kinds.False at word step h =
     let same : guard_at outer either' (Has (unit_of before False)) ≡ n = cc in
-    subst (λ x. Held names x (ts ++ token_as at kinds.False word ∷ [])) same (unit_read names outer either' before ts (token_as at kinds.False word ∷ []) False h (λ l. falsity refl))
-wants_held names outer either' before n ts kind at word step h = go (expr_step names (16 - length outer) fresh_expr (token_as at kind word)) refl step where
-  go : (r : Result ExprReader ActFault) → expr_step names (16 - length outer) fresh_expr (token_as at kind word) ≡ r → and_then r (λ side. Ok (guard_at outer either' (First before side))) ≡ Ok n → Held names n (ts ++ token_as at kind word ∷ [])
+    subst (λ x. Held names room x (ts ++ token_as at kinds.False word ∷ [])) same (unit_read names room outer either' before ts (token_as at kinds.False word ∷ []) False h (λ l. falsity refl))
+wants_held names room outer either' before n ts kind at word step h = go (expr_step names (room - length outer) fresh_expr (token_as at kind word)) refl step where
+  go : (r : Result ExprReader ActFault) → expr_step names (room - length outer) fresh_expr (token_as at kind word) ≡ r → and_then r (λ side. Ok (guard_at outer either' (First before side))) ≡ Ok n → Held names room n (ts ++ token_as at kind word ∷ [])
   go (Ok side) e is =
       let same : guard_at outer either' (First before side) ≡ n = cc in
-      subst (λ x. Held names x (ts ++ token_as at kind word ∷ [])) same (begun names outer either' before side ts kind at word e h)
+      subst (λ x. Held names room x (ts ++ token_as at kind word ∷ [])) same (begun names room outer either' before side ts kind at word e h)
   go (Err fault) e is = absurd cc
 
-first_held : (names : Names) (outer : List Bracket) (either' : Option Cond) (before : Before) (side : ExprReader) (n : GuardReader) (ts : List Token) (kind : Kind) (at : ℕ) (word : List ℕ)
-    → and_then (in_first names (16 - length outer) before side (token_as at kind word)) (λ stage. Ok (guard_at outer either' stage)) ≡ Ok n → GuardHeld names outer either' (First before side) ts → Held names n (ts ++ token_as at kind word ∷ [])
+first_held : (names : Names) (room : ℕ) (outer : List Bracket) (either' : Option Cond) (before : Before) (side : ExprReader) (n : GuardReader) (ts : List Token) (kind : Kind) (at : ℕ) (word : List ℕ)
+    → and_then (in_first names (room - length outer) before side (token_as at kind word)) (λ stage. Ok (guard_at outer either' stage)) ≡ Ok n → GuardHeld names room outer either' (First before side) ts → Held names room n (ts ++ token_as at kind word ∷ [])
 unfolding in_first
-first_held names outer either' before side n ts (kinds.Relation rel) at word step h = go (expr_value side at) refl step where
+first_held names room outer either' before side n ts (kinds.Relation rel) at word step h = go (expr_value side at) refl step where
   go : (r : Result Expr ActFault) → expr_value side at ≡ r
-      → and_then (and_then r (λ left. Ok (Second (record { before = before; rel = rel; left = left; side = fresh_expr })))) (λ stage. Ok (guard_at outer either' stage)) ≡ Ok n → Held names n (ts ++ token_as at (kinds.Relation rel) word ∷ [])
+      → and_then (and_then r (λ left. Ok (Second (record { before = before; rel = rel; left = left; side = fresh_expr })))) (λ stage. Ok (guard_at outer either' stage)) ≡ Ok n → Held names room n (ts ++ token_as at (kinds.Relation rel) word ∷ [])
   go (Ok a) e is =
       let same : guard_at outer either' (Second (record { before = before; rel = rel; left = a; side = fresh_expr })) ≡ n = cc in
-      subst (λ x. Held names x (ts ++ token_as at (kinds.Relation rel) word ∷ [])) same (first_ended names outer either' before side a rel at ts (token_as at (kinds.Relation rel) word) e refl h)
+      subst (λ x. Held names room x (ts ++ token_as at (kinds.Relation rel) word ∷ [])) same (first_ended names room outer either' before side a rel at ts (token_as at (kinds.Relation rel) word) e refl h)
   go (Err fault) e is = absurd cc
-first_held names outer either' before side n ts kind at word step h = go (expr_step names (16 - length outer) side (token_as at kind word)) refl step where
-  go : (r : Result ExprReader ActFault) → expr_step names (16 - length outer) side (token_as at kind word) ≡ r → and_then (and_then r (λ more. Ok (First before more))) (λ stage. Ok (guard_at outer either' stage)) ≡ Ok n → Held names n (ts ++ token_as at kind word ∷ [])
+first_held names room outer either' before side n ts kind at word step h = go (expr_step names (room - length outer) side (token_as at kind word)) refl step where
+  go : (r : Result ExprReader ActFault) → expr_step names (room - length outer) side (token_as at kind word) ≡ r → and_then (and_then r (λ more. Ok (First before more))) (λ stage. Ok (guard_at outer either' stage)) ≡ Ok n → Held names room n (ts ++ token_as at kind word ∷ [])
   go (Ok more) e is =
       let same : guard_at outer either' (First before more) ≡ n = cc in
-      subst (λ x. Held names x (ts ++ token_as at kind word ∷ [])) same (first_more names outer either' before side more ts kind at word e h)
+      subst (λ x. Held names room x (ts ++ token_as at kind word ∷ [])) same (first_more names room outer either' before side more ts kind at word e h)
   go (Err fault) e is = absurd cc
 
-compared_held : (names : Names) (outer : List Bracket) (either' : Option Cond) (half : Half) (n : GuardReader) (ts : List Token) (kind : Kind) (at : ℕ) (word : List ℕ)
-    → and_then (compared half at) (λ c. after_unit outer either' c (token_as at kind word)) ≡ Ok n → GuardHeld names outer either' (Second half) ts → Held names n (ts ++ token_as at kind word ∷ [])
-compared_held names outer either' half n ts kind at word step h = go (compared half at) refl step where
-  go : (r : Result Cond ActFault) → compared half at ≡ r → and_then r (λ c. after_unit outer either' c (token_as at kind word)) ≡ Ok n → Held names n (ts ++ token_as at kind word ∷ [])
-  go (Ok c) e is = after_held names outer either' c n ts kind at word is (second_ended names outer either' half c at ts e h)
+compared_held : (names : Names) (room : ℕ) (outer : List Bracket) (either' : Option Cond) (half : Half) (n : GuardReader) (ts : List Token) (kind : Kind) (at : ℕ) (word : List ℕ)
+    → and_then (compared half at) (λ c. after_unit outer either' c (token_as at kind word)) ≡ Ok n → GuardHeld names room outer either' (Second half) ts → Held names room n (ts ++ token_as at kind word ∷ [])
+compared_held names room outer either' half n ts kind at word step h = go (compared half at) refl step where
+  go : (r : Result Cond ActFault) → compared half at ≡ r → and_then r (λ c. after_unit outer either' c (token_as at kind word)) ≡ Ok n → Held names room n (ts ++ token_as at kind word ∷ [])
+  go (Ok c) e is = after_held names room outer either' c n ts kind at word is (second_ended names room outer either' half c at ts e h)
   go (Err fault) e is = absurd cc
 
-second_held : (names : Names) (outer : List Bracket) (either' : Option Cond) (half : Half) (n : GuardReader) (ts : List Token) (kind : Kind) (at : ℕ) (word : List ℕ)
-    → in_second names 16 outer either' half (token_as at kind word) ≡ Ok n → GuardHeld names outer either' (Second half) ts → Held names n (ts ++ token_as at kind word ∷ [])
+second_held : (names : Names) (room : ℕ) (outer : List Bracket) (either' : Option Cond) (half : Half) (n : GuardReader) (ts : List Token) (kind : Kind) (at : ℕ) (word : List ℕ)
+    → in_second names room outer either' half (token_as at kind word) ≡ Ok n → GuardHeld names room outer either' (Second half) ts → Held names room n (ts ++ token_as at kind word ∷ [])
 unfolding in_second
-second_held names outer either' half n ts kinds.And at word step h = compared_held names outer either' half n ts kinds.And at word step h
-second_held names outer either' half n ts kinds.Or at word step h = compared_held names outer either' half n ts kinds.Or at word step h
-second_held names outer either' half n ts kinds.CloseBracket at word step h = compared_held names outer either' half n ts kinds.CloseBracket at word step h
-second_held names outer either' half n ts kind at word step h = go (expr_step names (16 - length outer) half.side (token_as at kind word)) refl step where
-  go : (r : Result ExprReader ActFault) → expr_step names (16 - length outer) half.side (token_as at kind word) ≡ r
-      → and_then r (λ more. Ok (guard_at outer either' (Second (record { before = half.before; rel = half.rel; left = half.left; side = more })))) ≡ Ok n → Held names n (ts ++ token_as at kind word ∷ [])
+second_held names room outer either' half n ts kinds.And at word step h = compared_held names room outer either' half n ts kinds.And at word step h
+second_held names room outer either' half n ts kinds.Or at word step h = compared_held names room outer either' half n ts kinds.Or at word step h
+second_held names room outer either' half n ts kinds.CloseBracket at word step h = compared_held names room outer either' half n ts kinds.CloseBracket at word step h
+second_held names room outer either' half n ts kind at word step h = go (expr_step names (room - length outer) half.side (token_as at kind word)) refl step where
+  go : (r : Result ExprReader ActFault) → expr_step names (room - length outer) half.side (token_as at kind word) ≡ r
+      → and_then r (λ more. Ok (guard_at outer either' (Second (record { before = half.before; rel = half.rel; left = half.left; side = more })))) ≡ Ok n → Held names room n (ts ++ token_as at kind word ∷ [])
   go (Ok more) e is =
       let same : guard_at outer either' (Second (record { before = half.before; rel = half.rel; left = half.left; side = more })) ≡ n = cc in
-      subst (λ x. Held names x (ts ++ token_as at kind word ∷ [])) same (second_more names outer either' half more ts kind at word e h)
+      subst (λ x. Held names room x (ts ++ token_as at kind word ∷ [])) same (second_more names room outer either' half more ts kind at word e h)
   go (Err fault) e is = absurd cc
 
-step_held : (names : Names) (outer : List Bracket) (either' : Option Cond) (stage : Stage) (n : GuardReader) (ts : List Token) (t : Token)
-    → guard_step names 16 (guard_at outer either' stage) t ≡ Ok n → GuardHeld names outer either' stage ts → Held names n (ts ++ t ∷ [])
+step_held : (names : Names) (room : ℕ) (outer : List Bracket) (either' : Option Cond) (stage : Stage) (n : GuardReader) (ts : List Token) (t : Token)
+    → guard_step names room (guard_at outer either' stage) t ≡ Ok n → GuardHeld names room outer either' stage ts → Held names room n (ts ++ t ∷ [])
 unfolding guard_step
-step_held names outer either' (Wants before) n ts t step h = wants_held names outer either' before n ts t.kind t.at t.word step h
-step_held names outer either' (First before side) n ts t step h = first_held names outer either' before side n ts t.kind t.at t.word step h
-step_held names outer either' (Second half) n ts t step h = second_held names outer either' half n ts t.kind t.at t.word step h
-step_held names outer either' (Has c) n ts t step h = after_held names outer either' c n ts t.kind t.at t.word step h
+step_held names room outer either' (Wants before) n ts t step h = wants_held names room outer either' before n ts t.kind t.at t.word step h
+step_held names room outer either' (First before side) n ts t step h = first_held names room outer either' before side n ts t.kind t.at t.word step h
+step_held names room outer either' (Second half) n ts t step h = second_held names room outer either' half n ts t.kind t.at t.word step h
+step_held names room outer either' (Has c) n ts t step h = after_held names room outer either' c n ts t.kind t.at t.word step h
 
--- the end of the text
-whole_held : (names : Names) (outer : List Bracket) (either' : Option Cond) (c d : Cond) (end : ℕ) (ts : List Token) → whole_guard outer either' c end ≡ Ok d → GuardHeld names outer either' (Has c) ts → SpellsGuard names Either 16 ts d
-whole_held names [] either' c d end ts is h =
+-- one token more
+pub held_more : (names : Names) (room : ℕ) (r n : GuardReader) (ts : List Token) (t : Token) → guard_step names room r t ≡ Ok n → Held names room r ts → Held names room n (ts ++ t ∷ [])
+held_more names room r n ts t step h = step_held names room r.outer r.either r.stage n ts t step h
+
+-- the whole guard
+whole_held : (names : Names) (room : ℕ) (outer : List Bracket) (either' : Option Cond) (c d : Cond) (end : ℕ) (ts : List Token) → whole_guard outer either' c end ≡ Ok d → GuardHeld names room outer either' (Has c) ts → SpellsGuard names Either room ts d
+whole_held names room [] either' c d end ts is h =
     let same : disjunction_of either' c ≡ d = cc in
     let all' : ts ≡ h.us ++ h.vs = h.whole ∙ ap (λ x. x ++ (h.us ++ h.vs)) h.outside.1 in
     let spelled = either_held names h.l h.us h.vs either' c h.before h.here in
     let deep = subst (λ x. SpellsGuard names Either x (h.us ++ h.vs) (disjunction_of either' c)) h.outside.0 spelled in
-    subst (λ x. SpellsGuard names Either 16 x d) (sym all') (subst (λ x. SpellsGuard names Either 16 (h.us ++ h.vs) x) same deep)
-whole_held names (bracket ∷ outer) either' c d end ts is h = absurd cc
+    subst (λ x. SpellsGuard names Either room x d) (sym all') (subst (λ x. SpellsGuard names Either room (h.us ++ h.vs) x) same deep)
+whole_held names room (bracket ∷ outer) either' c d end ts is h = absurd cc
 
-value_held : (names : Names) (outer : List Bracket) (either' : Option Cond) (stage : Stage) (d : Cond) (end : ℕ) (ts : List Token) → guard_value (guard_at outer either' stage) end ≡ Ok d → GuardHeld names outer either' stage ts → SpellsGuard names Either 16 ts d
+value_held : (names : Names) (room : ℕ) (outer : List Bracket) (either' : Option Cond) (stage : Stage) (d : Cond) (end : ℕ) (ts : List Token) → guard_value (guard_at outer either' stage) end ≡ Ok d → GuardHeld names room outer either' stage ts → SpellsGuard names Either room ts d
 unfolding guard_value
-value_held names outer either' (Wants before) d end ts is h = absurd cc
-value_held names outer either' (First before side) d end ts is h = absurd cc
-value_held names outer either' (Second half) d end ts is h = go (compared half end) refl is where
-  go : (r : Result Cond ActFault) → compared half end ≡ r → and_then r (λ c. whole_guard outer either' c end) ≡ Ok d → SpellsGuard names Either 16 ts d
-  go (Ok c) e is = whole_held names outer either' c d end ts is (second_ended names outer either' half c end ts e h)
+value_held names room outer either' (Wants before) d end ts is h = absurd cc
+value_held names room outer either' (First before side) d end ts is h = absurd cc
+value_held names room outer either' (Second half) d end ts is h = go (compared half end) refl is where
+  go : (r : Result Cond ActFault) → compared half end ≡ r → and_then r (λ c. whole_guard outer either' c end) ≡ Ok d → SpellsGuard names Either room ts d
+  go (Ok c) e is = whole_held names room outer either' c d end ts is (second_ended names room outer either' half c end ts e h)
   go (Err fault) e is = absurd cc
-value_held names outer either' (Has c) d end ts is h = whole_held names outer either' c d end ts is h
+value_held names room outer either' (Has c) d end ts is h = whole_held names room outer either' c d end ts is h
 
-read_held : (names : Names) (end : ℕ) (r : GuardReader) (us ts : List Token) (c : Cond) → guard_read names end r ts ≡ Ok c → Held names r us → SpellsGuard names Either 16 (us ++ ts) c
+pub held_whole : (names : Names) (room : ℕ) (r : GuardReader) (end : ℕ) (ts : List Token) (c : Cond) → guard_value r end ≡ Ok c → Held names room r ts → SpellsGuard names Either room ts c
+held_whole names room r end ts c is h = value_held names room r.outer r.either r.stage c end ts is h
+
+pub held_start : (names : Names) (room : ℕ) → Held names room fresh_guard []
+held_start names room = record { l = room; front = []; us = []; vs = []; outside = (refl, refl); before = refl; here = nothing_held names room; whole = refl }
+
+-- the end of the text
+read_held : (names : Names) (end : ℕ) (r : GuardReader) (us ts : List Token) (c : Cond) → guard_read names end r ts ≡ Ok c → Held names 16 r us → SpellsGuard names Either 16 (us ++ ts) c
 unfolding guard_read
-read_held names end r us [] c is h = subst (λ x. SpellsGuard names Either 16 x c) (sym (append-nil us)) (value_held names r.outer r.either r.stage c end us is h)
+read_held names end r us [] c is h = subst (λ x. SpellsGuard names Either 16 x c) (sym (append-nil us)) (held_whole names 16 r end us c is h)
 read_held names end r us (t ∷ ts) c is h = go (λ n rest h'. read_held names end n (us ++ t ∷ []) ts c rest h') (guard_step names 16 r t) refl is where
-  go : ((n : GuardReader) → guard_read names end n ts ≡ Ok c → Held names n (us ++ t ∷ []) → SpellsGuard names Either 16 ((us ++ t ∷ []) ++ ts) c) → (x : Result GuardReader ActFault) → guard_step names 16 r t ≡ x → and_then x (λ next. guard_read names end next ts) ≡ Ok c → SpellsGuard names Either 16 (us ++ (t ∷ ts)) c
-  go more (Ok n) e is = subst (λ x. SpellsGuard names Either 16 x c) (append_assoc us (t ∷ []) ts) (more n is (step_held names r.outer r.either r.stage n us t e h))
+  go : ((n : GuardReader) → guard_read names end n ts ≡ Ok c → Held names 16 n (us ++ t ∷ []) → SpellsGuard names Either 16 ((us ++ t ∷ []) ++ ts) c) → (x : Result GuardReader ActFault) → guard_step names 16 r t ≡ x → and_then x (λ next. guard_read names end next ts) ≡ Ok c → SpellsGuard names Either 16 (us ++ (t ∷ ts)) c
+  go more (Ok n) e is = subst (λ x. SpellsGuard names Either 16 x c) (append_assoc us (t ∷ []) ts) (more n is (held_more names 16 r n us t e h))
   go more (Err fault) e is = absurd cc
 
 -- What is read as a guard is spelled so.
 pub spelled_guard : (names : Names) (end : ℕ) (ts : List Token) (c : Cond) → guard_read names end fresh_guard ts ≡ Ok c → SpellsGuard names Either 16 ts c
-spelled_guard names end ts c is =
-    read_held names end fresh_guard [] ts c is (record { l = 16; front = []; us = []; vs = []; outside = (refl, refl); before = refl; here = nothing_held names 16; whole = refl })
+spelled_guard names end ts c is = read_held names end fresh_guard [] ts c is (held_start names 16)

@@ -27,45 +27,45 @@ use Rattle.pssm_acts.specs.Grammar.{GuardPart, Unit', Both, Either, SpellsGuard,
 use Rattle.pssm_acts.proofs.ExprRead.{expr_run, reader_at, ReadsSum, reads}
 
 -- the steps of one token after another
-unfoldable pub guard_run : Names → GuardReader → List Token → Result GuardReader ActFault
-guard_run names r [] = Ok r
-guard_run names r (t ∷ ts) = and_then (guard_step names 16 r t) (λ next. guard_run names next ts)
+unfoldable pub guard_run : Names → ℕ → GuardReader → List Token → Result GuardReader ActFault
+guard_run names room r [] = Ok r
+guard_run names room r (t ∷ ts) = and_then (guard_step names room r t) (λ next. guard_run names room next ts)
 
 abbrev pub guard_at : List Bracket → Option Cond → Stage → GuardReader
 guard_at outer either stage = record { outer = outer; either = either; stage = stage }
 
-pub guard_more : (names : Names) (r n : GuardReader) (t : Token) (ts : List Token) (res : Result GuardReader ActFault) → guard_step names 16 r t ≡ Ok n → guard_run names n ts ≡ res → guard_run names r (t ∷ ts) ≡ res
+pub guard_more : (names : Names) (room : ℕ) (r n : GuardReader) (t : Token) (ts : List Token) (res : Result GuardReader ActFault) → guard_step names room r t ≡ Ok n → guard_run names room n ts ≡ res → guard_run names room r (t ∷ ts) ≡ res
 unfolding guard_run
-guard_more names r n t ts res step rest = ap (λ x. and_then x (λ next. guard_run names next ts)) step ∙ rest
+guard_more names room r n t ts res step rest = ap (λ x. and_then x (λ next. guard_run names room next ts)) step ∙ rest
 
-pub guard_one : (names : Names) (r n : GuardReader) (t : Token) → guard_step names 16 r t ≡ Ok n → guard_run names r (t ∷ []) ≡ Ok n
+pub guard_one : (names : Names) (room : ℕ) (r n : GuardReader) (t : Token) → guard_step names room r t ≡ Ok n → guard_run names room r (t ∷ []) ≡ Ok n
 unfolding guard_run
-guard_one names r n t step = guard_more names r n t [] (Ok n) step refl
+guard_one names room r n t step = guard_more names room r n t [] (Ok n) step refl
 
-guard_append : (names : Names) (r : GuardReader) (ts us : List Token) → guard_run names r (ts ++ us) ≡ and_then (guard_run names r ts) (λ n. guard_run names n us)
+pub guard_append : (names : Names) (room : ℕ) (r : GuardReader) (ts us : List Token) → guard_run names room r (ts ++ us) ≡ and_then (guard_run names room r ts) (λ n. guard_run names room n us)
 unfolding guard_run
-guard_append names r [] us = refl
-guard_append names r (t ∷ ts) us = go (λ n. guard_append names n ts us) (guard_step names 16 r t) where
-  go : ((n : GuardReader) → guard_run names n (ts ++ us) ≡ and_then (guard_run names n ts) (λ m. guard_run names m us)) → (x : Result GuardReader ActFault) → and_then x (λ next. guard_run names next (ts ++ us)) ≡ and_then (and_then x (λ next. guard_run names next ts)) (λ n. guard_run names n us)
+guard_append names room r [] us = refl
+guard_append names room r (t ∷ ts) us = go (λ n. guard_append names room n ts us) (guard_step names room r t) where
+  go : ((n : GuardReader) → guard_run names room n (ts ++ us) ≡ and_then (guard_run names room n ts) (λ m. guard_run names room m us)) → (x : Result GuardReader ActFault) → and_then x (λ next. guard_run names room next (ts ++ us)) ≡ and_then (and_then x (λ next. guard_run names room next ts)) (λ n. guard_run names room n us)
   go more (Ok n) = more n
   go more (Err fault) = refl
 
-pub guard_chain : (names : Names) (r n : GuardReader) (ts us : List Token) (res : Result GuardReader ActFault) → guard_run names r ts ≡ Ok n → guard_run names n us ≡ res → guard_run names r (ts ++ us) ≡ res
-guard_chain names r n ts us res first second = guard_append names r ts us ∙ ap (λ x. and_then x (λ next. guard_run names next us)) first ∙ second
+pub guard_chain : (names : Names) (room : ℕ) (r n : GuardReader) (ts us : List Token) (res : Result GuardReader ActFault) → guard_run names room r ts ≡ Ok n → guard_run names room n us ≡ res → guard_run names room r (ts ++ us) ≡ res
+guard_chain names room r n ts us res first second = guard_append names room r ts us ∙ ap (λ x. and_then x (λ next. guard_run names room next us)) first ∙ second
 
 -- the whole text
-pub guard_whole : (names : Names) (end : ℕ) (r n : GuardReader) (ts : List Token) → guard_run names r ts ≡ Ok n → guard_read names end r ts ≡ guard_value n end
+pub guard_whole : (names : Names) (end : ℕ) (r n : GuardReader) (ts : List Token) → guard_run names 16 r ts ≡ Ok n → guard_read names end r ts ≡ guard_value n end
 unfolding guard_run guard_read
 guard_whole names end r n [] run = ap (λ x. and_then x (λ m. guard_value m end)) run
 guard_whole names end r n (t ∷ ts) run = go (λ m rest. guard_whole names end m n ts rest) (guard_step names 16 r t) run where
-  go : ((m : GuardReader) → guard_run names m ts ≡ Ok n → guard_read names end m ts ≡ guard_value n end) → (x : Result GuardReader ActFault) → and_then x (λ next. guard_run names next ts) ≡ Ok n → and_then x (λ next. guard_read names end next ts) ≡ guard_value n end
+  go : ((m : GuardReader) → guard_run names 16 m ts ≡ Ok n → guard_read names end m ts ≡ guard_value n end) → (x : Result GuardReader ActFault) → and_then x (λ next. guard_run names 16 next ts) ≡ Ok n → and_then x (λ next. guard_read names end next ts) ≡ guard_value n end
   go more (Ok m) run = more m run
   go more (Err fault) run = absurd cc
 
 -- ---- the sides of a comparison
 
 -- a token of the left side goes to the left side
-step_first : (names : Names) (room : ℕ) (before : Before) (outer : List Level) (left : Left) (place : Place) (n : ExprReader) (kind : Kind) (at : ℕ) (word : List ℕ)
+pub step_first : (names : Names) (room : ℕ) (before : Before) (outer : List Level) (left : Left) (place : Place) (n : ExprReader) (kind : Kind) (at : ℕ) (word : List ℕ)
     → expr_step names room (reader_at outer left place) (record { at = at; kind = kind; word = word }) ≡ Ok n
     → in_first names room before (reader_at outer left place) (record { at = at; kind = kind; word = word }) ≡ Ok (First before n)
 unfolding expr_step at_atom atom_of after_atom in_first
@@ -73,7 +73,7 @@ step_first names room before outer left (places.Wants factor) n (kinds.Relation 
 step_first names room before outer left (places.Has term) n (kinds.Relation rel) at word step = absurd cc
 step_first names room before outer left place n kind at word step = ap (λ x. and_then x (λ more. Ok (First before more))) step
 
-step_second : (names : Names) (room : ℕ) (outside : List Bracket) (either : Option Cond) (before : Before) (rel : Rel) (a : Expr) (outer : List Level) (left : Left) (place : Place) (n : ExprReader) (kind : Kind) (at : ℕ) (word : List ℕ)
+pub step_second : (names : Names) (room : ℕ) (outside : List Bracket) (either : Option Cond) (before : Before) (rel : Rel) (a : Expr) (outer : List Level) (left : Left) (place : Place) (n : ExprReader) (kind : Kind) (at : ℕ) (word : List ℕ)
     → expr_step names (room - length outside) (reader_at outer left place) (record { at = at; kind = kind; word = word }) ≡ Ok n
     → in_second names room outside either (record { before = before; rel = rel; left = a; side = reader_at outer left place }) (record { at = at; kind = kind; word = word })
     ≡ Ok (guard_at outside either (Second (record { before = before; rel = rel; left = a; side = n })))
@@ -87,7 +87,7 @@ step_second names room outside either before rel a outer left (places.Has term) 
 step_second names room outside either before rel a outer left place n kind at word step =
     ap (λ x. and_then x (λ more. Ok (guard_at outside either (Second (record { before = before; rel = rel; left = a; side = more }))))) step
 
-step_begun : (names : Names) (room : ℕ) (outer : List Bracket) (either : Option Cond) (before : Before) (n : ExprReader) (kind : Kind) (at : ℕ) (word : List ℕ)
+pub step_begun : (names : Names) (room : ℕ) (outer : List Bracket) (either : Option Cond) (before : Before) (n : ExprReader) (kind : Kind) (at : ℕ) (word : List ℕ)
     → expr_step names (room - length outer) fresh_expr (record { at = at; kind = kind; word = word }) ≡ Ok n
     → unit_wanted names room outer either before (record { at = at; kind = kind; word = word }) ≡ Ok (guard_at outer either (First before n))
 unfolding expr_step at_atom atom_of unit_wanted side_begun
@@ -97,88 +97,88 @@ step_begun names room outer either before n kinds.True at word step = absurd cc
 step_begun names room outer either before n kinds.False at word step = absurd cc
 step_begun names room outer either before n kind at word step = ap (λ x. and_then x (λ side. Ok (guard_at outer either (First before side)))) step
 
-first_run : (names : Names) (outer : List Bracket) (either : Option Cond) (before : Before) (side n : ExprReader) (ts : List Token) → expr_run names (16 - length outer) side ts ≡ Ok n
-    → guard_run names (guard_at outer either (First before side)) ts ≡ Ok (guard_at outer either (First before n))
+pub first_run : (names : Names) (room : ℕ) (outer : List Bracket) (either : Option Cond) (before : Before) (side n : ExprReader) (ts : List Token) → expr_run names (room - length outer) side ts ≡ Ok n
+    → guard_run names room (guard_at outer either (First before side)) ts ≡ Ok (guard_at outer either (First before n))
 unfolding expr_run guard_run guard_step
-first_run names outer either before side n [] run = ap (λ x. and_then x (λ m. Ok (guard_at outer either (First before m)))) run
-first_run names outer either before side n (t ∷ ts) run = go (λ m rest. first_run names outer either before m n ts rest) (expr_step names (16 - length outer) side t) refl run where
-  go : ((m : ExprReader) → expr_run names (16 - length outer) m ts ≡ Ok n → guard_run names (guard_at outer either (First before m)) ts ≡ Ok (guard_at outer either (First before n))) → (x : Result ExprReader ActFault) → expr_step names (16 - length outer) side t ≡ x → and_then x (λ next. expr_run names (16 - length outer) next ts) ≡ Ok n
-      → guard_run names (guard_at outer either (First before side)) (t ∷ ts) ≡ Ok (guard_at outer either (First before n))
+first_run names room outer either before side n [] run = ap (λ x. and_then x (λ m. Ok (guard_at outer either (First before m)))) run
+first_run names room outer either before side n (t ∷ ts) run = go (λ m rest. first_run names room outer either before m n ts rest) (expr_step names (room - length outer) side t) refl run where
+  go : ((m : ExprReader) → expr_run names (room - length outer) m ts ≡ Ok n → guard_run names room (guard_at outer either (First before m)) ts ≡ Ok (guard_at outer either (First before n))) → (x : Result ExprReader ActFault) → expr_step names (room - length outer) side t ≡ x → and_then x (λ next. expr_run names (room - length outer) next ts) ≡ Ok n
+      → guard_run names room (guard_at outer either (First before side)) (t ∷ ts) ≡ Ok (guard_at outer either (First before n))
   go more (Ok m) step run =
-      ap (λ x. and_then (and_then x (λ stage. Ok (guard_at outer either stage))) (λ next. guard_run names next ts)) (step_first names (16 - length outer) before side.outer side.left side.place m t.kind t.at t.word step)
+      ap (λ x. and_then (and_then x (λ stage. Ok (guard_at outer either stage))) (λ next. guard_run names room next ts)) (step_first names (room - length outer) before side.outer side.left side.place m t.kind t.at t.word step)
       ∙ more m run
   go more (Err fault) step run = absurd cc
 
-second_run : (names : Names) (outer : List Bracket) (either : Option Cond) (before : Before) (rel : Rel) (a : Expr) (side n : ExprReader) (ts : List Token) → expr_run names (16 - length outer) side ts ≡ Ok n
-    → guard_run names (guard_at outer either (Second (record { before = before; rel = rel; left = a; side = side }))) ts ≡ Ok (guard_at outer either (Second (record { before = before; rel = rel; left = a; side = n })))
+pub second_run : (names : Names) (room : ℕ) (outer : List Bracket) (either : Option Cond) (before : Before) (rel : Rel) (a : Expr) (side n : ExprReader) (ts : List Token) → expr_run names (room - length outer) side ts ≡ Ok n
+    → guard_run names room (guard_at outer either (Second (record { before = before; rel = rel; left = a; side = side }))) ts ≡ Ok (guard_at outer either (Second (record { before = before; rel = rel; left = a; side = n })))
 unfolding expr_run guard_run guard_step
-second_run names outer either before rel a side n [] run = ap (λ x. and_then x (λ m. Ok (guard_at outer either (Second (record { before = before; rel = rel; left = a; side = m }))))) run
-second_run names outer either before rel a side n (t ∷ ts) run = go (λ m rest. second_run names outer either before rel a m n ts rest) (expr_step names (16 - length outer) side t) refl run where
-  go : ((m : ExprReader) → expr_run names (16 - length outer) m ts ≡ Ok n
-      → guard_run names (guard_at outer either (Second (record { before = before; rel = rel; left = a; side = m }))) ts ≡ Ok (guard_at outer either (Second (record { before = before; rel = rel; left = a; side = n })))) → (x : Result ExprReader ActFault) → expr_step names (16 - length outer) side t ≡ x → and_then x (λ next. expr_run names (16 - length outer) next ts) ≡ Ok n
-      → guard_run names (guard_at outer either (Second (record { before = before; rel = rel; left = a; side = side }))) (t ∷ ts) ≡ Ok (guard_at outer either (Second (record { before = before; rel = rel; left = a; side = n })))
+second_run names room outer either before rel a side n [] run = ap (λ x. and_then x (λ m. Ok (guard_at outer either (Second (record { before = before; rel = rel; left = a; side = m }))))) run
+second_run names room outer either before rel a side n (t ∷ ts) run = go (λ m rest. second_run names room outer either before rel a m n ts rest) (expr_step names (room - length outer) side t) refl run where
+  go : ((m : ExprReader) → expr_run names (room - length outer) m ts ≡ Ok n
+      → guard_run names room (guard_at outer either (Second (record { before = before; rel = rel; left = a; side = m }))) ts ≡ Ok (guard_at outer either (Second (record { before = before; rel = rel; left = a; side = n })))) → (x : Result ExprReader ActFault) → expr_step names (room - length outer) side t ≡ x → and_then x (λ next. expr_run names (room - length outer) next ts) ≡ Ok n
+      → guard_run names room (guard_at outer either (Second (record { before = before; rel = rel; left = a; side = side }))) (t ∷ ts) ≡ Ok (guard_at outer either (Second (record { before = before; rel = rel; left = a; side = n })))
   go more (Ok m) step run =
-      ap (λ x. and_then x (λ next. guard_run names next ts)) (step_second names 16 outer either before rel a side.outer side.left side.place m t.kind t.at t.word step)
+      ap (λ x. and_then x (λ next. guard_run names room next ts)) (step_second names room outer either before rel a side.outer side.left side.place m t.kind t.at t.word step)
       ∙ more m run
   go more (Err fault) step run = absurd cc
 
 -- the left side from its first token on
-begun_run : (names : Names) (outer : List Bracket) (either : Option Cond) (before : Before) (left : Left) (term : Expr) (ts : List Token) → expr_run names (16 - length outer) fresh_expr ts ≡ Ok (reader_at [] left (places.Has term))
-    → guard_run names (guard_at outer either (Wants before)) ts ≡ Ok (guard_at outer either (First before (reader_at [] left (places.Has term))))
+begun_run : (names : Names) (room : ℕ) (outer : List Bracket) (either : Option Cond) (before : Before) (left : Left) (term : Expr) (ts : List Token) → expr_run names (room - length outer) fresh_expr ts ≡ Ok (reader_at [] left (places.Has term))
+    → guard_run names room (guard_at outer either (Wants before)) ts ≡ Ok (guard_at outer either (First before (reader_at [] left (places.Has term))))
 unfolding expr_run guard_run guard_step
-begun_run names outer either before left term [] run =
+begun_run names room outer either before left term [] run =
     let same : fresh_expr ≡ reader_at [] left (places.Has term) = cc in
     let places' : places.Wants None ≡ places.Has term = ap (λ r. r.place) same in
     absurd cc
-begun_run names outer either before left term (t ∷ ts) run = go (expr_step names (16 - length outer) fresh_expr t) refl run where
-  go : (x : Result ExprReader ActFault) → expr_step names (16 - length outer) fresh_expr t ≡ x → and_then x (λ next. expr_run names (16 - length outer) next ts) ≡ Ok (reader_at [] left (places.Has term))
-      → guard_run names (guard_at outer either (Wants before)) (t ∷ ts) ≡ Ok (guard_at outer either (First before (reader_at [] left (places.Has term))))
+begun_run names room outer either before left term (t ∷ ts) run = go (expr_step names (room - length outer) fresh_expr t) refl run where
+  go : (x : Result ExprReader ActFault) → expr_step names (room - length outer) fresh_expr t ≡ x → and_then x (λ next. expr_run names (room - length outer) next ts) ≡ Ok (reader_at [] left (places.Has term))
+      → guard_run names room (guard_at outer either (Wants before)) (t ∷ ts) ≡ Ok (guard_at outer either (First before (reader_at [] left (places.Has term))))
   go (Ok m) step run =
-      ap (λ x. and_then x (λ next. guard_run names next ts)) (step_begun names 16 outer either before m t.kind t.at t.word step)
-      ∙ first_run names outer either before m (reader_at [] left (places.Has term)) ts run
+      ap (λ x. and_then x (λ next. guard_run names room next ts)) (step_begun names room outer either before m t.kind t.at t.word step)
+      ∙ first_run names room outer either before m (reader_at [] left (places.Has term)) ts run
   go (Err fault) step run = absurd cc
 
 -- ---- units and chains
 
 -- units joined by `&&` have been read, perhaps with the last comparison still open at its end
-data Stands : Stage → Cond → Type 0 where
+pub data Stands : Stage → Cond → Type 0 where
   has : {c : Cond} → Stands (Has c) c
   half : {before : Before} {rel : Rel} {a term : Expr} {left : Left} → Stands (Second (record { before = before; rel = rel; left = a; side = reader_at [] left (places.Has term) })) (unit_of before (Compare rel a (sum_of left term)))
 
-module _ (names : Names) (outer : List Bracket) (either : Option Cond) (t : Token) where
-  behind_and : (stage : Stage) (c : Cond) → Stands stage c → t.kind ≡ kinds.And → guard_step names 16 (guard_at outer either stage) t ≡ Ok (guard_at outer either (Wants (record { both = Some c; nots = 0 })))
+module _ (names : Names) (room : ℕ) (outer : List Bracket) (either : Option Cond) (t : Token) where
+  pub behind_and : (stage : Stage) (c : Cond) → Stands stage c → t.kind ≡ kinds.And → guard_step names room (guard_at outer either stage) t ≡ Ok (guard_at outer either (Wants (record { both = Some c; nots = 0 })))
   unfolding guard_step after_unit in_second compared expr_value
   behind_and stage c has is = simp is refl
   behind_and stage c half is = simp is refl
 
-  behind_or : (stage : Stage) (c : Cond) → Stands stage c → t.kind ≡ kinds.Or → guard_step names 16 (guard_at outer either stage) t ≡ Ok (guard_at outer (Some (disjunction_of either c)) (Wants nothing_before))
+  pub behind_or : (stage : Stage) (c : Cond) → Stands stage c → t.kind ≡ kinds.Or → guard_step names room (guard_at outer either stage) t ≡ Ok (guard_at outer (Some (disjunction_of either c)) (Wants nothing_before))
   unfolding guard_step after_unit in_second compared expr_value
   behind_or stage c has is = simp is refl
   behind_or stage c half is = simp is refl
 
-  behind_bracket : (bracket : Bracket) (stage : Stage) (c : Cond) → Stands stage c → t.kind ≡ kinds.CloseBracket
-      → guard_step names 16 (guard_at (bracket ∷ outer) either stage) t ≡ Ok (guard_at outer bracket.either (Has (unit_of bracket.before (disjunction_of either c))))
+  pub behind_bracket : (bracket : Bracket) (stage : Stage) (c : Cond) → Stands stage c → t.kind ≡ kinds.CloseBracket
+      → guard_step names room (guard_at (bracket ∷ outer) either stage) t ≡ Ok (guard_at outer bracket.either (Has (unit_of bracket.before (disjunction_of either c))))
   unfolding guard_step after_unit bracket_closed in_second compared expr_value
   behind_bracket bracket stage c has is = simp is refl
   behind_bracket bracket stage c half is = simp is refl
 
-  begins_bracket : (before : Before) → t.kind ≡ kinds.OpenBracket → length outer < 16 → guard_step names 16 (guard_at outer either (Wants before)) t ≡ Ok (guard_at (record { either = either; before = before } ∷ outer) None (Wants nothing_before))
+  pub begins_bracket : (before : Before) → t.kind ≡ kinds.OpenBracket → length outer < room → guard_step names room (guard_at outer either (Wants before)) t ≡ Ok (guard_at (record { either = either; before = before } ∷ outer) None (Wants nothing_before))
   unfolding guard_step unit_wanted bracket_opened
-  begins_bracket before is within = simp (is, lt-ltb (length outer) 16 within) refl
+  begins_bracket before is within = simp (is, lt-ltb (length outer) room within) refl
 
-  begins_not : (before : Before) → t.kind ≡ kinds.Not → guard_step names 16 (guard_at outer either (Wants before)) t ≡ Ok (guard_at outer either (Wants (record { both = before.both; nots = before.nots + 1 })))
+  pub begins_not : (before : Before) → t.kind ≡ kinds.Not → guard_step names room (guard_at outer either (Wants before)) t ≡ Ok (guard_at outer either (Wants (record { both = before.both; nots = before.nots + 1 })))
   unfolding guard_step unit_wanted
   begins_not before is = simp is refl
 
-  begins_true : (before : Before) → t.kind ≡ kinds.True → guard_step names 16 (guard_at outer either (Wants before)) t ≡ Ok (guard_at outer either (Has (unit_of before True)))
+  pub begins_true : (before : Before) → t.kind ≡ kinds.True → guard_step names room (guard_at outer either (Wants before)) t ≡ Ok (guard_at outer either (Has (unit_of before True)))
   unfolding guard_step unit_wanted
   begins_true before is = simp is refl
 
-  begins_false : (before : Before) → t.kind ≡ kinds.False → guard_step names 16 (guard_at outer either (Wants before)) t ≡ Ok (guard_at outer either (Has (unit_of before False)))
+  pub begins_false : (before : Before) → t.kind ≡ kinds.False → guard_step names room (guard_at outer either (Wants before)) t ≡ Ok (guard_at outer either (Has (unit_of before False)))
   unfolding guard_step unit_wanted
   begins_false before is = simp is refl
 
-  ends_first : (before : Before) (left : Left) (term : Expr) (rel : Rel) → t.kind ≡ kinds.Relation rel → guard_step names 16 (guard_at outer either (First before (reader_at [] left (places.Has term)))) t
+  pub ends_first : (before : Before) (left : Left) (term : Expr) (rel : Rel) → t.kind ≡ kinds.Relation rel → guard_step names room (guard_at outer either (First before (reader_at [] left (places.Has term)))) t
       ≡ Ok (guard_at outer either (Second (record { before = before; rel = rel; left = sum_of left term; side = fresh_expr })))
   unfolding guard_step in_first expr_value
   ends_first before left term rel is = simp is refl
@@ -190,93 +190,104 @@ nots_more n c = rw add-one (go n) where
   go (suc n) = ap (λ x. guards.Not x) (go n)
 
 -- what the tokens of a part do to a reader
-record ReadsUnit (names : Names) (outer : List Bracket) (either : Option Cond) (before : Before) (ts : List Token) (c : Cond) : Type 0 where
+record ReadsUnit (names : Names) (room : ℕ) (outer : List Bracket) (either : Option Cond) (before : Before) (ts : List Token) (c : Cond) : Type 0 where
   stage : Stage
-  run : guard_run names (guard_at outer either (Wants before)) ts ≡ Ok (guard_at outer either stage)
+  run : guard_run names room (guard_at outer either (Wants before)) ts ≡ Ok (guard_at outer either stage)
   stands : Stands stage c
 
-record ReadsGuard (names : Names) (outer : List Bracket) (ts : List Token) (c : Cond) : Type 0 where
+record ReadsGuard (names : Names) (room : ℕ) (outer : List Bracket) (ts : List Token) (c : Cond) : Type 0 where
   either : Option Cond
   stage : Stage
   conjunction : Cond
-  run : guard_run names (guard_at outer None (Wants nothing_before)) ts ≡ Ok (guard_at outer either stage)
+  run : guard_run names room (guard_at outer None (Wants nothing_before)) ts ≡ Ok (guard_at outer either stage)
   stands : Stands stage conjunction
   worth : disjunction_of either conjunction ≡ c
 
-abbrev ReadsPart : Names → List Bracket → GuardPart → List Token → Cond → Type 0
-ReadsPart names outer Unit' ts c = (either : Option Cond) (before : Before) → ReadsUnit names outer either before ts (unit_of before c)
-ReadsPart names outer Both ts c = (either : Option Cond) → ReadsUnit names outer either nothing_before ts c
-ReadsPart names outer Either ts c = ReadsGuard names outer ts c
+abbrev ReadsPart : Names → ℕ → List Bracket → GuardPart → List Token → Cond → Type 0
+ReadsPart names room outer Unit' ts c = (either : Option Cond) (before : Before) → ReadsUnit names room outer either before ts (unit_of before c)
+ReadsPart names room outer Both ts c = (either : Option Cond) → ReadsUnit names room outer either nothing_before ts c
+ReadsPart names room outer Either ts c = ReadsGuard names room outer ts c
 
 -- the same with another name for the guard
-renamed : {names : Names} {outer : List Bracket} {either : Option Cond} {before : Before} {ts : List Token} (c d : Cond) → c ≡ d → ReadsUnit names outer either before ts c → ReadsUnit names outer either before ts d
-renamed {names} {outer} {either} {before} {ts} c d is r = subst (λ x. ReadsUnit names outer either before ts x) is r
+renamed : {names : Names} {room : ℕ} {outer : List Bracket} {either : Option Cond} {before : Before} {ts : List Token} (c d : Cond) → c ≡ d → ReadsUnit names room outer either before ts c → ReadsUnit names room outer either before ts d
+renamed {names} {room} {outer} {either} {before} {ts} c d is r = subst (λ x. ReadsUnit names room outer either before ts x) is r
 
-reads_guard : {names : Names} {part : GuardPart} {l : ℕ} {ts : List Token} {c : Cond} (outer : List Bracket) → length outer + l ≡ 16 → SpellsGuard names part l ts c → ReadsPart names outer part ts c
-reads_guard {names} outer deep (truth {l} {t} is) = λ either before. record { stage = _; run = guard_one names _ _ t (begins_true names outer either t before is); stands = has }
-reads_guard {names} outer deep (falsity {l} {t} is) = λ either before. record { stage = _; run = guard_one names _ _ t (begins_false names outer either t before is); stands = has }
-reads_guard {names} outer deep (negation {l} {t} {ts} {c} is inner) = λ either before.
+reads_guard : {names : Names} {part : GuardPart} {l : ℕ} {ts : List Token} {c : Cond} (room : ℕ) (outer : List Bracket) → length outer + l ≡ room → SpellsGuard names part l ts c → ReadsPart names room outer part ts c
+reads_guard {names} room outer deep (truth {l} {t} is) = λ either before. record { stage = _; run = guard_one names room _ _ t (begins_true names room outer either t before is); stands = has }
+reads_guard {names} room outer deep (falsity {l} {t} is) = λ either before. record { stage = _; run = guard_one names room _ _ t (begins_false names room outer either t before is); stands = has }
+reads_guard {names} room outer deep (negation {l} {t} {ts} {c} is inner) = λ either before.
     let after : Before = record { both = before.both; nots = before.nots + 1 } in
-    let body : ReadsUnit names outer either after ts (unit_of after c) = reads_guard outer deep inner either after in
+    let body : ReadsUnit names room outer either after ts (unit_of after c) = reads_guard room outer deep inner either after in
     renamed _ _ (ap (λ x. conjunction_of before.both x) (nots_more before.nots c))
-    (record { stage = body.stage; run = guard_more names _ _ t ts _ (begins_not names outer either t before is) body.run; stands = body.stands })
-reads_guard {names} outer deep (brackets {l} {opening} closing {ts} {c} opens inner closes) = λ either before.
+    (record { stage = body.stage; run = guard_more names room _ _ t ts _ (begins_not names room outer either t before is) body.run; stands = body.stands })
+reads_guard {names} room outer deep (brackets {l} {opening} closing {ts} {c} opens inner closes) = λ either before.
     let bracket : Bracket = record { either = either; before = before } in
-    let within : length (bracket ∷ outer) + l ≡ 16 = omega arith in
-    let body : ReadsGuard names (bracket ∷ outer) ts c = reads_guard (bracket ∷ outer) within inner in
+    let within : length (bracket ∷ outer) + l ≡ room = omega arith in
+    let body : ReadsGuard names room (bracket ∷ outer) ts c = reads_guard room (bracket ∷ outer) within inner in
     record {
       stage = Has (unit_of before c);
-      run = guard_more names _ _ opening (ts ++ closing ∷ []) _ (begins_bracket names outer either opening before opens (omega arith))
-          (guard_chain names _ _ ts (closing ∷ []) _ body.run
-          (guard_one names _ _ closing (behind_bracket names outer body.either closing bracket body.stage body.conjunction body.stands closes ∙ ap (λ x. Ok (guard_at outer either (Has (unit_of before x)))) body.worth)));
+      run = guard_more names room _ _ opening (ts ++ closing ∷ []) _ (begins_bracket names room outer either opening before opens (omega arith))
+          (guard_chain names room _ _ ts (closing ∷ []) _ body.run
+          (guard_one names room _ _ closing (behind_bracket names room outer body.either closing bracket body.stage body.conjunction body.stands closes ∙ ap (λ x. Ok (guard_at outer either (Has (unit_of before x)))) body.worth)));
       stands = has;
     }
-reads_guard {names} outer deep (relation {l} t {ts} {us} {rel} {a} {b} left is right) = λ either before.
-    let room : 0 + l ≡ 16 - length outer = omega arith in
-    let first : ReadsSum names (16 - length outer) [] ts a = reads (16 - length outer) [] room left in
-    let second : ReadsSum names (16 - length outer) [] us b = reads (16 - length outer) [] room right in
+reads_guard {names} room outer deep (relation {l} t {ts} {us} {rel} {a} {b} left is right) = λ either before.
+    let deep' : 0 + l ≡ room - length outer = omega arith in
+    let first : ReadsSum names (room - length outer) [] ts a = reads (room - length outer) [] deep' left in
+    let second : ReadsSum names (room - length outer) [] us b = reads (room - length outer) [] deep' right in
     renamed _ _ (ap (λ x. unit_of before (Compare rel a x)) second.worth)
     (record {
       stage = _;
-      run = guard_chain names _ _ ts (t ∷ us) _ (begun_run names outer either before first.left first.term ts first.run)
-          (guard_more names _ _ t us _
-          (ends_first names outer either t before first.left first.term rel is ∙ ap (λ x. Ok (guard_at outer either (Second (record { before = before; rel = rel; left = x; side = fresh_expr })))) first.worth)
-          (second_run names outer either before rel a fresh_expr _ us second.run));
+      run = guard_chain names room _ _ ts (t ∷ us) _ (begun_run names room outer either before first.left first.term ts first.run)
+          (guard_more names room _ _ t us _
+          (ends_first names room outer either t before first.left first.term rel is ∙ ap (λ x. Ok (guard_at outer either (Second (record { before = before; rel = rel; left = x; side = fresh_expr })))) first.worth)
+          (second_run names room outer either before rel a fresh_expr _ us second.run));
       stands = half;
     })
-reads_guard {names} outer deep (lone_unit u) = λ either. reads_guard outer deep u either nothing_before
-reads_guard {names} outer deep (conjoined {l} t {ts} {us} {c} {d} front is back) = λ either.
-    let first : ReadsUnit names outer either nothing_before ts c = reads_guard outer deep front either in
+reads_guard {names} room outer deep (lone_unit u) = λ either. reads_guard room outer deep u either nothing_before
+reads_guard {names} room outer deep (conjoined {l} t {ts} {us} {c} {d} front is back) = λ either.
+    let first : ReadsUnit names room outer either nothing_before ts c = reads_guard room outer deep front either in
     let before : Before = record { both = Some c; nots = 0 } in
-    let second : ReadsUnit names outer either before us (guards.And c d) = reads_guard outer deep back either before in
+    let second : ReadsUnit names room outer either before us (guards.And c d) = reads_guard room outer deep back either before in
     record {
       stage = second.stage;
-      run = guard_chain names _ _ ts (t ∷ us) _ first.run (guard_more names _ _ t us _ (behind_and names outer either t first.stage c first.stands is) second.run);
+      run = guard_chain names room _ _ ts (t ∷ us) _ first.run (guard_more names room _ _ t us _ (behind_and names room outer either t first.stage c first.stands is) second.run);
       stands = second.stands;
     }
-reads_guard {names} outer deep (lone_conjunction {l} {ts} {c} b) =
-    let first : ReadsUnit names outer None nothing_before ts c = reads_guard outer deep b None in
+reads_guard {names} room outer deep (lone_conjunction {l} {ts} {c} b) =
+    let first : ReadsUnit names room outer None nothing_before ts c = reads_guard room outer deep b None in
     record { either = None; stage = first.stage; conjunction = c; run = first.run; stands = first.stands; worth = refl }
-reads_guard {names} outer deep (disjoined {l} t {ts} {us} {c} {d} front is back) =
-    let first : ReadsGuard names outer ts c = reads_guard outer deep front in
-    let second : ReadsUnit names outer (Some c) nothing_before us d = reads_guard outer deep back (Some c) in
+reads_guard {names} room outer deep (disjoined {l} t {ts} {us} {c} {d} front is back) =
+    let first : ReadsGuard names room outer ts c = reads_guard room outer deep front in
+    let second : ReadsUnit names room outer (Some c) nothing_before us d = reads_guard room outer deep back (Some c) in
     record {
       either = Some c;
       stage = second.stage;
       conjunction = d;
-      run = guard_chain names _ _ ts (t ∷ us) _ first.run
-          (guard_more names _ _ t us _ (behind_or names outer first.either t first.stage first.conjunction first.stands is ∙ ap (λ x. Ok (guard_at outer (Some x) (Wants nothing_before))) first.worth) second.run);
+      run = guard_chain names room _ _ ts (t ∷ us) _ first.run
+          (guard_more names room _ _ t us _ (behind_or names room outer first.either t first.stage first.conjunction first.stands is ∙ ap (λ x. Ok (guard_at outer (Some x) (Wants nothing_before))) first.worth) second.run);
       stands = second.stands;
       worth = refl;
     }
 
-ends_guard : (end : ℕ) (either : Option Cond) (stage : Stage) (c : Cond) → Stands stage c → guard_value (guard_at [] either stage) end ≡ Ok (disjunction_of either c)
+pub ends_guard : (end : ℕ) (either : Option Cond) (stage : Stage) (c : Cond) → Stands stage c → guard_value (guard_at [] either stage) end ≡ Ok (disjunction_of either c)
 unfolding guard_value compared expr_value
 ends_guard end either stage c has = refl
 ends_guard end either stage c half = refl
 
+-- what the tokens of a guard do to a reader that has read nothing; so many levels may be open
+pub record GuardRuns (names : Names) (room : ℕ) (ts : List Token) (c : Cond) : Type 0 where
+  pub reader : GuardReader
+  pub run : guard_run names room fresh_guard ts ≡ Ok reader
+  pub ends : (at : ℕ) → guard_value reader at ≡ Ok c
+
+pub guard_runs : {names : Names} {room : ℕ} {ts : List Token} {c : Cond} → SpellsGuard names Either room ts c → GuardRuns names room ts c
+guard_runs {names} {room} {ts} {c} spelled =
+    let r : ReadsGuard names room [] ts c = reads_guard room [] (omega arith) spelled in
+    record { reader = guard_at [] r.either r.stage; run = r.run; ends = λ at. ends_guard at r.either r.stage r.conjunction r.stands ∙ ap (λ x. Ok x) r.worth }
+
 -- Whatever spells a guard is read as that guard.
 pub guard_spelled : (names : Names) (end : ℕ) (ts : List Token) (c : Cond) → SpellsGuard names Either 16 ts c → guard_read names end fresh_guard ts ≡ Ok c
 guard_spelled names end ts c spelled =
-    let r : ReadsGuard names [] ts c = reads_guard [] (omega arith) spelled in
-    guard_whole names end fresh_guard _ ts r.run ∙ ends_guard end r.either r.stage r.conjunction r.stands ∙ ap (λ x. Ok x) r.worth
+    let r : GuardRuns names 16 ts c = guard_runs spelled in
+    guard_whole names end fresh_guard r.reader ts r.run ∙ r.ends end

@@ -1,12 +1,11 @@
 -- What guards and expressions are worth, by what code sees of a tree.
-use Rattle.std.proofs.Common.{◌≡◌, ℕ, ℤ, ◌+ℤ◌, ◌-ℤ◌, ◌*ℤ◌, Bool, true, false, not, ◌&&◌, ◌||◌, List, refl, sym, ◌∙◌, ap, subst, FitsSigned}
-use Rattle.std.specs.Int.{int_wrap, int_wrapping_add, int_wrapping_sub, int_wrapping_mul, w64}
+use Rattle.std.proofs.Common.{◌≡◌, ℤ, Bool, true, false, not, refl, sym, ◌∙◌, ap, FitsSigned}
+use Rattle.std.specs.Int.{int_wrapping_add, int_wrapping_sub, int_wrapping_mul, w64}
 use Rattle.std.proofs.lemmas.Int.{wrapping_add_is, wrapping_sub_is, wrapping_mul_is}
 use Rattle.pssm_acts.specs.declared.tree.Expr.{Expr}
 use Rattle.pssm_acts.specs.declared.tree.Expr.TheViews as views
 use Rattle.pssm_acts.specs.declared.tree.Cond.{Cond}
 use Rattle.pssm_acts.specs.declared.tree.Cond.TheViews as tests
-use Rattle.pssm_acts.specs.Fits.{ExprFits, CondFits}
 use Rattle.pssm_acts.specs.Values.{Store, Params, value_of, truth_of}
 use Rattle.pssm_acts.proofs.Views.{Sum-is, Diff-is, Prod-is, Not-is, And-is, Or-is}
 

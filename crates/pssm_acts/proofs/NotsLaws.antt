@@ -42,55 +42,55 @@ compared_nots outer waiting half n kind at word step = go (compared half at) ste
   go (Ok c) is = after_nots outer waiting c n kind at word is
   go (Err fault) is = absurd cc
 
-second_nots : (names : Names) (outer : List Bracket) (waiting : Option Cond) (half : Half) (n : GuardReader) (kind : Kind) (at : ℕ) (word : List ℕ) → in_second names 16 outer waiting half (token_as at kind word) ≡ Ok n → nots_waiting n ≡ 0
+second_nots : (names : Names) (room : ℕ) (outer : List Bracket) (waiting : Option Cond) (half : Half) (n : GuardReader) (kind : Kind) (at : ℕ) (word : List ℕ) → in_second names room outer waiting half (token_as at kind word) ≡ Ok n → nots_waiting n ≡ 0
 unfolding in_second
-second_nots names outer waiting half n kinds.And at word step = compared_nots outer waiting half n kinds.And at word step
-second_nots names outer waiting half n kinds.Or at word step = compared_nots outer waiting half n kinds.Or at word step
-second_nots names outer waiting half n kinds.CloseBracket at word step = compared_nots outer waiting half n kinds.CloseBracket at word step
-second_nots names outer waiting half n kind at word step = go (expr_step names (16 - length outer) half.side (token_as at kind word)) step where
+second_nots names room outer waiting half n kinds.And at word step = compared_nots outer waiting half n kinds.And at word step
+second_nots names room outer waiting half n kinds.Or at word step = compared_nots outer waiting half n kinds.Or at word step
+second_nots names room outer waiting half n kinds.CloseBracket at word step = compared_nots outer waiting half n kinds.CloseBracket at word step
+second_nots names room outer waiting half n kind at word step = go (expr_step names (room - length outer) half.side (token_as at kind word)) step where
   go : (r : Result ExprReader ActFault) → and_then r (λ more. Ok (guard_at outer waiting (Second (record { before = half.before; rel = half.rel; left = half.left; side = more })))) ≡ Ok n → nots_waiting n ≡ 0
   go (Ok more) is =
       let same : guard_at outer waiting (Second (record { before = half.before; rel = half.rel; left = half.left; side = more })) ≡ n = cc in subst (λ x. nots_waiting x ≡ 0) same refl
   go (Err fault) is = absurd cc
 
-first_nots : (names : Names) (outer : List Bracket) (waiting : Option Cond) (before : Before) (side : ExprReader) (n : GuardReader) (kind : Kind) (at : ℕ) (word : List ℕ)
-    → and_then (in_first names (16 - length outer) before side (token_as at kind word)) (λ stage. Ok (guard_at outer waiting stage)) ≡ Ok n → nots_waiting n ≡ 0
+first_nots : (names : Names) (room : ℕ) (outer : List Bracket) (waiting : Option Cond) (before : Before) (side : ExprReader) (n : GuardReader) (kind : Kind) (at : ℕ) (word : List ℕ)
+    → and_then (in_first names (room - length outer) before side (token_as at kind word)) (λ stage. Ok (guard_at outer waiting stage)) ≡ Ok n → nots_waiting n ≡ 0
 unfolding in_first
-first_nots names outer waiting before side n (kinds.Relation rel) at word step = go (expr_value side at) step where
+first_nots names room outer waiting before side n (kinds.Relation rel) at word step = go (expr_value side at) step where
   go : (r : Result Expr ActFault) → and_then (and_then r (λ left. Ok (Second (record { before = before; rel = rel; left = left; side = fresh_expr })))) (λ stage. Ok (guard_at outer waiting stage)) ≡ Ok n → nots_waiting n ≡ 0
   go (Ok a) is =
       let same : guard_at outer waiting (Second (record { before = before; rel = rel; left = a; side = fresh_expr })) ≡ n = cc in subst (λ x. nots_waiting x ≡ 0) same refl
   go (Err fault) is = absurd cc
-first_nots names outer waiting before side n kind at word step = go (expr_step names (16 - length outer) side (token_as at kind word)) step where
+first_nots names room outer waiting before side n kind at word step = go (expr_step names (room - length outer) side (token_as at kind word)) step where
   go : (r : Result ExprReader ActFault) → and_then (and_then r (λ more. Ok (First before more))) (λ stage. Ok (guard_at outer waiting stage)) ≡ Ok n → nots_waiting n ≡ 0
   go (Ok more) is = let same : guard_at outer waiting (First before more) ≡ n = cc in subst (λ x. nots_waiting x ≡ 0) same refl
   go (Err fault) is = absurd cc
 
-wants_nots : (names : Names) (outer : List Bracket) (waiting : Option Cond) (before : Before) (n : GuardReader) (kind : Kind) (at : ℕ) (word : List ℕ)
-    → unit_wanted names 16 outer waiting before (token_as at kind word) ≡ Ok n → nots_waiting n ≤ before.nots + 1
+wants_nots : (names : Names) (room : ℕ) (outer : List Bracket) (waiting : Option Cond) (before : Before) (n : GuardReader) (kind : Kind) (at : ℕ) (word : List ℕ)
+    → unit_wanted names room outer waiting before (token_as at kind word) ≡ Ok n → nots_waiting n ≤ before.nots + 1
 unfolding unit_wanted bracket_opened side_begun
-wants_nots names outer waiting before n kinds.OpenBracket at word step = go (ltb (length outer) 16) step where
+wants_nots names room outer waiting before n kinds.OpenBracket at word step = go (ltb (length outer) room) step where
   go : (b : Bool) → (if b then Ok (guard_at (record { either = waiting; before = before } ∷ outer) None (Wants nothing_before)) else Err (TooLong at)) ≡ Ok n → nots_waiting n ≤ before.nots + 1
   go true is =
       let same : guard_at (record { either = waiting; before = before } ∷ outer) None (Wants nothing_before) ≡ n = cc in subst (λ x. nots_waiting x ≤ before.nots + 1) same (omega arith)
   go false is = absurd cc
-wants_nots names outer waiting before n kinds.Not at word step =
+wants_nots names room outer waiting before n kinds.Not at word step =
     let same : guard_at outer waiting (Wants (record { both = before.both; nots = before.nots + 1 })) ≡ n = cc in subst (λ x. nots_waiting x ≤ before.nots + 1) same (omega arith)
-wants_nots names outer waiting before n kinds.True at word step =
+wants_nots names room outer waiting before n kinds.True at word step =
     let same : guard_at outer waiting (Has (unit_of before True)) ≡ n = cc in subst (λ x. nots_waiting x ≤ before.nots + 1) same (omega arith)
-wants_nots names outer waiting before n kinds.False at word step =
+wants_nots names room outer waiting before n kinds.False at word step =
     let same : guard_at outer waiting (Has (unit_of before False)) ≡ n = cc in subst (λ x. nots_waiting x ≤ before.nots + 1) same (omega arith)
-wants_nots names outer waiting before n kind at word step = go (expr_step names (16 - length outer) fresh_expr (token_as at kind word)) step where
+wants_nots names room outer waiting before n kind at word step = go (expr_step names (room - length outer) fresh_expr (token_as at kind word)) step where
   go : (r : Result ExprReader ActFault) → and_then r (λ side. Ok (guard_at outer waiting (First before side))) ≡ Ok n → nots_waiting n ≤ before.nots + 1
   go (Ok side) is = let same : guard_at outer waiting (First before side) ≡ n = cc in subst (λ x. nots_waiting x ≤ before.nots + 1) same (omega arith)
   go (Err fault) is = absurd cc
 
-nots_by : (names : Names) (outer : List Bracket) (waiting : Option Cond) (stage : Stage) (n : GuardReader) (t : Token) → guard_step names 16 (guard_at outer waiting stage) t ≡ Ok n → nots_waiting n ≤ nots_waiting (guard_at outer waiting stage) + 1
+nots_by : (names : Names) (room : ℕ) (outer : List Bracket) (waiting : Option Cond) (stage : Stage) (n : GuardReader) (t : Token) → guard_step names room (guard_at outer waiting stage) t ≡ Ok n → nots_waiting n ≤ nots_waiting (guard_at outer waiting stage) + 1
 unfolding guard_step
-nots_by names outer waiting (Wants before) n t step = wants_nots names outer waiting before n t.kind t.at t.word step
-nots_by names outer waiting (First before side) n t step = let e = first_nots names outer waiting before side n t.kind t.at t.word step in omega (arith, e)
-nots_by names outer waiting (Second half) n t step = let e = second_nots names outer waiting half n t.kind t.at t.word step in omega (arith, e)
-nots_by names outer waiting (Has c) n t step = let e = after_nots outer waiting c n t.kind t.at t.word step in omega (arith, e)
+nots_by names room outer waiting (Wants before) n t step = wants_nots names room outer waiting before n t.kind t.at t.word step
+nots_by names room outer waiting (First before side) n t step = let e = first_nots names room outer waiting before side n t.kind t.at t.word step in omega (arith, e)
+nots_by names room outer waiting (Second half) n t step = let e = second_nots names room outer waiting half n t.kind t.at t.word step in omega (arith, e)
+nots_by names room outer waiting (Has c) n t step = let e = after_nots outer waiting c n t.kind t.at t.word step in omega (arith, e)
 
-pub nots_more : (names : Names) (r n : GuardReader) (t : Token) → guard_step names 16 r t ≡ Ok n → nots_waiting n ≤ nots_waiting r + 1
-nots_more names r n t step = nots_by names r.outer r.either r.stage n t step
+pub nots_more : (names : Names) (room : ℕ) (r n : GuardReader) (t : Token) → guard_step names room r t ≡ Ok n → nots_waiting n ≤ nots_waiting r + 1
+nots_more names room r n t step = nots_by names room r.outer r.either r.stage n t step

@@ -5,10 +5,11 @@ use Rattle.std.specs.Str.Parse.{digits_value}
 use Rattle.pssm_acts.specs.SpellingReading.{is_digit, is_plain}
 use Rattle.std.proofs.lemmas.Bool.{and_parts, lt-ltb, ltb-true, eqb-true}
 use Rattle.pssm_acts.specs.declared.act_fault.ActFault.TheVariants.{Syntax, WideNumber}
-use Rattle.pssm_acts.specs.Numbers.{is_natural, natural_read, negative_value, negative_read, number_read, SpellsNumber, natural, negative}
+use Rattle.pssm_acts.specs.Numbers.{is_natural, SpellsNumber, natural, negative}
+use Rattle.pssm_acts.specs.NumberReading.{natural_read, negative_value, negative_read, number_read}
 
 -- No digits begin with `-`.
-minus_first : (c : ℕ) (cs : List ℕ) → is_natural (c ∷ cs) ≡ true → c ≡ 45 → ⊥
+pub minus_first : (c : ℕ) (cs : List ℕ) → is_natural (c ∷ cs) ≡ true → c ≡ 45 → ⊥
 minus_first c cs plain is =
     let digits : list_all is_digit (c ∷ cs) ≡ true = (and_parts (is_plain (c ∷ cs)) (list_all is_digit (c ∷ cs)) plain).1 in
     let minus : list_all is_digit (45 ∷ cs) ≡ true = rw is at digits in

@@ -10,7 +10,8 @@ use Rattle.pssm_acts.specs.declared.tree.Stmt.TheViews as views
 use Rattle.pssm_acts.specs.declared.tree.Stmt.TheBlock.{shape-the_row-Stmt-0, hidden-the_row-Stmt-0}
 use Rattle.pssm_acts.specs.ActText.{expr_text, cond_text, further_text, block_text, stmt_text, row_text, stmts_text}
 
-rows : (names : Names) (marks : List (List ℕ)) (body : List Stmt) → row_text names marks (hidden-the_row-Stmt-0 body) ≡ stmts_text names marks body
+-- What is written of a block is what is written of its statements.
+pub rows : (names : Names) (marks : List (List ℕ)) (body : List Stmt) → row_text names marks (hidden-the_row-Stmt-0 body) ≡ stmts_text names marks body
 unfolding shape-the_row-Stmt-0 hidden-the_row-Stmt-0 hidden
 rows names marks [] = refl
 rows names marks (s ∷ rest) = ap (λ t. codes " " ++ stmt_text names marks s ++ t) (rows names marks rest)
@@ -47,7 +48,7 @@ Choose_else-written names marks old one two three four s c body rest p q o is ot
     ∙ append_assoc old (front (stmts_text names marks p)) (block_text (codes " else {") (stmts_text names marks q))
     ∙ ap (λ t. old ++ t) (sym text)
 
-stmts_text-append : (names : Names) (marks : List (List ℕ)) (stmts : List Stmt) (s : Stmt)
+pub stmts_text-append : (names : Names) (marks : List (List ℕ)) (stmts : List Stmt) (s : Stmt)
     → stmts_text names marks (stmts ++ s ∷ []) ≡ stmts_text names marks stmts ++ (codes " " ++ stmt_text names marks s)
 stmts_text-append names marks [] s = append-nil (codes " " ++ stmt_text names marks s)
 stmts_text-append names marks (x ∷ rest) s =

@@ -13,7 +13,7 @@ use Rattle.pssm_acts.proofs.NotsLaws.{nots_more}
 use Rattle.pssm_acts.specs.GuardReading.{fresh_guard, guard_step, guard_read, guard_value, nots_waiting, text_reading}
 
 -- A step that fails ends the reading with its fault.
-failed : {A B : Type 0} (first : Result A ActFault) (after : A → Result B ActFault) (due : Result B ActFault) (fault : ActFault) → Answers first (Err fault) → and_then first after ≡ due → Answers due (Err fault)
+pub failed : {A B : Type 0} (first : Result A ActFault) (after : A → Result B ActFault) (due : Result B ActFault) (fault : ActFault) → Answers first (Err fault) → and_then first after ≡ due → Answers due (Err fault)
 failed first after due NoMemory step same = tt
 failed first after due (Syntax at) step same = sym same ∙ ap (λ x. and_then x after) step
 failed first after due (UnknownName at) step same = sym same ∙ ap (λ x. and_then x after) step
@@ -33,7 +33,7 @@ cut_used end a zero bytes = refl
 cut_used end a (suc n) [] = refl
 cut_used end a (suc n) (c ∷ cs) = cut_used end a n cs
 
-cut_blank : (end : ℕ) (a : Bool) (c : ℕ) (cs : List ℕ) → is_blank c ≡ true → cut end a 0 (c ∷ cs) ≡ cut end a 0 cs
+pub cut_blank : (end : ℕ) (a : Bool) (c : ℕ) (cs : List ℕ) → is_blank c ≡ true → cut end a 0 (c ∷ cs) ≡ cut end a 0 cs
 unfolding cut
 cut_blank end a c cs blank = rw blank refl
 
@@ -41,7 +41,7 @@ cut_blank end a c cs blank = rw blank refl
 abbrev pub piece_at : ℕ → Kind → ℕ → List ℕ → Token
 piece_at end kind len bytes = record { at = end - length bytes; kind = kind; word = take len bytes }
 
-cut_token : (end : ℕ) (a : Bool) (c : ℕ) (cs : List ℕ) (kind : Kind) (n : ℕ) → is_blank c ≡ false → front a (c ∷ cs) ≡ (kind, suc n)
+pub cut_token : (end : ℕ) (a : Bool) (c : ℕ) (cs : List ℕ) (kind : Kind) (n : ℕ) → is_blank c ≡ false → front a (c ∷ cs) ≡ (kind, suc n)
     → cut end a 0 (c ∷ cs) ≡ piece_at end kind (suc n) (c ∷ cs) ∷ cut end (ends_operand kind) 0 (drop n cs)
 unfolding cut
 cut_token end a c cs kind n solid is = let less : suc n - 1 ≡ n = omega arith in rw (solid, is, less, cut_used end (ends_operand kind) n cs) refl
@@ -83,7 +83,7 @@ pub token_passed : (names : Names) (text : List ℕ) (reader next : GuardReader)
 token_passed names text reader next a bytes later kind n solid is some within rest was step = record {
   same = sym (ap (λ x. and_then x (λ m. guard_read names (length text) m (cut (length text) (ends_operand kind) 0 later))) step) ∙ step_read names text reader a bytes later kind n solid is some within rest was;
   nots =
-      let more = nots_more names reader next (piece_at (length text) kind n bytes) step in
+      let more = nots_more names 16 reader next (piece_at (length text) kind n bytes) step in
       let left : length later ≡ length bytes - n = ap length rest ∙ length-drop n bytes in
       omega (arith, was.nots);
 }

@@ -17,7 +17,7 @@ use Rattle.pssm_acts.specs.Grammar.{Part, SpellsExpr, number, variable, paramete
 use Rattle.pssm_acts.proofs.Views.{Sum-is, Diff-is, Prod-is, Not-is, And-is, Or-is}
 
 -- A parameter has a number from 1 to 8.
-abbrev IsInRange : Kind → Type 0
+abbrev pub IsInRange : Kind → Type 0
 IsInRange (kinds.Param k) = (1 ≤ k) × (k ≤ 8)
 IsInRange kind = Unit {0}
 
@@ -100,11 +100,11 @@ front_in_range a bytes = go (starts_name bytes) where
   go false = rest (nat_lt 0 (number_len a bytes))
 
 -- all tokens are in range
-abbrev AreInRange : List Token → Type 0
+abbrev pub AreInRange : List Token → Type 0
 AreInRange [] = Unit {0}
 AreInRange (t ∷ ts) = IsInRange t.kind × AreInRange ts
 
-cut_in_range : (end : ℕ) (a : Bool) (used : ℕ) (bytes : List ℕ) → AreInRange (cut end a used bytes)
+pub cut_in_range : (end : ℕ) (a : Bool) (used : ℕ) (bytes : List ℕ) → AreInRange (cut end a used bytes)
 unfolding cut
 cut_in_range end a used [] = tt
 cut_in_range end a (suc used) (c ∷ cs) = cut_in_range end a used cs
@@ -114,11 +114,11 @@ cut_in_range end a zero (c ∷ cs) = go (is_blank c) (cut_in_range end a zero cs
   go true p q = p
   go false p q = (front_in_range a (c ∷ cs), q)
 
-range_parts : (ts us : List Token) → AreInRange (ts ++ us) → AreInRange ts × AreInRange us
+pub range_parts : (ts us : List Token) → AreInRange (ts ++ us) → AreInRange ts × AreInRange us
 range_parts [] us h = (tt, h)
 range_parts (t ∷ ts) us h = let rest = range_parts ts us h.1 in ((h.0, rest.0), rest.1)
 
-expr_fits : {names : Names} {part : Part} {l : ℕ} {ts : List Token} {e : Expr} → SpellsExpr names part l ts e → AreInRange ts → ExprFits (length names.vars) e
+pub expr_fits : {names : Names} {part : Part} {l : ℕ} {ts : List Token} {e : Expr} → SpellsExpr names part l ts e → AreInRange ts → ExprFits (length names.vars) e
 expr_fits (number is spelled) h = tt
 expr_fits {names} (variable {l} {t} {x} is found) h = (position-Some (λ name. bytes_eq name t.word) names.vars x [] found).0
 expr_fits (parameter {l} {t} {k} is) h = subst IsInRange is h.0
@@ -132,7 +132,7 @@ expr_fits {names} (plus {l} t {ts} {us} {a} {b} front' is back) h =
 expr_fits {names} (minus {l} t {ts} {us} {a} {b} front' is back) h =
     let parts = range_parts ts (t ∷ us) h in subst (ExprFits (length names.vars)) (sym (Diff-is a b)) (expr_fits front' parts.0, expr_fits back parts.1.1)
 
-guard_fits : {names : Names} {part : GuardPart} {l : ℕ} {ts : List Token} {c : Cond} → SpellsGuard names part l ts c → AreInRange ts → CondFits (length names.vars) c
+pub guard_fits : {names : Names} {part : GuardPart} {l : ℕ} {ts : List Token} {c : Cond} → SpellsGuard names part l ts c → AreInRange ts → CondFits (length names.vars) c
 guard_fits (truth is) h = tt
 guard_fits (falsity is) h = tt
 guard_fits {names} (negation {l} {t} {ts} {c} is inner) h = subst (CondFits (length names.vars)) (sym (Not-is c)) (guard_fits inner h.1)

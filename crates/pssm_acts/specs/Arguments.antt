@@ -1,5 +1,5 @@
 -- Behaviours whose sends and marks have no more arguments than an output can hold.
-use Rattle.std.specs.Prelude.{◌≤◌, List, length, All}
+use Rattle.std.specs.Prelude.{◌≤◌, length, All}
 use Rattle.pssm_acts.specs.declared.tree.Act.{Act}
 use Rattle.pssm_acts.specs.declared.tree.Stmt.{Stmt, Assign, Choose', Send, Mark, Row_of-Stmt, end_of-Stmt, more_of-Stmt, Held-Stmt-Choose-2, None', Some'}
 

@@ -1,7 +1,8 @@
 -- What one token makes of an expression that has been read in part: the reader's step, and its first fault (this profile's choice).
-use Rattle.std.specs.Prelude.{◌≡◌, ℕ, List, [], ◌∷◌, length, Option, Some, None, Result, Ok, Err, nat_lt, if◌then◌else◌, position, bytes_eq}
+use Rattle.std.specs.Prelude.{ℕ, List, [], ◌∷◌, length, Option, Some, None, Result, Ok, Err, nat_lt, if◌then◌else◌, position, bytes_eq}
 use Rattle.pssm_acts.specs.declared.act_fault.ActFault.{ActFault}
-use Rattle.pssm_acts.specs.declared.act_fault.ActFault.TheVariants.{Syntax, UnknownName, TooLong, NoMemory}
+pub use Rattle.pssm_acts.specs.Answers.{Answers}
+use Rattle.pssm_acts.specs.declared.act_fault.ActFault.TheVariants.{Syntax, UnknownName, TooLong}
 use Rattle.pssm_acts.specs.declared.setting.Names.{Names}
 use Rattle.pssm_acts.specs.declared.token.Kind.{Kind}
 use Rattle.pssm_acts.specs.declared.token.Kind.TheVariants as kinds
@@ -15,14 +16,8 @@ use Rattle.pssm_acts.specs.declared.expr_reader.Level.{Level}
 use Rattle.pssm_acts.specs.declared.expr_reader.Place.{Place}
 use Rattle.pssm_acts.specs.declared.expr_reader.Place.TheVariants.{Wants, Has}
 use Rattle.pssm_acts.specs.declared.expr_reader.ExprReader.{ExprReader}
-use Rattle.pssm_acts.specs.Numbers.{number_read}
+use Rattle.pssm_acts.specs.NumberReading.{number_read}
 use Rattle.pssm_acts.specs.Tokens.{Token}
-
--- The answer is the one that is due, or memory was wanting.
-abbrev pub Answers : {A : Type 0} → Result A ActFault → Result A ActFault → Type 0
-Answers due (Err NoMemory) = Unit {0}
-Answers due (Err fault) = due ≡ Err fault
-Answers due (Ok x) = due ≡ Ok x
 
 -- what comes after a step that succeeds
 abbrev pub and_then : {A B : Type 0} → Result A ActFault → (A → Result B ActFault) → Result B ActFault

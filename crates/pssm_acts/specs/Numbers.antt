@@ -1,10 +1,8 @@
 -- Numbers in action texts: decimal, without leading zeros, in the range of 64 bits with a sign (this profile's choice).
-use Rattle.std.specs.Prelude.{◌≡◌, ◌≤◌, ◌<◌, ℕ, suc, zero, ◌^◌, ℤ, pos, negsuc, Bool, ◌&&◌, IsTrue, List, [], ◌∷◌, Result, Ok, Err, nat_lt, ◌==◌, if◌then◌else◌}
+use Rattle.std.specs.Prelude.{◌≡◌, ◌≤◌, ◌<◌, ℕ, suc, ◌^◌, ℤ, pos, negsuc, Bool, ◌&&◌, IsTrue, List, ◌∷◌}
 use Rattle.std.specs.List.{list_all}
 use Rattle.std.specs.Str.Parse.{digits_value}
 use Rattle.pssm_acts.specs.SpellingReading.{is_digit, is_plain}
-use Rattle.pssm_acts.specs.declared.act_fault.ActFault.{ActFault}
-use Rattle.pssm_acts.specs.declared.act_fault.ActFault.TheVariants.{Syntax, WideNumber}
 
 -- digits without leading zeros
 abbrev pub is_natural : List ℕ → Bool
@@ -14,20 +12,3 @@ is_natural digits = is_plain digits && list_all is_digit digits
 pub data SpellsNumber : List ℕ → ℤ → Type 0 where
   natural : {digits : List ℕ} → IsTrue (is_natural digits) → digits_value 10 digits < 2 ^ 63 → SpellsNumber digits (pos (digits_value 10 digits))
   negative : {digits : List ℕ} {below : ℕ} → IsTrue (is_natural digits) → digits_value 10 digits ≡ suc below → digits_value 10 digits ≤ 2 ^ 63 → SpellsNumber (45 ∷ digits) (negsuc below)
-
--- the number of such a word, or its fault: `WideNumber` where it is out of range, and `Syntax` where the word spells none
-unfoldable pub natural_read : ℕ → List ℕ → Result ℤ ActFault
-natural_read at digits =
-    if is_natural digits then (if nat_lt (digits_value 10 digits) (2 ^ 63) then Ok (pos (digits_value 10 digits)) else Err (WideNumber at))
-    else Err (Syntax at)
-
-abbrev pub negative_value : ℕ → ℕ → Result ℤ ActFault
-negative_value at zero = Err (Syntax at)
-negative_value at (suc below) = if nat_lt below (2 ^ 63) then Ok (negsuc below) else Err (WideNumber at)
-
-unfoldable pub negative_read : ℕ → List ℕ → Result ℤ ActFault
-negative_read at digits = if is_natural digits then negative_value at (digits_value 10 digits) else Err (Syntax at)
-
-unfoldable pub number_read : ℕ → List ℕ → Result ℤ ActFault
-number_read at [] = natural_read at []
-number_read at (c ∷ cs) = if c == 45 then negative_read at cs else natural_read at (c ∷ cs)

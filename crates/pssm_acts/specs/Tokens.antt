@@ -1,4 +1,4 @@
--- How the bytes of an action text are cut into tokens: the longest is taken, and blanks may stand between them (this profile's choice).
+-- How the bytes of an action text are cut into tokens: the longest is taken, blanks may stand between them, and whether a `-` belongs to a number is told by the token before it (this profile's choice).
 use Rattle.std.specs.Prelude.{ℕ, suc, zero, ◌+◌, ◌-◌, Bool, true, false, ◌&&◌, ◌||◌, List, [], ◌∷◌, length, take, min, Option, Some, None, nat_lt, nat_le, ◌==◌, if◌then◌else◌, bytes_eq, codes}
 use Rattle.std.specs.List.{prefix_len, slice_index_or}
 use Rattle.pssm_acts.specs.Spelling.{continues_name}
@@ -53,15 +53,16 @@ single_sign c =
     if c == 44 then kinds.Comma else
     if c == 46 then kinds.Dot else kinds.Unknown
 
--- a parameter, `$1` to `$8`, or the longest sign that begins with these two bytes; and its length
+-- a sign of two bytes, or else the sign of one; and its length
 abbrev pub longest_sign : Option Kind → ℕ → Kind × ℕ
 longest_sign (Some kind) c = (kind, 2)
 longest_sign None c = (single_sign c, 1)
 
+-- a parameter, `$1` to `$8`, or the longest sign that begins with these two bytes; and its length
 unfoldable pub sign_front : ℕ → ℕ → Kind × ℕ
 sign_front c d = if (c == 36) && nat_le 49 d && nat_le d 56 then (kinds.Param (d - 48), 2) else longest_sign (double_sign c d) c
 
--- how many digits the bytes begin with, and how many bytes with a `-` before them
+-- the length of a number of `-` and so many digits; 0 where an operand stands before or there is no digit
 abbrev pub negative_len : Bool → ℕ → ℕ
 negative_len after_operand digits = if after_operand || (digits == 0) then 0 else 1 + digits
 

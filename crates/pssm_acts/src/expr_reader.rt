@@ -74,7 +74,7 @@ fn sum(alloc: Global, left: Left, term: Expr) -> Result<Expr, NoMemory>
 }
 
 /// The place of the first of these names that is spelled so.
-fn place_of(names: &[Text], name: &[u8]) -> Option<usize>
+pub(crate) fn place_of(names: &[Text], name: &[u8]) -> Option<usize>
     ensures gives { result ≡ position (λ n. bytes_eq n name.now) names.now }
     ensures within { IfSome result (λ k. k < length names.now) }
 {
@@ -82,7 +82,7 @@ fn place_of(names: &[Text], name: &[u8]) -> Option<usize>
 }
 
 /// The number of a variable.
-fn variable(vars: &[Text], name: &[u8]) -> Option<u16>
+pub(crate) fn variable(vars: &[Text], name: &[u8]) -> Option<u16>
     requires few { length vars.now ≤ 65536 }
     ensures { result ≡ position (λ n. bytes_eq n name.now) vars.now }
 {

@@ -3,7 +3,8 @@ ghost use Rattle.std.specs.Prelude.{◌≡◌, ◌<◌, ◌^◌, negsuc, IsTrue,
 ghost use Rattle.std.specs.List.{list_all};
 ghost use Rattle.std.specs.Str.Parse.{digits_value};
 ghost use Rattle.pssm_acts.specs.SpellingReading.{is_digit};
-ghost use Rattle.pssm_acts.specs.Numbers.{is_natural, natural_read, negative_read, number_read};
+ghost use Rattle.pssm_acts.specs.Numbers.{is_natural};
+ghost use Rattle.pssm_acts.specs.NumberReading.{natural_read, negative_read, number_read};
 
 use crate::act_fault::ActFault;
 use crate::spelling::{is_decimal, is_plain_number};
@@ -39,7 +40,7 @@ fn magnitude(digits: &[u8]) -> u64
     value
 }
 
-#[tactic(auto, unfolding(crate::specs::Numbers::natural_read))]
+#[tactic(auto, unfolding(crate::specs::NumberReading::natural_read))]
 fn natural(digits: &[u8], at: u32) -> Result<i64, ActFault>
     ensures { result ≡ natural_read at digits.now }
 {
@@ -61,7 +62,7 @@ fn below_zero(others: u64) -> i64
     -1 - others as i64
 }
 
-#[tactic(auto, unfolding(crate::specs::Numbers::negative_read))]
+#[tactic(auto, unfolding(crate::specs::NumberReading::negative_read))]
 fn negative(digits: &[u8], at: u32) -> Result<i64, ActFault>
     ensures { result ≡ negative_read at digits.now }
 {
@@ -79,7 +80,7 @@ fn negative(digits: &[u8], at: u32) -> Result<i64, ActFault>
 }
 
 /// The number that a word of digits spells, perhaps with a `-` before them.
-#[tactic(auto, unfolding(crate::specs::Numbers::number_read))]
+#[tactic(auto, unfolding(crate::specs::NumberReading::number_read))]
 pub(crate) fn number_of(word: &[u8], at: u32) -> Result<i64, ActFault>
     ensures { result ≡ number_read at word.now }
 {

@@ -4,6 +4,17 @@ use pssm_model::{Boxed, Row, SignalId, VertexId};
 use std::alloc::Global;
 use std::test::Fail;
 
+mod depths;
+mod guards;
+mod limits;
+mod outcomes;
+mod places;
+mod readings;
+mod samples;
+mod spellings;
+mod trees;
+mod words;
+
 fn row_of<T: Drop>(alloc: Global, item: T) -> Result<Row<T>, Fail> {
     let mut items = Vec::new(alloc);
     items.push(item)?;
@@ -56,31 +67,39 @@ fn stimuli_are_copied_and_compared(rt: HostRuntime) -> Result<(), Fail> {
     Ok(())
 }
 
-#[test]
-fn behaviours_and_guards_are_copied_and_compared(rt: HostRuntime) -> Result<(), Fail> {
-    let act = Act {
-        stmts: row_of(
-            rt.alloc(),
-            Stmt::Choose {
-                condition: Cond::Not(Boxed::new(rt.alloc(), Cond::True)?),
-                body: row_of(
-                    rt.alloc(),
-                    Stmt::Assign {
-                        variable: 0,
-                        value: Expr::Num(5),
-                    },
-                )?,
-                otherwise: None,
-            },
-        )?,
+/// `if !true { x := 5; }`, where 0 is the number of `x`.
+fn choice(alloc: Global) -> Result<Act, Fail> {
+    let assignment = Stmt::Assign {
+        variable: 0,
+        value: Expr::Num(5),
     };
-    assert!(rt; act == act.copy(rt.alloc())?);
+    let choice = Stmt::Choose {
+        condition: Cond::Not(Boxed::new(alloc, Cond::True)?),
+        body: row_of(alloc, assignment)?,
+        otherwise: None,
+    };
+    Ok(Act {
+        stmts: row_of(alloc, choice)?,
+    })
+}
+
+#[test]
+fn behaviours_are_copied_and_compared(rt: HostRuntime) -> Result<(), Fail> {
+    let act = choice(rt.alloc())?;
+    let other = act.copy(rt.alloc())?;
+    assert!(rt; act == other);
     let idle = Act {
         stmts: Row::from_vec(Vec::new(rt.alloc())),
     };
     assert!(rt; act != idle);
+    Ok(())
+}
+
+#[test]
+fn guards_are_copied_and_compared(rt: HostRuntime) -> Result<(), Fail> {
     let guard = Cond::Compare(Rel::Lt, Expr::Var(0), Expr::Param(1));
-    assert!(rt; guard == guard.copy(rt.alloc())?);
+    let other = guard.copy(rt.alloc())?;
+    assert!(rt; guard == other);
     assert!(rt; guard != Cond::True);
     Ok(())
 }

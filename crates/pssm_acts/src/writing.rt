@@ -1,6 +1,9 @@
 //! How behaviours and guards are written: the one spelling of each.
 ghost use Rattle.std.specs.Prelude.{◌≡◌, ◌++◌, Option, IfOk};
 ghost use Rattle.pssm_acts.specs.ActText.{act_text, args_text, assignment_text, block_text, cond_text, expr_text, further_text, mark_text, receiver_name, send_text, signal_name, spaced_text, stmt_text, stmts_text};
+ghost use Rattle.pssm_acts.specs.ActGrammar.{SpellsAct};
+ghost use Rattle.pssm_acts.specs.Grammar.{SpellsCond};
+ghost use Rattle.pssm_acts.specs.ReadBack.{CanBeReadBack, GuardCanBeReadBack};
 
 use crate::entry::ObjectId;
 use crate::setting::{Names, SignalDecl};
@@ -19,7 +22,8 @@ pub fn write_act(
     names: &Names,
     marks: &[Text],
 ) -> Result<Vec<u8>, NoMemory>
-    ensures { IfOk result (λ text. text.items ≡ act_text names.now marks.now act.now) }
+    ensures gives { IfOk result (λ text. text.items ≡ act_text names.now marks.now act.now) }
+    ensures read_back { IfOk result (λ text. CanBeReadBack names.now marks.now act.now → SpellsAct names.now marks.now text.items act.now marks.now) }
 {
     let mut text = Vec::new(alloc);
     if let [first, rest @ ..] = act.stmts.as_slice() {
@@ -33,7 +37,8 @@ pub fn write_act(
 ///
 /// A variable with a number past the last name has the empty name.
 pub fn write_cond(alloc: Global, cond: &Cond, names: &Names) -> Result<Vec<u8>, NoMemory>
-    ensures { IfOk result (λ text. text.items ≡ cond_text names.now cond.now) }
+    ensures gives { IfOk result (λ text. text.items ≡ cond_text names.now cond.now) }
+    ensures read_back { IfOk result (λ text. GuardCanBeReadBack names.now cond.now → SpellsCond names.now text.items cond.now) }
 {
     let mut text = Vec::new(alloc);
     put_cond(alloc, &mut text, cond, names)?;

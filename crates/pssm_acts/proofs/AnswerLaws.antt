@@ -1,0 +1,41 @@
+-- An answer that is due stays due where the marks are carried along.
+use Rattle.std.proofs.Common.{◌≡◌, ℕ, List, [], ◌∷◌, Option, Some, None, position, bytes_eq, Result, Ok, Err, sym, ap, ◌∙◌, subst}
+use Rattle.std.proofs.Math.Seq.{take-length, take-append_seam}
+use Rattle.pssm_acts.specs.declared.act_fault.ActFault.{ActFault}
+use Rattle.pssm_acts.specs.declared.act_fault.ActFault.TheVariants.{Syntax, UnknownName, WideNumber, Arity, TooLong, NoMemory}
+use Rattle.pssm_acts.specs.ExprReading.{Answers}
+use Rattle.pssm_acts.specs.Marks.{KeepsMarks, grown, with_mark}
+use Rattle.pssm_acts.specs.PhraseReading.{AnswersWith, beside}
+
+pub beside_answers : {A M : Type 0} (due r : Result A ActFault) (marks left : M) → Answers due r → left ≡ marks → AnswersWith (beside marks due) r left
+beside_answers due (Ok x) marks left h same = ap (λ d. beside marks d) h ∙ ap (λ m. Ok (x, m)) (sym same)
+beside_answers due (Err NoMemory) marks left h same = tt
+beside_answers due (Err (Syntax at)) marks left h same = ap (λ d. beside marks d) h
+beside_answers due (Err (UnknownName at)) marks left h same = ap (λ d. beside marks d) h
+beside_answers due (Err (WideNumber at)) marks left h same = ap (λ d. beside marks d) h
+beside_answers due (Err (Arity at)) marks left h same = ap (λ d. beside marks d) h
+beside_answers due (Err (TooLong at)) marks left h same = ap (λ d. beside marks d) h
+
+answers_same : {A : Type 0} (due r : Result A ActFault) → r ≡ due → Answers due r
+answers_same due (Ok x) same = sym same
+answers_same due (Err NoMemory) same = tt
+answers_same due (Err (Syntax at)) same = sym same
+answers_same due (Err (UnknownName at)) same = sym same
+answers_same due (Err (WideNumber at)) same = sym same
+answers_same due (Err (Arity at)) same = sym same
+answers_same due (Err (TooLong at)) same = sym same
+
+pub beside_same : {A M : Type 0} (due r : Result A ActFault) (marks left : M) → r ≡ due → left ≡ marks → AnswersWith (beside marks due) r left
+beside_same due r marks left same kept = beside_answers due r marks left (answers_same due r same) kept
+
+-- ---- the marks
+
+pub same_kept : (marks more : List (List ℕ)) → more ≡ marks → KeepsMarks marks more
+same_kept marks more same = subst (λ x. KeepsMarks marks x) (sym same) (take-length marks)
+
+grown_kept : (place : Option ℕ) (marks : List (List ℕ)) (name : List ℕ) → KeepsMarks marks (grown place marks name)
+grown_kept (Some k) marks name = take-length marks
+grown_kept None marks name = take-append_seam marks (name ∷ [])
+
+pub mark_kept : (marks more : List (List ℕ)) (name : List ℕ) → more ≡ with_mark marks name → KeepsMarks marks more
+mark_kept marks more name same = subst (λ x. KeepsMarks marks x) (sym same) (grown_kept (position (λ m. bytes_eq m name) marks) marks name)

@@ -1,0 +1,307 @@
+//! Reading an assignment, a send or a mark token by token: what has been read of it, and what the next token makes of that.
+ghost use Rattle.std.specs.Prelude.{◌≡◌, ◌≤◌, ◌<◌, length, position, bytes_eq, IfOk, IfErr, IfSome};
+ghost use Rattle.pssm_acts.specs.ExprReading.{Answers, token_of};
+ghost use Rattle.pssm_acts.specs.Marks.{KeepsMarks, mark_of, with_mark};
+ghost use Rattle.pssm_acts.specs.PhraseReading.{AnswersWith, argument_read, became, call_made, called_ended, dotted, mark_read, named, phrase_begun, phrase_step, receiver_read, signal_found, signal_read, value_read};
+
+use crate::act_fault::ActFault;
+use crate::argument_reader::{Argued, Arguments, arguments_next};
+use crate::entry::ObjectId;
+use crate::expr_reader::{ExprReader, expr_end, expr_next, new_reader, place_of, variable};
+use crate::setting::{Names, SignalDecl};
+use crate::token::{Kind, Piece};
+use crate::tree::{Expr, Stmt};
+use pssm_model::{MarkId, Row, SignalId, Text};
+use std::alloc::{AllocError as NoMemory, Global};
+
+/// The greatest number of a mark's arguments (this profile's choice).
+const MARK_ARGUMENTS: usize = 8;
+
+/// What arguments belong to: a signal that is sent to an object, or to the running one, and has so many parameters; or a mark.
+#[derive(Clone, Copy)]
+pub enum Call {
+    Send(Option<ObjectId>, SignalId, u8),
+    Mark(MarkId),
+}
+
+/// What has been read of an assignment, a send or a mark.
+///
+/// `Variable`: `x`. `Value`: `x := ..`. `Send`: `send`. `Receiver`: `send b`. `Dotted`: `send b.`. `Mark`: `mark`.
+/// `Named`: `send b.Go`, or `mark m`. `Called`: the same and `(..`. `Whole`: all but the semicolon.
+#[derive(Drop)]
+pub enum Phrase {
+    Variable(u16),
+    Value(u16, ExprReader),
+    Send,
+    Receiver(Option<ObjectId>),
+    Dotted(Option<ObjectId>),
+    Mark,
+    Named(Call),
+    Called(Call, Arguments),
+    Whole(Stmt),
+}
+
+/// What a token makes of it: it goes on, or the statement ends.
+#[derive(Drop)]
+pub enum Phrased {
+    Goes(Phrase),
+    Ends(Stmt),
+}
+
+/// The number of the mark with this name, which is noted where it is new.
+fn mark_named(alloc: Global, marks: &mut Vec<Text>, name: &[u8]) -> Result<MarkId, NoMemory>
+    requires few { length marks.old.items < 65536 }
+    ensures number { IfOk result (λ mark. mark ≡ mark_of marks.old.items name.now) }
+    ensures noted { IfOk result (λ _. marks.new.items ≡ with_mark marks.old.items name.now) }
+    ensures left { IfErr result (λ _. marks.new.items ≡ marks.old.items) }
+{
+    match place_of(marks.as_slice(), name) {
+        Some(place) => Ok(MarkId(place as u16)),
+        None => {
+            let next = marks.len() as u16;
+            marks.push(Text::from_vec(name.to_vec(alloc)?))?;
+            Ok(MarkId(next))
+        }
+    }
+}
+
+/// The place of the first signal with this name.
+fn signal_place(signals: &[SignalDecl], name: &[u8]) -> Option<usize>
+    ensures gives { result ≡ position (λ d. bytes_eq d.name name.now) signals.now }
+    ensures within { IfSome result (λ k. k < length signals.now) }
+{
+    signals.iter().position(|d| d.name.as_slice() == name)
+}
+
+/// The number of the first signal with this name, and how many parameters it has.
+fn signal_named(signals: &[SignalDecl], name: &[u8]) -> Option<(SignalId, u8)>
+    requires few { length signals.now ≤ 65536 }
+    ensures { result ≡ signal_found signals.now (position (λ d. bytes_eq d.name name.now) signals.now) }
+{
+    match signal_place(signals, name) {
+        Some(place) => Some((SignalId(place as u16), signals[place].count)),
+        None => None,
+    }
+}
+
+/// The first token of an assignment, a send or a mark.
+#[tactic(auto, unfolding(crate::specs::PhraseReading::phrase_begun))]
+pub(crate) fn new_phrase(piece: Piece<'_>, names: &Names) -> Result<Phrase, ActFault>
+    requires few { length names.now.vars ≤ 65536 }
+    ensures { result ≡ phrase_begun names.now (token_of piece.entry) }
+{
+    match piece.kind {
+        Kind::Name => match variable(names.vars.as_slice(), piece.word) {
+            Some(number) => Ok(Phrase::Variable(number)),
+            None => Err(ActFault::UnknownName { at: piece.at }),
+        },
+        Kind::Send => Ok(Phrase::Send),
+        Kind::Mark => Ok(Phrase::Mark),
+        _ => Err(ActFault::Syntax { at: piece.at }),
+    }
+}
+
+/// A token behind the variable of an assignment: `:=`.
+#[tactic(auto, unfolding(crate::specs::PhraseReading::became))]
+fn becomes(alloc: Global, variable: u16, piece: Piece<'_>) -> Result<Phrased, ActFault>
+    ensures { result ≡ became variable (token_of piece.entry) }
+{
+    match piece.kind {
+        Kind::Becomes => Ok(Phrased::Goes(Phrase::Value(variable, new_reader(alloc)))),
+        _ => Err(ActFault::Syntax { at: piece.at }),
+    }
+}
+
+/// A token in the value of an assignment, or the semicolon behind it.
+#[tactic(auto, unfolding(crate::specs::PhraseReading::value_read))]
+fn value(
+    alloc: Global,
+    variable: u16,
+    reader: ExprReader,
+    piece: Piece<'_>,
+    names: &Names,
+    room: usize,
+) -> Result<Phrased, ActFault>
+    requires few { length names.now.vars ≤ 65536 }
+    ensures { Answers (value_read names.now room variable reader (token_of piece.entry)) result }
+{
+    match piece.kind {
+        Kind::Semicolon => {
+            let value = expr_end(alloc, reader, piece.at)?;
+            Ok(Phrased::Ends(Stmt::Assign { variable, value }))
+        }
+        _ => {
+            let reader = expr_next(alloc, reader, piece, names, room)?;
+            Ok(Phrased::Goes(Phrase::Value(variable, reader)))
+        }
+    }
+}
+
+/// A token behind `send`: the name of an object, or `self`.
+#[tactic(auto, unfolding(crate::specs::PhraseReading::receiver_read))]
+fn receiver(piece: Piece<'_>, names: &Names) -> Result<Phrased, ActFault>
+    requires objects { length names.now.objects ≤ 256 }
+    ensures { result ≡ receiver_read names.now (token_of piece.entry) }
+{
+    match piece.kind {
+        Kind::Own => Ok(Phrased::Goes(Phrase::Receiver(None))),
+        Kind::Name => match place_of(names.objects.as_slice(), piece.word) {
+            Some(place) => Ok(Phrased::Goes(Phrase::Receiver(Some(ObjectId(place as u8))))),
+            None => Err(ActFault::UnknownName { at: piece.at }),
+        },
+        _ => Err(ActFault::Syntax { at: piece.at }),
+    }
+}
+
+/// A token behind the object to which a signal is sent: the dot.
+#[tactic(auto, unfolding(crate::specs::PhraseReading::dotted))]
+fn dot(object: Option<ObjectId>, piece: Piece<'_>) -> Result<Phrased, ActFault>
+    ensures { result ≡ dotted object (token_of piece.entry) }
+{
+    match piece.kind {
+        Kind::Dot => Ok(Phrased::Goes(Phrase::Dotted(object))),
+        _ => Err(ActFault::Syntax { at: piece.at }),
+    }
+}
+
+/// A token behind the dot: the name of a signal.
+#[tactic(auto, unfolding(crate::specs::PhraseReading::signal_read))]
+fn signal(object: Option<ObjectId>, piece: Piece<'_>, names: &Names) -> Result<Phrased, ActFault>
+    requires signals { length names.now.signals ≤ 65536 }
+    ensures { result ≡ signal_read names.now object (token_of piece.entry) }
+{
+    match piece.kind {
+        Kind::Name => match signal_named(names.signals.as_slice(), piece.word) {
+            Some((signal, count)) => {
+                let call = Call::Send(object, signal, count);
+                Ok(Phrased::Goes(Phrase::Named(call)))
+            }
+            None => Err(ActFault::UnknownName { at: piece.at }),
+        },
+        _ => Err(ActFault::Syntax { at: piece.at }),
+    }
+}
+
+/// A token behind `mark`: a name, which is noted where it is new.
+#[tactic(auto, using(crate::proofs::AnswerLaws::mark_kept, crate::proofs::AnswerLaws::same_kept), unfolding(crate::specs::PhraseReading::mark_read))]
+fn mark(alloc: Global, piece: Piece<'_>, marks: &mut Vec<Text>) -> Result<Phrased, ActFault>
+    requires few { length marks.old.items < 65536 }
+    ensures gives { AnswersWith (mark_read marks.old.items (token_of piece.entry)) result marks.new.items }
+    ensures kept { KeepsMarks marks.old.items marks.new.items }
+{
+    match piece.kind {
+        Kind::Name => {
+            let mark = mark_named(alloc, marks, piece.word)?;
+            Ok(Phrased::Goes(Phrase::Named(Call::Mark(mark))))
+        }
+        _ => Err(ActFault::Syntax { at: piece.at }),
+    }
+}
+
+/// A token behind the name of a signal that is sent or of a mark: a parenthesis, where there is room for its level; behind a mark also the semicolon.
+#[tactic(auto, unfolding(crate::specs::PhraseReading::named))]
+fn open(alloc: Global, call: Call, piece: Piece<'_>, room: usize) -> Result<Phrased, ActFault>
+    ensures { result ≡ named room call (token_of piece.entry) }
+{
+    match (piece.kind, call) {
+        (Kind::Open, _) => {
+            if room == 0 {
+                return Err(ActFault::TooLong { at: piece.at });
+            }
+            Ok(Phrased::Goes(Phrase::Called(call, Arguments::Opened)))
+        }
+        (Kind::Semicolon, Call::Mark(mark)) => Ok(Phrased::Ends(Stmt::Mark {
+            mark,
+            args: Row::from_vec(Vec::new(alloc)),
+        })),
+        _ => Err(ActFault::Syntax { at: piece.at }),
+    }
+}
+
+/// The send or mark with its arguments, where it may have so many; their closing parenthesis stands at this byte.
+#[tactic(auto, unfolding(crate::specs::PhraseReading::call_made))]
+fn made(call: Call, args: Row<Expr>, at: u32) -> Result<Stmt, ActFault>
+    ensures { result ≡ call_made call args at }
+{
+    let given = args.as_slice().len();
+    match call {
+        Call::Send(object, signal, count) => {
+            if given != usize::from(count) {
+                return Err(ActFault::Arity { at });
+            }
+            Ok(Stmt::Send {
+                object,
+                signal,
+                args,
+            })
+        }
+        Call::Mark(mark) => {
+            if given > MARK_ARGUMENTS {
+                return Err(ActFault::Arity { at });
+            }
+            Ok(Stmt::Mark { mark, args })
+        }
+    }
+}
+
+/// A token in arguments.
+#[tactic(auto, unfolding(crate::specs::PhraseReading::argument_read))]
+fn argument(
+    alloc: Global,
+    call: Call,
+    arguments: Arguments,
+    piece: Piece<'_>,
+    names: &Names,
+    room: usize,
+) -> Result<Phrased, ActFault>
+    requires few { length names.now.vars ≤ 65536 }
+    ensures { Answers (argument_read names.now room call arguments (token_of piece.entry)) result }
+{
+    match arguments_next(alloc, arguments, piece, names, room)? {
+        Argued::Goes(arguments) => Ok(Phrased::Goes(Phrase::Called(call, arguments))),
+        Argued::Ends(args) => Ok(Phrased::Goes(Phrase::Whole(made(call, args, piece.at)?))),
+    }
+}
+
+/// A token behind a send or mark and its arguments: the semicolon.
+#[tactic(auto, unfolding(crate::specs::PhraseReading::called_ended))]
+fn end(stmt: Stmt, piece: Piece<'_>) -> Result<Phrased, ActFault>
+    ensures { result ≡ called_ended stmt (token_of piece.entry) }
+{
+    match piece.kind {
+        Kind::Semicolon => Ok(Phrased::Ends(stmt)),
+        _ => Err(ActFault::Syntax { at: piece.at }),
+    }
+}
+
+/// The next token of an assignment, a send or a mark; so many levels of parentheses may be open in it.
+#[tactic(auto, using(crate::proofs::AnswerLaws::beside_answers, crate::proofs::AnswerLaws::beside_same, crate::proofs::AnswerLaws::same_kept), unfolding(crate::specs::PhraseReading::phrase_step))]
+pub(crate) fn phrase_next(
+    alloc: Global,
+    phrase: Phrase,
+    piece: Piece<'_>,
+    names: &Names,
+    marks: &mut Vec<Text>,
+    room: usize,
+) -> Result<Phrased, ActFault>
+    requires few { length names.now.vars ≤ 65536 }
+    requires objects { length names.now.objects ≤ 256 }
+    requires signals { length names.now.signals ≤ 65536 }
+    requires marks { length marks.old.items < 65536 }
+    ensures gives { AnswersWith (phrase_step names.now room marks.old.items phrase (token_of piece.entry)) result marks.new.items }
+    ensures kept { KeepsMarks marks.old.items marks.new.items }
+{
+    match phrase {
+        Phrase::Variable(variable) => becomes(alloc, variable, piece),
+        Phrase::Value(variable, reader) => value(alloc, variable, reader, piece, names, room),
+        Phrase::Send => receiver(piece, names),
+        Phrase::Receiver(object) => dot(object, piece),
+        Phrase::Dotted(object) => signal(object, piece, names),
+        Phrase::Mark => mark(alloc, piece, marks),
+        Phrase::Named(call) => open(alloc, call, piece, room),
+        Phrase::Called(call, arguments) => {
+            argument(alloc, call, arguments, piece, names, room.saturating_sub(1))
+        }
+        Phrase::Whole(stmt) => end(stmt, piece),
+    }
+}
