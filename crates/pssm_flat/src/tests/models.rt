@@ -13,6 +13,9 @@ const M2: &str =
 const M3: &str =
     "pssm-flat 1\nsignal Go 0\nsignal Both 0\nclass M\nobject a M\nmachine M\nregion r0 top\nregion r1 v1\nregion r2 v1\nregion r3 v4\nvertex v0 r0 initial\nvertex v1 r0 state S\nvertex v2 r0 state T\nvertex v3 r1 initial\nvertex v4 r1 state P\nvertex v5 r1 state P2\nvertex v6 r2 initial\nvertex v7 r2 state R\nvertex v8 r2 state R2\nvertex v9 r3 initial\nvertex v10 r3 state Q\ntransition t0 v0 v1 external\ntransition t1 v3 v4 external\ntransition t2 v6 v7 external\ntransition t3 v9 v10 external\ntransition t4 v4 v5 external\non Go\ntransition t5 v10 v2 external\non Go\ntransition t6 v7 v8 external\non Go\ntransition t7 v4 v5 external\non Both\ntransition t8 v7 v8 external\non Both\nend\n";
 
+const M4: &str =
+    "pssm-flat 1\nsignal Go 0\nclass M\nobject a M\nmachine M\nregion r0 top\nvertex v0 r0 initial\nvertex v1 r0 state A\nvertex v2 r0 state B\nvertex v3 r0 state C\ntransition t0 v0 v1 external\ntransition t1 v1 v2 external\ntransition t2 v1 v3 external\non Go\nend\n";
+
 const M5: &str =
     "pssm-flat 1\nsignal Go 0\nsignal Next 0\nclass M\nobject a M\nmachine M\nregion r0 top\nvertex v0 r0 initial\nvertex v1 r0 state A\ndefer Go\nvertex v2 r0 state B\nvertex v3 r0 state C\ntransition t0 v0 v1 external\ntransition t1 v1 v2 external\non Next\ntransition t2 v2 v3 external\non Go\nend\n";
 
@@ -33,7 +36,7 @@ const KINDS: &str =
 
 #[test]
 fn models_with_regions(rt: HostRuntime) -> Result<(), Fail> {
-    for text in [M1, M2, M3, M5] {
+    for text in [M1, M2, M3, M4, M5] {
         assert_eq!(rt; fault_of(rt.alloc(), text.as_bytes())?, None, "{text}");
     }
     Ok(())
