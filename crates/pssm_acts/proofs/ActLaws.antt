@@ -5,12 +5,12 @@ use Rattle.std.specs.declared.alloc.Global.{Global}
 use Rattle.pssm_acts.specs.declared.act_fault.ActFault.{ActFault}
 use Rattle.pssm_acts.specs.declared.act_fault.ActFault.TheVariants.{TooLong}
 use Rattle.pssm_acts.specs.declared.acts_reader.ReadActs.{ReadActs}
-use Rattle.pssm_acts.specs.declared.setting.Names.{Names}
-use Rattle.pssm_acts.specs.declared.tree.Act.{Act}
+use Rattle.pssm_semantics.specs.declared.setting.Names.{Names}
+use Rattle.pssm_semantics.specs.declared.tree.Act.{Act}
 use Rattle.pssm_acts.specs.ActGrammar.{SpellsBehaviour, SpellsBehaviours, SpellsAct, SpellsSteps}
 use Rattle.pssm_acts.specs.ActReading.{fresh_acts, acts_read, text_acts, acts_reading, act_reading, steps_reading, listed}
 use Rattle.pssm_acts.specs.ExprReading.{and_then}
-use Rattle.pssm_acts.specs.Fits.{ActFits}
+use Rattle.pssm_semantics.specs.Fits.{ActFits}
 use Rattle.pssm_acts.specs.PhraseReading.{AnswersWith}
 use Rattle.pssm_acts.specs.Tokens.{tokens_of}
 use Rattle.pssm_acts.specs.Vocabularies.{vocabulary}

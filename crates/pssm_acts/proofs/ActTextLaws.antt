@@ -3,7 +3,7 @@ use Rattle.std.proofs.Common.{◌≡◌, ◌≤◌, ◌+◌, ◌-◌, ◌⊎◌,
 use Rattle.std.proofs.Math.Nat.{min-le_right}
 use Rattle.std.proofs.Math.Seq.{take-length}
 use Rattle.std.proofs.lemmas.List.{take-append-le, take-append-drop, length-take}
-use Rattle.pssm_acts.specs.declared.setting.Names.{Names}
+use Rattle.pssm_semantics.specs.declared.setting.Names.{Names}
 use Rattle.pssm_acts.specs.declared.act_fault.ActFault.{ActFault}
 use Rattle.pssm_acts.specs.declared.act_fault.ActFault.TheVariants.{Syntax, UnknownName, WideNumber, Arity, TooLong, NoMemory}
 use Rattle.pssm_acts.specs.declared.acts_reader.ActsReader.{ActsReader}
@@ -21,8 +21,8 @@ use Rattle.pssm_acts.specs.declared.phrase_reader.Phrased.TheVariants.{Goes, End
 use Rattle.pssm_acts.specs.declared.phrase_reader.Call.TheVariants as calls
 use Rattle.pssm_acts.specs.declared.token.Kind.{Kind}
 use Rattle.pssm_acts.specs.declared.token.Kind.TheVariants as kinds
-use Rattle.pssm_acts.specs.declared.tree.Cond.{Cond}
-use Rattle.pssm_acts.specs.declared.tree.Stmt.{Stmt}
+use Rattle.pssm_semantics.specs.declared.tree.Cond.{Cond}
+use Rattle.pssm_semantics.specs.declared.tree.Stmt.{Stmt}
 use Rattle.pssm_acts.specs.Tokens.{Token, is_blank, front, cut, ends_operand}
 use Rattle.pssm_acts.specs.ExprReading.{Answers, and_then}
 use Rattle.pssm_acts.specs.GuardReading.{fresh_guard, guard_step, guard_value, nots_waiting}

@@ -15,17 +15,17 @@ use Rattle.pssm_acts.specs.declared.guard_reader.GuardReader.{GuardReader}
 use Rattle.pssm_acts.specs.declared.phrase_reader.Phrase.{Phrase}
 use Rattle.pssm_acts.specs.declared.phrase_reader.Phrased.{Phrased}
 use Rattle.pssm_acts.specs.declared.phrase_reader.Phrased.TheVariants.{Goes, Ends}
-use Rattle.pssm_acts.specs.declared.setting.Names.{Names}
+use Rattle.pssm_semantics.specs.declared.setting.Names.{Names}
 use Rattle.pssm_acts.specs.declared.token.Kind.{Kind}
 use Rattle.pssm_acts.specs.declared.token.Kind.TheVariants as kinds
-use Rattle.pssm_acts.specs.declared.tree.Act.{Act}
-use Rattle.pssm_acts.specs.declared.tree.Cond.{Cond}
-use Rattle.pssm_acts.specs.declared.tree.Stmt.{Stmt}
-use Rattle.pssm_acts.specs.declared.tree.Stmt.TheViews as stmts
+use Rattle.pssm_semantics.specs.declared.tree.Act.{Act}
+use Rattle.pssm_semantics.specs.declared.tree.Cond.{Cond}
+use Rattle.pssm_semantics.specs.declared.tree.Stmt.{Stmt}
+use Rattle.pssm_semantics.specs.declared.tree.Stmt.TheViews as stmts
 use Rattle.pssm_acts.specs.ActGrammar.{SpellsPhrase, assignment, sending, bare_mark, marking, SpellsBehaviour, SpellsBehaviours}
 use Rattle.pssm_acts.specs.ActReading.{fresh_acts, without_else, at_turn, block_opened, begun_at, after_choice, else_opened, condition_read, phrased, phrase_read, step_taken, acts_step, whole_acts_in, whole_acts, acts_value, acts_read}
 use Rattle.pssm_acts.specs.ExprReading.{and_then}
-use Rattle.pssm_acts.specs.Fits.{stmt_count}
+use Rattle.pssm_semantics.specs.Fits.{stmt_count}
 use Rattle.pssm_acts.specs.Grammar.{Either, SpellsGuard}
 use Rattle.pssm_acts.specs.GuardReading.{guard_step, guard_value}
 use Rattle.pssm_acts.specs.PhraseReading.{beside, phrase_step}

@@ -14,11 +14,11 @@ use Rattle.pssm_acts.specs.declared.phrase_reader.Phrase.TheVariants.{Variable}
 use Rattle.pssm_acts.specs.declared.phrase_reader.Phrase.TheVariants as phrases
 use Rattle.pssm_acts.specs.declared.phrase_reader.Phrased.{Phrased}
 use Rattle.pssm_acts.specs.declared.phrase_reader.Phrased.TheVariants.{Goes, Ends}
-use Rattle.pssm_acts.specs.declared.setting.Names.{Names}
+use Rattle.pssm_semantics.specs.declared.setting.Names.{Names}
 use Rattle.pssm_acts.specs.declared.token.Kind.{Kind}
 use Rattle.pssm_acts.specs.declared.token.Kind.TheVariants as kinds
-use Rattle.pssm_acts.specs.declared.tree.Cond.{Cond}
-use Rattle.pssm_acts.specs.declared.tree.Stmt.{Stmt}
+use Rattle.pssm_semantics.specs.declared.tree.Cond.{Cond}
+use Rattle.pssm_semantics.specs.declared.tree.Stmt.{Stmt}
 use Rattle.pssm_acts.specs.ActReading.{block_opened, if_closed, block_closed_in, block_closed, statement_counted, next_act_in, next_act, begun_by, begun_at, after_choice_by, after_choice, else_opened_by, else_opened, condition_read_by, condition_read, phrased, phrase_read, step_taken_by, step_taken, acts_step}
 use Rattle.pssm_acts.specs.ExprReading.{and_then}
 use Rattle.pssm_acts.specs.GuardReading.{fresh_guard, guard_step, guard_value}

@@ -12,17 +12,17 @@ use Rattle.pssm_acts.specs.declared.acts_reader.Turn.TheVariants as turns
 use Rattle.pssm_acts.specs.declared.argument_reader.Arguments.{Arguments}
 use Rattle.pssm_acts.specs.declared.argument_reader.Arguments.TheVariants.{Opened, Listed}
 use Rattle.pssm_acts.specs.declared.argument_reader.Argued.TheVariants as argued_as
-use Rattle.pssm_acts.specs.declared.entry.ObjectId.{ObjectId}
+use Rattle.pssm_semantics.specs.declared.entry.ObjectId.{ObjectId}
 use Rattle.pssm_acts.specs.declared.expr_reader.Left.{Left}
 use Rattle.pssm_acts.specs.declared.expr_reader.Place.TheVariants.{Has}
 use Rattle.pssm_acts.specs.declared.phrase_reader.Call.{Call}
 use Rattle.pssm_acts.specs.declared.phrase_reader.Call.TheVariants as calls
 use Rattle.pssm_acts.specs.declared.phrase_reader.Phrase.TheVariants.{Variable, Value, Receiver, Dotted, Named, Called, Whole}
 use Rattle.pssm_acts.specs.declared.phrase_reader.Phrase.TheVariants as phrases
-use Rattle.pssm_acts.specs.declared.setting.Names.{Names}
+use Rattle.pssm_semantics.specs.declared.setting.Names.{Names}
 use Rattle.pssm_acts.specs.declared.token.Kind.TheVariants as kinds
-use Rattle.pssm_acts.specs.declared.tree.Expr.{Expr}
-use Rattle.pssm_acts.specs.declared.tree.Stmt.{Stmt, Send, Mark}
+use Rattle.pssm_semantics.specs.declared.tree.Expr.{Expr}
+use Rattle.pssm_semantics.specs.declared.tree.Stmt.{Stmt, Send, Mark}
 use Rattle.pssm_acts.specs.ActGrammar.{SpellsList, one, further, SpellsArguments, none, some}
 use Rattle.pssm_acts.specs.ActReading.{acts_step}
 use Rattle.pssm_acts.specs.ArgumentReading.{arguments_step}

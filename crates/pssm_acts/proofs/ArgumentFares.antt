@@ -17,11 +17,11 @@ use Rattle.pssm_acts.specs.declared.phrase_reader.Call.{Call}
 use Rattle.pssm_acts.specs.declared.phrase_reader.Call.TheVariants as calls
 use Rattle.pssm_acts.specs.declared.phrase_reader.Phrase.TheVariants.{Named, Called, Whole}
 use Rattle.pssm_acts.specs.declared.phrase_reader.Phrased.TheVariants as phrased_as
-use Rattle.pssm_acts.specs.declared.setting.Names.{Names}
+use Rattle.pssm_semantics.specs.declared.setting.Names.{Names}
 use Rattle.pssm_acts.specs.declared.token.Kind.{Kind}
 use Rattle.pssm_acts.specs.declared.token.Kind.TheVariants as kinds
-use Rattle.pssm_acts.specs.declared.tree.Expr.{Expr}
-use Rattle.pssm_acts.specs.declared.tree.Stmt.{Stmt, Send, Mark}
+use Rattle.pssm_semantics.specs.declared.tree.Expr.{Expr}
+use Rattle.pssm_semantics.specs.declared.tree.Stmt.{Stmt, Send, Mark}
 use Rattle.pssm_acts.specs.Tokens.{Token}
 use Rattle.pssm_acts.specs.ExprReading.{and_then, sum_of, closed, at_atom, atom_of, after_atom, expr_step, fresh_expr}
 use Rattle.pssm_acts.specs.ArgumentReading.{argument_more, argument_closed, listed_step, arguments_step}

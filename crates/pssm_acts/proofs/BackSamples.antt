@@ -4,19 +4,19 @@ use Rattle.std.proofs.lemmas.Fmt.{decimal_digit}
 use Rattle.std.proofs.lemmas.List.Elements.{All-cons, All-nil}
 use Rattle.std.proofs.lemmas.List.Kept.{AllPairs-cons}
 use denote.Hole.Carrier.{hidden}
-use Rattle.pssm_acts.specs.declared.setting.Names.{Names}
-use Rattle.pssm_acts.specs.declared.tree.Act.{Act}
-use Rattle.pssm_acts.specs.declared.tree.Cond.{Cond}
-use Rattle.pssm_acts.specs.declared.tree.Cond.TheVariants.{Compare}
-use Rattle.pssm_acts.specs.declared.tree.Expr.TheVariants.{Num, Var}
-use Rattle.pssm_acts.specs.declared.tree.Rel.TheVariants.{Lt}
-use Rattle.pssm_acts.specs.declared.tree.Stmt.{Stmt, Send, Mark}
-use Rattle.pssm_acts.specs.declared.tree.Stmt.TheBlock.{shape-the_row-Stmt-0, hidden-the_row-Stmt-0}
-use Rattle.pssm_acts.specs.declared.tree.Stmt.TheViews as views
+use Rattle.pssm_semantics.specs.declared.setting.Names.{Names}
+use Rattle.pssm_semantics.specs.declared.tree.Act.{Act}
+use Rattle.pssm_semantics.specs.declared.tree.Cond.{Cond}
+use Rattle.pssm_semantics.specs.declared.tree.Cond.TheVariants.{Compare}
+use Rattle.pssm_semantics.specs.declared.tree.Expr.TheVariants.{Num, Var}
+use Rattle.pssm_semantics.specs.declared.tree.Rel.TheVariants.{Lt}
+use Rattle.pssm_semantics.specs.declared.tree.Stmt.{Stmt, Send, Mark}
+use Rattle.pssm_semantics.specs.declared.tree.Stmt.TheBlock.{shape-the_row-Stmt-0, hidden-the_row-Stmt-0}
+use Rattle.pssm_semantics.specs.declared.tree.Stmt.TheViews as views
 use Rattle.pssm_acts.specs.Canonical.{IsCanonicalCond, IsCanonicalAct}
-use Rattle.pssm_acts.specs.Fits.{ExprFits, StmtFits}
+use Rattle.pssm_semantics.specs.Fits.{ExprFits, StmtFits}
 use Rattle.pssm_acts.specs.ReadBack.{AreNames, IsPlain, StmtIsPlain, GuardCanBeReadBack, CanBeReadBack}
-use Rattle.pssm_acts.specs.Spelling.{IsName}
+use Rattle.pssm_spelling.specs.Spelling.{IsName}
 use Rattle.pssm_acts.specs.Vocabularies.{vocabulary}
 
 -- the variables `x` and `step`, the object `a`, and the signal `Go` with one parameter

@@ -10,13 +10,13 @@ use Rattle.pssm_acts.specs.declared.acts_reader.Turn.{Turn}
 use Rattle.pssm_acts.specs.declared.acts_reader.Turn.TheVariants.{Begins, Within, Condition, Chosen}
 use Rattle.pssm_acts.specs.declared.acts_reader.Turn.TheVariants as turns
 use Rattle.pssm_acts.specs.declared.phrase_reader.Phrase.{Phrase}
-use Rattle.pssm_acts.specs.declared.setting.Names.{Names}
+use Rattle.pssm_semantics.specs.declared.setting.Names.{Names}
 use Rattle.pssm_acts.specs.declared.token.Kind.{Kind}
 use Rattle.pssm_acts.specs.declared.token.Kind.TheVariants as kinds
-use Rattle.pssm_acts.specs.declared.tree.Act.{Act}
-use Rattle.pssm_acts.specs.declared.tree.Cond.{Cond}
-use Rattle.pssm_acts.specs.declared.tree.Stmt.{Stmt}
-use Rattle.pssm_acts.specs.declared.tree.Stmt.TheViews as stmts
+use Rattle.pssm_semantics.specs.declared.tree.Act.{Act}
+use Rattle.pssm_semantics.specs.declared.tree.Cond.{Cond}
+use Rattle.pssm_semantics.specs.declared.tree.Stmt.{Stmt}
+use Rattle.pssm_semantics.specs.declared.tree.Stmt.TheViews as stmts
 use Rattle.pssm_acts.specs.ActGrammar.{SpellsBehaviour, SpellsBehaviours}
 use Rattle.pssm_acts.specs.ActReading.{fresh_blocks, at_turn, if_closed, block_closed_in, block_closed, statement_counted, with_act, next_act_in, next_act, begun_at}
 use Rattle.pssm_acts.specs.ExprReading.{and_then}

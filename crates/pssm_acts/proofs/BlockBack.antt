@@ -2,16 +2,16 @@
 use Rattle.std.proofs.Common.{◌≡◌, ◌≤◌, ◌<◌, ◌+◌, ◌-◌, ℕ, suc, zero, false, List, [], ◌∷◌, ◌++◌, length, map, max, take, drop, slice_index_or, All, refl, sym, ap, ◌∙◌, subst, arith, append_assoc, append-nil, le_trans, codes, Some, None}
 use Rattle.std.proofs.Math.Nat.{le-max_left, le-max_right}
 use Rattle.std.proofs.Math.Seq.{take-length}
-use Rattle.pssm_acts.specs.declared.setting.Names.{Names}
-use Rattle.pssm_acts.specs.declared.tree.Act.{Act}
-use Rattle.pssm_acts.specs.declared.tree.Cond.{Cond}
-use Rattle.pssm_acts.specs.declared.tree.Stmt.{Stmt, Assign, Choose', Send, Mark, Row_of-Stmt, end_of-Stmt, more_of-Stmt, None', Some'}
-use Rattle.pssm_acts.specs.declared.tree.Stmt.TheBlock.{shown-the_row-Stmt-0, items-the_row-Stmt, items_shown-the_row-Stmt-0, view-Stmt-Choose-2}
-use Rattle.pssm_acts.specs.declared.tree.Stmt.TheViews.{roll-Stmt, out-Stmt, roll-out-Stmt, outs-Choose', rolls-Choose, sees-None', sees-Some'}
-use Rattle.pssm_acts.specs.declared.tree.Stmt.TheViews as views
+use Rattle.pssm_semantics.specs.declared.setting.Names.{Names}
+use Rattle.pssm_semantics.specs.declared.tree.Act.{Act}
+use Rattle.pssm_semantics.specs.declared.tree.Cond.{Cond}
+use Rattle.pssm_semantics.specs.declared.tree.Stmt.{Stmt, Assign, Choose', Send, Mark, Row_of-Stmt, end_of-Stmt, more_of-Stmt, None', Some'}
+use Rattle.pssm_semantics.specs.declared.tree.Stmt.TheBlock.{shown-the_row-Stmt-0, items-the_row-Stmt, items_shown-the_row-Stmt-0, view-Stmt-Choose-2}
+use Rattle.pssm_semantics.specs.declared.tree.Stmt.TheViews.{roll-Stmt, out-Stmt, roll-out-Stmt, outs-Choose', rolls-Choose, sees-None', sees-Some'}
+use Rattle.pssm_semantics.specs.declared.tree.Stmt.TheViews as views
 use Rattle.pssm_acts.specs.ActGrammar.{SpellsStmts, nothing, phrase, choice, alternative, SpellsAct}
 use Rattle.pssm_acts.specs.ActText.{cond_text, stmt_text, row_text, stmts_text, spaced_text, act_text}
-use Rattle.pssm_acts.specs.Fits.{StmtFits, BlockFits}
+use Rattle.pssm_semantics.specs.Fits.{StmtFits, BlockFits}
 use Rattle.pssm_acts.specs.Grammar.{Either}
 use Rattle.pssm_acts.specs.ReadBack.{AreNames, cond_levels, stmt_levels, block_levels, otherwise_levels, stmts_levels, StmtIsPlain, BlockIsPlain, CanBeReadBack}
 use Rattle.pssm_acts.specs.Tokens.{Token, cut}

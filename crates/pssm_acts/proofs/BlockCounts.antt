@@ -4,12 +4,12 @@ use Rattle.pssm_acts.specs.declared.read_blocks.OpenIf.{OpenIf}
 use Rattle.pssm_acts.specs.declared.acts_reader.Turn.{Turn}
 use Rattle.pssm_acts.specs.declared.acts_reader.Turn.TheVariants.{Begins, Within, Condition, Chosen, Else}
 use Rattle.pssm_acts.specs.declared.acts_reader.Turn.TheVariants as turns
-use Rattle.pssm_acts.specs.declared.tree.Act.{Act}
-use Rattle.pssm_acts.specs.declared.tree.Cond.{Cond}
-use Rattle.pssm_acts.specs.declared.tree.Stmt.{Stmt}
-use Rattle.pssm_acts.specs.declared.tree.Stmt.TheViews as stmts
-use Rattle.pssm_acts.specs.Fits.{stmt_count, stmts_count}
-use Rattle.pssm_acts.proofs.Blocks.{block_counts}
+use Rattle.pssm_semantics.specs.declared.tree.Act.{Act}
+use Rattle.pssm_semantics.specs.declared.tree.Cond.{Cond}
+use Rattle.pssm_semantics.specs.declared.tree.Stmt.{Stmt}
+use Rattle.pssm_semantics.specs.declared.tree.Stmt.TheViews as stmts
+use Rattle.pssm_semantics.specs.Fits.{stmt_count, stmts_count}
+use Rattle.pssm_semantics.proofs.Blocks.{block_counts}
 
 pub stmts_more : (block : List Stmt) (s : Stmt) → stmts_count (block ++ s ∷ []) ≡ stmts_count block + stmt_count s
 stmts_more [] s = omega arith

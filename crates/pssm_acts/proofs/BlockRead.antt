@@ -15,15 +15,15 @@ use Rattle.pssm_acts.specs.declared.guard_reader.Bracket.{Bracket}
 use Rattle.pssm_acts.specs.declared.guard_reader.Stage.{Stage}
 use Rattle.pssm_acts.specs.declared.guard_reader.Stage.TheVariants as stages
 use Rattle.pssm_acts.specs.declared.guard_reader.GuardReader.{GuardReader}
-use Rattle.pssm_acts.specs.declared.setting.Names.{Names}
+use Rattle.pssm_semantics.specs.declared.setting.Names.{Names}
 use Rattle.pssm_acts.specs.declared.token.Kind.{Kind}
 use Rattle.pssm_acts.specs.declared.token.Kind.TheVariants as kinds
-use Rattle.pssm_acts.specs.declared.tree.Act.{Act}
-use Rattle.pssm_acts.specs.declared.tree.Cond.{Cond}
-use Rattle.pssm_acts.specs.declared.tree.Stmt.{Stmt}
-use Rattle.pssm_acts.specs.declared.tree.Stmt.TheViews as stmts
+use Rattle.pssm_semantics.specs.declared.tree.Act.{Act}
+use Rattle.pssm_semantics.specs.declared.tree.Cond.{Cond}
+use Rattle.pssm_semantics.specs.declared.tree.Stmt.{Stmt}
+use Rattle.pssm_semantics.specs.declared.tree.Stmt.TheViews as stmts
 use Rattle.pssm_acts.specs.Tokens.{Token}
-use Rattle.pssm_acts.specs.Fits.{stmt_count, stmts_count}
+use Rattle.pssm_semantics.specs.Fits.{stmt_count, stmts_count}
 use Rattle.pssm_acts.specs.ExprReading.{and_then, at_atom, atom_of, after_atom, expr_step}
 use Rattle.pssm_acts.specs.GuardReading.{fresh_guard, side_begun, unit_wanted, in_first, after_unit, in_second, at_stage, guard_step, guard_value}
 use Rattle.pssm_acts.specs.PhraseReading.{beside}
@@ -34,7 +34,7 @@ use Rattle.pssm_acts.proofs.ExprRead.{reader_at}
 use Rattle.pssm_acts.proofs.GuardRead.{guard_at, guard_run, GuardRuns, guard_runs}
 use Rattle.pssm_acts.proofs.ActRun.{Runs, done, next, one, onward, all_of_guard}
 use Rattle.pssm_acts.proofs.PhraseRead.{Standing, begins, chosen, taken, counted, reads_phrase}
-use Rattle.pssm_acts.proofs.Blocks.{block_counts}
+use Rattle.pssm_semantics.proofs.Blocks.{block_counts}
 
 -- ---- how many statements there are
 

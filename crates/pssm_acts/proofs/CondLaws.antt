@@ -4,12 +4,12 @@ use Rattle.std.specs.Prelude.{IfOk}
 use Rattle.std.proofs.lemmas.Bool.{le-ltb, ltb-false}
 use Rattle.pssm_acts.specs.declared.act_fault.ActFault.{ActFault}
 use Rattle.pssm_acts.specs.declared.act_fault.ActFault.TheVariants.{TooLong}
-use Rattle.pssm_acts.specs.declared.setting.Names.{Names}
-use Rattle.pssm_acts.specs.declared.tree.Cond.{Cond}
+use Rattle.pssm_semantics.specs.declared.setting.Names.{Names}
+use Rattle.pssm_semantics.specs.declared.tree.Cond.{Cond}
 use Rattle.pssm_acts.specs.Tokens.{tokens_of}
 use Rattle.pssm_acts.specs.ExprReading.{Answers}
 use Rattle.pssm_acts.specs.GuardReading.{text_reading, cond_reading}
-use Rattle.pssm_acts.specs.Fits.{CondFits}
+use Rattle.pssm_semantics.specs.Fits.{CondFits}
 use Rattle.pssm_acts.specs.Grammar.{SpellsCond}
 use Rattle.pssm_acts.proofs.TokenLaws.{spelled_fits}
 use Rattle.pssm_acts.proofs.GuardRead.{guard_spelled}

@@ -1,21 +1,21 @@
 -- What is written of an expression spells it.
 use Rattle.std.proofs.Common.{◌≡◌, ◌≤◌, ℕ, suc, zero, Bool, true, false, List, [], ◌∷◌, ◌++◌, length, refl, sym, ap, ◌∙◌, subst, arith, append_assoc, codes, position, bytes_eq, slice_index_or, Some}
 use Rattle.std.proofs.Math.Nat.{le-max_left, le-max_right}
-use Rattle.pssm_acts.specs.declared.setting.Names.{Names}
-use Rattle.pssm_acts.specs.declared.tree.Expr.{Expr, end_of-Expr, more_of-Expr}
-use Rattle.pssm_acts.specs.declared.tree.Expr.TheVariants.{Num, Var, Param, Sum', Diff', Prod'}
+use Rattle.pssm_semantics.specs.declared.setting.Names.{Names}
+use Rattle.pssm_semantics.specs.declared.tree.Expr.{Expr, end_of-Expr, more_of-Expr}
+use Rattle.pssm_semantics.specs.declared.tree.Expr.TheVariants.{Num, Var, Param, Sum', Diff', Prod'}
 use Rattle.pssm_acts.specs.ActText.{is_operation, in_parentheses, expr_text, operand_text}
-use Rattle.pssm_acts.specs.Fits.{ExprFits}
+use Rattle.pssm_semantics.specs.Fits.{ExprFits}
 use Rattle.pssm_acts.specs.Grammar.{Part, Atom, Sum, SpellsExpr, number, variable, parameter, parentheses, atom, times, product, plus, minus}
-use Rattle.pssm_acts.specs.Numbers.{SpellsNumber}
+use Rattle.pssm_spelling.specs.Numbers.{SpellsNumber}
 use Rattle.pssm_acts.specs.ReadBack.{AreNames, levels_with, expr_levels, IsPlain}
-use Rattle.pssm_acts.specs.Spelling.{continues_name, IsName}
-use Rattle.pssm_acts.specs.SpellingReading.{EndsRun}
+use Rattle.pssm_spelling.specs.Spelling.{continues_name, IsName}
+use Rattle.pssm_spelling.specs.SpellingReading.{EndsRun}
 use Rattle.pssm_acts.specs.Tokens.{Token, cut}
 use Rattle.pssm_acts.proofs.FrontLaws.{name_begins, number_begins, written_number, parameter_begins, is_equals, name_unequal, number_unequal}
 use Rattle.pssm_acts.proofs.NameLaws.{name_found}
 use Rattle.pssm_acts.proofs.SignLaws.{plus_begins, minus_begins, times_begins, open_begins, close_begins}
-use Rattle.pssm_acts.proofs.Views.{Sum-is, Diff-is, Prod-is}
+use Rattle.pssm_semantics.proofs.Views.{Sum-is, Diff-is, Prod-is}
 
 -- The bytes begin with what spells an expression as such a part, and others are left behind it.
 pub record BeginsExpr (names : Names) (part : Part) (l : ℕ) (e : Expr) (end : ℕ) (bytes rest : List ℕ) : Type 0 where

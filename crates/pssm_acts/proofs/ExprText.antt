@@ -1,14 +1,14 @@
 -- How operations and chains of guards are spelled, by what code sees of a tree, and how much there is to write.
 use Rattle.std.proofs.Common.{◌≡◌, ℕ, ◌+◌, ◌++◌, List, refl, ap, ◌∙◌, append_assoc, codes}
-use Rattle.pssm_acts.specs.declared.setting.Names.{Names}
-use Rattle.pssm_acts.specs.declared.tree.Expr.{Expr, end_of-Expr, more_of-Expr}
-use Rattle.pssm_acts.specs.declared.tree.Expr.TheViews as views
-use Rattle.pssm_acts.specs.declared.tree.Expr.TheVariants.{Num, Var, Param, Sum', Diff', Prod'}
-use Rattle.pssm_acts.specs.declared.tree.Cond.{Cond, end_of-Cond, more_of-Cond}
-use Rattle.pssm_acts.specs.declared.tree.Cond.TheViews as tests
-use Rattle.pssm_acts.specs.declared.tree.Cond.TheVariants.{True, False, Compare, Not', And', Or'}
+use Rattle.pssm_semantics.specs.declared.setting.Names.{Names}
+use Rattle.pssm_semantics.specs.declared.tree.Expr.{Expr, end_of-Expr, more_of-Expr}
+use Rattle.pssm_semantics.specs.declared.tree.Expr.TheViews as views
+use Rattle.pssm_semantics.specs.declared.tree.Expr.TheVariants.{Num, Var, Param, Sum', Diff', Prod'}
+use Rattle.pssm_semantics.specs.declared.tree.Cond.{Cond, end_of-Cond, more_of-Cond}
+use Rattle.pssm_semantics.specs.declared.tree.Cond.TheViews as tests
+use Rattle.pssm_semantics.specs.declared.tree.Cond.TheVariants.{True, False, Compare, Not', And', Or'}
 use Rattle.pssm_acts.specs.ActText.{expr_text, operand_text, cond_text, unit_text}
-use Rattle.pssm_acts.proofs.Views.{Sum-is, Diff-is, Prod-is, Not-is, And-is, Or-is}
+use Rattle.pssm_semantics.proofs.Views.{Sum-is, Diff-is, Prod-is, Not-is, And-is, Or-is}
 
 -- how many operations an expression has
 abbrev pub operations : Expr → ℕ

@@ -3,7 +3,7 @@ use Rattle.std.proofs.Common.{◌≡◌, Bool, List, [], ◌∷◌, ◌++◌, Re
 use Rattle.std.proofs.lemmas.List.{append-nil}
 use Rattle.pssm_acts.specs.declared.act_fault.ActFault.{ActFault}
 use Rattle.pssm_acts.specs.declared.acts_reader.ActsReader.{ActsReader}
-use Rattle.pssm_acts.specs.declared.setting.Names.{Names}
+use Rattle.pssm_semantics.specs.declared.setting.Names.{Names}
 use Rattle.pssm_acts.specs.Tokens.{Token}
 use Rattle.pssm_acts.proofs.ActRun.{Runs, done, next}
 use Rattle.pssm_acts.proofs.Fares.{IsOther, Fares, arrives, goes, stops}

@@ -3,17 +3,17 @@ use Rattle.std.proofs.Common.{◌≤◌, ℕ, false, List, [], ◌∷◌, ◌++�
 use Rattle.std.proofs.lemmas.List.Elements.{All-nil, All-head, All-tail, All-push}
 use Rattle.std.proofs.lemmas.List.Quantifiers.{position-Some}
 use denote.Hole.Carrier.{hidden}
-use Rattle.pssm_acts.specs.declared.entry.ObjectId.{ObjectId}
-use Rattle.pssm_acts.specs.declared.setting.Names.{Names}
-use Rattle.pssm_acts.specs.declared.setting.SignalDecl.{SignalDecl}
-use Rattle.pssm_acts.specs.declared.tree.Act.{Act}
-use Rattle.pssm_acts.specs.declared.tree.Cond.{Cond}
-use Rattle.pssm_acts.specs.declared.tree.Expr.{Expr}
-use Rattle.pssm_acts.specs.declared.tree.Stmt.{Stmt}
-use Rattle.pssm_acts.specs.declared.tree.Stmt.TheViews as stmts
-use Rattle.pssm_acts.specs.declared.tree.Stmt.TheBlock.{shape-the_row-Stmt-0, hidden-the_row-Stmt-0}
+use Rattle.pssm_semantics.specs.declared.entry.ObjectId.{ObjectId}
+use Rattle.pssm_semantics.specs.declared.setting.Names.{Names}
+use Rattle.pssm_semantics.specs.declared.setting.SignalDecl.{SignalDecl}
+use Rattle.pssm_semantics.specs.declared.tree.Act.{Act}
+use Rattle.pssm_semantics.specs.declared.tree.Cond.{Cond}
+use Rattle.pssm_semantics.specs.declared.tree.Expr.{Expr}
+use Rattle.pssm_semantics.specs.declared.tree.Stmt.{Stmt}
+use Rattle.pssm_semantics.specs.declared.tree.Stmt.TheViews as stmts
+use Rattle.pssm_semantics.specs.declared.tree.Stmt.TheBlock.{shape-the_row-Stmt-0, hidden-the_row-Stmt-0}
 use Rattle.pssm_acts.specs.ActGrammar.{SpellsList, one, further, SpellsArguments, none, some, NamesReceiver, object, running, SpellsPhrase, assignment, sending, bare_mark, marking, SpellsStmts, nothing, phrase, choice, alternative, SpellsBehaviour, SpellsBehaviours, first, step}
-use Rattle.pssm_acts.specs.Fits.{Vocabulary, ExprFits, CondFits, StmtFits, BlockFits, ActFits}
+use Rattle.pssm_semantics.specs.Fits.{Vocabulary, ExprFits, CondFits, StmtFits, BlockFits, ActFits}
 use Rattle.pssm_acts.specs.Tokens.{Token, tokens_of}
 use Rattle.pssm_acts.specs.Vocabularies.{IsReceiver, vocabulary}
 use Rattle.pssm_acts.proofs.TokenLaws.{AreInRange, cut_in_range, range_parts, expr_fits, guard_fits}

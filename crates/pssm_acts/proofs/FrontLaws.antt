@@ -8,12 +8,12 @@ use Rattle.std.proofs.lemmas.Fmt.{digits_decimal, digits_value-decimal, decimal_
 use Rattle.std.proofs.lemmas.List.{take_at, drop_at}
 use Rattle.pssm_acts.specs.declared.token.Kind.{Kind}
 use Rattle.pssm_acts.specs.declared.token.Kind.TheVariants as kinds
-use Rattle.pssm_acts.specs.Numbers.{is_natural, SpellsNumber, natural, negative}
+use Rattle.pssm_spelling.specs.Numbers.{is_natural, SpellsNumber, natural, negative}
 use Rattle.pssm_acts.specs.ReadBack.{IsFree, IsShortNumber}
-use Rattle.pssm_acts.specs.Spelling.{begins_name, continues_name, IsName, is_name_text}
-use Rattle.pssm_acts.specs.SpellingReading.{is_digit, is_plain, starts_name, EndsRun}
+use Rattle.pssm_spelling.specs.Spelling.{begins_name, continues_name, IsName, is_name_text}
+use Rattle.pssm_spelling.specs.SpellingReading.{is_digit, is_plain, starts_name, EndsRun}
 use Rattle.pssm_acts.specs.Tokens.{Token, is_blank, word_kind, sign_front, negative_len, number_len, front, ends_operand, cut}
-use Rattle.pssm_acts.proofs.SpellingLaws.{front_again, name_goes_on, digits_model}
+use Rattle.pssm_spelling.proofs.SpellingLaws.{front_again, name_goes_on, digits_model}
 use Rattle.pssm_acts.proofs.TextLaws.{cut_token, piece_at}
 
 -- The bytes begin with a token of such a kind and word, and others are left behind it.

@@ -1,22 +1,22 @@
 -- What is written of a guard spells it, so that it can be read back.
 use Rattle.std.proofs.Common.{◌≡◌, ◌≤◌, ℕ, suc, zero, Bool, true, false, List, [], ◌∷◌, ◌++◌, length, refl, sym, ap, ◌∙◌, subst, arith, append_assoc, append-nil, codes}
 use Rattle.std.proofs.Math.Nat.{le-max_left, le-max_right}
-use Rattle.pssm_acts.specs.declared.setting.Names.{Names}
-use Rattle.pssm_acts.specs.declared.tree.Rel.{Rel}
-use Rattle.pssm_acts.specs.declared.tree.Rel.TheVariants.{Eq, Ne, Lt, Le, Gt, Ge}
-use Rattle.pssm_acts.specs.declared.tree.Cond.{Cond, end_of-Cond, more_of-Cond}
-use Rattle.pssm_acts.specs.declared.tree.Cond.TheVariants.{True, False, Compare, Not', And', Or'}
+use Rattle.pssm_semantics.specs.declared.setting.Names.{Names}
+use Rattle.pssm_semantics.specs.declared.tree.Rel.{Rel}
+use Rattle.pssm_semantics.specs.declared.tree.Rel.TheVariants.{Eq, Ne, Lt, Le, Gt, Ge}
+use Rattle.pssm_semantics.specs.declared.tree.Cond.{Cond, end_of-Cond, more_of-Cond}
+use Rattle.pssm_semantics.specs.declared.tree.Cond.TheVariants.{True, False, Compare, Not', And', Or'}
 use Rattle.pssm_acts.specs.ActText.{is_chain, in_brackets, expr_text, rel_text, cond_text, unit_text}
-use Rattle.pssm_acts.specs.Fits.{CondFits}
+use Rattle.pssm_semantics.specs.Fits.{CondFits}
 use Rattle.pssm_acts.specs.Grammar.{GuardPart, Unit', Either, SpellsGuard, SpellsCond, truth, falsity, negation, brackets, relation, lone_unit, conjoined, lone_conjunction, disjoined}
 use Rattle.pssm_acts.specs.ReadBack.{AreNames, levels_with, expr_levels, cond_levels, GuardIsPlain, GuardCanBeReadBack}
-use Rattle.pssm_acts.specs.Spelling.{continues_name}
-use Rattle.pssm_acts.specs.SpellingReading.{EndsRun}
+use Rattle.pssm_spelling.specs.Spelling.{continues_name}
+use Rattle.pssm_spelling.specs.SpellingReading.{EndsRun}
 use Rattle.pssm_acts.specs.Tokens.{Token, cut}
 use Rattle.pssm_acts.proofs.ExprBack.{level_in, rest_in, within_deep, joined, still_unequal, whole_begins}
 use Rattle.pssm_acts.proofs.FrontLaws.{is_equals, not_begins, word_begins}
 use Rattle.pssm_acts.proofs.SignLaws.{relation_begins, both_begins, either_begins, bracket_begins, bracket_ends}
-use Rattle.pssm_acts.proofs.Views.{Not-is, And-is, Or-is}
+use Rattle.pssm_semantics.proofs.Views.{Not-is, And-is, Or-is}
 
 -- The bytes begin with what spells a guard as such a part, and others are left behind it.
 pub record BeginsGuard (names : Names) (part : GuardPart) (l : ℕ) (c : Cond) (end : ℕ) (bytes rest : List ℕ) : Type 0 where

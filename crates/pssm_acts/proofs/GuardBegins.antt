@@ -3,13 +3,13 @@ use Rattle.std.proofs.Common.{◌≡◌, ◌⊎◌, inl, inr, ◌-◌, ℕ, suc,
 use Rattle.std.proofs.lemmas.List.{append-nil}
 use Rattle.pssm_acts.specs.declared.act_fault.ActFault.{ActFault}
 use Rattle.pssm_acts.specs.declared.act_fault.ActFault.TheVariants.{Syntax}
-use Rattle.pssm_acts.specs.declared.setting.Names.{Names}
+use Rattle.pssm_semantics.specs.declared.setting.Names.{Names}
 use Rattle.pssm_acts.specs.declared.token.Kind.{Kind}
 use Rattle.pssm_acts.specs.declared.token.Kind.TheVariants as kinds
-use Rattle.pssm_acts.specs.declared.tree.Cond.{Cond}
-use Rattle.pssm_acts.specs.declared.tree.Cond.TheVariants.{Compare}
-use Rattle.pssm_acts.specs.declared.tree.Expr.{Expr}
-use Rattle.pssm_acts.specs.declared.tree.Rel.TheVariants.{Lt}
+use Rattle.pssm_semantics.specs.declared.tree.Cond.{Cond}
+use Rattle.pssm_semantics.specs.declared.tree.Cond.TheVariants.{Compare}
+use Rattle.pssm_semantics.specs.declared.tree.Expr.{Expr}
+use Rattle.pssm_semantics.specs.declared.tree.Rel.TheVariants.{Lt}
 use Rattle.pssm_acts.specs.declared.expr_reader.Left.{Left}
 use Rattle.pssm_acts.specs.declared.expr_reader.Left.TheVariants.{Nothing, Plus, Minus}
 use Rattle.pssm_acts.specs.declared.expr_reader.Level.{Level}
@@ -24,7 +24,7 @@ use Rattle.pssm_acts.specs.declared.guard_reader.Stage.TheVariants.{Wants, First
 use Rattle.pssm_acts.specs.declared.guard_reader.GuardReader.{GuardReader}
 use Rattle.pssm_acts.specs.Tokens.{Token}
 use Rattle.pssm_acts.specs.NumberReading.{number_read}
-use Rattle.pssm_acts.specs.declared.tree.Expr.TheVariants.{Num}
+use Rattle.pssm_semantics.specs.declared.tree.Expr.TheVariants.{Num}
 use Rattle.pssm_acts.specs.ExprReading.{and_then, product_of, at_atom, atom_of, after_atom, closed, expr_step, expr_value, fresh_expr}
 use Rattle.pssm_acts.specs.GuardReading.{unit_of, bracket_opened, bracket_closed, side_begun, unit_wanted, in_first, compared, after_unit, in_second, guard_step}
 use Rattle.pssm_acts.specs.Grammar.{Atom, Product, Sum, Unit', Both, Either}

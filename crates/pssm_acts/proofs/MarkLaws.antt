@@ -1,9 +1,9 @@
 -- Marks that are noted behind others leave them their numbers.
 use Rattle.std.proofs.Common.{◌≡◌, ◌≤◌, ◌<◌, ℕ, List, [], ◌∷◌, length, Option, Some, None, refl, arith, position, bytes_eq, length-append}
 use Rattle.std.proofs.lemmas.List.Quantifiers.{position-Some}
-use Rattle.pssm_acts.specs.declared.setting.Names.{Names}
-use Rattle.pssm_acts.specs.declared.tree.Stmt.{Stmt}
-use Rattle.pssm_acts.specs.declared.tree.Act.{Act}
+use Rattle.pssm_semantics.specs.declared.setting.Names.{Names}
+use Rattle.pssm_semantics.specs.declared.tree.Stmt.{Stmt}
+use Rattle.pssm_semantics.specs.declared.tree.Act.{Act}
 use Rattle.pssm_acts.specs.ActGrammar.{SpellsPhrase, assignment, sending, bare_mark, marking, SpellsStmts, nothing, phrase, choice, alternative, SpellsBehaviours, first, step}
 use Rattle.pssm_acts.specs.Marks.{number_or, mark_number, grown, with_mark}
 use Rattle.pssm_acts.specs.Tokens.{Token}

@@ -5,7 +5,7 @@ use Rattle.std.proofs.lemmas.Bool.{lt-ltb, cond-true, cond-false}
 use Rattle.std.proofs.lemmas.List.{get_or-map, length-map}
 use Rattle.std.proofs.lemmas.Slice.Eq.{bytes_eq-Decides}
 use Rattle.pssm_acts.specs.ReadBack.{AreNames}
-use Rattle.pssm_acts.specs.Spelling.{IsName}
+use Rattle.pssm_spelling.specs.Spelling.{IsName}
 
 -- the first place at which a test passes
 first_at : {X : Type 0} (p : X → Bool) (xs : List X) (k : ℕ) (d : X) → k < length xs → p (slice_index_or xs k d) ≡ true → ((j : ℕ) → j < k → p (slice_index_or xs j d) ≡ false) → position_or_len p xs ≡ k

@@ -2,10 +2,10 @@
 use Rattle.std.proofs.Common.{◌≡◌, ◌<◌, ℕ, suc, zero, ◌^◌, ℤ, pos, negsuc, true, false, Bool, List, [], ◌∷◌, Ok, Err, IsTrue, refl, sym, arith, eqb, ltb, subst, if◌then◌else◌}
 use Rattle.std.specs.List.{list_all}
 use Rattle.std.specs.Str.Parse.{digits_value}
-use Rattle.pssm_acts.specs.SpellingReading.{is_digit, is_plain}
+use Rattle.pssm_spelling.specs.SpellingReading.{is_digit, is_plain}
 use Rattle.std.proofs.lemmas.Bool.{and_parts, lt-ltb, ltb-true, eqb-true}
 use Rattle.pssm_acts.specs.declared.act_fault.ActFault.TheVariants.{Syntax, WideNumber}
-use Rattle.pssm_acts.specs.Numbers.{is_natural, SpellsNumber, natural, negative}
+use Rattle.pssm_spelling.specs.Numbers.{is_natural, SpellsNumber, natural, negative}
 use Rattle.pssm_acts.specs.NumberReading.{natural_read, negative_value, negative_read, number_read}
 
 -- No digits begin with `-`.

@@ -1,9 +1,9 @@
 -- Each text is read in one way: what a reading answers for every text, and exactly where the grammar says so, leaves no second answer.
 use Rattle.std.proofs.Common.{◌≡◌, ◌⊎◌, ℕ, inl, inr, [], ◌∷◌, ◌++◌, true, false, List, Result, Ok, Err, refl, ap}
 use Rattle.pssm_acts.specs.declared.act_fault.ActFault.{ActFault}
-use Rattle.pssm_acts.specs.declared.setting.Names.{Names}
-use Rattle.pssm_acts.specs.declared.tree.Act.{Act}
-use Rattle.pssm_acts.specs.declared.tree.Cond.{Cond}
+use Rattle.pssm_semantics.specs.declared.setting.Names.{Names}
+use Rattle.pssm_semantics.specs.declared.tree.Act.{Act}
+use Rattle.pssm_semantics.specs.declared.tree.Cond.{Cond}
 use Rattle.pssm_acts.specs.ActGrammar.{SpellsAct, SpellsSteps}
 use Rattle.pssm_acts.specs.ActReading.{acts_reading, act_reading, steps_reading}
 use Rattle.pssm_acts.specs.Grammar.{Either, SpellsCond}

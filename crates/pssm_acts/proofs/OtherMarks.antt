@@ -4,16 +4,16 @@ use Rattle.std.proofs.Math.Seq.{get_or-append_seam}
 use Rattle.std.proofs.lemmas.List.{get_or-take}
 use Rattle.std.proofs.lemmas.List.Quantifiers.{position-Some}
 use Rattle.std.proofs.lemmas.Slice.Eq.{bytes_eq-Decides}
-use Rattle.pssm_acts.specs.declared.setting.Names.{Names}
-use Rattle.pssm_acts.specs.declared.tree.Act.{Act}
-use Rattle.pssm_acts.specs.declared.tree.Cond.{Cond}
-use Rattle.pssm_acts.specs.declared.tree.Expr.{Expr}
-use Rattle.pssm_acts.specs.declared.tree.Stmt.{Stmt, Assign, Send, Mark}
-use Rattle.pssm_acts.specs.declared.tree.Stmt.TheViews as views
-use Rattle.pssm_acts.specs.declared.tree.Stmt.TheBlock.{hidden-the_row-Stmt-0}
+use Rattle.pssm_semantics.specs.declared.setting.Names.{Names}
+use Rattle.pssm_semantics.specs.declared.tree.Act.{Act}
+use Rattle.pssm_semantics.specs.declared.tree.Cond.{Cond}
+use Rattle.pssm_semantics.specs.declared.tree.Expr.{Expr}
+use Rattle.pssm_semantics.specs.declared.tree.Stmt.{Stmt, Assign, Send, Mark}
+use Rattle.pssm_semantics.specs.declared.tree.Stmt.TheViews as views
+use Rattle.pssm_semantics.specs.declared.tree.Stmt.TheBlock.{hidden-the_row-Stmt-0}
 use Rattle.pssm_acts.specs.ActGrammar.{SpellsPhrase, assignment, sending, bare_mark, marking, SpellsStmts, nothing, phrase, choice, alternative, SpellsAct}
 use Rattle.pssm_acts.specs.ActText.{name_at, cond_text, args_text, mark_text, block_text, stmt_text, row_text, stmts_text, spaced_text, act_text}
-use Rattle.pssm_acts.specs.Fits.{stmt_count, stmts_count}
+use Rattle.pssm_semantics.specs.Fits.{stmt_count, stmts_count}
 use Rattle.pssm_acts.specs.Marks.{number_or, mark_number, mark_of, grown, with_mark, KeepsMarks}
 use Rattle.pssm_acts.specs.Tokens.{Token}
 use Rattle.pssm_acts.proofs.ActTextLaws.{kept_on}

@@ -4,19 +4,19 @@ use Rattle.std.specs.Option.{option_map_or}
 use Rattle.std.proofs.Math.Nat.{le-max_left, le-max_right}
 use Rattle.pssm_model.specs.declared.ids.MarkId.{MarkId}
 use Rattle.pssm_model.specs.declared.ids.SignalId.{SignalId}
-use Rattle.pssm_acts.specs.declared.entry.ObjectId.{ObjectId}
-use Rattle.pssm_acts.specs.declared.setting.Names.{Names}
-use Rattle.pssm_acts.specs.declared.setting.SignalDecl.{SignalDecl}
+use Rattle.pssm_semantics.specs.declared.entry.ObjectId.{ObjectId}
+use Rattle.pssm_semantics.specs.declared.setting.Names.{Names}
+use Rattle.pssm_semantics.specs.declared.setting.SignalDecl.{SignalDecl}
 use Rattle.pssm_acts.specs.declared.token.Kind.TheVariants as kinds
-use Rattle.pssm_acts.specs.declared.tree.Expr.{Expr}
-use Rattle.pssm_acts.specs.declared.tree.Stmt.{Stmt, Assign, Send, Mark}
+use Rattle.pssm_semantics.specs.declared.tree.Expr.{Expr}
+use Rattle.pssm_semantics.specs.declared.tree.Stmt.{Stmt, Assign, Send, Mark}
 use Rattle.pssm_acts.specs.ActGrammar.{SpellsList, one, further, SpellsArguments, none, some, NamesReceiver, object, running, SpellsPhrase, assignment, sending, marking}
 use Rattle.pssm_acts.specs.ActText.{name_at, signal_name, receiver_name, expr_text, further_text, args_text, assignment_text, send_text, mark_text}
-use Rattle.pssm_acts.specs.Fits.{ExprFits}
+use Rattle.pssm_semantics.specs.Fits.{ExprFits}
 use Rattle.pssm_acts.specs.Marks.{number_or, mark_of, grown, with_mark}
 use Rattle.pssm_acts.specs.ReadBack.{AreNames, IsFree, ReceiverIsFree, expr_levels, args_levels, IsPlain}
-use Rattle.pssm_acts.specs.Spelling.{continues_name}
-use Rattle.pssm_acts.specs.SpellingReading.{EndsRun}
+use Rattle.pssm_spelling.specs.Spelling.{continues_name}
+use Rattle.pssm_spelling.specs.SpellingReading.{EndsRun}
 use Rattle.pssm_acts.specs.Tokens.{Token, cut}
 use Rattle.pssm_acts.specs.Vocabularies.{IsReceiver, CanSend}
 use Rattle.pssm_acts.proofs.ExprBack.{whole_begins}

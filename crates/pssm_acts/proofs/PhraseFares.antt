@@ -8,7 +8,7 @@ use Rattle.pssm_acts.specs.declared.acts_reader.ActsReader.{ActsReader}
 use Rattle.pssm_acts.specs.declared.read_blocks.Blocks.{Blocks}
 use Rattle.pssm_acts.specs.declared.read_blocks.OpenIf.{OpenIf}
 use Rattle.pssm_acts.specs.declared.acts_reader.Turn.TheVariants.{Begins}
-use Rattle.pssm_acts.specs.declared.entry.ObjectId.{ObjectId}
+use Rattle.pssm_semantics.specs.declared.entry.ObjectId.{ObjectId}
 use Rattle.pssm_acts.specs.declared.expr_reader.Left.{Left}
 use Rattle.pssm_acts.specs.declared.expr_reader.Level.{Level}
 use Rattle.pssm_acts.specs.declared.expr_reader.Place.{Place}
@@ -19,11 +19,11 @@ use Rattle.pssm_acts.specs.declared.phrase_reader.Phrase.{Phrase}
 use Rattle.pssm_acts.specs.declared.phrase_reader.Phrase.TheVariants.{Variable, Value, Receiver, Dotted, Named, Whole}
 use Rattle.pssm_acts.specs.declared.phrase_reader.Phrase.TheVariants as phrases
 use Rattle.pssm_acts.specs.declared.phrase_reader.Phrased.TheVariants.{Goes}
-use Rattle.pssm_acts.specs.declared.setting.Names.{Names}
+use Rattle.pssm_semantics.specs.declared.setting.Names.{Names}
 use Rattle.pssm_acts.specs.declared.token.Kind.{Kind}
 use Rattle.pssm_acts.specs.declared.token.Kind.TheVariants as kinds
-use Rattle.pssm_acts.specs.declared.tree.Act.{Act}
-use Rattle.pssm_acts.specs.declared.tree.Stmt.{Stmt, Assign, Mark}
+use Rattle.pssm_semantics.specs.declared.tree.Act.{Act}
+use Rattle.pssm_semantics.specs.declared.tree.Stmt.{Stmt, Assign, Mark}
 use Rattle.pssm_acts.specs.Tokens.{Token}
 use Rattle.pssm_acts.specs.Marks.{mark_of, with_mark}
 use Rattle.pssm_acts.specs.ExprReading.{and_then, sum_of, at_atom, atom_of, after_atom, expr_step, fresh_expr}

@@ -6,7 +6,7 @@ use Rattle.pssm_model.specs.declared.ids.MarkId.{MarkId}
 use Rattle.pssm_acts.specs.declared.acts_reader.ActsReader.{ActsReader}
 use Rattle.pssm_acts.specs.declared.read_blocks.Blocks.{Blocks}
 use Rattle.pssm_acts.specs.declared.acts_reader.Turn.TheVariants.{Begins, Chosen}
-use Rattle.pssm_acts.specs.declared.entry.ObjectId.{ObjectId}
+use Rattle.pssm_semantics.specs.declared.entry.ObjectId.{ObjectId}
 use Rattle.pssm_acts.specs.declared.expr_reader.ExprReader.{ExprReader}
 use Rattle.pssm_acts.specs.declared.expr_reader.Left.{Left}
 use Rattle.pssm_acts.specs.declared.expr_reader.Level.{Level}
@@ -16,12 +16,12 @@ use Rattle.pssm_acts.specs.declared.phrase_reader.Call.TheVariants as calls
 use Rattle.pssm_acts.specs.declared.phrase_reader.Phrase.TheVariants.{Variable, Value, Receiver, Dotted, Named, Whole}
 use Rattle.pssm_acts.specs.declared.phrase_reader.Phrase.TheVariants as phrases
 use Rattle.pssm_acts.specs.declared.phrase_reader.Phrased.TheVariants.{Goes}
-use Rattle.pssm_acts.specs.declared.setting.Names.{Names}
+use Rattle.pssm_semantics.specs.declared.setting.Names.{Names}
 use Rattle.pssm_acts.specs.declared.token.Kind.{Kind}
 use Rattle.pssm_acts.specs.declared.token.Kind.TheVariants as kinds
-use Rattle.pssm_acts.specs.declared.tree.Cond.{Cond}
-use Rattle.pssm_acts.specs.declared.tree.Expr.{Expr}
-use Rattle.pssm_acts.specs.declared.tree.Stmt.{Stmt, Assign, Send, Mark}
+use Rattle.pssm_semantics.specs.declared.tree.Cond.{Cond}
+use Rattle.pssm_semantics.specs.declared.tree.Expr.{Expr}
+use Rattle.pssm_semantics.specs.declared.tree.Stmt.{Stmt, Assign, Send, Mark}
 use Rattle.pssm_acts.specs.Tokens.{Token}
 use Rattle.pssm_acts.specs.Marks.{mark_of, with_mark}
 use Rattle.pssm_acts.specs.ExprReading.{and_then, sum_of, at_atom, atom_of, after_atom, expr_step, expr_value, fresh_expr}

@@ -3,7 +3,7 @@ use Rattle.std.proofs.Common.{◌≡◌, ◌-◌, ◌<◌, ℕ, List, [], ◌∷
 use Rattle.pssm_model.specs.declared.ids.MarkId.{MarkId}
 use Rattle.pssm_model.specs.declared.ids.SignalId.{SignalId}
 use Rattle.pssm_acts.specs.declared.argument_reader.Arguments.{Arguments}
-use Rattle.pssm_acts.specs.declared.entry.ObjectId.{ObjectId}
+use Rattle.pssm_semantics.specs.declared.entry.ObjectId.{ObjectId}
 use Rattle.pssm_acts.specs.declared.expr_reader.ExprReader.{ExprReader}
 use Rattle.pssm_acts.specs.declared.phrase_reader.Call.{Call}
 use Rattle.pssm_acts.specs.declared.phrase_reader.Call.TheVariants as calls
@@ -12,7 +12,7 @@ use Rattle.pssm_acts.specs.declared.phrase_reader.Phrase.TheVariants.{Variable, 
 use Rattle.pssm_acts.specs.declared.phrase_reader.Phrase.TheVariants as phrases
 use Rattle.pssm_acts.specs.declared.phrase_reader.Phrased.{Phrased}
 use Rattle.pssm_acts.specs.declared.phrase_reader.Phrased.TheVariants.{Goes, Ends}
-use Rattle.pssm_acts.specs.declared.setting.Names.{Names}
+use Rattle.pssm_semantics.specs.declared.setting.Names.{Names}
 use Rattle.pssm_acts.specs.declared.token.Kind.{Kind}
 use Rattle.pssm_acts.specs.declared.token.Kind.TheVariants as kinds
 use Rattle.pssm_acts.specs.ActGrammar.{NamesReceiver, SpellsPhrase}

@@ -7,7 +7,7 @@ use Rattle.pssm_acts.specs.declared.argument_reader.Arguments.{Arguments}
 use Rattle.pssm_acts.specs.declared.argument_reader.Arguments.TheVariants.{Opened, Listed}
 use Rattle.pssm_acts.specs.declared.argument_reader.Argued.{Argued}
 use Rattle.pssm_acts.specs.declared.argument_reader.Argued.TheVariants as arguments
-use Rattle.pssm_acts.specs.declared.entry.ObjectId.{ObjectId}
+use Rattle.pssm_semantics.specs.declared.entry.ObjectId.{ObjectId}
 use Rattle.pssm_acts.specs.declared.expr_reader.ExprReader.{ExprReader}
 use Rattle.pssm_acts.specs.declared.expr_reader.Left.{Left}
 use Rattle.pssm_acts.specs.declared.expr_reader.Left.TheVariants.{Nothing}
@@ -21,11 +21,11 @@ use Rattle.pssm_acts.specs.declared.phrase_reader.Phrase.TheVariants.{Variable, 
 use Rattle.pssm_acts.specs.declared.phrase_reader.Phrase.TheVariants as phrases
 use Rattle.pssm_acts.specs.declared.phrase_reader.Phrased.{Phrased}
 use Rattle.pssm_acts.specs.declared.phrase_reader.Phrased.TheVariants.{Goes, Ends}
-use Rattle.pssm_acts.specs.declared.setting.Names.{Names}
+use Rattle.pssm_semantics.specs.declared.setting.Names.{Names}
 use Rattle.pssm_acts.specs.declared.token.Kind.{Kind}
 use Rattle.pssm_acts.specs.declared.token.Kind.TheVariants as kinds
-use Rattle.pssm_acts.specs.declared.tree.Expr.{Expr}
-use Rattle.pssm_acts.specs.declared.tree.Stmt.{Stmt, Send, Mark}
+use Rattle.pssm_semantics.specs.declared.tree.Expr.{Expr}
+use Rattle.pssm_semantics.specs.declared.tree.Stmt.{Stmt, Send, Mark}
 use Rattle.pssm_acts.specs.ArgumentReading.{argument_ended, argument_more, argument_closed_in, argument_closed, listed_step_by, listed_step, opened_step_by, arguments_step}
 use Rattle.pssm_acts.specs.ExprReading.{and_then, expr_step, expr_value}
 use Rattle.pssm_acts.specs.PhraseReading.{beside, became_by, became, value_read_by, value_read, object_read, receiver_read_by, receiver_read, dotted_by, dotted, signal_found, signal_named, signal_read_by, signal_read, mark_read_by, mark_read, named_by, named, call_made, argued, argument_read, called_ended_by, called_ended, phrase_step}

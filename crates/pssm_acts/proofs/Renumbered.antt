@@ -1,10 +1,10 @@
 -- Statements whose marks have other numbers: those that their names have where these marks are there and the names that are new are noted behind them.
 use Rattle.std.proofs.Common.{◌≡◌, ℕ, List, [], ◌∷◌, ◌++◌, Option, Some, None, refl, ap, ◌∙◌}
 use denote.Hole.Carrier.{hidden}
-use Rattle.pssm_acts.specs.declared.tree.Cond.{Cond}
-use Rattle.pssm_acts.specs.declared.tree.Stmt.{Stmt, Assign, Choose', Send, Mark, Row_of-Stmt, end_of-Stmt, more_of-Stmt, Held-Stmt-Choose-2, None', Some'}
-use Rattle.pssm_acts.specs.declared.tree.Stmt.TheBlock.{shape-the_row-Stmt-0, hidden-the_row-Stmt-0}
-use Rattle.pssm_acts.specs.declared.tree.Stmt.TheViews as views
+use Rattle.pssm_semantics.specs.declared.tree.Cond.{Cond}
+use Rattle.pssm_semantics.specs.declared.tree.Stmt.{Stmt, Assign, Choose', Send, Mark, Row_of-Stmt, end_of-Stmt, more_of-Stmt, Held-Stmt-Choose-2, None', Some'}
+use Rattle.pssm_semantics.specs.declared.tree.Stmt.TheBlock.{shape-the_row-Stmt-0, hidden-the_row-Stmt-0}
+use Rattle.pssm_semantics.specs.declared.tree.Stmt.TheViews as views
 use Rattle.pssm_acts.specs.ActText.{name_at}
 use Rattle.pssm_acts.specs.Marks.{mark_of, with_mark}
 

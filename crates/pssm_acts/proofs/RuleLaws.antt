@@ -5,10 +5,10 @@ use Rattle.std.proofs.lemmas.List.Sums.{fold-append}
 use Rattle.std.specs.List.{fold}
 use Rattle.pssm_acts.specs.declared.act_fault.ActFault.{ActFault}
 use Rattle.pssm_acts.specs.declared.act_fault.ActFault.TheVariants.{Syntax, UnknownName, WideNumber, Arity, TooLong, NoMemory}
-use Rattle.pssm_acts.specs.declared.setting.Names.{Names}
+use Rattle.pssm_semantics.specs.declared.setting.Names.{Names}
 use Rattle.pssm_acts.specs.declared.token.Kind.{Kind}
 use Rattle.pssm_acts.specs.declared.token.Kind.TheVariants as kinds
-use Rattle.pssm_acts.specs.declared.tree.Expr.{Expr}
+use Rattle.pssm_semantics.specs.declared.tree.Expr.{Expr}
 use Rattle.pssm_acts.specs.ActGrammar.{SpellsArguments, none, some}
 use Rattle.pssm_acts.specs.Shapes.{Begins}
 use Rattle.pssm_acts.specs.TextFaults.{Place, Statement, Receiver, Signal, Mark, Operand, place, IsUnknown, IsOpening, BeginsStatement, steps_ended, Breaks, unknown, wide, sent, marked, level, statement, step, Obeys, TextFault, long, misplaced, broken, early}

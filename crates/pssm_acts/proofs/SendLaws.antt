@@ -3,14 +3,14 @@ use Rattle.std.proofs.Common.{◌≡◌, ◌≤◌, ℕ, List, Option, Some, Non
 use Rattle.std.specs.Option.{option_map_or}
 use Rattle.std.proofs.lemmas.Option.{get_or_from_slice_get, slice_get_within}
 use Rattle.std.proofs.lemmas.List.Elements.{All-get_or}
-use Rattle.pssm_acts.specs.declared.setting.SignalDecl.{SignalDecl}
-use Rattle.pssm_acts.specs.declared.setting.Names.{Names}
-use Rattle.pssm_acts.specs.declared.tree.Act.{Act}
-use Rattle.pssm_acts.specs.Arguments.{ActArgsFit}
-use Rattle.pssm_acts.specs.Fits.{ActFits}
+use Rattle.pssm_semantics.specs.declared.setting.SignalDecl.{SignalDecl}
+use Rattle.pssm_semantics.specs.declared.setting.Names.{Names}
+use Rattle.pssm_semantics.specs.declared.tree.Act.{Act}
+use Rattle.pssm_semantics.specs.Arguments.{ActArgsFit}
+use Rattle.pssm_semantics.specs.Fits.{ActFits}
 use Rattle.pssm_acts.specs.PhraseReading.{signal_count}
 use Rattle.pssm_acts.specs.Vocabularies.{vocabulary}
-use Rattle.pssm_acts.proofs.ArgumentLaws.{ActFits-args}
+use Rattle.pssm_semantics.proofs.ArgumentLaws.{ActFits-args}
 
 few_at : (signals : List SignalDecl) (k : ℕ) → All (λ d. d.count ≤ 8) signals → signal_count signals k ≤ 8
 few_at signals k few = go (slice_get signals k) refl where

@@ -1,16 +1,16 @@
 -- What is spelled has its shape.
 use Rattle.std.proofs.Common.{◌≡◌, ◌⊎◌, inl, inr, ℕ, ℤ, Bool, true, false, List, ◌++◌, subst, append_assoc}
-use Rattle.pssm_acts.specs.declared.entry.ObjectId.{ObjectId}
-use Rattle.pssm_acts.specs.declared.setting.Names.{Names}
+use Rattle.pssm_semantics.specs.declared.entry.ObjectId.{ObjectId}
+use Rattle.pssm_semantics.specs.declared.setting.Names.{Names}
 use Rattle.pssm_acts.specs.declared.token.Kind.TheVariants as kinds
-use Rattle.pssm_acts.specs.declared.tree.Act.{Act}
-use Rattle.pssm_acts.specs.declared.tree.Cond.{Cond}
-use Rattle.pssm_acts.specs.declared.tree.Expr.{Expr}
-use Rattle.pssm_acts.specs.declared.tree.Stmt.{Stmt}
+use Rattle.pssm_semantics.specs.declared.tree.Act.{Act}
+use Rattle.pssm_semantics.specs.declared.tree.Cond.{Cond}
+use Rattle.pssm_semantics.specs.declared.tree.Expr.{Expr}
+use Rattle.pssm_semantics.specs.declared.tree.Stmt.{Stmt}
 use Rattle.std.proofs.Common.{Option}
 use Rattle.pssm_acts.specs.Tokens.{Token}
-use Rattle.pssm_acts.specs.Numbers.{SpellsNumber}
-use Rattle.pssm_acts.specs.Numbers as spelled
+use Rattle.pssm_spelling.specs.Numbers.{SpellsNumber}
+use Rattle.pssm_spelling.specs.Numbers as spelled
 use Rattle.pssm_acts.specs.Grammar.{Part, GuardPart, SpellsExpr, SpellsGuard}
 use Rattle.pssm_acts.specs.Grammar as grammar
 use Rattle.pssm_acts.specs.ActGrammar.{NamesReceiver, SpellsList, SpellsArguments, SpellsPhrase, SpellsStmts, SpellsBehaviours}

@@ -1,8 +1,8 @@
 -- The signs in a text that is written, with the spaces around them.
 use Rattle.std.proofs.Common.{◌-◌, ℕ, Bool, true, false, List, ◌++◌, length, refl, codes}
 use Rattle.pssm_acts.specs.declared.token.Kind.TheVariants as kinds
-use Rattle.pssm_acts.specs.declared.tree.Rel.{Rel}
-use Rattle.pssm_acts.specs.declared.tree.Rel.TheVariants.{Eq, Ne, Lt, Le, Gt, Ge}
+use Rattle.pssm_semantics.specs.declared.tree.Rel.{Rel}
+use Rattle.pssm_semantics.specs.declared.tree.Rel.TheVariants.{Eq, Ne, Lt, Le, Gt, Ge}
 use Rattle.pssm_acts.specs.ActText.{rel_text}
 use Rattle.pssm_acts.specs.Tokens.{number_len, sign_front, front, cut}
 use Rattle.pssm_acts.proofs.FrontLaws.{Begins}

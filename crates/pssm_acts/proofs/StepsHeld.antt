@@ -8,10 +8,10 @@ use Rattle.pssm_acts.specs.declared.acts_reader.Turn.{Turn}
 use Rattle.pssm_acts.specs.declared.acts_reader.Turn.TheVariants.{Begins, Within, Condition, Chosen, Else}
 use Rattle.pssm_acts.specs.declared.acts_reader.Turn.TheVariants as turns
 use Rattle.pssm_acts.specs.declared.guard_reader.GuardReader.{GuardReader}
-use Rattle.pssm_acts.specs.declared.setting.Names.{Names}
+use Rattle.pssm_semantics.specs.declared.setting.Names.{Names}
 use Rattle.pssm_acts.specs.declared.token.Kind.TheVariants as kinds
-use Rattle.pssm_acts.specs.declared.tree.Act.{Act}
-use Rattle.pssm_acts.specs.declared.tree.Stmt.{Stmt}
+use Rattle.pssm_semantics.specs.declared.tree.Act.{Act}
+use Rattle.pssm_semantics.specs.declared.tree.Stmt.{Stmt}
 use Rattle.pssm_acts.specs.ActGrammar.{SpellsBehaviour, SpellsBehaviours, first, step}
 use Rattle.pssm_acts.specs.ActReading.{fresh_blocks}
 use Rattle.pssm_acts.specs.Tokens.{Token}

@@ -3,11 +3,11 @@ use Rattle.std.proofs.Common.{◌≡◌, ◌≤◌, ◌<◌, ◌+◌, ◌-◌, �
 use Rattle.std.proofs.lemmas.List.Sums.{fold-append}
 use Rattle.pssm_acts.specs.declared.act_fault.ActFault.{ActFault}
 use Rattle.pssm_acts.specs.declared.act_fault.ActFault.TheVariants.{Syntax, UnknownName, WideNumber, Arity, TooLong, NoMemory}
-use Rattle.pssm_acts.specs.declared.setting.Names.{Names}
+use Rattle.pssm_semantics.specs.declared.setting.Names.{Names}
 use Rattle.pssm_acts.specs.declared.token.Kind.{Kind}
 use Rattle.pssm_acts.specs.declared.token.Kind.TheVariants as kinds
 use Rattle.pssm_acts.specs.ExprReading.{and_then}
-use Rattle.pssm_acts.specs.Numbers.{SpellsNumber}
+use Rattle.pssm_spelling.specs.Numbers.{SpellsNumber}
 use Rattle.pssm_acts.specs.TextFaults.{Place, Statement, Mark, Operand, place_behind, place, IsUnknown, IsOpening, levels_behind, open_levels, begun_behind, statements_begun, BeginsStatement, steps_behind, steps_ended}
 use Rattle.pssm_acts.specs.Tokens.{Token}
 

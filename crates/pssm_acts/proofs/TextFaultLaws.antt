@@ -11,10 +11,10 @@ use Rattle.pssm_acts.specs.declared.acts_reader.Turn.{Turn}
 use Rattle.pssm_acts.specs.declared.acts_reader.Turn.TheVariants.{Begins, Chosen}
 use Rattle.pssm_acts.specs.declared.read_blocks.Blocks.{Blocks}
 use Rattle.pssm_acts.specs.declared.read_blocks.OpenIf.{OpenIf}
-use Rattle.pssm_acts.specs.declared.setting.Names.{Names}
+use Rattle.pssm_semantics.specs.declared.setting.Names.{Names}
 use Rattle.pssm_acts.specs.declared.token.Kind.{Kind}
 use Rattle.pssm_acts.specs.declared.token.Kind.TheVariants as kinds
-use Rattle.pssm_acts.specs.declared.tree.Act.{Act}
+use Rattle.pssm_semantics.specs.declared.tree.Act.{Act}
 use Rattle.pssm_acts.specs.Tokens.{Token, tokens_of}
 use Rattle.pssm_acts.specs.ExprReading.{and_then}
 use Rattle.pssm_acts.specs.PhraseReading.{beside}

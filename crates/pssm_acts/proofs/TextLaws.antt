@@ -1,11 +1,11 @@
 -- How a guard's text is read token after token: what a blank and a token do to what is left.
 use Rattle.std.proofs.Common.{◌≡◌, ◌≤◌, ◌<◌, ◌+◌, ◌-◌, ℕ, suc, zero, Bool, true, false, List, [], ◌∷◌, length, take, drop, Ok, Err, Result, refl, sym, ap, ◌∙◌, subst, arith, get_or, length-drop}
 use Rattle.std.proofs.Math.Seq.{take-length}
-use Rattle.pssm_acts.specs.declared.setting.Names.{Names}
+use Rattle.pssm_semantics.specs.declared.setting.Names.{Names}
 use Rattle.pssm_acts.specs.declared.act_fault.ActFault.{ActFault}
 use Rattle.pssm_acts.specs.declared.act_fault.ActFault.TheVariants.{Syntax, UnknownName, WideNumber, Arity, TooLong, NoMemory}
 use Rattle.pssm_acts.specs.declared.token.Kind.{Kind}
-use Rattle.pssm_acts.specs.declared.tree.Cond.{Cond}
+use Rattle.pssm_semantics.specs.declared.tree.Cond.{Cond}
 use Rattle.pssm_acts.specs.declared.guard_reader.GuardReader.{GuardReader}
 use Rattle.pssm_acts.specs.Tokens.{Token, is_blank, front, cut, ends_operand}
 use Rattle.pssm_acts.specs.ExprReading.{Answers, and_then}

@@ -1,20 +1,20 @@
 -- Parameters in texts are `$1` to `$8`, so the numbers in what is read are in range.
 use Rattle.std.proofs.Common.{◌≡◌, ◌≤◌, ◌-◌, ℕ, suc, zero, Bool, true, false, leb, eqb, ◌&&◌, List, [], ◌∷◌, ◌++◌, length, take, Option, Some, None, refl, sym, subst, arith, bytes_eq, if◌then◌else◌, min, nat_lt, slice_index_or, codes}
 use Rattle.std.specs.List.{prefix_len}
-use Rattle.pssm_acts.specs.Spelling.{continues_name}
+use Rattle.pssm_spelling.specs.Spelling.{continues_name}
 use Rattle.std.proofs.lemmas.Bool.{and_parts, leb-true}
 use Rattle.std.proofs.lemmas.List.Quantifiers.{position-Some}
-use Rattle.pssm_acts.specs.declared.setting.Names.{Names}
+use Rattle.pssm_semantics.specs.declared.setting.Names.{Names}
 use Rattle.pssm_acts.specs.declared.token.Kind.{Kind}
 use Rattle.pssm_acts.specs.declared.token.Kind.TheVariants as kinds
-use Rattle.pssm_acts.specs.declared.tree.Rel.TheVariants.{Eq, Ne, Lt, Le, Gt, Ge}
-use Rattle.pssm_acts.specs.declared.tree.Expr.{Expr}
-use Rattle.pssm_acts.specs.declared.tree.Cond.{Cond}
-use Rattle.pssm_acts.specs.Fits.{ExprFits, CondFits}
-use Rattle.pssm_acts.specs.SpellingReading.{starts_name}
+use Rattle.pssm_semantics.specs.declared.tree.Rel.TheVariants.{Eq, Ne, Lt, Le, Gt, Ge}
+use Rattle.pssm_semantics.specs.declared.tree.Expr.{Expr}
+use Rattle.pssm_semantics.specs.declared.tree.Cond.{Cond}
+use Rattle.pssm_semantics.specs.Fits.{ExprFits, CondFits}
+use Rattle.pssm_spelling.specs.SpellingReading.{starts_name}
 use Rattle.pssm_acts.specs.Tokens.{Token, is_blank, word_kind, double_sign, single_sign, longest_sign, sign_front, number_or_sign, number_len, front, ends_operand, cut, tokens_of}
 use Rattle.pssm_acts.specs.Grammar.{Part, SpellsExpr, number, variable, parameter, parentheses, atom, times, product, plus, minus, GuardPart, Either, SpellsGuard, truth, falsity, negation, brackets, relation, lone_unit, conjoined, lone_conjunction, disjoined}
-use Rattle.pssm_acts.proofs.Views.{Sum-is, Diff-is, Prod-is, Not-is, And-is, Or-is}
+use Rattle.pssm_semantics.proofs.Views.{Sum-is, Diff-is, Prod-is, Not-is, And-is, Or-is}
 
 -- A parameter has a number from 1 to 8.
 abbrev pub IsInRange : Kind → Type 0

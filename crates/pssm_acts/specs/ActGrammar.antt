@@ -1,15 +1,15 @@
 -- The grammar of behaviours and steps, over the tokens of a text, with the names, marks and limits that it obeys (this profile's choice).
 use Rattle.std.specs.Prelude.{◌≡◌, ◌≤◌, ℕ, suc, List, [], ◌∷◌, ◌++◌, length, Option, Some, None, position, bytes_eq}
 use Rattle.pssm_model.specs.declared.ids.SignalId.{SignalId}
-use Rattle.pssm_acts.specs.declared.entry.ObjectId.{ObjectId}
-use Rattle.pssm_acts.specs.declared.setting.Names.{Names}
+use Rattle.pssm_semantics.specs.declared.entry.ObjectId.{ObjectId}
+use Rattle.pssm_semantics.specs.declared.setting.Names.{Names}
 use Rattle.pssm_acts.specs.declared.token.Kind.TheVariants as kinds
-use Rattle.pssm_acts.specs.declared.tree.Act.{Act}
-use Rattle.pssm_acts.specs.declared.tree.Cond.{Cond}
-use Rattle.pssm_acts.specs.declared.tree.Expr.{Expr}
-use Rattle.pssm_acts.specs.declared.tree.Stmt.{Stmt, Assign, Send, Mark}
-use Rattle.pssm_acts.specs.declared.tree.Stmt.TheViews as stmts
-use Rattle.pssm_acts.specs.Fits.{stmts_count}
+use Rattle.pssm_semantics.specs.declared.tree.Act.{Act}
+use Rattle.pssm_semantics.specs.declared.tree.Cond.{Cond}
+use Rattle.pssm_semantics.specs.declared.tree.Expr.{Expr}
+use Rattle.pssm_semantics.specs.declared.tree.Stmt.{Stmt, Assign, Send, Mark}
+use Rattle.pssm_semantics.specs.declared.tree.Stmt.TheViews as stmts
+use Rattle.pssm_semantics.specs.Fits.{stmts_count}
 use Rattle.pssm_acts.specs.Grammar.{Sum, SpellsExpr, Either, SpellsGuard}
 use Rattle.pssm_acts.specs.Marks.{mark_of, with_mark}
 use Rattle.pssm_acts.specs.Tokens.{Token, tokens_of}

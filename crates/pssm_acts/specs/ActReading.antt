@@ -13,13 +13,13 @@ use Rattle.pssm_acts.specs.declared.guard_reader.GuardReader.{GuardReader}
 use Rattle.pssm_acts.specs.declared.phrase_reader.Phrase.{Phrase}
 use Rattle.pssm_acts.specs.declared.phrase_reader.Phrased.{Phrased}
 use Rattle.pssm_acts.specs.declared.phrase_reader.Phrased.TheVariants.{Goes, Ends}
-use Rattle.pssm_acts.specs.declared.setting.Names.{Names}
+use Rattle.pssm_semantics.specs.declared.setting.Names.{Names}
 use Rattle.pssm_acts.specs.declared.token.Kind.{Kind}
 use Rattle.pssm_acts.specs.declared.token.Kind.TheVariants as kinds
-use Rattle.pssm_acts.specs.declared.tree.Act.{Act}
-use Rattle.pssm_acts.specs.declared.tree.Cond.{Cond}
-use Rattle.pssm_acts.specs.declared.tree.Stmt.{Stmt}
-use Rattle.pssm_acts.specs.declared.tree.Stmt.TheViews as stmts
+use Rattle.pssm_semantics.specs.declared.tree.Act.{Act}
+use Rattle.pssm_semantics.specs.declared.tree.Cond.{Cond}
+use Rattle.pssm_semantics.specs.declared.tree.Stmt.{Stmt}
+use Rattle.pssm_semantics.specs.declared.tree.Stmt.TheViews as stmts
 pub use Rattle.pssm_acts.specs.Answers.{listed}
 use Rattle.pssm_acts.specs.ExprReading.{and_then}
 use Rattle.pssm_acts.specs.GuardReading.{fresh_guard, guard_step, guard_value, nots_waiting}

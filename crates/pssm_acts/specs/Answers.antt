@@ -3,7 +3,7 @@ use Rattle.std.specs.Prelude.{◌≡◌, List, Result, Ok, Err, Vec}
 use Rattle.std.specs.declared.alloc.Global.{Global}
 use Rattle.pssm_acts.specs.declared.act_fault.ActFault.{ActFault}
 use Rattle.pssm_acts.specs.declared.act_fault.ActFault.TheVariants.{NoMemory}
-use Rattle.pssm_acts.specs.declared.tree.Act.{Act}
+use Rattle.pssm_semantics.specs.declared.tree.Act.{Act}
 
 -- The answer is the one that is due, or memory was wanting.
 abbrev pub Answers : {A : Type 0} → Result A ActFault → Result A ActFault → Type 0

@@ -7,10 +7,10 @@ use Rattle.pssm_acts.specs.declared.argument_reader.Argued.{Argued}
 use Rattle.pssm_acts.specs.declared.argument_reader.Argued.TheVariants.{Goes, Ends}
 use Rattle.pssm_acts.specs.declared.expr_reader.ExprReader.{ExprReader}
 use Rattle.pssm_acts.specs.declared.expr_reader.Level.{Level}
-use Rattle.pssm_acts.specs.declared.setting.Names.{Names}
+use Rattle.pssm_semantics.specs.declared.setting.Names.{Names}
 use Rattle.pssm_acts.specs.declared.token.Kind.{Kind}
 use Rattle.pssm_acts.specs.declared.token.Kind.TheVariants as kinds
-use Rattle.pssm_acts.specs.declared.tree.Expr.{Expr}
+use Rattle.pssm_semantics.specs.declared.tree.Expr.{Expr}
 use Rattle.pssm_acts.specs.ExprReading.{and_then, expr_step, expr_value, fresh_expr}
 use Rattle.pssm_acts.specs.Tokens.{Token}
 

@@ -1,8 +1,8 @@
 -- Texts in canonical spelling: each is the one spelling of something that can be read back (this profile's choice).
 use Rattle.std.specs.Prelude.{◌≡◌, ℕ, List}
-use Rattle.pssm_acts.specs.declared.setting.Names.{Names}
-use Rattle.pssm_acts.specs.declared.tree.Act.{Act}
-use Rattle.pssm_acts.specs.declared.tree.Cond.{Cond}
+use Rattle.pssm_semantics.specs.declared.setting.Names.{Names}
+use Rattle.pssm_semantics.specs.declared.tree.Act.{Act}
+use Rattle.pssm_semantics.specs.declared.tree.Cond.{Cond}
 use Rattle.pssm_acts.specs.ActText.{cond_text, act_text}
 use Rattle.pssm_acts.specs.ReadBack.{GuardCanBeReadBack, CanBeReadBack}
 

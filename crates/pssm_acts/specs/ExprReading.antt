@@ -3,13 +3,13 @@ use Rattle.std.specs.Prelude.{ℕ, List, [], ◌∷◌, length, Option, Some, No
 use Rattle.pssm_acts.specs.declared.act_fault.ActFault.{ActFault}
 pub use Rattle.pssm_acts.specs.Answers.{Answers}
 use Rattle.pssm_acts.specs.declared.act_fault.ActFault.TheVariants.{Syntax, UnknownName, TooLong}
-use Rattle.pssm_acts.specs.declared.setting.Names.{Names}
+use Rattle.pssm_semantics.specs.declared.setting.Names.{Names}
 use Rattle.pssm_acts.specs.declared.token.Kind.{Kind}
 use Rattle.pssm_acts.specs.declared.token.Kind.TheVariants as kinds
 use Rattle.pssm_acts.specs.declared.token.Piece.{Piece}
-use Rattle.pssm_acts.specs.declared.tree.Expr.{Expr}
-use Rattle.pssm_acts.specs.declared.tree.Expr.TheVariants.{Num, Var, Param}
-use Rattle.pssm_acts.specs.declared.tree.Expr.TheViews as views
+use Rattle.pssm_semantics.specs.declared.tree.Expr.{Expr}
+use Rattle.pssm_semantics.specs.declared.tree.Expr.TheVariants.{Num, Var, Param}
+use Rattle.pssm_semantics.specs.declared.tree.Expr.TheViews as views
 use Rattle.pssm_acts.specs.declared.expr_reader.Left.{Left}
 use Rattle.pssm_acts.specs.declared.expr_reader.Left.TheVariants.{Nothing, Plus, Minus}
 use Rattle.pssm_acts.specs.declared.expr_reader.Level.{Level}

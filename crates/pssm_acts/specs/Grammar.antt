@@ -1,15 +1,15 @@
 -- The grammar of guards, over the tokens of a text, with the names and limits that it obeys (this profile's choice).
 use Rattle.std.specs.Prelude.{◌≡◌, ◌≤◌, ℕ, suc, ℤ, List, [], ◌∷◌, ◌++◌, length, Some, position, bytes_eq}
-use Rattle.pssm_acts.specs.declared.setting.Names.{Names}
+use Rattle.pssm_semantics.specs.declared.setting.Names.{Names}
 use Rattle.pssm_acts.specs.declared.token.Kind.TheVariants as kinds
-use Rattle.pssm_acts.specs.declared.tree.Expr.{Expr}
-use Rattle.pssm_acts.specs.declared.tree.Expr.TheVariants.{Num, Var, Param}
-use Rattle.pssm_acts.specs.declared.tree.Expr.TheViews as views
-use Rattle.pssm_acts.specs.declared.tree.Rel.{Rel}
-use Rattle.pssm_acts.specs.declared.tree.Cond.{Cond}
-use Rattle.pssm_acts.specs.declared.tree.Cond.TheVariants.{True, False, Compare}
-use Rattle.pssm_acts.specs.declared.tree.Cond.TheViews as guards
-use Rattle.pssm_acts.specs.Numbers.{SpellsNumber}
+use Rattle.pssm_semantics.specs.declared.tree.Expr.{Expr}
+use Rattle.pssm_semantics.specs.declared.tree.Expr.TheVariants.{Num, Var, Param}
+use Rattle.pssm_semantics.specs.declared.tree.Expr.TheViews as views
+use Rattle.pssm_semantics.specs.declared.tree.Rel.{Rel}
+use Rattle.pssm_semantics.specs.declared.tree.Cond.{Cond}
+use Rattle.pssm_semantics.specs.declared.tree.Cond.TheVariants.{True, False, Compare}
+use Rattle.pssm_semantics.specs.declared.tree.Cond.TheViews as guards
+use Rattle.pssm_spelling.specs.Numbers.{SpellsNumber}
 use Rattle.pssm_acts.specs.Tokens.{Token, tokens_of}
 
 -- The parts of an expression: an atom, atoms joined by `*`, and such products joined by `+` and `-`.

@@ -3,7 +3,7 @@ use Rattle.std.specs.Prelude.{ℕ, suc, zero, ◌^◌, ℤ, pos, negsuc, List, [
 use Rattle.std.specs.Str.Parse.{digits_value}
 use Rattle.pssm_acts.specs.declared.act_fault.ActFault.{ActFault}
 use Rattle.pssm_acts.specs.declared.act_fault.ActFault.TheVariants.{Syntax, WideNumber}
-use Rattle.pssm_acts.specs.Numbers.{is_natural}
+use Rattle.pssm_spelling.specs.Numbers.{is_natural}
 
 -- the number of a word, or its fault: `WideNumber` where it is out of range, and `Syntax` where the word spells none
 unfoldable pub natural_read : ℕ → List ℕ → Result ℤ ActFault

@@ -9,7 +9,7 @@ use Rattle.pssm_acts.specs.declared.argument_reader.Arguments.{Arguments}
 use Rattle.pssm_acts.specs.declared.argument_reader.Arguments.TheVariants.{Opened}
 use Rattle.pssm_acts.specs.declared.argument_reader.Argued.{Argued}
 use Rattle.pssm_acts.specs.declared.argument_reader.Argued.TheVariants as arguments
-use Rattle.pssm_acts.specs.declared.entry.ObjectId.{ObjectId}
+use Rattle.pssm_semantics.specs.declared.entry.ObjectId.{ObjectId}
 use Rattle.pssm_acts.specs.declared.expr_reader.ExprReader.{ExprReader}
 use Rattle.pssm_acts.specs.declared.phrase_reader.Call.{Call}
 use Rattle.pssm_acts.specs.declared.phrase_reader.Call.TheVariants as calls
@@ -18,12 +18,12 @@ use Rattle.pssm_acts.specs.declared.phrase_reader.Phrase.TheVariants.{Variable, 
 use Rattle.pssm_acts.specs.declared.phrase_reader.Phrase.TheVariants as phrases
 use Rattle.pssm_acts.specs.declared.phrase_reader.Phrased.{Phrased}
 use Rattle.pssm_acts.specs.declared.phrase_reader.Phrased.TheVariants.{Goes, Ends}
-use Rattle.pssm_acts.specs.declared.setting.Names.{Names}
-use Rattle.pssm_acts.specs.declared.setting.SignalDecl.{SignalDecl}
+use Rattle.pssm_semantics.specs.declared.setting.Names.{Names}
+use Rattle.pssm_semantics.specs.declared.setting.SignalDecl.{SignalDecl}
 use Rattle.pssm_acts.specs.declared.token.Kind.{Kind}
 use Rattle.pssm_acts.specs.declared.token.Kind.TheVariants as kinds
-use Rattle.pssm_acts.specs.declared.tree.Expr.{Expr}
-use Rattle.pssm_acts.specs.declared.tree.Stmt.{Stmt, Assign, Send, Mark}
+use Rattle.pssm_semantics.specs.declared.tree.Expr.{Expr}
+use Rattle.pssm_semantics.specs.declared.tree.Stmt.{Stmt, Assign, Send, Mark}
 use Rattle.pssm_acts.specs.ArgumentReading.{arguments_step}
 use Rattle.pssm_acts.specs.ExprReading.{and_then, expr_step, expr_value, fresh_expr}
 use Rattle.pssm_acts.specs.Marks.{mark_of, with_mark}

@@ -1,17 +1,17 @@
 -- When a text that is written can be read back as the same tree (this profile's choice).
 use Rattle.std.specs.Prelude.{◌≡◌, ◌≢◌, ◌≤◌, ◌<◌, ◌+◌, ◌^◌, ℕ, ℤ, pos, negsuc, Bool, true, false, List, [], ◌∷◌, length, map, max, Option, Some, None, All, AllPairs}
-use Rattle.pssm_acts.specs.declared.entry.ObjectId.{ObjectId}
-use Rattle.pssm_acts.specs.declared.setting.Names.{Names}
+use Rattle.pssm_semantics.specs.declared.entry.ObjectId.{ObjectId}
+use Rattle.pssm_semantics.specs.declared.setting.Names.{Names}
 use Rattle.pssm_acts.specs.declared.token.Kind.TheVariants as kinds
-use Rattle.pssm_acts.specs.declared.tree.Act.{Act}
-use Rattle.pssm_acts.specs.declared.tree.Expr.{Expr, end_of-Expr, more_of-Expr}
-use Rattle.pssm_acts.specs.declared.tree.Expr.TheVariants.{Num, Var, Param, Sum', Diff', Prod'}
-use Rattle.pssm_acts.specs.declared.tree.Cond.{Cond, end_of-Cond, more_of-Cond}
-use Rattle.pssm_acts.specs.declared.tree.Cond.TheVariants.{True, False, Compare, Not', And', Or'}
-use Rattle.pssm_acts.specs.declared.tree.Stmt.{Stmt, Assign, Choose', Send, Mark, Row_of-Stmt, end_of-Stmt, more_of-Stmt, Held-Stmt-Choose-2, None', Some'}
+use Rattle.pssm_semantics.specs.declared.tree.Act.{Act}
+use Rattle.pssm_semantics.specs.declared.tree.Expr.{Expr, end_of-Expr, more_of-Expr}
+use Rattle.pssm_semantics.specs.declared.tree.Expr.TheVariants.{Num, Var, Param, Sum', Diff', Prod'}
+use Rattle.pssm_semantics.specs.declared.tree.Cond.{Cond, end_of-Cond, more_of-Cond}
+use Rattle.pssm_semantics.specs.declared.tree.Cond.TheVariants.{True, False, Compare, Not', And', Or'}
+use Rattle.pssm_semantics.specs.declared.tree.Stmt.{Stmt, Assign, Choose', Send, Mark, Row_of-Stmt, end_of-Stmt, more_of-Stmt, Held-Stmt-Choose-2, None', Some'}
 use Rattle.pssm_acts.specs.ActText.{name_at, signal_name, is_operation, is_chain, cond_text, act_text}
-use Rattle.pssm_acts.specs.Fits.{CondFits, ActFits}
-use Rattle.pssm_acts.specs.Spelling.{IsName}
+use Rattle.pssm_semantics.specs.Fits.{CondFits, ActFits}
+use Rattle.pssm_spelling.specs.Spelling.{IsName}
 use Rattle.pssm_acts.specs.Tokens.{word_kind}
 use Rattle.pssm_acts.specs.Vocabularies.{vocabulary}
 

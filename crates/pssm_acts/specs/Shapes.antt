@@ -1,10 +1,10 @@
 -- The shapes of texts: the grammar of behaviours, steps and guards without names, widths, numbers of arguments and limits (this profile's choice).
 use Rattle.std.specs.Prelude.{◌≡◌, ◌⊎◌, ℕ, suc, IsTrue, List, [], ◌∷◌, ◌++◌}
 use Rattle.pssm_acts.specs.declared.token.Kind.TheVariants as kinds
-use Rattle.pssm_acts.specs.declared.tree.Rel.{Rel}
+use Rattle.pssm_semantics.specs.declared.tree.Rel.{Rel}
 use Rattle.std.specs.Str.Parse.{digits_value}
 use Rattle.pssm_acts.specs.Grammar.{Part, Atom, Product, Sum, GuardPart, Unit', Both, Either}
-use Rattle.pssm_acts.specs.Numbers.{is_natural}
+use Rattle.pssm_spelling.specs.Numbers.{is_natural}
 use Rattle.pssm_acts.specs.Tokens.{Token}
 
 -- The word is written as a number is, however wide: digits without leading zeros, or `-` and such digits that are not 0.

@@ -3,12 +3,12 @@ use Rattle.std.specs.Prelude.{◌≡◌, ◌≤◌, ◌<◌, ◌-◌, ℕ, suc, 
 use Rattle.std.specs.List.{fold}
 use Rattle.pssm_acts.specs.declared.act_fault.ActFault.{ActFault}
 use Rattle.pssm_acts.specs.declared.act_fault.ActFault.TheVariants.{Syntax, UnknownName, WideNumber, Arity, TooLong}
-use Rattle.pssm_acts.specs.declared.setting.Names.{Names}
+use Rattle.pssm_semantics.specs.declared.setting.Names.{Names}
 use Rattle.pssm_acts.specs.declared.token.Kind.{Kind}
 use Rattle.pssm_acts.specs.declared.token.Kind.TheVariants as kinds
-use Rattle.pssm_acts.specs.declared.tree.Expr.{Expr}
+use Rattle.pssm_semantics.specs.declared.tree.Expr.{Expr}
 use Rattle.pssm_acts.specs.ActGrammar.{SpellsArguments}
-use Rattle.pssm_acts.specs.Numbers.{SpellsNumber}
+use Rattle.pssm_spelling.specs.Numbers.{SpellsNumber}
 use Rattle.pssm_acts.specs.Shapes.{Begins}
 use Rattle.pssm_acts.specs.Tokens.{Token, tokens_of}
 use Rattle.pssm_acts.specs.Vocabularies.{signal_count}

@@ -1,9 +1,9 @@
 -- How the bytes of an action text are cut into tokens: the longest is taken, blanks may stand between them, and whether a `-` belongs to a number is told by the token before it (this profile's choice).
 use Rattle.std.specs.Prelude.{ℕ, suc, zero, ◌+◌, ◌-◌, Bool, true, false, ◌&&◌, ◌||◌, List, [], ◌∷◌, length, take, min, Option, Some, None, nat_lt, nat_le, ◌==◌, if◌then◌else◌, bytes_eq, codes}
 use Rattle.std.specs.List.{prefix_len, slice_index_or}
-use Rattle.pssm_acts.specs.Spelling.{continues_name}
-use Rattle.pssm_acts.specs.SpellingReading.{is_digit, starts_name}
-use Rattle.pssm_acts.specs.declared.tree.Rel.TheVariants.{Eq, Ne, Lt, Le, Gt, Ge}
+use Rattle.pssm_spelling.specs.Spelling.{continues_name}
+use Rattle.pssm_spelling.specs.SpellingReading.{is_digit, starts_name}
+use Rattle.pssm_semantics.specs.declared.tree.Rel.TheVariants.{Eq, Ne, Lt, Le, Gt, Ge}
 use Rattle.pssm_acts.specs.declared.token.Kind.{Kind}
 use Rattle.pssm_acts.specs.declared.token.Kind.TheVariants as kinds
 

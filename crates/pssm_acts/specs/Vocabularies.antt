@@ -2,10 +2,10 @@
 use Rattle.std.specs.Prelude.{◌≡◌, ◌<◌, ℕ, List, length, Option, Some, None, slice_get}
 use Rattle.std.specs.Option.{option_map_or}
 use Rattle.pssm_model.specs.declared.ids.SignalId.{SignalId}
-use Rattle.pssm_acts.specs.declared.entry.ObjectId.{ObjectId}
-use Rattle.pssm_acts.specs.declared.setting.Names.{Names}
-use Rattle.pssm_acts.specs.declared.setting.SignalDecl.{SignalDecl}
-use Rattle.pssm_acts.specs.Fits.{Vocabulary}
+use Rattle.pssm_semantics.specs.declared.entry.ObjectId.{ObjectId}
+use Rattle.pssm_semantics.specs.declared.setting.Names.{Names}
+use Rattle.pssm_semantics.specs.declared.setting.SignalDecl.{SignalDecl}
+use Rattle.pssm_semantics.specs.Fits.{Vocabulary}
 
 -- how many parameters a signal has; 0 where there is no such signal
 abbrev pub signal_count : List SignalDecl → ℕ → ℕ

@@ -10,11 +10,10 @@ use crate::act_fault::ActFault;
 use crate::guard_reader::{GuardReader, guard_end, guard_next, new_guard};
 use crate::phrase_reader::{Phrase, Phrased, new_phrase, phrase_next};
 use crate::read_blocks::{Blocks, OpenIf, counted, new_blocks, with_if, with_step, with_stmt};
-use crate::setting::Names;
 use crate::stack::Stack;
 use crate::token::{Kind, Piece};
-use crate::tree::{Act, Cond, Stmt};
 use pssm_model::{Row, Text};
+use pssm_semantics::{Act, Cond, Names, Stmt};
 use std::alloc::Global;
 
 /// How many levels of parentheses, brackets and blocks may be open at once (this profile's choice).

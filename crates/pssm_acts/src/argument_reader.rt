@@ -5,10 +5,9 @@ ghost use Rattle.pssm_acts.specs.ArgumentReading.{argument_closed, argument_ende
 
 use crate::act_fault::ActFault;
 use crate::expr_reader::{ExprReader, expr_end, expr_next, new_reader};
-use crate::setting::Names;
 use crate::token::{Kind, Piece};
-use crate::tree::Expr;
 use pssm_model::Row;
+use pssm_semantics::{Expr, Names};
 use std::alloc::{AllocError as NoMemory, Global};
 
 /// Arguments of which nothing has been read; or those that are whole, and one that has been read in part.

@@ -4,11 +4,10 @@ ghost use Rattle.pssm_acts.specs.ExprReading.{Answers, after_atom, at_atom, atom
 
 use crate::act_fault::ActFault;
 use crate::numbers::number_of;
-use crate::setting::Names;
 use crate::stack::Stack;
 use crate::token::{Kind, Piece};
-use crate::tree::Expr;
 use pssm_model::{Boxed, Text};
+use pssm_semantics::{Expr, Names};
 use std::alloc::{AllocError as NoMemory, Global};
 
 /// The left side of a `+` or a `-`, where one waits for its right side.

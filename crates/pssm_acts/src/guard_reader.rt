@@ -5,11 +5,10 @@ ghost use Rattle.pssm_acts.specs.GuardReading.{after_unit, bracket_closed, brack
 
 use crate::act_fault::ActFault;
 use crate::expr_reader::{ExprReader, expr_end, expr_next, new_reader};
-use crate::setting::Names;
 use crate::stack::Stack;
 use crate::token::{Kind, Piece};
-use crate::tree::{Cond, Expr, Rel};
 use pssm_model::Boxed;
+use pssm_semantics::{Cond, Expr, Names, Rel};
 use std::alloc::{AllocError as NoMemory, Global};
 
 /// What stands before a unit: a guard and a `&&`, and so many `!`.

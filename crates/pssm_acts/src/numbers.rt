@@ -2,49 +2,21 @@
 ghost use Rattle.std.specs.Prelude.{◌≡◌, ◌<◌, ◌^◌, negsuc, IsTrue, min};
 ghost use Rattle.std.specs.List.{list_all};
 ghost use Rattle.std.specs.Str.Parse.{digits_value};
-ghost use Rattle.pssm_acts.specs.SpellingReading.{is_digit};
-ghost use Rattle.pssm_acts.specs.Numbers.{is_natural};
+ghost use Rattle.pssm_spelling.specs.SpellingReading.{is_digit};
+ghost use Rattle.pssm_spelling.specs.Numbers.{is_natural};
 ghost use Rattle.pssm_acts.specs.NumberReading.{natural_read, negative_read, number_read};
 
 use crate::act_fault::ActFault;
-use crate::spelling::{is_decimal, is_plain_number};
+use pssm_spelling::{magnitude, spells_natural};
 
 /// The first number past the greatest of 64 bits with a sign.
 const LIMIT: u64 = 1 << 63;
-
-/// Whether these are digits.
-fn all_digits(digits: &[u8]) -> bool
-    ensures { result ≡ list_all is_digit digits.now }
-{
-    digits.iter().all(|c| is_decimal(*c))
-}
-
-/// Whether these are digits of a number without leading zeros.
-fn natural_text(digits: &[u8]) -> bool
-    ensures { result ≡ is_natural digits.now }
-{
-    is_plain_number(digits) && all_digits(digits)
-}
-
-/// The number that the digits spell, or the greatest of 64 bits where it is beyond.
-fn magnitude(digits: &[u8]) -> u64
-    requires digits { IsTrue (list_all is_digit digits.now) }
-    ensures { result ≡ min (digits_value 10 digits.now) 18446744073709551615 }
-{
-    let mut value = 0u64;
-    for digit in digits {
-        value = value
-            .saturating_mul(10)
-            .saturating_add(u64::from(*digit - b'0'));
-    }
-    value
-}
 
 #[tactic(auto, unfolding(crate::specs::NumberReading::natural_read))]
 fn natural(digits: &[u8], at: u32) -> Result<i64, ActFault>
     ensures { result ≡ natural_read at digits.now }
 {
-    if !natural_text(digits) {
+    if !spells_natural(digits) {
         return Err(ActFault::Syntax { at });
     }
     let value = magnitude(digits);
@@ -66,7 +38,7 @@ fn below_zero(others: u64) -> i64
 fn negative(digits: &[u8], at: u32) -> Result<i64, ActFault>
     ensures { result ≡ negative_read at digits.now }
 {
-    if !natural_text(digits) {
+    if !spells_natural(digits) {
         return Err(ActFault::Syntax { at });
     }
     let value = magnitude(digits);

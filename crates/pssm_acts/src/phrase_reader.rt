@@ -6,12 +6,10 @@ ghost use Rattle.pssm_acts.specs.PhraseReading.{AnswersWith, argument_read, beca
 
 use crate::act_fault::ActFault;
 use crate::argument_reader::{Argued, Arguments, arguments_next};
-use crate::entry::ObjectId;
 use crate::expr_reader::{ExprReader, expr_end, expr_next, new_reader, place_of, variable};
-use crate::setting::{Names, SignalDecl};
 use crate::token::{Kind, Piece};
-use crate::tree::{Expr, Stmt};
 use pssm_model::{MarkId, Row, SignalId, Text};
+use pssm_semantics::{Expr, Names, ObjectId, SignalDecl, Stmt};
 use std::alloc::{AllocError as NoMemory, Global};
 
 /// The greatest number of a mark's arguments (this profile's choice).

@@ -4,8 +4,8 @@ ghost use Rattle.pssm_acts.specs.ActReading.{fresh_blocks, statement_counted, wi
 
 use crate::act_fault::ActFault;
 use crate::stack::Stack;
-use crate::tree::{Act, Cond, Stmt};
 use pssm_model::Row;
+use pssm_semantics::{Act, Cond, Stmt};
 use std::alloc::{AllocError as NoMemory, Global};
 
 /// How many statements a behaviour may have, those in blocks counted (this profile's choice).

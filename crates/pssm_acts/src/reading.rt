@@ -7,7 +7,7 @@ ghost use Rattle.pssm_acts.specs.ActText.{act_text, cond_text};
 ghost use Rattle.pssm_acts.specs.Answers.{Answers, AnswersWith, Faults, listed};
 ghost use Rattle.pssm_acts.specs.Canonical.{IsCanonicalAct, IsCanonicalCond};
 ghost use Rattle.pssm_acts.specs.GuardReading.{cond_reading, text_reading};
-ghost use Rattle.pssm_acts.specs.Fits.{ActFits, CondFits};
+ghost use Rattle.pssm_semantics.specs.Fits.{ActFits, CondFits};
 ghost use Rattle.pssm_acts.specs.Grammar.{Either, SpellsCond};
 ghost use Rattle.pssm_acts.specs.Marks.{KeepsMarks};
 ghost use Rattle.pssm_acts.specs.OneReading.{HasOneReading};
@@ -19,10 +19,9 @@ use crate::act_fault::ActFault;
 use crate::acts_reader::{ReadActs, acts_end, acts_next, new_acts};
 use crate::guard_reader::{guard_end, guard_next, new_guard};
 use crate::read_blocks::with_step;
-use crate::setting::Names;
 use crate::token::{Piece, blank, closes_operand, token_at};
-use crate::tree::{Act, Cond};
 use pssm_model::{Row, Text};
+use pssm_semantics::{Act, Cond, Names};
 use std::alloc::Global;
 
 /// The greatest length of a text, in bytes (this profile's choice).

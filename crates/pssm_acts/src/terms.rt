@@ -1,12 +1,11 @@
 //! How numbers, names, expressions and guards are written, each at the end of a text.
 ghost use Rattle.std.specs.Prelude.{◌≡◌, ◌++◌, ◌↔◌, [], IfOk, IsTrue};
 ghost use Rattle.std.specs.List.{slice_index_or};
-ghost use Rattle.std.specs.Fmt.{signed_decimal};
 ghost use Rattle.pssm_acts.specs.ActText.{cond_text, expr_text, is_chain, is_operation, operand_text, rel_text, unit_text, name_at};
 
-use crate::setting::Names;
-use crate::tree::{Cond, Expr, Rel};
 use pssm_model::Text;
+use pssm_semantics::{Cond, Expr, Names, Rel};
+use pssm_spelling::put_signed;
 use std::alloc::{AllocError as NoMemory, Global};
 
 /// The name with a number, and the empty one where there is none.
@@ -17,14 +16,6 @@ pub(crate) fn name_of(names: &[Text], number: usize) -> &[u8]
         Some(name) => name.as_slice(),
         None => b"",
     }
-}
-
-fn put_number(alloc: Global, text: &mut Vec<u8>, number: i64) -> Result<(), NoMemory>
-    ensures { IfOk result (λ _. text.new.items ≡ text.old.items ++ signed_decimal number) }
-{
-    let digits = format!(in alloc; "{number}")?;
-    text.extend_from_slice(digits.as_str().as_bytes())?;
-    Ok(())
 }
 
 fn is_compound(expr: &Expr) -> bool
@@ -44,14 +35,14 @@ pub(crate) fn put_expr(
     ensures { IfOk result (λ _. text.new.items ≡ text.old.items ++ expr_text names.now expr.now) }
 {
     match expr {
-        Expr::Num(number) => put_number(alloc, text, *number),
+        Expr::Num(number) => put_signed(alloc, text, *number),
         Expr::Var(variable) => {
             text.extend_from_slice(name_of(names.vars.as_slice(), usize::from(*variable)))?;
             Ok(())
         }
         Expr::Param(parameter) => {
             text.push(b'$')?;
-            put_number(alloc, text, i64::from(*parameter))
+            put_signed(alloc, text, i64::from(*parameter))
         }
         Expr::Sum(left, right) => {
             put_operation(alloc, text, left.get(), b" + ", right.get(), names)

@@ -2,8 +2,8 @@
 ghost use Rattle.std.specs.Prelude.{◌≡◌, ◌<◌, ◌≤◌, length, IfSome};
 ghost use Rattle.pssm_acts.specs.Tokens.{double_sign, ends_operand, front, is_blank, number_len, sign_front, single_sign, word_kind};
 
-use crate::spelling::{digits_len, name_len, name_starts};
-use crate::tree::Rel;
+use pssm_semantics::Rel;
+use pssm_spelling::{digits_len, name_len, name_starts};
 
 /// What a token is: a name, a number, a parameter, or a word or sign of the language (this profile's choice).
 ///

@@ -5,11 +5,9 @@ ghost use Rattle.pssm_acts.specs.ActGrammar.{SpellsAct};
 ghost use Rattle.pssm_acts.specs.Grammar.{SpellsCond};
 ghost use Rattle.pssm_acts.specs.ReadBack.{CanBeReadBack, GuardCanBeReadBack};
 
-use crate::entry::ObjectId;
-use crate::setting::{Names, SignalDecl};
 use crate::terms::{name_of, put_cond, put_expr};
-use crate::tree::{Act, Cond, Expr, Stmt};
 use pssm_model::{MarkId, SignalId, Text};
+use pssm_semantics::{Act, Cond, Expr, Names, ObjectId, SignalDecl, Stmt};
 use std::alloc::{AllocError as NoMemory, Global};
 
 /// The spelling of a behaviour.

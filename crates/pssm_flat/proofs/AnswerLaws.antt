@@ -5,7 +5,7 @@ use Rattle.pssm_model.specs.declared.elements.Element.{Element}
 use Rattle.pssm_model.specs.declared.elements.Shape.{Shape}
 use Rattle.pssm_model.specs.declared.elements.Shape.TheVariants as shapes
 use Rattle.pssm_model.specs.Shape.{HasShape, IsShapeFault, IsNamedBy}
-use Rattle.pssm_acts.specs.declared.setting.Setting.{Setting}
+use Rattle.pssm_semantics.specs.declared.setting.Setting.{Setting}
 use Rattle.pssm_flat.specs.declared.fault.FlatFault.{FlatFault}
 use Rattle.pssm_flat.specs.declared.fault.FlatFault.TheVariants as faults
 use Rattle.pssm_flat.specs.declared.block.Block.{Block}

@@ -7,8 +7,8 @@ use Rattle.pssm_model.specs.declared.elements.Transition.{Transition}
 use Rattle.pssm_model.specs.declared.elements.Guard.{Guard}
 use Rattle.pssm_model.specs.declared.elements.Guard.TheVariants.{Always, Otherwise, When}
 use Rattle.pssm_model.specs.Silent.{IsSilentVertex, IsSilentTransition}
-use Rattle.pssm_acts.specs.declared.setting.SignalDecl.{SignalDecl}
-use Rattle.pssm_acts.specs.Spelling.{IsName}
+use Rattle.pssm_semantics.specs.declared.setting.SignalDecl.{SignalDecl}
+use Rattle.pssm_spelling.specs.Spelling.{IsName}
 use Rattle.pssm_flat.specs.declared.block.Block.{Block}
 use Rattle.pssm_flat.specs.declared.draft.Draft.{Draft}
 use Rattle.pssm_flat.specs.declared.draft.Draft.TheVariants as stages

@@ -13,9 +13,9 @@ use Rattle.pssm_model.specs.declared.elements.Owner.TheVariants as owners
 use Rattle.pssm_model.specs.declared.elements.VertexKind.{VertexKind}
 use Rattle.pssm_model.specs.declared.elements.TransKind.{TransKind}
 use Rattle.pssm_model.specs.declared.elements.TransKind.TheVariants.{External, Local, Internal}
-use Rattle.pssm_acts.specs.Spelling.{IsName, continues_name}
-use Rattle.pssm_acts.specs.SpellingReading.{is_digit, stripped}
-use Rattle.pssm_acts.proofs.SpellingLaws.{stripped_takes, name_takes, name_again, name_goes_on, digits_model}
+use Rattle.pssm_spelling.specs.Spelling.{IsName, continues_name}
+use Rattle.pssm_spelling.specs.SpellingReading.{is_digit, stripped}
+use Rattle.pssm_spelling.proofs.SpellingLaws.{stripped_takes, name_takes, name_again, name_goes_on, digits_model}
 use Rattle.pssm_flat.specs.declared.line.Line.{Line}
 use Rattle.pssm_flat.specs.declared.line.Line.TheVariants as lines
 use Rattle.pssm_flat.specs.Text.{owner_word, kind_word, transition_word, label_text}

@@ -17,9 +17,9 @@ use Rattle.pssm_model.specs.declared.elements.VertexKind.{VertexKind}
 use Rattle.pssm_model.specs.declared.elements.VertexKind.TheVariants as kinds
 use Rattle.pssm_model.specs.declared.elements.TransKind.{TransKind}
 use Rattle.pssm_model.specs.declared.elements.TransKind.TheVariants.{External, Local, Internal}
-use Rattle.pssm_acts.specs.Spelling.{IsName, continues_name}
-use Rattle.pssm_acts.specs.SpellingReading.{EndsRun, is_digit, stripped, name_taken, index_taken}
-use Rattle.pssm_acts.proofs.SpellingLaws.{stripped_takes, stripped_again, name_takes, name_again, number_takes, number_again}
+use Rattle.pssm_spelling.specs.Spelling.{IsName, continues_name}
+use Rattle.pssm_spelling.specs.SpellingReading.{EndsRun, is_digit, stripped, name_taken, index_taken}
+use Rattle.pssm_spelling.proofs.SpellingLaws.{stripped_takes, stripped_again, name_takes, name_again, number_takes, number_again}
 use Rattle.pssm_flat.specs.Text.{owner_word, kind_word, transition_word, label_text}
 use Rattle.pssm_flat.specs.Flat.{is_label_byte, IsLabel}
 use Rattle.pssm_flat.specs.Lines.{or_else, ended, named_taken, top_taken, region_taken, vertex_taken, owner_taken, kind_among, kind_of, transition_among, transition_of, label_of, label_taken}

@@ -2,7 +2,7 @@
 use Rattle.std.proofs.Common.{◌≡◌, ℕ, List, Some, refl}
 use Rattle.std.specs.Prelude.{codes}
 use Rattle.pssm_model.specs.declared.elements.TransKind.{TransKind}
-use Rattle.pssm_acts.specs.SpellingReading.{stripped, index_taken}
+use Rattle.pssm_spelling.specs.SpellingReading.{stripped, index_taken}
 use Rattle.pssm_flat.specs.Lines.{end_taken, transition_of, transition_line_taken}
 
 pub transition_steps : (bytes a b c d word : List ℕ) (number source target : ℕ) (kind : TransKind)

@@ -6,9 +6,9 @@ use Rattle.std.proofs.lemmas.List.{length-append, append-nil, get_or_append_left
 use Rattle.std.proofs.lemmas.List.Quantifiers.{all_pairs_push}
 use Rattle.std.proofs.lemmas.Option.{slice_get-get_or}
 use Rattle.pssm_model.specs.declared.ids.SignalId.{SignalId}
-use Rattle.pssm_acts.specs.declared.setting.SignalDecl.{SignalDecl}
-use Rattle.pssm_acts.specs.Spelling.{IsName}
-use Rattle.pssm_acts.specs.Built.{IsPlainSignal}
+use Rattle.pssm_semantics.specs.declared.setting.SignalDecl.{SignalDecl}
+use Rattle.pssm_spelling.specs.Spelling.{IsName}
+use Rattle.pssm_semantics.specs.Built.{IsPlainSignal}
 use Rattle.pssm_flat.specs.Text.{signal_name}
 use Rattle.pssm_flat.specs.Drafts.{next_number, number_from, with_signal}
 use Rattle.pssm_flat.proofs.Items.{AllFit, next_number-push}

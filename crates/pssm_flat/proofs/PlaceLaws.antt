@@ -11,7 +11,7 @@ use Rattle.pssm_model.specs.declared.elements.Guard.{Guard}
 use Rattle.pssm_model.specs.declared.elements.Guard.TheVariants.{Always, Otherwise, When}
 use Rattle.pssm_model.specs.declared.elements.Element.{Element}
 use Rattle.pssm_model.specs.declared.elements.Element.TheVariants as elements
-use Rattle.pssm_acts.specs.declared.setting.SignalDecl.{SignalDecl}
+use Rattle.pssm_semantics.specs.declared.setting.SignalDecl.{SignalDecl}
 use Rattle.pssm_flat.specs.declared.block.Block.{Block}
 use Rattle.pssm_flat.specs.declared.draft.Draft.TheVariants as stages
 use Rattle.pssm_flat.specs.Text.{numbered, names_of, signal_line, region_lines, vertex_lines, transition_lines, defer_line, on_line}

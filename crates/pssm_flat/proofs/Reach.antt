@@ -7,8 +7,8 @@ use Rattle.std.proofs.lemmas.Bool.{and_parts, ltb-true}
 use Rattle.std.proofs.lemmas.List.{append-nil, length-append}
 use Rattle.std.proofs.lemmas.Fmt.{decimal_digit}
 use Rattle.std.proofs.lemmas.Slice.Eq.{bytes_eq-Decides}
-use Rattle.pssm_acts.specs.declared.setting.SignalDecl.{SignalDecl}
-use Rattle.pssm_acts.specs.Spelling.{IsName}
+use Rattle.pssm_semantics.specs.declared.setting.SignalDecl.{SignalDecl}
+use Rattle.pssm_spelling.specs.Spelling.{IsName}
 use Rattle.pssm_flat.specs.declared.line.Line.{Line}
 use Rattle.pssm_flat.specs.declared.line.Line.TheVariants as lines
 use Rattle.pssm_flat.specs.declared.block.Block.{Block}

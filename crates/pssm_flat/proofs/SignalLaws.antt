@@ -12,8 +12,8 @@ use Rattle.std.proofs.lemmas.List.Sums.{prefix_len_is, prefix_len_stops}
 use Rattle.std.proofs.lemmas.List.Quantifiers.{all_pairs_push}
 use Rattle.std.proofs.lemmas.Slice.Eq.{bytes_eq-Decides}
 use Rattle.pssm_model.specs.declared.ids.SignalId.{SignalId}
-use Rattle.pssm_acts.specs.declared.setting.SignalDecl.{SignalDecl}
-use Rattle.pssm_acts.specs.Built.{IsPlainSignal}
+use Rattle.pssm_semantics.specs.declared.setting.SignalDecl.{SignalDecl}
+use Rattle.pssm_semantics.specs.Built.{IsPlainSignal}
 use Rattle.pssm_flat.specs.Text.{signal_name}
 use Rattle.pssm_flat.specs.Drafts.{has_name, number_from}
 use Rattle.pssm_flat.proofs.Items.{AllFit}

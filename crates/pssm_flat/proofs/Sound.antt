@@ -15,8 +15,8 @@ use Rattle.pssm_model.specs.declared.elements.Transition.{Transition}
 use Rattle.pssm_model.specs.declared.elements.TransKind.{TransKind}
 use Rattle.pssm_model.specs.declared.elements.Guard.{Guard}
 use Rattle.pssm_model.specs.declared.elements.Guard.TheVariants.{Always, Otherwise, When}
-use Rattle.pssm_acts.specs.declared.setting.SignalDecl.{SignalDecl}
-use Rattle.pssm_acts.specs.Spelling.{IsName}
+use Rattle.pssm_semantics.specs.declared.setting.SignalDecl.{SignalDecl}
+use Rattle.pssm_spelling.specs.Spelling.{IsName}
 use Rattle.pssm_flat.specs.declared.block.Block.{Block}
 use Rattle.pssm_flat.specs.Text.{numbered, region_lines, region_line, vertex_line, defer_line, transition_line, on_line, signal_name}
 use Rattle.pssm_flat.specs.Flat.{IsLabel, IsRegionOwner, IsVertexOwner}

@@ -5,9 +5,9 @@ use Rattle.std.specs.List.{flat_map}
 use Rattle.std.specs.Fmt.{decimal}
 use Rattle.pssm_model.specs.declared.elements.Vertex.{Vertex}
 use Rattle.pssm_model.specs.declared.elements.Transition.{Transition}
-use Rattle.pssm_acts.specs.declared.setting.Names.{Names}
-use Rattle.pssm_acts.specs.declared.setting.Class.{Class}
-use Rattle.pssm_acts.specs.declared.setting.Setting.{Setting}
+use Rattle.pssm_semantics.specs.declared.setting.Names.{Names}
+use Rattle.pssm_semantics.specs.declared.setting.Class.{Class}
+use Rattle.pssm_semantics.specs.declared.setting.Setting.{Setting}
 use Rattle.pssm_flat.specs.Text.{line, text_of, numbered, names_of, signal_line, class_line, object_line, machine_line, var_line, region_lines, vertex_line, transition_line, defer_line, on_line, signal_name, behaviour_lines, step_line, guard_lines, vertex_lines, transition_lines, machine_lines, flat_lines, flat_text, transition_word}
 use Rattle.pssm_flat.proofs.TextLaws.{text_of_append, text_of_map, text_of_flat}
 

@@ -15,16 +15,16 @@ use Rattle.pssm_model.specs.declared.elements.TransKind.{TransKind}
 use Rattle.pssm_model.specs.declared.elements.Guard.{Guard}
 use Rattle.pssm_model.specs.declared.elements.Guard.TheVariants.{Always, Otherwise}
 use Rattle.pssm_model.specs.declared.elements.DraftMachine.{DraftMachine}
-use Rattle.pssm_acts.specs.declared.setting.SignalDecl.{SignalDecl}
-use Rattle.pssm_acts.specs.declared.setting.Class.{Class}
-use Rattle.pssm_acts.specs.declared.setting.Program.{Program}
-use Rattle.pssm_acts.specs.declared.setting.Setting.{Setting}
+use Rattle.pssm_semantics.specs.declared.setting.SignalDecl.{SignalDecl}
+use Rattle.pssm_semantics.specs.declared.setting.Class.{Class}
+use Rattle.pssm_semantics.specs.declared.setting.Program.{Program}
+use Rattle.pssm_semantics.specs.declared.setting.Setting.{Setting}
 use Rattle.pssm_flat.specs.declared.line.Line.{Line}
 use Rattle.pssm_flat.specs.declared.line.Line.TheVariants as lines
 use Rattle.pssm_flat.specs.declared.block.Block.{Block}
 use Rattle.pssm_flat.specs.declared.draft.Draft.{Draft}
 use Rattle.pssm_flat.specs.declared.draft.Draft.TheVariants as stages
-use Rattle.pssm_acts.specs.SpellingReading.{stripped}
+use Rattle.pssm_spelling.specs.SpellingReading.{stripped}
 use Rattle.pssm_flat.specs.declared.fault.FlatFault.{FlatFault}
 use Rattle.pssm_flat.specs.declared.fault.FlatFault.TheVariants as faults
 use Rattle.pssm_flat.specs.Text.{text_of}

@@ -16,14 +16,14 @@ use Rattle.pssm_model.specs.declared.elements.Guard.{Guard}
 use Rattle.pssm_model.specs.declared.elements.Guard.TheVariants.{Always, Otherwise, When}
 use Rattle.pssm_model.specs.declared.elements.Owner.{Owner}
 use Rattle.pssm_model.specs.declared.elements.Owner.TheVariants.{Top, Region, State}
-use Rattle.pssm_acts.specs.declared.setting.SignalDecl.{SignalDecl}
-use Rattle.pssm_acts.specs.declared.setting.VarDecl.{VarDecl}
-use Rattle.pssm_acts.specs.declared.setting.ObjectDecl.{ObjectDecl}
-use Rattle.pssm_acts.specs.declared.setting.Names.{Names}
-use Rattle.pssm_acts.specs.declared.setting.Class.{Class}
-use Rattle.pssm_acts.specs.declared.setting.Setting.{Setting}
-use Rattle.pssm_acts.specs.declared.tree.Act.{Act}
-use Rattle.pssm_acts.specs.declared.tree.Stmt.{Stmt}
+use Rattle.pssm_semantics.specs.declared.setting.SignalDecl.{SignalDecl}
+use Rattle.pssm_semantics.specs.declared.setting.VarDecl.{VarDecl}
+use Rattle.pssm_semantics.specs.declared.setting.ObjectDecl.{ObjectDecl}
+use Rattle.pssm_semantics.specs.declared.setting.Names.{Names}
+use Rattle.pssm_semantics.specs.declared.setting.Class.{Class}
+use Rattle.pssm_semantics.specs.declared.setting.Setting.{Setting}
+use Rattle.pssm_semantics.specs.declared.tree.Act.{Act}
+use Rattle.pssm_semantics.specs.declared.tree.Stmt.{Stmt}
 use Rattle.pssm_acts.specs.ActText.{act_text, cond_text}
 
 -- a line with its line feed

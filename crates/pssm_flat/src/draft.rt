@@ -5,8 +5,8 @@ ghost use Rattle.pssm_flat.specs.Drafts.{has_name, with_declared, empty_block, a
 
 use crate::block::{Block, pushed};
 use crate::line::Line;
-use pssm_acts::SignalDecl;
 use pssm_model::{Row, Text};
+use pssm_semantics::SignalDecl;
 use std::alloc::{AllocError, Global};
 
 /// How many signals a setting may have (this profile's choice).

@@ -4,8 +4,8 @@ ghost use Rattle.std.specs.Option.{option_map};
 ghost use Rattle.pssm_flat.specs.Lines.{signal_taken, object_taken, region_line_taken, vertex_line_taken, transition_line_taken, head_line_taken, block_line_taken, line_taken};
 
 use crate::parts::{end_at, kind_of, label_at, named, owner_at, transition_of};
-use pssm_acts::spelling::{index_at, name_at, strip};
 use pssm_model::{Owner, Text, TransKind, VertexId, VertexKind};
+use pssm_spelling::{index_at, name_at, strip};
 use std::alloc::{AllocError, Global};
 
 /// A line of the grammar (this profile's choice). `Otherwise` is the line `else`.

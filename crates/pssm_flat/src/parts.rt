@@ -8,8 +8,8 @@ ghost use Rattle.std.specs.Str.{is_utf8};
 ghost use Rattle.pssm_flat.specs.Flat.{is_label_byte};
 ghost use Rattle.pssm_flat.specs.Lines.{named_taken, top_taken, region_taken, vertex_taken, owner_taken, kind_of as kind_named, transition_of as transition_named, label_of as label_word, label_taken, end_taken};
 
-use pssm_acts::spelling::{index_at, name_at, strip};
 use pssm_model::{Owner, RegionId, TransKind, VertexId, VertexKind};
+use pssm_spelling::{index_at, name_at, strip};
 
 /// A word and a name, and nothing behind it: the name.
 #[tactic(auto, unfolding(crate::specs::Lines::named_taken))]

@@ -3,16 +3,10 @@ ghost use Rattle.std.specs.Prelude.{◌≡◌, ◌++◌, OnOk, codes};
 ghost use Rattle.std.specs.Fmt.{decimal, signed_decimal};
 ghost use Rattle.pssm_flat.specs.Text.{line, owner_word, kind_word, transition_word, label_text, signal_name, class_name, signal_line, object_line, var_line, region_line, vertex_line, transition_line};
 
-use pssm_acts::{Class, ObjectDecl, SignalDecl, VarDecl};
 use pssm_model::{Owner, SignalId, TransKind, Transition, Vertex, VertexId, VertexKind};
+use pssm_semantics::{Class, ObjectDecl, SignalDecl, VarDecl};
+use pssm_spelling::{put_number, put_signed};
 use std::alloc::{AllocError, Global};
-
-/// Writes a number.
-pub(crate) fn put_number(alloc: Global, text: &mut Vec<u8>, number: usize) -> Result<(), AllocError>
-    ensures { OnOk result (text.new.items ≡ text.old.items ++ decimal number) }
-{
-    text.extend_from_slice(number.to_string(alloc)?.as_bytes())
-}
 
 /// Writes the line of a word and a name.
 pub(crate) fn put_named(text: &mut Vec<u8>, word: &[u8], name: &[u8]) -> Result<(), AllocError>
@@ -50,11 +44,11 @@ fn put_owner(alloc: Global, text: &mut Vec<u8>, owner: Owner) -> Result<(), Allo
         Owner::Top => text.extend_from_slice(b"top"),
         Owner::Region(r) => {
             text.push(b'r')?;
-            put_number(alloc, text, usize::from(r.0))
+            put_number(alloc, text, u64::from(r.0))
         }
         Owner::State(v) => {
             text.push(b'v')?;
-            put_number(alloc, text, usize::from(v.0))
+            put_number(alloc, text, u64::from(v.0))
         }
     }
 }
@@ -112,7 +106,7 @@ pub(crate) fn put_signal(
     text.extend_from_slice(b"signal ")?;
     text.extend_from_slice(signal.name.as_slice())?;
     text.push(b' ')?;
-    put_number(alloc, text, usize::from(signal.count))?;
+    put_number(alloc, text, u64::from(signal.count))?;
     text.push(b'\n')?;
     Ok(())
 }
@@ -144,7 +138,7 @@ pub(crate) fn put_var(
     text.extend_from_slice(b"var ")?;
     text.extend_from_slice(variable.name.as_slice())?;
     text.push(b' ')?;
-    text.extend_from_slice(variable.first.to_string(alloc)?.as_bytes())?;
+    put_signed(alloc, text, variable.first)?;
     text.push(b'\n')?;
     Ok(())
 }
@@ -159,7 +153,7 @@ pub(crate) fn put_region(
     ensures { OnOk result (text.new.items ≡ text.old.items ++ line (region_line number owner)) }
 {
     text.extend_from_slice(b"region r")?;
-    put_number(alloc, text, number)?;
+    put_number(alloc, text, number as u64)?;
     text.push(b' ')?;
     put_owner(alloc, text, owner)?;
     text.push(b'\n')?;
@@ -176,7 +170,7 @@ pub(crate) fn put_vertex_line(
     ensures { OnOk result (text.new.items ≡ text.old.items ++ line (vertex_line number vertex.now)) }
 {
     text.extend_from_slice(b"vertex v")?;
-    put_number(alloc, text, number)?;
+    put_number(alloc, text, number as u64)?;
     text.push(b' ')?;
     put_owner(alloc, text, vertex.owner)?;
     text.push(b' ')?;
@@ -191,7 +185,7 @@ fn put_end(alloc: Global, text: &mut Vec<u8>, vertex: VertexId) -> Result<(), Al
     ensures { OnOk result (text.new.items ≡ text.old.items ++ (codes " v" ++ decimal vertex.0)) }
 {
     text.extend_from_slice(b" v")?;
-    put_number(alloc, text, usize::from(vertex.0))
+    put_number(alloc, text, u64::from(vertex.0))
 }
 
 /// Writes the ends of a transition.
@@ -227,7 +221,7 @@ pub(crate) fn put_transition_line(
     ensures { OnOk result (text.new.items ≡ text.old.items ++ line (transition_line number transition.now)) }
 {
     text.extend_from_slice(b"transition t")?;
-    put_number(alloc, text, number)?;
+    put_number(alloc, text, number as u64)?;
     put_ends(alloc, text, transition.source, transition.target)?;
     put_kind(text, transition.kind)?;
     Ok(())

@@ -4,7 +4,7 @@ ghost use Rattle.std.specs.List.{prefix_len};
 ghost use Rattle.std.specs.Option.{option_map};
 ghost use Rattle.pssm_model.specs.declared.elements.Vertex.{Vertex};
 ghost use Rattle.pssm_model.specs.declared.elements.Transition.{Transition};
-ghost use Rattle.pssm_acts.specs.declared.setting.Setting.{Setting};
+ghost use Rattle.pssm_semantics.specs.declared.setting.Setting.{Setting};
 ghost use Rattle.pssm_flat.specs.declared.fault.FlatFault.{FlatFault};
 ghost use Rattle.pssm_flat.specs.Text.{flat_text};
 ghost use Rattle.pssm_flat.specs.Flat.{IsFlat};
@@ -16,9 +16,9 @@ use crate::draft::Draft;
 use crate::fault::FlatFault;
 use crate::line::line_of;
 use crate::places::shape_fault;
-use pssm_acts::spelling::strip;
-use pssm_acts::{Act, Class, ObjectDecl, Program, Setting, SignalDecl};
 use pssm_model::{DraftMachine, Machine, Row, Text};
+use pssm_semantics::{Act, Class, ObjectDecl, Program, Setting, SignalDecl};
+use pssm_spelling::strip;
 use std::alloc::{AllocError, Global};
 
 /// How many bytes stand before the first line feed.

@@ -9,7 +9,7 @@ use crate::pieces::{
     name_of_signal, put_named, put_object, put_region, put_signal, put_spelled,
     put_transition_line, put_var, put_vertex_line,
 };
-use pssm_acts::{
+use pssm_semantics::{
     Act, Class, Cond, Names, ObjectDecl, Setting, SignalDecl, VarDecl, write_act, write_cond,
 };
 use pssm_model::{

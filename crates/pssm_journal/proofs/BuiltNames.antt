@@ -5,15 +5,15 @@ use Rattle.std.specs.List.{AllByRecursion}
 use Rattle.std.proofs.lemmas.List.Elements.{recursion_from_All}
 use Rattle.std.proofs.lemmas.List.{get_or-map, length-map}
 use Rattle.pssm_model.specs.declared.steps.How.{How}
-use Rattle.pssm_acts.specs.declared.entry.Out.{Out}
-use Rattle.pssm_acts.specs.declared.entry.Entry.{Entry}
-use Rattle.pssm_acts.specs.declared.entry.Entry.TheVariants.{Post, Start, Take, Done, Exit, Effect, Enter, Opened, Pick, DoStep}
-use Rattle.pssm_acts.specs.declared.setting.SignalDecl.{SignalDecl}
-use Rattle.pssm_acts.specs.declared.setting.ObjectDecl.{ObjectDecl}
-use Rattle.pssm_acts.specs.declared.setting.Class.{Class}
-use Rattle.pssm_acts.specs.declared.setting.Setting.{Setting}
-use Rattle.pssm_acts.specs.Spelling.{IsName}
-use Rattle.pssm_acts.specs.Built.{IsBuilt, IsPlainSignal, IsPlainEntry}
+use Rattle.pssm_semantics.specs.declared.entry.Out.{Out}
+use Rattle.pssm_semantics.specs.declared.entry.Entry.{Entry}
+use Rattle.pssm_semantics.specs.declared.entry.Entry.TheVariants.{Post, Start, Take, Done, Exit, Effect, Enter, Opened, Pick, DoStep}
+use Rattle.pssm_semantics.specs.declared.setting.SignalDecl.{SignalDecl}
+use Rattle.pssm_semantics.specs.declared.setting.ObjectDecl.{ObjectDecl}
+use Rattle.pssm_semantics.specs.declared.setting.Class.{Class}
+use Rattle.pssm_semantics.specs.declared.setting.Setting.{Setting}
+use Rattle.pssm_spelling.specs.Spelling.{IsName}
+use Rattle.pssm_semantics.specs.Built.{IsBuilt, IsPlainSignal, IsPlainEntry}
 use Rattle.pssm_journal.specs.Naming.{AreApart, NamesDiffer, HasSpelledNames, HasStart, IsSpelledEntry}
 
 -- values that differ pairwise under a function are apart as its values

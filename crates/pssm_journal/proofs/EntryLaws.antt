@@ -1,19 +1,19 @@
 -- What is looked up of an entry, step by step.
 use Rattle.std.proofs.Common.{◌≡◌, Bool, true, false, List, [], ◌∷◌, ◌++◌, length, take, drop, Option, Some, None, refl, sym, ap, subst, ◌∙◌, append_assoc, ◌↔◌}
 use Rattle.std.specs.Prelude.{IsTrue, IfNone, option_map, All}
-use Rattle.pssm_acts.specs.declared.line.Line.{Line}
+use Rattle.pssm_semantics.specs.declared.line.Line.{Line}
 use Rattle.std.proofs.lemmas.List.{append-nil, take_at, drop_at}
 use Rattle.std.proofs.lemmas.List.Elements.{All-same, All-take, All-drop, All-append}
 use Rattle.std.proofs.lemmas.Option.{same_Some}
-use Rattle.pssm_acts.specs.declared.entry.ObjectId.{ObjectId}
-use Rattle.pssm_acts.specs.declared.entry.Out.{Out}
-use Rattle.pssm_acts.specs.declared.entry.Entry.{Entry}
-use Rattle.pssm_acts.specs.declared.line.LineOut.{LineOut}
-use Rattle.pssm_acts.specs.declared.setting.Class.{Class}
-use Rattle.pssm_acts.specs.declared.setting.Setting.{Setting}
-use Rattle.pssm_acts.specs.Settings.{class_of}
-use Rattle.pssm_acts.specs.Journal.{object_of}
-use Rattle.pssm_acts.specs.Known.{NamesKnown}
+use Rattle.pssm_semantics.specs.declared.entry.ObjectId.{ObjectId}
+use Rattle.pssm_semantics.specs.declared.entry.Out.{Out}
+use Rattle.pssm_semantics.specs.declared.entry.Entry.{Entry}
+use Rattle.pssm_semantics.specs.declared.line.LineOut.{LineOut}
+use Rattle.pssm_semantics.specs.declared.setting.Class.{Class}
+use Rattle.pssm_semantics.specs.declared.setting.Setting.{Setting}
+use Rattle.pssm_semantics.specs.Settings.{class_of}
+use Rattle.pssm_semantics.specs.Journal.{object_of}
+use Rattle.pssm_semantics.specs.Known.{NamesKnown}
 use Rattle.pssm_journal.specs.LineReading.{◌>>=◌}
 use Rattle.pssm_journal.specs.Entries.{out_named, outs_named, KeepsNames, IsEntryOf, BreaksNames}
 

@@ -3,8 +3,8 @@ use Rattle.std.proofs.Common.{◌≡◌, ℕ, suc, ◌-◌, ◌<◌, ◌≤◌, 
 use Rattle.std.specs.List.{prefix_len}
 use Rattle.std.proofs.lemmas.Bool.{and_parts, and_from, eqb-true, not-false}
 use Rattle.std.proofs.lemmas.List.{take-append-drop, take_all, append-nil}
-use Rattle.pssm_acts.specs.SpellingReading.{EndsRun}
-use Rattle.pssm_acts.proofs.SpellingLaws.{passes_front, ends_after}
+use Rattle.pssm_spelling.specs.SpellingReading.{EndsRun}
+use Rattle.pssm_spelling.proofs.SpellingLaws.{passes_front, ends_after}
 use Rattle.pssm_journal.specs.Reading.{is_no_feed, has_no_feed}
 
 -- ---- the first line feed

@@ -1,13 +1,13 @@
 -- The first rule that a line breaks is one rule.
 use Rattle.std.proofs.Common.{◌≡◌, ℕ, ◌<◌, eqb, cond, List, refl, sym, ap, subst, ◌∙◌, arith, inl, inr}
 use Rattle.std.proofs.lemmas.Bool.{cases_lt}
-use Rattle.pssm_acts.specs.declared.entry.Entry.{Entry}
-use Rattle.pssm_acts.specs.declared.entry.Rule.{Rule}
-use Rattle.pssm_acts.specs.declared.entry.Rule.TheVariants.{A1, A2, A3, A4, A5, A6, A7, A8, A9, A10, A11, A12}
-use Rattle.pssm_acts.specs.declared.line.Line.{Line}
-use Rattle.pssm_acts.specs.declared.setting.Setting.{Setting}
-use Rattle.pssm_acts.specs.Rules.{Holds}
-use Rattle.pssm_acts.specs.Verdict.{IsFirstBroken, number_of}
+use Rattle.pssm_semantics.specs.declared.entry.Entry.{Entry}
+use Rattle.pssm_semantics.specs.declared.entry.Rule.{Rule}
+use Rattle.pssm_semantics.specs.declared.entry.Rule.TheVariants.{A1, A2, A3, A4, A5, A6, A7, A8, A9, A10, A11, A12}
+use Rattle.pssm_semantics.specs.declared.line.Line.{Line}
+use Rattle.pssm_semantics.specs.declared.setting.Setting.{Setting}
+use Rattle.pssm_semantics.specs.Rules.{Holds}
+use Rattle.pssm_semantics.specs.Verdict.{IsFirstBroken, number_of}
 use Rattle.pssm_journal.specs.Entries.{IsEntryOf, BreaksNames}
 use Rattle.pssm_journal.specs.Judged.{BreaksRule, by_entry, by_names}
 use Rattle.pssm_journal.proofs.Fronts.{one_entry}

@@ -9,14 +9,14 @@ use Rattle.std.proofs.lemmas.Option.{same_Some}
 use Rattle.pssm_model.specs.declared.steps.Firing.{Firing}
 use Rattle.pssm_model.specs.declared.steps.Mode.TheVariants.{Plain}
 use Rattle.pssm_model.specs.declared.steps.How.TheVariants.{By}
-use Rattle.pssm_acts.specs.declared.line.Line.{Line}
-use Rattle.pssm_acts.specs.declared.line.Line.TheVariants.{Post, Start, Take, Done, Exit, Effect, Enter, Opened, Pick, DoStep}
-use Rattle.pssm_acts.specs.Spelling.{IsName, continues_name}
-use Rattle.pssm_acts.specs.SpellingReading.{is_digit, EndsRun, stripped, name_taken, number_taken, index_taken}
-use Rattle.pssm_acts.proofs.SpellingLaws.{stripped_takes, stripped_again, name_takes, name_again, number_takes, number_again}
+use Rattle.pssm_semantics.specs.declared.line.Line.{Line}
+use Rattle.pssm_semantics.specs.declared.line.Line.TheVariants.{Post, Start, Take, Done, Exit, Effect, Enter, Opened, Pick, DoStep}
+use Rattle.pssm_spelling.specs.Spelling.{IsName, continues_name}
+use Rattle.pssm_spelling.specs.SpellingReading.{is_digit, EndsRun, stripped, name_taken, number_taken, index_taken}
+use Rattle.pssm_spelling.proofs.SpellingLaws.{stripped_takes, stripped_again, name_takes, name_again, number_takes, number_again}
 use Rattle.pssm_journal.specs.LineText.{line_text, firing_text}
 use Rattle.pssm_model.specs.OneRegion.{single_route}
-use Rattle.pssm_acts.specs.Built.{IsPlainFiring}
+use Rattle.pssm_semantics.specs.Built.{IsPlainFiring}
 use Rattle.pssm_journal.specs.Grammar.{IsLine, IsSpelledHow, IsSpelledFiring}
 use Rattle.pssm_journal.specs.LineReading.{◌>>=◌, at_end, vertex, region, transition, firing_of, element_taken, place_taken, fires_taken, post_taken, start_taken, take_taken, exit_taken, effect_taken, enter_taken, open_taken, item_taken, line_taken}
 

@@ -8,13 +8,13 @@ use Rattle.std.proofs.lemmas.List.{length-append}
 use Rattle.std.proofs.lemmas.Fmt.{digits_decimal, length-decimal-le}
 use Rattle.pssm_model.specs.declared.steps.Firing.{Firing}
 use Rattle.pssm_model.specs.declared.steps.Mode.TheVariants.{Plain}
-use Rattle.pssm_acts.specs.declared.line.Line.{Line}
-use Rattle.pssm_acts.specs.declared.line.Line.TheVariants.{Post, Start, Take, Done, Exit, Effect, Enter, Opened, Pick, DoStep}
-use Rattle.pssm_acts.specs.Spelling.{IsName, continues_name}
-use Rattle.pssm_acts.specs.SpellingReading.{is_digit}
-use Rattle.pssm_acts.proofs.SpellingLaws.{digits_model, name_goes_on}
+use Rattle.pssm_semantics.specs.declared.line.Line.{Line}
+use Rattle.pssm_semantics.specs.declared.line.Line.TheVariants.{Post, Start, Take, Done, Exit, Effect, Enter, Opened, Pick, DoStep}
+use Rattle.pssm_spelling.specs.Spelling.{IsName, continues_name}
+use Rattle.pssm_spelling.specs.SpellingReading.{is_digit}
+use Rattle.pssm_spelling.proofs.SpellingLaws.{digits_model, name_goes_on}
 use Rattle.pssm_journal.specs.LineText.{line_text, firing_text, routes_text}
-use Rattle.pssm_acts.specs.Built.{IsPlainFiring}
+use Rattle.pssm_semantics.specs.Built.{IsPlainFiring}
 use Rattle.pssm_journal.specs.Grammar.{IsLine, IsSpelledFiring, IsSpelledHow, IsSpelledRoute}
 use Rattle.pssm_journal.specs.Reading.{is_no_feed, has_no_feed}
 use Rattle.pssm_journal.proofs.Feeds.{no_feed_append}

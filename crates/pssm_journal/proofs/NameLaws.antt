@@ -11,12 +11,12 @@ use Rattle.std.proofs.lemmas.Option.{slice_get_within, get_or_from_slice_get, sa
 use Rattle.std.proofs.lemmas.Slice.Eq.{bytes_eq-Decides}
 use Rattle.pssm_model.specs.declared.ids.SignalId.{SignalId}
 use Rattle.pssm_model.specs.declared.ids.MarkId.{MarkId}
-use Rattle.pssm_acts.specs.declared.entry.ObjectId.{ObjectId}
-use Rattle.pssm_acts.specs.declared.setting.SignalDecl.{SignalDecl}
-use Rattle.pssm_acts.specs.declared.setting.ObjectDecl.{ObjectDecl}
-use Rattle.pssm_acts.specs.declared.setting.Class.{Class}
-use Rattle.pssm_acts.specs.declared.setting.Setting.{Setting}
-use Rattle.pssm_acts.specs.Settings.{class_of}
+use Rattle.pssm_semantics.specs.declared.entry.ObjectId.{ObjectId}
+use Rattle.pssm_semantics.specs.declared.setting.SignalDecl.{SignalDecl}
+use Rattle.pssm_semantics.specs.declared.setting.ObjectDecl.{ObjectDecl}
+use Rattle.pssm_semantics.specs.declared.setting.Class.{Class}
+use Rattle.pssm_semantics.specs.declared.setting.Setting.{Setting}
+use Rattle.pssm_semantics.specs.Settings.{class_of}
 use Rattle.pssm_journal.specs.Entries.{numbered, object_named, signal_named, mark_named}
 use Rattle.pssm_journal.specs.Naming.{AreApart, NamesDiffer}
 use Rattle.pssm_journal.specs.EntryLine.{name_of_object, name_of_signal, name_of_mark}

@@ -10,25 +10,25 @@ use Rattle.pssm_model.specs.declared.ids.SignalId.{SignalId}
 use Rattle.pssm_model.specs.declared.ids.MarkId.{MarkId}
 use Rattle.pssm_model.specs.declared.steps.Route.{Route}
 use Rattle.pssm_model.specs.declared.steps.How.TheVariants.{By, Restore, Nothing}
-use Rattle.pssm_acts.specs.declared.entry.ObjectId.{ObjectId}
-use Rattle.pssm_acts.specs.declared.entry.Out.{Out}
-use Rattle.pssm_acts.specs.declared.entry.Out.TheVariants as outs
-use Rattle.pssm_acts.specs.declared.entry.Entry.{Entry}
-use Rattle.pssm_acts.specs.declared.entry.Entry.TheVariants.{Post, Start, Take, Done, Exit, Effect, Enter, Opened, Pick, DoStep}
-use Rattle.pssm_acts.specs.declared.setting.SignalDecl.{SignalDecl}
-use Rattle.pssm_acts.specs.declared.setting.ObjectDecl.{ObjectDecl}
-use Rattle.pssm_acts.specs.declared.setting.Class.{Class}
-use Rattle.pssm_acts.specs.declared.setting.Setting.{Setting}
-use Rattle.pssm_acts.specs.Settings.{class_of, HasCount}
-use Rattle.pssm_acts.specs.Journal.{object_of}
-use Rattle.pssm_acts.specs.Known.{IsOutOf, NamesKnown}
-use Rattle.pssm_acts.specs.Built.{IsPlainEntry}
+use Rattle.pssm_semantics.specs.declared.entry.ObjectId.{ObjectId}
+use Rattle.pssm_semantics.specs.declared.entry.Out.{Out}
+use Rattle.pssm_semantics.specs.declared.entry.Out.TheVariants as outs
+use Rattle.pssm_semantics.specs.declared.entry.Entry.{Entry}
+use Rattle.pssm_semantics.specs.declared.entry.Entry.TheVariants.{Post, Start, Take, Done, Exit, Effect, Enter, Opened, Pick, DoStep}
+use Rattle.pssm_semantics.specs.declared.setting.SignalDecl.{SignalDecl}
+use Rattle.pssm_semantics.specs.declared.setting.ObjectDecl.{ObjectDecl}
+use Rattle.pssm_semantics.specs.declared.setting.Class.{Class}
+use Rattle.pssm_semantics.specs.declared.setting.Setting.{Setting}
+use Rattle.pssm_semantics.specs.Settings.{class_of, HasCount}
+use Rattle.pssm_semantics.specs.Journal.{object_of}
+use Rattle.pssm_semantics.specs.Known.{IsOutOf, NamesKnown}
+use Rattle.pssm_semantics.specs.Built.{IsPlainEntry}
 use Rattle.pssm_journal.specs.LineReading.{◌>>=◌}
 use Rattle.pssm_journal.specs.Grammar.{IsSpelled, IsPlainLine, IsSpelledRoute, IsSpelledOut, AreSpelledOuts}
 use Rattle.pssm_journal.specs.Entries.{object_name, object_named, signal_named, mark_named, out_named, outs_named, entry_at, entry_named, IsEntryOf, KeepsNames}
 use Rattle.pssm_journal.specs.Naming.{AreApart, NamesDiffer, HasSpelledNames, HasStart, IsSpelledEntry}
 use Rattle.pssm_journal.specs.EntryLine.{name_of_object, name_of_signal, name_of_mark, out_line, line_of_entry, RouteFits, OutFits, EntryFits}
-use Rattle.pssm_acts.specs.Spelling.{IsName}
+use Rattle.pssm_spelling.specs.Spelling.{IsName}
 use Rattle.pssm_journal.proofs.NameLaws.{object_named_back, signal_named_back, mark_named_back, each_of}
 
 -- ---- what the first rule says of numbers

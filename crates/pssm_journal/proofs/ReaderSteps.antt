@@ -2,7 +2,7 @@
 use Rattle.std.proofs.Common.{◌≡◌, ℕ, ◌+◌, ◌<◌, ◌≤◌, Bool, true, false, List, [], ◌++◌, length, Option, Some, None, sym, subst, arith, inl, inr, ◌⊎◌}
 use Rattle.std.specs.Prelude.{IsTrue, MatchBool, MatchOption, IfNone, OnSome, is_some}
 use Rattle.std.proofs.lemmas.List.{length-append}
-use Rattle.pssm_acts.specs.declared.line.Line.{Line}
+use Rattle.pssm_semantics.specs.declared.line.Line.{Line}
 use Rattle.pssm_journal.specs.declared.fault.LineFault.{LineFault}
 use Rattle.pssm_journal.specs.Stream.{Advances, Fails}
 use Rattle.pssm_journal.specs.Reading.{has_no_feed, Reading}

@@ -2,7 +2,7 @@
 use Rattle.std.proofs.Common.{◌≡◌, ℕ, ◌<◌, ◌≤◌, Bool, true, false, List, [], ◌∷◌, ◌++◌, length, refl, sym, ap, subst, ◌∙◌, append_assoc, arith, inl, inr}
 use Rattle.std.specs.List.{AllByRecursion}
 use Rattle.std.proofs.lemmas.List.{append-nil, length-append}
-use Rattle.pssm_acts.specs.declared.line.Line.{Line}
+use Rattle.pssm_semantics.specs.declared.line.Line.{Line}
 use Rattle.pssm_journal.specs.declared.batch.Step.{Step}
 use Rattle.pssm_journal.specs.declared.batch.Step.TheVariants as steps
 use Rattle.pssm_journal.specs.LineText.{line_text, header_text, text_of, journal_text}

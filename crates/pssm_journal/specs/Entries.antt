@@ -3,20 +3,20 @@ use Rattle.std.specs.Prelude.{◌≡◌, ℕ, List, [], ◌∷◌, Option, Some,
 use Rattle.std.specs.Str.{bytes_eq}
 use Rattle.pssm_model.specs.declared.ids.SignalId.{SignalId}
 use Rattle.pssm_model.specs.declared.ids.MarkId.{MarkId}
-use Rattle.pssm_acts.specs.declared.entry.ObjectId.{ObjectId}
-use Rattle.pssm_acts.specs.declared.entry.Out.{Out}
-use Rattle.pssm_acts.specs.declared.entry.Out.TheVariants as outs
-use Rattle.pssm_acts.specs.declared.entry.Entry.{Entry}
-use Rattle.pssm_acts.specs.declared.entry.Entry.TheVariants as entries
-use Rattle.pssm_acts.specs.declared.entry.Rule.TheVariants.{A1}
-use Rattle.pssm_acts.specs.declared.line.Line.{Line}
-use Rattle.pssm_acts.specs.declared.line.Line.TheVariants.{Post, Start, Take, Done, Exit, Effect, Enter, Opened, Pick, DoStep}
-use Rattle.pssm_acts.specs.declared.line.LineOut.{LineOut}
-use Rattle.pssm_acts.specs.declared.line.LineOut.TheVariants.{Mark, Send}
-use Rattle.pssm_acts.specs.declared.setting.Class.{Class}
-use Rattle.pssm_acts.specs.declared.setting.Setting.{Setting}
-use Rattle.pssm_acts.specs.Settings.{class_of}
-use Rattle.pssm_acts.specs.Rules.{Holds}
+use Rattle.pssm_semantics.specs.declared.entry.ObjectId.{ObjectId}
+use Rattle.pssm_semantics.specs.declared.entry.Out.{Out}
+use Rattle.pssm_semantics.specs.declared.entry.Out.TheVariants as outs
+use Rattle.pssm_semantics.specs.declared.entry.Entry.{Entry}
+use Rattle.pssm_semantics.specs.declared.entry.Entry.TheVariants as entries
+use Rattle.pssm_semantics.specs.declared.entry.Rule.TheVariants.{A1}
+use Rattle.pssm_semantics.specs.declared.line.Line.{Line}
+use Rattle.pssm_semantics.specs.declared.line.Line.TheVariants.{Post, Start, Take, Done, Exit, Effect, Enter, Opened, Pick, DoStep}
+use Rattle.pssm_semantics.specs.declared.line.LineOut.{LineOut}
+use Rattle.pssm_semantics.specs.declared.line.LineOut.TheVariants.{Mark, Send}
+use Rattle.pssm_semantics.specs.declared.setting.Class.{Class}
+use Rattle.pssm_semantics.specs.declared.setting.Setting.{Setting}
+use Rattle.pssm_semantics.specs.Settings.{class_of}
+use Rattle.pssm_semantics.specs.Rules.{Holds}
 use Rattle.pssm_journal.specs.LineReading.{◌>>=◌}
 
 -- a place, where it is below the limit of its type

@@ -9,12 +9,12 @@ use Rattle.pssm_model.specs.declared.steps.Mode.TheVariants.{Plain}
 use Rattle.pssm_model.specs.declared.steps.How.{How}
 use Rattle.pssm_model.specs.declared.steps.How.TheVariants.{By, Restore, Nothing}
 use Rattle.pssm_model.specs.OneRegion.{single_route}
-use Rattle.pssm_acts.specs.declared.line.Line.{Line}
-use Rattle.pssm_acts.specs.declared.line.Line.TheVariants.{Post, Start, Take, Done, Exit, Effect, Enter, Opened, Pick, DoStep}
-use Rattle.pssm_acts.specs.declared.line.LineOut.{LineOut}
-use Rattle.pssm_acts.specs.declared.line.LineOut.TheVariants.{Mark, Send}
-use Rattle.pssm_acts.specs.Spelling.{IsName}
-use Rattle.pssm_acts.specs.Built.{IsPlainFiring}
+use Rattle.pssm_semantics.specs.declared.line.Line.{Line}
+use Rattle.pssm_semantics.specs.declared.line.Line.TheVariants.{Post, Start, Take, Done, Exit, Effect, Enter, Opened, Pick, DoStep}
+use Rattle.pssm_semantics.specs.declared.line.LineOut.{LineOut}
+use Rattle.pssm_semantics.specs.declared.line.LineOut.TheVariants.{Mark, Send}
+use Rattle.pssm_spelling.specs.Spelling.{IsName}
+use Rattle.pssm_semantics.specs.Built.{IsPlainFiring}
 use Rattle.pssm_journal.specs.LineText.{line_text, header_line, journal_text}
 
 -- the number of an element or of a do step

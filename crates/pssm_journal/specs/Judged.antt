@@ -1,16 +1,16 @@
 -- What is to be said of the bytes of a journal.
 use Rattle.std.specs.Prelude.{◌≡◌, ◌⊎◌, ◌<◌, ℕ, ◌+◌, List, [], ◌∷◌, ◌++◌, length}
 use Rattle.std.specs.List.{AllByRecursion}
-use Rattle.pssm_acts.specs.declared.entry.Entry.{Entry}
-use Rattle.pssm_acts.specs.declared.entry.Rule.{Rule}
-use Rattle.pssm_acts.specs.declared.entry.Rule.TheVariants.{A1}
-use Rattle.pssm_acts.specs.declared.line.Line.{Line}
-use Rattle.pssm_acts.specs.declared.line.Line.TheVariants.{Post, Exit, Effect, Enter, DoStep}
-use Rattle.pssm_acts.specs.declared.setting.Setting.{Setting}
-use Rattle.pssm_acts.specs.Rules.{Holds}
-use Rattle.pssm_acts.specs.Pool.{output_count}
-use Rattle.pssm_acts.specs.Runs.{IsAdmissibleIn, KeepsJournalLimits}
-use Rattle.pssm_acts.specs.Verdict.{IsFirstBroken}
+use Rattle.pssm_semantics.specs.declared.entry.Entry.{Entry}
+use Rattle.pssm_semantics.specs.declared.entry.Rule.{Rule}
+use Rattle.pssm_semantics.specs.declared.entry.Rule.TheVariants.{A1}
+use Rattle.pssm_semantics.specs.declared.line.Line.{Line}
+use Rattle.pssm_semantics.specs.declared.line.Line.TheVariants.{Post, Exit, Effect, Enter, DoStep}
+use Rattle.pssm_semantics.specs.declared.setting.Setting.{Setting}
+use Rattle.pssm_semantics.specs.Rules.{Holds}
+use Rattle.pssm_semantics.specs.Pool.{output_count}
+use Rattle.pssm_semantics.specs.Runs.{IsAdmissibleIn, KeepsJournalLimits}
+use Rattle.pssm_semantics.specs.Verdict.{IsFirstBroken}
 use Rattle.pssm_journal.specs.LineText.{journal_text}
 use Rattle.pssm_journal.specs.Grammar.{IsLine, IsBadText}
 use Rattle.pssm_journal.specs.Entries.{IsEntryOf, BreaksNames, AreEntries}

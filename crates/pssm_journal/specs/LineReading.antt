@@ -7,9 +7,9 @@ use Rattle.pssm_model.specs.declared.ids.TransId.{TransId}
 use Rattle.pssm_model.specs.declared.steps.Firing.{Firing}
 use Rattle.pssm_model.specs.declared.steps.Mode.TheVariants.{Plain}
 use Rattle.pssm_model.specs.declared.steps.How.TheVariants.{By}
-use Rattle.pssm_acts.specs.declared.line.Line.{Line}
-use Rattle.pssm_acts.specs.declared.line.Line.TheVariants.{Post, Start, Take, Exit, Effect, Enter, Opened}
-use Rattle.pssm_acts.specs.SpellingReading.{stripped, name_taken, number_taken, index_taken}
+use Rattle.pssm_semantics.specs.declared.line.Line.{Line}
+use Rattle.pssm_semantics.specs.declared.line.Line.TheVariants.{Post, Start, Take, Exit, Effect, Enter, Opened}
+use Rattle.pssm_spelling.specs.SpellingReading.{stripped, name_taken, number_taken, index_taken}
 use Rattle.pssm_model.specs.OneRegion.{single_route}
 use Rattle.pssm_journal.specs.declared.parts.LineParts.{LineParts}
 use Rattle.pssm_journal.specs.declared.parts.LineParts.TheVariants as parts

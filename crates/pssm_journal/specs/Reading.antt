@@ -1,7 +1,7 @@
 -- A reader of lines between two pieces, and what it does with one line.
 use Rattle.std.specs.Prelude.{◌≡◌, ◌≢◌, ◌⊎◌, ◌++◌, ℕ, Bool, true, false, not, ◌==◌, List, Option, MatchOption}
 use Rattle.std.specs.List.{list_all}
-use Rattle.pssm_acts.specs.declared.line.Line.{Line}
+use Rattle.pssm_semantics.specs.declared.line.Line.{Line}
 use Rattle.pssm_journal.specs.declared.fault.LineFault.{LineFault}
 use Rattle.pssm_journal.specs.declared.batch.Step.{Step}
 use Rattle.pssm_journal.specs.declared.batch.Step.TheVariants as steps

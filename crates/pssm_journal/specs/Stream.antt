@@ -1,7 +1,7 @@
 -- The bytes of a journal as they come, in whatever pieces.
 use Rattle.std.specs.Prelude.{◌≡◌, ℕ, Bool, true, false, List, [], ◌++◌}
 use Rattle.std.specs.List.{AllByRecursion}
-use Rattle.pssm_acts.specs.declared.line.Line.{Line}
+use Rattle.pssm_semantics.specs.declared.line.Line.{Line}
 use Rattle.pssm_journal.specs.LineText.{journal_text}
 use Rattle.pssm_journal.specs.Grammar.{IsLine, IsBadText}
 

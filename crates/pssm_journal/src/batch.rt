@@ -6,7 +6,7 @@ ghost use Rattle.pssm_journal.specs.Reading.{is_no_feed, has_no_feed, IsStep};
 
 use crate::fault::LineFault;
 use crate::line::read_line;
-use pssm_acts::Line;
+use pssm_semantics::Line;
 use std::alloc::{AllocError as NoMemory, Global};
 
 /// The first line of each journal (this profile's choice).

@@ -1,12 +1,12 @@
 //! The entry that a line writes in a setting.
 ghost use Rattle.std.specs.Prelude.{◌≡◌, IfOk, IfSome, IfNone, option_map};
-ghost use Rattle.pssm_acts.specs.declared.line.LineOut.TheVariants as marks;
+ghost use Rattle.pssm_semantics.specs.declared.line.LineOut.TheVariants as marks;
 ghost use Rattle.pssm_journal.specs.Entries.{out_named, outs_named, object_name, entry_at, entry_named, HasNoOuts, IsEntryOf, KeepsNames, BreaksNames};
 
 use crate::known::keeps_names;
 use crate::names::{class_at, mark_of, object_of, signal_of};
-use pssm_acts::{Args, Entry, Line, LineOut, ObjectId, Out, Setting};
 use pssm_model::{Duplicate, Row, Text};
+use pssm_semantics::{Args, Entry, Line, LineOut, ObjectId, Out, Setting};
 use std::alloc::{AllocError as NoMemory, Global};
 
 #[tactic(auto, unfolding(crate::specs::Entries::out_named))]

@@ -1,6 +1,6 @@
 //! A law of judgements: bytes are judged in one way.
 ghost use Rattle.std.specs.Prelude.{◌≡◌, ℕ, List};
-ghost use Rattle.pssm_acts.specs.declared.setting.Setting.{Setting};
+ghost use Rattle.pssm_semantics.specs.declared.setting.Setting.{Setting};
 ghost use Rattle.pssm_journal.specs.Judged.{Judged, IsJudged};
 
 /// At most one thing is to be said of the bytes of a journal: that its entries break no rule, which entry breaks

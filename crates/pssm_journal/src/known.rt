@@ -1,14 +1,14 @@
 //! The first rule of a run: an entry names what the setting has.
 ghost use Rattle.std.specs.Prelude.{◌≡◌, ◌↔◌, ◌<◌, IsTrue, All, List, length, Some};
 ghost use Rattle.pssm_model.specs.declared.ids.TransId.{TransId};
-ghost use Rattle.pssm_acts.specs.Settings.{HasCount};
-ghost use Rattle.pssm_acts.specs.Journal.{object_of as its_object};
-ghost use Rattle.pssm_acts.specs.Known.{IsRouteOf, IsFiringOf, IsVertexOf, IsWayOf, IsOutOf, NamesKnown};
+ghost use Rattle.pssm_semantics.specs.Settings.{HasCount};
+ghost use Rattle.pssm_semantics.specs.Journal.{object_of as its_object};
+ghost use Rattle.pssm_semantics.specs.Known.{IsRouteOf, IsFiringOf, IsVertexOf, IsWayOf, IsOutOf, NamesKnown};
 ghost use Rattle.pssm_journal.specs.Entries.{KeepsNames};
 
 use crate::names::class_at;
-use pssm_acts::{Class, Entry, ObjectId, Out, Setting};
 use pssm_model::{Firing, How, Machine, Route, SignalId, TransId, VertexId};
+use pssm_semantics::{Class, Entry, ObjectId, Out, Setting};
 
 /// Whether the signal is one of the setting and has this many parameters.
 fn has_count(setting: &Setting, signal: SignalId, count: usize) -> bool

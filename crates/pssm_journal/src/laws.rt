@@ -1,10 +1,10 @@
 //! Laws of lines: what is written is read again as what it was.
 ghost use Rattle.std.specs.Prelude.{◌≡◌, List};
 ghost use Rattle.std.specs.List.{AllByRecursion};
-ghost use Rattle.pssm_acts.specs.declared.entry.Entry.{Entry};
-ghost use Rattle.pssm_acts.specs.declared.line.Line.{Line};
-ghost use Rattle.pssm_acts.specs.declared.setting.Setting.{Setting};
-ghost use Rattle.pssm_acts.specs.Built.{IsBuilt, IsPlainEntry};
+ghost use Rattle.pssm_semantics.specs.declared.entry.Entry.{Entry};
+ghost use Rattle.pssm_semantics.specs.declared.line.Line.{Line};
+ghost use Rattle.pssm_semantics.specs.declared.setting.Setting.{Setting};
+ghost use Rattle.pssm_semantics.specs.Built.{IsBuilt, IsPlainEntry};
 ghost use Rattle.pssm_journal.specs.LineText.{line_text, journal_text};
 ghost use Rattle.pssm_journal.specs.Grammar.{IsLine};
 ghost use Rattle.pssm_journal.specs.Entries.{IsEntryOf, AreEntries};

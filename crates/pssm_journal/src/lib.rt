@@ -31,6 +31,6 @@ pub use fault::LineFault;
 pub use judged::one_judgement;
 pub use laws::{built_lines, one_spelling, read_again};
 pub use naming::line_of;
-pub use pssm_acts::{Entry, Line, LineOut, Out, Rule};
+pub use pssm_semantics::{Entry, Line, LineOut, Out, Rule};
 pub use reader::{Fed, LineReader};
 pub use writing::write_line;

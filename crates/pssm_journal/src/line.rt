@@ -7,8 +7,8 @@ ghost use Rattle.pssm_journal.specs.LineReading.{line_of_parts, firing_of as fir
 ghost use Rattle.pssm_journal.specs.Reading.{SpellsNoLine};
 
 use crate::parts::{LineParts, parts_of};
-use pssm_acts::{Args, Line};
 use pssm_model::{Firing, How, Mode, RegionId, Route, Row, Text, TransId, VertexId};
+use pssm_semantics::{Args, Line};
 use std::alloc::{AllocError as NoMemory, Global};
 
 /// A text of these bytes.

@@ -2,12 +2,12 @@
 ghost use Rattle.std.specs.Prelude.{◌≡◌, position};
 ghost use Rattle.std.specs.Option.{option_copied};
 ghost use Rattle.std.specs.Str.{bytes_eq};
-ghost use Rattle.pssm_acts.specs.Settings.{class_of};
+ghost use Rattle.pssm_semantics.specs.Settings.{class_of};
 ghost use Rattle.pssm_journal.specs.Entries.{object_named, signal_named, mark_named};
 ghost use Rattle.pssm_journal.specs.EntryLine.{name_of_object, name_of_signal, name_of_mark};
 
-use pssm_acts::{Class, ObjectDecl, ObjectId, Setting, SignalDecl};
 use pssm_model::{MarkId, SignalId, Text};
+use pssm_semantics::{Class, ObjectDecl, ObjectId, Setting, SignalDecl};
 
 fn object_place(objects: &[ObjectDecl], name: &[u8]) -> Option<usize>
     ensures { result ≡ position (λ d. bytes_eq d.name name.now) objects.now }

@@ -1,8 +1,8 @@
 //! The line that writes an entry of a setting.
 ghost use Rattle.std.specs.Prelude.{◌≡◌, ◌+◌, length, map, IfOk};
 ghost use Rattle.std.specs.List.{AllByRecursion};
-ghost use Rattle.pssm_acts.specs.Pool.{posts_of_entry, outs_of as outs_in};
-ghost use Rattle.pssm_acts.specs.Built.{IsPlainEntry};
+ghost use Rattle.pssm_semantics.specs.Pool.{posts_of_entry, outs_of as outs_in};
+ghost use Rattle.pssm_semantics.specs.Built.{IsPlainEntry};
 ghost use Rattle.pssm_journal.specs.Grammar.{IsSpelled, IsPlainLine};
 ghost use Rattle.pssm_journal.specs.Entries.{IsEntryOf, KeepsNames};
 ghost use Rattle.pssm_journal.specs.Judged.{line_output_count};
@@ -13,8 +13,8 @@ use crate::known::object_of;
 use crate::line::text_of;
 use crate::names::{mark_name, object_name, signal_name};
 use crate::ranges::{Ranged, index};
-use pssm_acts::{Entry, Line, LineOut, ObjectId, Out, Setting};
 use pssm_model::{RegionId, Row, TransId, VertexId};
+use pssm_semantics::{Entry, Line, LineOut, ObjectId, Out, Setting};
 use std::alloc::{AllocError as NoMemory, Global};
 
 /// An output of an object, with its names.

@@ -3,7 +3,7 @@ ghost use Rattle.std.specs.Prelude.{◌≡◌, codes};
 ghost use Rattle.std.specs.Option.{option_map};
 ghost use Rattle.pssm_journal.specs.LineReading.{line_of_parts, element_taken, place_taken, fires_taken, post_taken, start_taken, take_taken, exit_taken, effect_taken, enter_taken, open_taken, item_taken, line_taken};
 
-use pssm_acts::spelling::{index_at, name_at, number_at, strip};
+use pssm_spelling::{index_at, name_at, number_at, strip};
 
 /// A line whose names are still bytes of the text: no arguments, no outputs, routes of one transition.
 #[derive(Clone, Copy)]

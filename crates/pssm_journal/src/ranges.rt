@@ -6,8 +6,8 @@ ghost use Rattle.std.specs.List.{AllByRecursion};
 ghost use Rattle.pssm_journal.specs.Grammar.{IsIndex, AreArgs};
 ghost use Rattle.pssm_journal.specs.EntryLine.{RouteFits, FiringFits, HowFits};
 
-use pssm_acts::Args;
 use pssm_model::{Firing, How, Route, Row, TransId, VertexId};
+use pssm_semantics::Args;
 use std::alloc::{AllocError as NoMemory, Global};
 
 /// A part whose numbers have a range.

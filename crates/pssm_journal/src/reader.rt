@@ -1,13 +1,13 @@
 //! `LineReader`: a journal's lines from its bytes, in whatever pieces they come.
 ghost use Rattle.std.specs.Prelude.{◌≡◌, ◌++◌, ◌≤◌, ◌<◌, ◌⊎◌, List, length, IfNone, OnSome, [], ◌↔◌, true, false, IfOk, OnErr, IsSome, IsNone, IsTrue, Some, None};
 ghost use Rattle.pssm_journal.specs.Grammar.{IsBadText};
-ghost use Rattle.pssm_acts.specs.declared.line.Line.{Line};
+ghost use Rattle.pssm_semantics.specs.declared.line.Line.{Line};
 ghost use Rattle.pssm_journal.specs.Reading.{has_no_feed, IsFed};
 ghost use Rattle.pssm_journal.specs.Stream.{stream_of, AreSoFar};
 
 use crate::batch::{Batch, batch_of, line_len};
 use crate::fault::LineFault;
-use pssm_acts::Line;
+use pssm_semantics::Line;
 use std::alloc::{AllocError as NoMemory, Global};
 use std::marker::Model;
 

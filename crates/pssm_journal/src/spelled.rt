@@ -4,8 +4,9 @@ ghost use Rattle.std.specs.List.{flat_map, join_with_byte};
 ghost use Rattle.std.specs.Fmt.{decimal, signed_decimal};
 ghost use Rattle.pssm_journal.specs.LineText.{args_text, call_text, transition_text, route_text, routes_text, firing_text, out_text, outs_text, how_text};
 
-use pssm_acts::{Args, LineOut};
 use pssm_model::{Firing, How, Route, Text, TransId};
+use pssm_semantics::{Args, LineOut};
+use pssm_spelling::{put_number, put_signed};
 use std::alloc::{AllocError as NoMemory, Global};
 
 /// A part of a line that has one spelling.
@@ -55,7 +56,7 @@ impl Spelled for u32 {
     ghost spelling = { decimal };
 
     fn put(&self, alloc: Global, text: &mut Vec<u8>) -> Result<(), NoMemory> {
-        text.extend_from_slice(self.to_string(alloc)?.as_bytes())
+        put_number(alloc, text, u64::from(*self))
     }
 }
 
@@ -63,7 +64,7 @@ impl Spelled for i64 {
     ghost spelling = { signed_decimal };
 
     fn put(&self, alloc: Global, text: &mut Vec<u8>) -> Result<(), NoMemory> {
-        text.extend_from_slice(self.to_string(alloc)?.as_bytes())
+        put_signed(alloc, text, *self)
     }
 }
 

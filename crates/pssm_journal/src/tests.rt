@@ -1,8 +1,8 @@
 ghost use Rattle.std.specs.Prelude.{◌<◌};
 
 use super::*;
-use pssm_acts::{Class, ObjectDecl, ObjectId, Program, Setting, SignalDecl};
 use pssm_model::{DraftMachine, How, Machine, Mode, RegionId, Row, SignalId, Text, TransId};
+use pssm_semantics::{Class, ObjectDecl, ObjectId, Program, Setting, SignalDecl};
 use std::alloc::{AllocError, Global};
 use std::test::Fail;
 

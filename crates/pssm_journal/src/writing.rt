@@ -4,8 +4,8 @@ ghost use Rattle.std.specs.Fmt.{decimal};
 ghost use Rattle.pssm_journal.specs.LineText.{line_text, mode_text, outs_text};
 
 use crate::spelled::{Spelled, put_call, put_outs};
-use pssm_acts::{Line, LineOut};
 use pssm_model::{Mode, Text};
+use pssm_semantics::{Line, LineOut};
 use std::alloc::{AllocError as NoMemory, Global};
 
 /// Writes the kind of a line, its object, and a number behind a word.

@@ -1,7 +1,7 @@
 -- The answer where the judging ends at an entry is what the bytes deserve.
 use Rattle.std.proofs.Common.{◌≡◌, ℕ, List, sym, subst}
 use Rattle.std.specs.Prelude.{Result, IfOk, IfErr}
-use Rattle.pssm_acts.specs.declared.setting.Setting.{Setting}
+use Rattle.pssm_semantics.specs.declared.setting.Setting.{Setting}
 use Rattle.pssm_journal.specs.Judged.{IsJudged}
 use Rattle.pssm_judge.specs.declared.run.Stop.{Stop}
 use Rattle.pssm_judge.specs.declared.run.Stop.TheVariants as stops

@@ -1,11 +1,11 @@
 -- How the lines of a piece add up, one after another and piece after piece.
 use Rattle.std.proofs.Common.{◌≡◌, ◌<◌, ℕ, zero, suc, get_or, List, [], ◌∷◌, ◌++◌, length, take, drop, refl, sym, ap, subst, ◌∙◌, append_assoc, arith}
 use Rattle.std.proofs.lemmas.List.{append-nil}
-use Rattle.pssm_acts.specs.declared.entry.Entry.{Entry}
+use Rattle.pssm_semantics.specs.declared.entry.Entry.{Entry}
 use Rattle.pssm_judge.specs.declared.run.Stop.{Stop}
-use Rattle.pssm_acts.specs.declared.line.Line.{Line}
-use Rattle.pssm_acts.specs.declared.setting.Setting.{Setting}
-use Rattle.pssm_acts.specs.Runs.{IsAdmissibleIn, KeepsJournalLimits}
+use Rattle.pssm_semantics.specs.declared.line.Line.{Line}
+use Rattle.pssm_semantics.specs.declared.setting.Setting.{Setting}
+use Rattle.pssm_semantics.specs.Runs.{IsAdmissibleIn, KeepsJournalLimits}
 use Rattle.pssm_journal.specs.Entries.{IsEntryOf, AreEntries}
 use Rattle.pssm_system.specs.History.{History}
 use Rattle.pssm_judge.specs.Following.{Follows, TakesLine, StopsAt, StopsAmong}

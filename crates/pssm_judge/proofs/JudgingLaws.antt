@@ -4,13 +4,13 @@ use Rattle.std.specs.List.{AllByRecursion}
 use Rattle.std.specs.Prelude.{Option, Some, None, IsSome, MatchOption, ◌==◌}
 use Rattle.std.proofs.lemmas.Bool.{eqb-true}
 use Rattle.std.proofs.lemmas.List.{append-nil, nil_from_length}
-use Rattle.pssm_acts.specs.declared.entry.Entry.{Entry}
-use Rattle.pssm_acts.specs.declared.line.Line.{Line}
-use Rattle.pssm_acts.specs.declared.setting.Setting.{Setting}
-use Rattle.pssm_acts.specs.Rules.{Holds}
-use Rattle.pssm_acts.specs.Laws.{CompletesWithin}
-use Rattle.pssm_acts.specs.Runs.{IsAdmissibleIn, KeepsJournalLimits}
-use Rattle.pssm_acts.proofs.Admissible.{IsAdmissible-nil}
+use Rattle.pssm_semantics.specs.declared.entry.Entry.{Entry}
+use Rattle.pssm_semantics.specs.declared.line.Line.{Line}
+use Rattle.pssm_semantics.specs.declared.setting.Setting.{Setting}
+use Rattle.pssm_semantics.specs.Rules.{Holds}
+use Rattle.pssm_semantics.specs.Laws.{CompletesWithin}
+use Rattle.pssm_semantics.specs.Runs.{IsAdmissibleIn, KeepsJournalLimits}
+use Rattle.pssm_semantics.proofs.Admissible.{IsAdmissible-nil}
 use Rattle.pssm_journal.specs.declared.fault.LineFault.{LineFault}
 use Rattle.pssm_journal.specs.LineText.{line_text, header_line, text_of, journal_text}
 use Rattle.pssm_journal.specs.Grammar.{IsLine, IsBadText, no_header, no_line}

@@ -2,12 +2,12 @@
 use Rattle.std.proofs.Common.{◌≡◌, ◌+◌, ◌<◌, ◌≤◌, ◌⊎◌, ◌↔◌, ℕ, Bool, true, false, Option, Some, List, [], ◌∷◌, ◌++◌, length, sym, ap, subst, ◌∙◌, arith, inl, inr, length-append}
 use Rattle.std.specs.Prelude.{IsTrue, IfSome}
 use Rattle.std.proofs.lemmas.List.Sums.{sum_by_push}
-use Rattle.pssm_acts.specs.declared.entry.Entry.{Entry}
-use Rattle.pssm_acts.specs.declared.line.Line.{Line}
-use Rattle.pssm_acts.specs.declared.setting.Setting.{Setting}
-use Rattle.pssm_acts.specs.Pool.{output_count}
-use Rattle.pssm_acts.specs.Runs.{MayFollow, IsAdmissibleIn, KeepsJournalLimits}
-use Rattle.pssm_acts.proofs.Appending.{admissible_push}
+use Rattle.pssm_semantics.specs.declared.entry.Entry.{Entry}
+use Rattle.pssm_semantics.specs.declared.line.Line.{Line}
+use Rattle.pssm_semantics.specs.declared.setting.Setting.{Setting}
+use Rattle.pssm_semantics.specs.Pool.{output_count}
+use Rattle.pssm_semantics.specs.Runs.{MayFollow, IsAdmissibleIn, KeepsJournalLimits}
+use Rattle.pssm_semantics.proofs.Appending.{admissible_push}
 use Rattle.pssm_journal.specs.Entries.{IsEntryOf, KeepsNames}
 use Rattle.pssm_journal.specs.Judged.{line_output_count, PassesLimits}
 use Rattle.pssm_journal.proofs.OutputCounts.{entry_output_count, line_outputs}

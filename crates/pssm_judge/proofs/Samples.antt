@@ -13,8 +13,8 @@ use Rattle.pssm_model.specs.Legs.{Leaves}
 use Rattle.pssm_model.specs.BuiltMachine.{IsBuiltMachine, IsPlainKind, IsPlainVertex, IsPlainTransition}
 use Rattle.pssm_model.specs.OneRegion.{initial_vertex, first_transition}
 use Rattle.pssm_model.proofs.BuiltElements.{same_vertex, same_transition}
-use Rattle.pssm_acts.specs.declared.setting.Setting.{Setting}
-use Rattle.pssm_acts.specs.Built.{IsBuilt}
+use Rattle.pssm_semantics.specs.declared.setting.Setting.{Setting}
+use Rattle.pssm_semantics.specs.Built.{IsBuilt}
 use Rattle.pssm_judge.specs.Sample.{sample_vertex, sample_transition, sample_machine, sample_class, sample_setting}
 
 plain_vertex : (kind : VertexKind) → IsPlainKind (sample_vertex kind) → IsPlainVertex (sample_vertex kind)

@@ -1,8 +1,8 @@
 -- Where the judging of a journal's bytes stands.
 use Rattle.std.specs.Prelude.{◌≡◌, ℕ, Bool, List, ◌++◌}
-use Rattle.pssm_acts.specs.declared.line.Line.{Line}
-use Rattle.pssm_acts.specs.declared.setting.Setting.{Setting}
-use Rattle.pssm_acts.specs.Runs.{IsAdmissibleIn, KeepsJournalLimits}
+use Rattle.pssm_semantics.specs.declared.line.Line.{Line}
+use Rattle.pssm_semantics.specs.declared.setting.Setting.{Setting}
+use Rattle.pssm_semantics.specs.Runs.{IsAdmissibleIn, KeepsJournalLimits}
 use Rattle.pssm_journal.specs.Stream.{stream_of, AreSoFar}
 use Rattle.pssm_journal.specs.Entries.{AreEntries}
 use Rattle.pssm_system.specs.History.{History}

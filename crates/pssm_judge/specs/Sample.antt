@@ -9,8 +9,8 @@ use Rattle.pssm_model.specs.declared.elements.TransKind.TheVariants.{External}
 use Rattle.pssm_model.specs.declared.elements.Guard.TheVariants.{Always}
 use Rattle.pssm_model.specs.declared.elements.Owner.TheVariants.{Top, Region}
 use Rattle.pssm_model.specs.declared.ids.SignalId.{SignalId}
-use Rattle.pssm_acts.specs.declared.setting.Class.{Class}
-use Rattle.pssm_acts.specs.declared.setting.Setting.{Setting}
+use Rattle.pssm_semantics.specs.declared.setting.Class.{Class}
+use Rattle.pssm_semantics.specs.declared.setting.Setting.{Setting}
 
 -- a vertex of the one region
 abbrev pub sample_vertex : VertexKind → Vertex

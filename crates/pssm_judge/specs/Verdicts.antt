@@ -2,10 +2,10 @@
 use Rattle.std.specs.Prelude.{◌≡◌, ℕ, List, length, Result, Ok, Err}
 use Rattle.pssm_base.specs.Faults.{Rose}
 use Rattle.pssm_base.specs.Reading.{Contents, ReadsWhole, HoldsMore}
-use Rattle.pssm_acts.specs.declared.entry.Entry.{Entry}
-use Rattle.pssm_acts.specs.declared.line.Line.{Line}
-use Rattle.pssm_acts.specs.declared.setting.Setting.{Setting}
-use Rattle.pssm_acts.specs.Laws.{CompletesWithin}
+use Rattle.pssm_semantics.specs.declared.entry.Entry.{Entry}
+use Rattle.pssm_semantics.specs.declared.line.Line.{Line}
+use Rattle.pssm_semantics.specs.declared.setting.Setting.{Setting}
+use Rattle.pssm_semantics.specs.Laws.{CompletesWithin}
 use Rattle.pssm_journal.specs.LineText.{journal_text}
 use Rattle.pssm_journal.specs.Judged.{Judged, Accepted, Refused, Limited, BadText, IsKept, IsJudged}
 use Rattle.pssm_judge.specs.declared.run.Stop.{Stop}

@@ -2,14 +2,14 @@
 ghost use Rattle.std.specs.Prelude.{◌≡◌, IfOk, IfErr};
 ghost use Rattle.pssm_base.specs.Faults.{NoneFell};
 ghost use Rattle.pssm_base.specs.Reading.{SameContent};
-ghost use Rattle.pssm_acts.specs.Built.{IsBuilt};
+ghost use Rattle.pssm_semantics.specs.Built.{IsBuilt};
 ghost use Rattle.pssm_judge.specs.Verdicts.{IsVerdictOn, IsVerdictFor, IsFaultOn, IsFaultFor};
 
 use crate::run::Run;
 use crate::verdict::{JudgeFault, Verdict};
-use pssm_acts::Setting;
 use pssm_base::{Inputs, WholeFault, read_whole};
 use pssm_journal::LineReader;
+use pssm_semantics::Setting;
 use std::alloc::Global;
 
 // The most bytes that a journal may have.

@@ -2,7 +2,7 @@
 ghost use Rattle.std.specs.Prelude.{◌≡◌, ◌+◌, ◌≤◌, ◌<◌, ◌⊎◌, ◌↔◌, IsTrue};
 ghost use Rattle.pssm_journal.specs.Judged.{line_output_count};
 
-use pssm_acts::Line;
+use pssm_semantics::Line;
 
 // The most entries that a journal may have.
 const MOST_ENTRIES: usize = 1_000_000;

@@ -1,15 +1,15 @@
 //! `Run`: the run that a journal has told so far.
 ghost use Rattle.std.specs.Prelude.{◌≡◌, [], length, IfOk, IfNone, IfSome, MatchOption};
-ghost use Rattle.pssm_acts.specs.Built.{IsBuilt};
-ghost use Rattle.pssm_acts.specs.Runs.{IsAdmissibleIn, KeepsJournalLimits};
-ghost use Rattle.pssm_acts.specs.Laws.{CompletesWithin};
+ghost use Rattle.pssm_semantics.specs.Built.{IsBuilt};
+ghost use Rattle.pssm_semantics.specs.Runs.{IsAdmissibleIn, KeepsJournalLimits};
+ghost use Rattle.pssm_semantics.specs.Laws.{CompletesWithin};
 ghost use Rattle.pssm_judge.specs.Following.{Follows, TakesLine, StopsAt, StopsAmong};
 ghost use Rattle.pssm_judge.specs.Verdicts.{answer_to};
 
 use crate::limits::{output_count, passes_limits};
 use crate::verdict::{JudgeFault, Verdict};
-use pssm_acts::{Line, Rule, Setting};
 use pssm_journal::entry_of;
+use pssm_semantics::{Line, Rule, Setting};
 use pssm_system::System;
 use std::alloc::{AllocError as NoMemory, Global};
 use std::marker::Model;
@@ -43,12 +43,12 @@ pub struct Run {
 }
 
 impl Model for Run {
-    ghost use Rattle.pssm_acts.specs.contracts.tree.Stmt as stmt;
-    ghost use Rattle.pssm_acts.specs.contracts.tree.Cond as cond;
-    ghost use Rattle.pssm_acts.specs.contracts.tree.Expr as expr;
+    ghost use Rattle.pssm_semantics.specs.contracts.tree.Stmt as stmt;
+    ghost use Rattle.pssm_semantics.specs.contracts.tree.Cond as cond;
+    ghost use Rattle.pssm_semantics.specs.contracts.tree.Expr as expr;
     ghost use Rattle.std.specs.Coded.{codes};
     ghost use Rattle.std.specs.Prelude.{◌≡◌};
-    ghost use Rattle.pssm_acts.specs.Pool.{output_count as count};
+    ghost use Rattle.pssm_semantics.specs.Pool.{output_count as count};
     ghost use Rattle.pssm_system.specs.History.{History};
 
     ghost Value = { History };

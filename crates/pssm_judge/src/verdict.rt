@@ -2,8 +2,8 @@
 ghost use Rattle.std.specs.Prelude.{◌≡◌};
 ghost use Rattle.pssm_judge.specs.declared.verdict.JudgeFault.TheVariants.{NoMemory as Memory};
 
-use pssm_acts::Rule;
 use pssm_journal::LineFault;
+use pssm_semantics::Rule;
 use std::alloc::AllocError;
 
 /// The verdict on a journal that was read up to the entry that decides.

@@ -17,13 +17,13 @@ use Rattle.pssm_model.specs.BuiltMachine.{IsBuiltMachine}
 use Rattle.pssm_model.specs.OneRegion.{top_region, first_transition, single_route}
 use Rattle.pssm_model.proofs.BuiltTransitions.{nothing_in_nil, leaving_in_range, entering_in_range, target_is_state}
 use Rattle.pssm_model.proofs.BuiltRoutes.{is_one}
-use Rattle.pssm_acts.specs.declared.entry.Entry.{Entry}
-use Rattle.pssm_acts.specs.declared.entry.Entry.TheVariants.{Post, Start, Take, Exit, Effect, Enter, Opened}
-use Rattle.pssm_acts.specs.declared.stimulus.Stimulus.{Stimulus}
-use Rattle.pssm_acts.specs.Journal.{IsPost}
-use Rattle.pssm_acts.specs.Items.{Runs}
-use Rattle.pssm_acts.specs.Pool.{signals_of, signals_of_entry, takes}
-use Rattle.pssm_acts.proofs.Appending.{every_push, more, run_cases, active_push, active_entered, active_kept, none_active}
+use Rattle.pssm_semantics.specs.declared.entry.Entry.{Entry}
+use Rattle.pssm_semantics.specs.declared.entry.Entry.TheVariants.{Post, Start, Take, Exit, Effect, Enter, Opened}
+use Rattle.pssm_semantics.specs.declared.stimulus.Stimulus.{Stimulus}
+use Rattle.pssm_semantics.specs.Journal.{IsPost}
+use Rattle.pssm_semantics.specs.Items.{Runs}
+use Rattle.pssm_semantics.specs.Pool.{signals_of, signals_of_entry, takes}
+use Rattle.pssm_semantics.proofs.Appending.{every_push, more, run_cases, active_push, active_entered, active_kept, none_active}
 use Rattle.pssm_system.specs.declared.progress.Progress.{Progress}
 use Rattle.pssm_system.specs.declared.progress.Progress.TheVariants.{Unstarted, Opening, Resting, Exiting, Acting, Entering}
 use Rattle.pssm_system.specs.Standing.{the_object, waiting, IsUnderWay, IsProgressOf, HasTaken, StandsAt}

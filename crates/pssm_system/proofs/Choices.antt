@@ -12,7 +12,7 @@ use Rattle.pssm_model.specs.Legs.{Leaves}
 use Rattle.pssm_model.specs.Routes.{Lists}
 use Rattle.pssm_model.proofs.BuiltElements.{same_transition}
 use Rattle.pssm_model.proofs.BuiltTransitions.{leaves_at, lists_at}
-use Rattle.pssm_acts.proofs.Appending.{every_push}
+use Rattle.pssm_semantics.proofs.Appending.{every_push}
 use Rattle.pssm_system.specs.Choosing.{AreEnabledBelow}
 use Rattle.pssm_system.proofs.Marks.{transition_number}
 

@@ -14,16 +14,16 @@ use Rattle.pssm_model.specs.BuiltMachine.{IsBuiltMachine}
 use Rattle.pssm_model.specs.OneRegion.{first_transition, single_route}
 use Rattle.pssm_model.proofs.BuiltElements.{some_at, first_in_range, state_in_range}
 use Rattle.pssm_model.proofs.BuiltTransitions.{nothing_in_nil, leaving_in_range}
-use Rattle.pssm_acts.specs.declared.entry.ObjectId.{ObjectId}
-use Rattle.pssm_acts.specs.declared.entry.Entry.{Entry}
-use Rattle.pssm_acts.specs.declared.entry.Entry.TheVariants.{Post, Start, Take, Done, Exit, Effect, Enter, Opened, Pick, DoStep}
-use Rattle.pssm_acts.specs.declared.entry.Rule.TheVariants.{A1, A3, A5, A8, A11}
-use Rattle.pssm_acts.specs.declared.setting.Setting.{Setting}
-use Rattle.pssm_acts.specs.Journal.{IsPost, object_of}
-use Rattle.pssm_acts.specs.Known.{IsRouteOf, IsOutOf, NamesKnown}
-use Rattle.pssm_acts.specs.Rules.{Holds, IsCalledItem}
-use Rattle.pssm_acts.specs.Runs.{MayFollow, IsQuiet}
-use Rattle.pssm_acts.specs.Built.{IsBuilt}
+use Rattle.pssm_semantics.specs.declared.entry.ObjectId.{ObjectId}
+use Rattle.pssm_semantics.specs.declared.entry.Entry.{Entry}
+use Rattle.pssm_semantics.specs.declared.entry.Entry.TheVariants.{Post, Start, Take, Done, Exit, Effect, Enter, Opened, Pick, DoStep}
+use Rattle.pssm_semantics.specs.declared.entry.Rule.TheVariants.{A1, A3, A5, A8, A11}
+use Rattle.pssm_semantics.specs.declared.setting.Setting.{Setting}
+use Rattle.pssm_semantics.specs.Journal.{IsPost, object_of}
+use Rattle.pssm_semantics.specs.Known.{IsRouteOf, IsOutOf, NamesKnown}
+use Rattle.pssm_semantics.specs.Rules.{Holds, IsCalledItem}
+use Rattle.pssm_semantics.specs.Runs.{MayFollow, IsQuiet}
+use Rattle.pssm_semantics.specs.Built.{IsBuilt}
 use Rattle.pssm_system.specs.declared.progress.Progress.{Progress}
 use Rattle.pssm_system.specs.declared.progress.Progress.TheVariants.{Unstarted, Opening, Resting, Exiting, Acting, Entering}
 use Rattle.pssm_system.specs.Standing.{the_object, IsProgressIn, IsTransitionOf, StandsAt}

@@ -8,17 +8,17 @@ use Rattle.pssm_model.specs.declared.elements.DraftMachine.{DraftMachine}
 use Rattle.pssm_model.specs.OneRegion.{first_transition}
 use Rattle.pssm_model.proofs.BuiltElements.{first_in_range}
 use Rattle.pssm_model.proofs.BuiltTransitions.{target_there}
-use Rattle.pssm_acts.specs.declared.entry.ObjectId.{ObjectId}
-use Rattle.pssm_acts.specs.declared.entry.Entry.{Entry}
-use Rattle.pssm_acts.specs.declared.entry.Entry.TheVariants.{Post, Start, Take, Done, Exit, Effect, Enter, Opened, Pick, DoStep}
-use Rattle.pssm_acts.specs.declared.setting.Class.{Class}
-use Rattle.pssm_acts.specs.declared.setting.Setting.{Setting}
-use Rattle.pssm_acts.specs.Journal.{Heads, IsPost}
-use Rattle.pssm_acts.specs.Ways.{IsStepFinished}
-use Rattle.pssm_acts.specs.Runs.{IsAdmissibleIn, IsCompleteRun, AllFinished, MayFollow}
-use Rattle.pssm_acts.specs.Laws.{CompletesWithin}
-use Rattle.pssm_acts.specs.Built.{IsBuilt}
-use Rattle.pssm_acts.proofs.Appending.{admissible_push}
+use Rattle.pssm_semantics.specs.declared.entry.ObjectId.{ObjectId}
+use Rattle.pssm_semantics.specs.declared.entry.Entry.{Entry}
+use Rattle.pssm_semantics.specs.declared.entry.Entry.TheVariants.{Post, Start, Take, Done, Exit, Effect, Enter, Opened, Pick, DoStep}
+use Rattle.pssm_semantics.specs.declared.setting.Class.{Class}
+use Rattle.pssm_semantics.specs.declared.setting.Setting.{Setting}
+use Rattle.pssm_semantics.specs.Journal.{Heads, IsPost}
+use Rattle.pssm_semantics.specs.Ways.{IsStepFinished}
+use Rattle.pssm_semantics.specs.Runs.{IsAdmissibleIn, IsCompleteRun, AllFinished, MayFollow}
+use Rattle.pssm_semantics.specs.Laws.{CompletesWithin}
+use Rattle.pssm_semantics.specs.Built.{IsBuilt}
+use Rattle.pssm_semantics.proofs.Appending.{admissible_push}
 use Rattle.pssm_system.specs.declared.progress.Progress.{Progress}
 use Rattle.pssm_system.specs.declared.progress.Progress.TheVariants.{Unstarted, Opening, Resting, Exiting, Acting, Entering}
 use Rattle.pssm_system.specs.Standing.{the_object, IsProgressOf, StandsAt}

@@ -15,22 +15,22 @@ use Rattle.pssm_model.specs.declared.steps.Item.{Item}
 use Rattle.pssm_model.specs.declared.steps.Item.TheVariants as items
 use Rattle.pssm_model.specs.OneRegion.{top_region, first_transition, single_route}
 use Rattle.pssm_model.proofs.BuiltTransitions.{nothing_in_nil}
-use Rattle.pssm_acts.specs.declared.entry.Out.{Out}
-use Rattle.pssm_acts.specs.declared.entry.Entry.{Entry}
-use Rattle.pssm_acts.specs.declared.entry.Entry.TheVariants.{Post, Start, Take, Done, Exit, Effect, Enter, Opened, Pick, DoStep}
-use Rattle.pssm_acts.specs.declared.entry.Rule.TheVariants.{A1, A3, A4, A5, A6, A7, A8, A9, A10, A11, A12}
-use Rattle.pssm_acts.specs.declared.stimulus.Stimulus.{Stimulus}
-use Rattle.pssm_acts.specs.declared.setting.Setting.{Setting}
-use Rattle.pssm_acts.specs.Journal.{StepAt, IsLastStep, IsStart, object_of}
-use Rattle.pssm_acts.specs.Items.{HasRun, Called, Before}
-use Rattle.pssm_acts.specs.Values.{eight_of}
-use Rattle.pssm_acts.specs.Pool.{signals_of, told_by}
-use Rattle.pssm_acts.specs.Ways.{CanOpen}
-use Rattle.pssm_acts.specs.Behaviours.{store_of, guards_under, guards_at}
-use Rattle.pssm_acts.specs.Completion.{stand_after}
-use Rattle.pssm_acts.specs.Rules.{IsCalledItem}
-use Rattle.pssm_acts.specs.Runs.{MayFollow}
-use Rattle.pssm_acts.specs.Built.{IsBuilt}
+use Rattle.pssm_semantics.specs.declared.entry.Out.{Out}
+use Rattle.pssm_semantics.specs.declared.entry.Entry.{Entry}
+use Rattle.pssm_semantics.specs.declared.entry.Entry.TheVariants.{Post, Start, Take, Done, Exit, Effect, Enter, Opened, Pick, DoStep}
+use Rattle.pssm_semantics.specs.declared.entry.Rule.TheVariants.{A1, A3, A4, A5, A6, A7, A8, A9, A10, A11, A12}
+use Rattle.pssm_semantics.specs.declared.stimulus.Stimulus.{Stimulus}
+use Rattle.pssm_semantics.specs.declared.setting.Setting.{Setting}
+use Rattle.pssm_semantics.specs.Journal.{StepAt, IsLastStep, IsStart, object_of}
+use Rattle.pssm_semantics.specs.Items.{HasRun, Called, Before}
+use Rattle.pssm_semantics.specs.Values.{eight_of}
+use Rattle.pssm_semantics.specs.Pool.{signals_of, told_by}
+use Rattle.pssm_semantics.specs.Ways.{CanOpen}
+use Rattle.pssm_semantics.specs.Behaviours.{store_of, guards_under, guards_at}
+use Rattle.pssm_semantics.specs.Completion.{stand_after}
+use Rattle.pssm_semantics.specs.Rules.{IsCalledItem}
+use Rattle.pssm_semantics.specs.Runs.{MayFollow}
+use Rattle.pssm_semantics.specs.Built.{IsBuilt}
 use Rattle.pssm_system.specs.declared.progress.Progress.{Progress}
 use Rattle.pssm_system.specs.declared.progress.Progress.TheVariants.{Unstarted, Opening, Resting, Exiting, Acting, Entering}
 use Rattle.pssm_system.specs.Standing.{the_object, waiting, passed, active_in, IsStarted, StandsAt}

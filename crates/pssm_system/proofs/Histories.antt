@@ -11,28 +11,28 @@ use Rattle.pssm_model.specs.declared.steps.Route.{Route}
 use Rattle.pssm_model.specs.declared.steps.Firing.{Firing}
 use Rattle.pssm_model.specs.OneRegion.{first_transition, single_route}
 use Rattle.pssm_model.specs.BuiltMachine.{IsBuiltMachine}
-use Rattle.pssm_acts.specs.declared.entry.ObjectId.{ObjectId}
-use Rattle.pssm_acts.specs.declared.entry.Entry.{Entry}
-use Rattle.pssm_acts.specs.declared.entry.Entry.TheVariants.{Post, Start, Take, Done, Exit, Effect, Enter, Opened, Pick, DoStep}
-use Rattle.pssm_acts.specs.declared.entry.Rule.{Rule}
-use Rattle.pssm_acts.specs.declared.entry.Rule.TheVariants.{A1}
-use Rattle.pssm_acts.specs.declared.stimulus.Stimulus.{Stimulus}
-use Rattle.pssm_acts.specs.declared.setting.Class.{Class}
-use Rattle.pssm_acts.specs.declared.setting.Setting.{Setting}
-use Rattle.pssm_acts.specs.Known.{IsFiringOf, IsRouteOf}
-use Rattle.pssm_acts.specs.Rules.{Holds}
-use Rattle.pssm_acts.specs.Verdict.{IsFirstBroken}
-use Rattle.pssm_acts.specs.Settings.{class_of}
-use Rattle.pssm_acts.specs.Journal.{IsPost}
-use Rattle.pssm_acts.specs.Values.{no_params}
-use Rattle.pssm_acts.specs.Pool.{signals_of, told_by}
-use Rattle.pssm_acts.specs.Behaviours.{store_of, params_of}
-use Rattle.pssm_acts.specs.Runs.{MayFollow, IsAdmissibleIn, IsQuiet, KeepsJournalLimits}
-use Rattle.pssm_acts.specs.Laws.{CompletesWithin, KeepsTakes, KeepsRegions}
-use Rattle.pssm_acts.specs.Built.{IsBuilt, IsPlainClass, IsPlainEntry}
-use Rattle.pssm_acts.proofs.Appending.{every_push, admissible_push, admissible_none}
-use Rattle.pssm_acts.proofs.Outputs.{signals_of-within}
-use Rattle.pssm_acts.proofs.Takes.{admissible-keeps_takes}
+use Rattle.pssm_semantics.specs.declared.entry.ObjectId.{ObjectId}
+use Rattle.pssm_semantics.specs.declared.entry.Entry.{Entry}
+use Rattle.pssm_semantics.specs.declared.entry.Entry.TheVariants.{Post, Start, Take, Done, Exit, Effect, Enter, Opened, Pick, DoStep}
+use Rattle.pssm_semantics.specs.declared.entry.Rule.{Rule}
+use Rattle.pssm_semantics.specs.declared.entry.Rule.TheVariants.{A1}
+use Rattle.pssm_semantics.specs.declared.stimulus.Stimulus.{Stimulus}
+use Rattle.pssm_semantics.specs.declared.setting.Class.{Class}
+use Rattle.pssm_semantics.specs.declared.setting.Setting.{Setting}
+use Rattle.pssm_semantics.specs.Known.{IsFiringOf, IsRouteOf}
+use Rattle.pssm_semantics.specs.Rules.{Holds}
+use Rattle.pssm_semantics.specs.Verdict.{IsFirstBroken}
+use Rattle.pssm_semantics.specs.Settings.{class_of}
+use Rattle.pssm_semantics.specs.Journal.{IsPost}
+use Rattle.pssm_semantics.specs.Values.{no_params}
+use Rattle.pssm_semantics.specs.Pool.{signals_of, told_by}
+use Rattle.pssm_semantics.specs.Behaviours.{store_of, params_of}
+use Rattle.pssm_semantics.specs.Runs.{MayFollow, IsAdmissibleIn, IsQuiet, KeepsJournalLimits}
+use Rattle.pssm_semantics.specs.Laws.{CompletesWithin, KeepsTakes, KeepsRegions}
+use Rattle.pssm_semantics.specs.Built.{IsBuilt, IsPlainClass, IsPlainEntry}
+use Rattle.pssm_semantics.proofs.Appending.{every_push, admissible_push, admissible_none}
+use Rattle.pssm_semantics.proofs.Outputs.{signals_of-within}
+use Rattle.pssm_semantics.proofs.Takes.{admissible-keeps_takes}
 use Rattle.pssm_system.specs.declared.progress.Progress.TheVariants.{Unstarted}
 use Rattle.pssm_system.specs.declared.judging.Standing.{Standing}
 use Rattle.pssm_system.specs.History.{History}

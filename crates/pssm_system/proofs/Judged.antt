@@ -21,25 +21,25 @@ use Rattle.pssm_model.specs.OneRegion.{top_region, first_transition}
 use Rattle.pssm_model.proofs.BuiltTransitions.{nothing_in_nil}
 use Rattle.pssm_model.proofs.BuiltRoutes.{is_one}
 use Rattle.pssm_model.proofs.BuiltFiring.{fires_none, fires_one, fires_only}
-use Rattle.pssm_acts.specs.declared.entry.Out.{Out}
-use Rattle.pssm_acts.specs.declared.entry.Entry.{Entry}
-use Rattle.pssm_acts.specs.declared.entry.Entry.TheVariants.{Post, Start, Take, Done, Exit, Effect, Enter, Opened, Pick, DoStep}
-use Rattle.pssm_acts.specs.declared.entry.Rule.{Rule}
-use Rattle.pssm_acts.specs.declared.entry.Rule.TheVariants.{A1, A2, A3, A4, A5, A6, A7, A8, A9, A10, A11, A12}
-use Rattle.pssm_acts.specs.declared.stimulus.Stimulus.{Stimulus}
-use Rattle.pssm_acts.specs.declared.setting.Class.{Class}
-use Rattle.pssm_acts.specs.declared.setting.Setting.{Setting}
-use Rattle.pssm_acts.specs.Journal.{IsLastStep, IsActive, IsStart, object_of}
-use Rattle.pssm_acts.specs.Items.{Runs, HasRun, Called, Before}
-use Rattle.pssm_acts.specs.Values.{eight_of}
-use Rattle.pssm_acts.specs.Pool.{signals_of, told_by, outs_of}
-use Rattle.pssm_acts.specs.Ways.{CanOpen}
-use Rattle.pssm_acts.specs.Behaviours.{store_of, guards_under, guards_at}
-use Rattle.pssm_acts.specs.Completion.{stand_after}
-use Rattle.pssm_acts.specs.Rules.{Holds, KeepsShared, IsCalledItem, IsFirstWaiting}
-use Rattle.pssm_acts.specs.Verdict.{number_of, IsFirstBroken}
-use Rattle.pssm_acts.specs.Runs.{MayFollow}
-use Rattle.pssm_acts.specs.Built.{IsBuilt}
+use Rattle.pssm_semantics.specs.declared.entry.Out.{Out}
+use Rattle.pssm_semantics.specs.declared.entry.Entry.{Entry}
+use Rattle.pssm_semantics.specs.declared.entry.Entry.TheVariants.{Post, Start, Take, Done, Exit, Effect, Enter, Opened, Pick, DoStep}
+use Rattle.pssm_semantics.specs.declared.entry.Rule.{Rule}
+use Rattle.pssm_semantics.specs.declared.entry.Rule.TheVariants.{A1, A2, A3, A4, A5, A6, A7, A8, A9, A10, A11, A12}
+use Rattle.pssm_semantics.specs.declared.stimulus.Stimulus.{Stimulus}
+use Rattle.pssm_semantics.specs.declared.setting.Class.{Class}
+use Rattle.pssm_semantics.specs.declared.setting.Setting.{Setting}
+use Rattle.pssm_semantics.specs.Journal.{IsLastStep, IsActive, IsStart, object_of}
+use Rattle.pssm_semantics.specs.Items.{Runs, HasRun, Called, Before}
+use Rattle.pssm_semantics.specs.Values.{eight_of}
+use Rattle.pssm_semantics.specs.Pool.{signals_of, told_by, outs_of}
+use Rattle.pssm_semantics.specs.Ways.{CanOpen}
+use Rattle.pssm_semantics.specs.Behaviours.{store_of, guards_under, guards_at}
+use Rattle.pssm_semantics.specs.Completion.{stand_after}
+use Rattle.pssm_semantics.specs.Rules.{Holds, KeepsShared, IsCalledItem, IsFirstWaiting}
+use Rattle.pssm_semantics.specs.Verdict.{number_of, IsFirstBroken}
+use Rattle.pssm_semantics.specs.Runs.{MayFollow}
+use Rattle.pssm_semantics.specs.Built.{IsBuilt}
 use Rattle.pssm_system.specs.declared.progress.Progress.{Progress}
 use Rattle.pssm_system.specs.declared.progress.Progress.TheVariants.{Unstarted, Opening, Resting, Exiting, Acting, Entering}
 use Rattle.pssm_system.specs.Standing.{the_object, waiting, active_in, IsStarted, StandsAt}

@@ -1,16 +1,16 @@
 -- An entry that may follow a journal keeps it within the limits.
 use Rattle.std.proofs.Common.{◌≡◌, ◌<◌, ◌≤◌, ◌++◌, List, [], ◌∷◌, length, ap, ◌∙◌, arith, length-append}
 use Rattle.std.specs.List.{AllByRecursion}
-use Rattle.pssm_acts.specs.declared.entry.Entry.{Entry}
-use Rattle.pssm_acts.specs.declared.entry.Entry.TheVariants.{Post, Start, Take, Done, Exit, Effect, Enter, Opened, Pick, DoStep}
-use Rattle.pssm_acts.specs.declared.entry.Rule.TheVariants.{A1, A12}
-use Rattle.pssm_acts.specs.declared.setting.Setting.{Setting}
-use Rattle.pssm_acts.specs.Journal.{object_of}
-use Rattle.pssm_acts.specs.Pool.{told_by, outs_of, posts_of_entry, output_count}
-use Rattle.pssm_acts.specs.Behaviours.{store_of}
-use Rattle.pssm_acts.specs.Runs.{MayFollow, KeepsJournalLimits}
-use Rattle.pssm_acts.specs.Built.{IsBuilt, IsPlainEntry}
-use Rattle.pssm_acts.proofs.Outputs.{outputs_in, output_count-append, output_count-plain}
+use Rattle.pssm_semantics.specs.declared.entry.Entry.{Entry}
+use Rattle.pssm_semantics.specs.declared.entry.Entry.TheVariants.{Post, Start, Take, Done, Exit, Effect, Enter, Opened, Pick, DoStep}
+use Rattle.pssm_semantics.specs.declared.entry.Rule.TheVariants.{A1, A12}
+use Rattle.pssm_semantics.specs.declared.setting.Setting.{Setting}
+use Rattle.pssm_semantics.specs.Journal.{object_of}
+use Rattle.pssm_semantics.specs.Pool.{told_by, outs_of, posts_of_entry, output_count}
+use Rattle.pssm_semantics.specs.Behaviours.{store_of}
+use Rattle.pssm_semantics.specs.Runs.{MayFollow, KeepsJournalLimits}
+use Rattle.pssm_semantics.specs.Built.{IsBuilt, IsPlainEntry}
+use Rattle.pssm_semantics.proofs.Outputs.{outputs_in, output_count-append, output_count-plain}
 use Rattle.pssm_system.proofs.Kept.{asks, own_entry}
 use Rattle.pssm_system.proofs.Rules.{outs_are_none}
 

@@ -20,14 +20,14 @@ use Rattle.pssm_model.proofs.BuiltForest.{owner_of_region, region_owned}
 use Rattle.pssm_model.proofs.BuiltTransitions.{nothing_in_nil, enters_one, entering_in_range, source_in_range}
 use Rattle.pssm_model.proofs.BuiltRoutes.{is_one, in_one, on_single, on_single_is}
 use Rattle.pssm_model.proofs.BuiltLegs.{same_leg_is, same_leg_of, leg_exits, exited_is, leg_enters, entered_is}
-use Rattle.pssm_acts.specs.declared.entry.ObjectId.{ObjectId}
-use Rattle.pssm_acts.specs.declared.entry.Entry.{Entry}
-use Rattle.pssm_acts.specs.declared.entry.Entry.TheVariants.{Post, Start, Take, Done, Exit, Effect, Enter, Opened, Pick, DoStep}
-use Rattle.pssm_acts.specs.Journal.{StepAt, IsActive}
-use Rattle.pssm_acts.specs.Items.{Runs, HasRun, HeadGoesBy, LateGoesBy, Leg, IsLeg, LegRuns, RunsInLeg, Restores, Called, StartOpens}
-use Rattle.pssm_acts.specs.Items.Called.{start, run, ends, opens, restored, entered}
-use Rattle.pssm_acts.specs.Items.Before.{exit_effect, effect_enter}
-use Rattle.pssm_acts.proofs.Appending.{more, goes_on, begins, run_now, run_cases}
+use Rattle.pssm_semantics.specs.declared.entry.ObjectId.{ObjectId}
+use Rattle.pssm_semantics.specs.declared.entry.Entry.{Entry}
+use Rattle.pssm_semantics.specs.declared.entry.Entry.TheVariants.{Post, Start, Take, Done, Exit, Effect, Enter, Opened, Pick, DoStep}
+use Rattle.pssm_semantics.specs.Journal.{StepAt, IsActive}
+use Rattle.pssm_semantics.specs.Items.{Runs, HasRun, HeadGoesBy, LateGoesBy, Leg, IsLeg, LegRuns, RunsInLeg, Restores, Called, StartOpens}
+use Rattle.pssm_semantics.specs.Items.Called.{start, run, ends, opens, restored, entered}
+use Rattle.pssm_semantics.specs.Items.Before.{exit_effect, effect_enter}
+use Rattle.pssm_semantics.proofs.Appending.{more, goes_on, begins, run_now, run_cases}
 use Rattle.pssm_system.specs.declared.progress.Progress.TheVariants.{Opening, Exiting, Acting}
 use Rattle.pssm_system.specs.Standing.{waiting, IsOpenStep, IsFresh, IsUnderWay}
 use Rattle.pssm_system.proofs.Steps.{first_in, later_in, in_cases, leg_cases, no_leg_ends, no_leg_opens, no_enter_opens}

@@ -7,15 +7,15 @@ use Rattle.pssm_model.specs.declared.steps.Route.{Route}
 use Rattle.pssm_model.specs.declared.steps.Firing.{Firing}
 use Rattle.pssm_model.specs.OneRegion.{first_transition}
 use Rattle.pssm_model.proofs.BuiltElements.{mapped_some, all_at}
-use Rattle.pssm_acts.specs.declared.entry.Entry.{Entry}
-use Rattle.pssm_acts.specs.declared.entry.Entry.TheVariants.{Post, Start, Take, Done, Exit, Effect, Enter, Opened, Pick, DoStep}
-use Rattle.pssm_acts.specs.declared.entry.Rule.TheVariants.{A1, A5, A11}
-use Rattle.pssm_acts.specs.declared.setting.SignalDecl.{SignalDecl}
-use Rattle.pssm_acts.specs.declared.setting.Setting.{Setting}
-use Rattle.pssm_acts.specs.Settings.{HasCount}
-use Rattle.pssm_acts.specs.Journal.{object_of}
-use Rattle.pssm_acts.specs.Runs.{MayFollow}
-use Rattle.pssm_acts.specs.Built.{IsBuilt, IsPlainSignal, IsPlainFiring, IsPlainEntry}
+use Rattle.pssm_semantics.specs.declared.entry.Entry.{Entry}
+use Rattle.pssm_semantics.specs.declared.entry.Entry.TheVariants.{Post, Start, Take, Done, Exit, Effect, Enter, Opened, Pick, DoStep}
+use Rattle.pssm_semantics.specs.declared.entry.Rule.TheVariants.{A1, A5, A11}
+use Rattle.pssm_semantics.specs.declared.setting.SignalDecl.{SignalDecl}
+use Rattle.pssm_semantics.specs.declared.setting.Setting.{Setting}
+use Rattle.pssm_semantics.specs.Settings.{HasCount}
+use Rattle.pssm_semantics.specs.Journal.{object_of}
+use Rattle.pssm_semantics.specs.Runs.{MayFollow}
+use Rattle.pssm_semantics.specs.Built.{IsBuilt, IsPlainSignal, IsPlainFiring, IsPlainEntry}
 use Rattle.pssm_system.specs.declared.progress.Progress.{Progress}
 use Rattle.pssm_system.specs.Standing.{the_object, StandsAt}
 use Rattle.pssm_system.specs.Judging.{FiresAt}

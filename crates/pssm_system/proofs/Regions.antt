@@ -14,20 +14,20 @@ use Rattle.pssm_model.specs.OneRegion.{first_transition, single_route}
 use Rattle.pssm_model.proofs.BuiltElements.{first_in_range}
 use Rattle.pssm_model.proofs.BuiltForest.{owner_of_vertex, region_owned}
 use Rattle.pssm_model.proofs.BuiltTransitions.{leaving_in_range, target_there}
-use Rattle.pssm_acts.specs.declared.entry.ObjectId.{ObjectId}
-use Rattle.pssm_acts.specs.declared.entry.Entry.{Entry}
-use Rattle.pssm_acts.specs.declared.entry.Entry.TheVariants.{Post, Start, Take, Done, Exit, Effect, Enter, Opened, Pick, DoStep}
-use Rattle.pssm_acts.specs.declared.entry.Rule.TheVariants.{A1}
-use Rattle.pssm_acts.specs.declared.setting.Class.{Class}
-use Rattle.pssm_acts.specs.declared.setting.Setting.{Setting}
-use Rattle.pssm_acts.specs.Settings.{class_of}
-use Rattle.pssm_acts.specs.Journal.{IsActive, object_of}
-use Rattle.pssm_acts.specs.Rules.{Holds}
-use Rattle.pssm_acts.specs.Runs.{MayFollow, IsAdmissibleIn}
-use Rattle.pssm_acts.specs.Laws.{KeepsRegions}
-use Rattle.pssm_acts.specs.Built.{IsBuilt}
-use Rattle.pssm_acts.proofs.Appended.{from_the_end}
-use Rattle.pssm_acts.proofs.Admissible.{IsAdmissible-front, IsAdmissible-last}
+use Rattle.pssm_semantics.specs.declared.entry.ObjectId.{ObjectId}
+use Rattle.pssm_semantics.specs.declared.entry.Entry.{Entry}
+use Rattle.pssm_semantics.specs.declared.entry.Entry.TheVariants.{Post, Start, Take, Done, Exit, Effect, Enter, Opened, Pick, DoStep}
+use Rattle.pssm_semantics.specs.declared.entry.Rule.TheVariants.{A1}
+use Rattle.pssm_semantics.specs.declared.setting.Class.{Class}
+use Rattle.pssm_semantics.specs.declared.setting.Setting.{Setting}
+use Rattle.pssm_semantics.specs.Settings.{class_of}
+use Rattle.pssm_semantics.specs.Journal.{IsActive, object_of}
+use Rattle.pssm_semantics.specs.Rules.{Holds}
+use Rattle.pssm_semantics.specs.Runs.{MayFollow, IsAdmissibleIn}
+use Rattle.pssm_semantics.specs.Laws.{KeepsRegions}
+use Rattle.pssm_semantics.specs.Built.{IsBuilt}
+use Rattle.pssm_semantics.proofs.Appended.{from_the_end}
+use Rattle.pssm_semantics.proofs.Admissible.{IsAdmissible-front, IsAdmissible-last}
 use Rattle.pssm_system.specs.declared.progress.Progress.{Progress}
 use Rattle.pssm_system.specs.declared.progress.Progress.TheVariants.{Unstarted, Opening, Resting, Exiting, Acting}
 use Rattle.pssm_system.specs.Standing.{the_object, passed, active_in, StandsAt}

@@ -21,21 +21,21 @@ use Rattle.pssm_model.proofs.BuiltForest.{region_owned, only_element}
 use Rattle.pssm_model.proofs.BuiltTransitions.{nothing_in_nil, no_completion_transition}
 use Rattle.pssm_model.proofs.BuiltRoutes.{is_one}
 use Rattle.pssm_model.proofs.BuiltFiring.{initial_of_region, late_route_is, late_route_first}
-use Rattle.pssm_acts.specs.declared.entry.ObjectId.{ObjectId}
-use Rattle.pssm_acts.specs.declared.entry.Entry.{Entry}
-use Rattle.pssm_acts.specs.declared.entry.Entry.TheVariants.{Post, Start, Take, Done, Exit, Effect, Enter, Opened, Pick, DoStep}
-use Rattle.pssm_acts.specs.declared.setting.Class.{Class}
-use Rattle.pssm_acts.specs.declared.tree.Act.{Act}
-use Rattle.pssm_acts.specs.Journal.{StepAt, IsLastStep, IsPost, IsStart, object_of}
-use Rattle.pssm_acts.specs.Items.{HasRun, Called, Before, IsExit, IsEffect, IsEnter}
-use Rattle.pssm_acts.specs.Values.{Store, Params, outcome_of}
-use Rattle.pssm_acts.specs.Pool.{Told}
-use Rattle.pssm_acts.specs.Completion.{HasEnded, IsQueuedAt, IsQueueHead}
-use Rattle.pssm_acts.specs.Behaviours.{act_of, act_at, outcome_at, params_at}
-use Rattle.pssm_acts.specs.Ways.{CanOpen, IsStepFinished}
-use Rattle.pssm_acts.specs.Rules.{KeepsStart, IsCalledItem, IsNextStep}
-use Rattle.pssm_acts.specs.Built.{IsPlainClass}
-use Rattle.pssm_acts.proofs.Appending.{one_last_step}
+use Rattle.pssm_semantics.specs.declared.entry.ObjectId.{ObjectId}
+use Rattle.pssm_semantics.specs.declared.entry.Entry.{Entry}
+use Rattle.pssm_semantics.specs.declared.entry.Entry.TheVariants.{Post, Start, Take, Done, Exit, Effect, Enter, Opened, Pick, DoStep}
+use Rattle.pssm_semantics.specs.declared.setting.Class.{Class}
+use Rattle.pssm_semantics.specs.declared.tree.Act.{Act}
+use Rattle.pssm_semantics.specs.Journal.{StepAt, IsLastStep, IsPost, IsStart, object_of}
+use Rattle.pssm_semantics.specs.Items.{HasRun, Called, Before, IsExit, IsEffect, IsEnter}
+use Rattle.pssm_semantics.specs.Values.{Store, Params, outcome_of}
+use Rattle.pssm_semantics.specs.Pool.{Told}
+use Rattle.pssm_semantics.specs.Completion.{HasEnded, IsQueuedAt, IsQueueHead}
+use Rattle.pssm_semantics.specs.Behaviours.{act_of, act_at, outcome_at, params_at}
+use Rattle.pssm_semantics.specs.Ways.{CanOpen, IsStepFinished}
+use Rattle.pssm_semantics.specs.Rules.{KeepsStart, IsCalledItem, IsNextStep}
+use Rattle.pssm_semantics.specs.Built.{IsPlainClass}
+use Rattle.pssm_semantics.proofs.Appending.{one_last_step}
 use Rattle.pssm_system.specs.declared.progress.Progress.{Progress}
 use Rattle.pssm_system.specs.declared.progress.Progress.TheVariants.{Unstarted, Opening, Resting, Exiting, Acting, Entering}
 use Rattle.pssm_system.specs.Standing.{waiting, IsStarted, IsInOrder, IsUnderWay, IsProgressOf}

@@ -13,13 +13,13 @@ use Rattle.pssm_model.specs.Legs.{Leaves}
 use Rattle.pssm_model.specs.BuiltMachine.{IsBuiltMachine, IsPlainKind, IsPlainVertex, IsPlainTransition}
 use Rattle.pssm_model.specs.OneRegion.{initial_vertex, first_transition}
 use Rattle.pssm_model.proofs.BuiltElements.{same_vertex, same_transition}
-use Rattle.pssm_acts.specs.declared.entry.Entry.{Entry}
-use Rattle.pssm_acts.specs.declared.entry.Rule.TheVariants.{A1}
-use Rattle.pssm_acts.specs.declared.setting.Setting.{Setting}
-use Rattle.pssm_acts.specs.Settings.{class_of}
-use Rattle.pssm_acts.specs.Rules.{Holds}
+use Rattle.pssm_semantics.specs.declared.entry.Entry.{Entry}
+use Rattle.pssm_semantics.specs.declared.entry.Rule.TheVariants.{A1}
+use Rattle.pssm_semantics.specs.declared.setting.Setting.{Setting}
+use Rattle.pssm_semantics.specs.Settings.{class_of}
+use Rattle.pssm_semantics.specs.Rules.{Holds}
 use Rattle.pssm_system.proofs.Kept.{class_there}
-use Rattle.pssm_acts.specs.Built.{IsBuilt, ListsSignals}
+use Rattle.pssm_semantics.specs.Built.{IsBuilt, ListsSignals}
 use Rattle.pssm_system.specs.Sample.{sample_vertex, sample_transition, to_b, sample_machine, sample_class, sample_setting, IsNamed}
 
 plain_vertex : (kind : VertexKind) → IsPlainKind (sample_vertex kind) → IsPlainVertex (sample_vertex kind)

@@ -14,15 +14,15 @@ use Rattle.pssm_model.specs.declared.steps.Firing.{Firing}
 use Rattle.pssm_model.specs.Forest.{HasKind}
 use Rattle.pssm_model.specs.BuiltMachine.{IsBuiltMachine}
 use Rattle.pssm_model.proofs.BuiltTransitions.{nothing_deferred}
-use Rattle.pssm_acts.specs.declared.entry.ObjectId.{ObjectId}
-use Rattle.pssm_acts.specs.declared.entry.Entry.{Entry}
-use Rattle.pssm_acts.specs.declared.entry.Entry.TheVariants.{Take}
-use Rattle.pssm_acts.specs.declared.stimulus.Stimulus.{Stimulus}
-use Rattle.pssm_acts.specs.declared.setting.Class.{Class}
-use Rattle.pssm_acts.specs.Journal.{IsActive}
-use Rattle.pssm_acts.specs.Pool.{Told, signals_of, signals_of_entry, takes, pool_of, told_by}
-use Rattle.pssm_acts.specs.Ways.{IsDeferred}
-use Rattle.pssm_acts.specs.Rules.{IsFirstWaiting}
+use Rattle.pssm_semantics.specs.declared.entry.ObjectId.{ObjectId}
+use Rattle.pssm_semantics.specs.declared.entry.Entry.{Entry}
+use Rattle.pssm_semantics.specs.declared.entry.Entry.TheVariants.{Take}
+use Rattle.pssm_semantics.specs.declared.stimulus.Stimulus.{Stimulus}
+use Rattle.pssm_semantics.specs.declared.setting.Class.{Class}
+use Rattle.pssm_semantics.specs.Journal.{IsActive}
+use Rattle.pssm_semantics.specs.Pool.{Told, signals_of, signals_of_entry, takes, pool_of, told_by}
+use Rattle.pssm_semantics.specs.Ways.{IsDeferred}
+use Rattle.pssm_semantics.specs.Rules.{IsFirstWaiting}
 use Rattle.pssm_system.specs.declared.progress.Progress.{Progress}
 use Rattle.pssm_system.specs.declared.progress.Progress.TheVariants.{Unstarted, Opening, Resting, Exiting, Acting, Entering}
 use Rattle.pssm_system.specs.Standing.{the_object, active_in, IsProgressIn, HasTaken, StandsAt}

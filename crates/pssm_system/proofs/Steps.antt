@@ -16,15 +16,15 @@ use Rattle.pssm_model.proofs.BuiltElements.{no_shallow_history, no_deep_history,
 use Rattle.pssm_model.proofs.BuiltForest.{no_nested_region, no_vertex_in_state}
 use Rattle.pssm_model.proofs.BuiltRoutes.{is_one, in_one}
 use Rattle.pssm_model.proofs.BuiltLegs.{no_later_leg, no_local_leg}
-use Rattle.pssm_acts.specs.declared.entry.ObjectId.{ObjectId}
-use Rattle.pssm_acts.specs.declared.entry.Entry.{Entry}
-use Rattle.pssm_acts.specs.declared.entry.Entry.TheVariants.{Post, Start, Take, Done, Exit, Effect, Enter, Opened, Pick, DoStep}
-use Rattle.pssm_acts.specs.Journal.{StepAt, Heads}
-use Rattle.pssm_acts.specs.Items.{Runs, LateGoesBy, Leg, IsLeg, LegEnds, LegOpens, EnterOpens, Restores, Called, PathBefore, Before, IsExit, IsEffect, IsEnter}
-use Rattle.pssm_acts.specs.Items.Called.{start, run, ends, opens, restored, entered}
-use Rattle.pssm_acts.specs.Items.PathBefore.{next, after}
-use Rattle.pssm_acts.specs.Items.Before.{inner_exit, outer_enter, exit_effect, path, effect_enter, effect_end, enter_end, later}
-use Rattle.pssm_acts.proofs.Appending.{more, goes_on, run_kept, run_now, run_cases}
+use Rattle.pssm_semantics.specs.declared.entry.ObjectId.{ObjectId}
+use Rattle.pssm_semantics.specs.declared.entry.Entry.{Entry}
+use Rattle.pssm_semantics.specs.declared.entry.Entry.TheVariants.{Post, Start, Take, Done, Exit, Effect, Enter, Opened, Pick, DoStep}
+use Rattle.pssm_semantics.specs.Journal.{StepAt, Heads}
+use Rattle.pssm_semantics.specs.Items.{Runs, LateGoesBy, Leg, IsLeg, LegEnds, LegOpens, EnterOpens, Restores, Called, PathBefore, Before, IsExit, IsEffect, IsEnter}
+use Rattle.pssm_semantics.specs.Items.Called.{start, run, ends, opens, restored, entered}
+use Rattle.pssm_semantics.specs.Items.PathBefore.{next, after}
+use Rattle.pssm_semantics.specs.Items.Before.{inner_exit, outer_enter, exit_effect, path, effect_enter, effect_end, enter_end, later}
+use Rattle.pssm_semantics.proofs.Appending.{more, goes_on, run_kept, run_now, run_cases}
 use Rattle.pssm_system.specs.Standing.{IsOpenStep, IsInOrder}
 
 -- the first of a list, and the others

@@ -3,20 +3,20 @@ use Rattle.std.proofs.Common.{◌≡◌, ◌++◌, ◌==◌, ℕ, zero, suc, Lis
 use Rattle.std.specs.List.{AllByRecursion, flat_map}
 use Rattle.std.specs.Option.{option_map_or}
 use Rattle.pssm_model.proofs.BuiltElements.{all_at}
-use Rattle.pssm_acts.specs.declared.entry.ObjectId.{ObjectId}
-use Rattle.pssm_acts.specs.declared.entry.Out.{Out}
-use Rattle.pssm_acts.specs.declared.entry.Entry.{Entry}
-use Rattle.pssm_acts.specs.declared.entry.Entry.TheVariants.{Post, Start, Take, Done, Exit, Effect, Enter, Opened, Pick, DoStep}
-use Rattle.pssm_acts.specs.declared.stimulus.Stimulus.{Stimulus}
-use Rattle.pssm_acts.specs.declared.setting.Class.{Class}
-use Rattle.pssm_acts.specs.declared.setting.VarDecl.{VarDecl}
-use Rattle.pssm_acts.specs.declared.tree.Act.{Act}
-use Rattle.pssm_acts.specs.Journal.{object_of}
-use Rattle.pssm_acts.specs.Values.{Store, Params, eight_of, no_params, outcome_of}
-use Rattle.pssm_acts.specs.Pool.{Told, signals_of, signals_of_out, signals_of_entry, told_by}
-use Rattle.pssm_acts.specs.Behaviours.{last_head, params_of_head, params_of, params_at, act_of, outcome_at, store_after, store_through, store_of}
-use Rattle.pssm_acts.specs.Built.{IsPlainClass, IsPlainEntry}
-use Rattle.pssm_acts.proofs.Appended.{AllByRecursion-append}
+use Rattle.pssm_semantics.specs.declared.entry.ObjectId.{ObjectId}
+use Rattle.pssm_semantics.specs.declared.entry.Out.{Out}
+use Rattle.pssm_semantics.specs.declared.entry.Entry.{Entry}
+use Rattle.pssm_semantics.specs.declared.entry.Entry.TheVariants.{Post, Start, Take, Done, Exit, Effect, Enter, Opened, Pick, DoStep}
+use Rattle.pssm_semantics.specs.declared.stimulus.Stimulus.{Stimulus}
+use Rattle.pssm_semantics.specs.declared.setting.Class.{Class}
+use Rattle.pssm_semantics.specs.declared.setting.VarDecl.{VarDecl}
+use Rattle.pssm_semantics.specs.declared.tree.Act.{Act}
+use Rattle.pssm_semantics.specs.Journal.{object_of}
+use Rattle.pssm_semantics.specs.Values.{Store, Params, eight_of, no_params, outcome_of}
+use Rattle.pssm_semantics.specs.Pool.{Told, signals_of, signals_of_out, signals_of_entry, told_by}
+use Rattle.pssm_semantics.specs.Behaviours.{last_head, params_of_head, params_of, params_at, act_of, outcome_at, store_after, store_through, store_of}
+use Rattle.pssm_semantics.specs.Built.{IsPlainClass, IsPlainEntry}
+use Rattle.pssm_semantics.proofs.Appended.{AllByRecursion-append}
 use Rattle.pssm_system.proofs.Rules.{act_found, act_is_empty}
 
 -- the empty behaviour leaves the store

@@ -4,11 +4,11 @@ use Rattle.std.specs.List.{AllByRecursion}
 use Rattle.std.specs.declared.alloc.Global.{Global}
 use Rattle.pssm_model.specs.declared.ids.TransId.{TransId}
 use Rattle.pssm_model.specs.OneRegion.{first_transition}
-use Rattle.pssm_acts.specs.declared.entry.Entry.{Entry}
-use Rattle.pssm_acts.specs.declared.setting.Setting.{Setting}
-use Rattle.pssm_acts.specs.Values.{no_params}
-use Rattle.pssm_acts.specs.Built.{IsBuilt, IsPlainEntry}
-use Rattle.pssm_acts.specs.Runs.{IsAdmissibleIn, KeepsJournalLimits}
+use Rattle.pssm_semantics.specs.declared.entry.Entry.{Entry}
+use Rattle.pssm_semantics.specs.declared.setting.Setting.{Setting}
+use Rattle.pssm_semantics.specs.Values.{no_params}
+use Rattle.pssm_semantics.specs.Built.{IsBuilt, IsPlainEntry}
+use Rattle.pssm_semantics.specs.Runs.{IsAdmissibleIn, KeepsJournalLimits}
 use Rattle.pssm_system.specs.declared.judging.Standing.{Standing}
 use Rattle.pssm_system.specs.Standing.{StandsAt}
 use Rattle.pssm_system.specs.Reactions.{AreReactions}

@@ -9,11 +9,11 @@ use Rattle.pssm_model.specs.declared.elements.TransKind.TheVariants.{External}
 use Rattle.pssm_model.specs.declared.elements.Guard.TheVariants.{Always}
 use Rattle.pssm_model.specs.declared.elements.Owner.TheVariants.{Top, Region}
 use Rattle.pssm_model.specs.declared.ids.SignalId.{SignalId}
-use Rattle.pssm_acts.specs.declared.entry.Entry.{Entry}
-use Rattle.pssm_acts.specs.declared.setting.Class.{Class}
-use Rattle.pssm_acts.specs.declared.setting.Setting.{Setting}
-use Rattle.pssm_acts.specs.Journal.{object_of}
-use Rattle.pssm_acts.specs.Known.{NamesKnown}
+use Rattle.pssm_semantics.specs.declared.entry.Entry.{Entry}
+use Rattle.pssm_semantics.specs.declared.setting.Class.{Class}
+use Rattle.pssm_semantics.specs.declared.setting.Setting.{Setting}
+use Rattle.pssm_semantics.specs.Journal.{object_of}
+use Rattle.pssm_semantics.specs.Known.{NamesKnown}
 use Rattle.pssm_system.specs.Standing.{the_object}
 
 -- a vertex of the one region

@@ -12,11 +12,11 @@ use Rattle.pssm_model.specs.declared.steps.Item.{Item}
 use Rattle.pssm_model.specs.declared.steps.Item.TheVariants as items
 use Rattle.pssm_model.specs.Forest.{HasKind}
 use Rattle.pssm_model.specs.OneRegion.{top_region}
-use Rattle.pssm_acts.specs.declared.entry.ObjectId.{ObjectId}
-use Rattle.pssm_acts.specs.declared.entry.Entry.{Entry}
-use Rattle.pssm_acts.specs.Journal.{StepAt, IsLastStep, IsActive, IsPost, IsStart}
-use Rattle.pssm_acts.specs.Items.{Called, Before, HasRun, HeadGoesBy}
-use Rattle.pssm_acts.specs.Pool.{signals_of, takes}
+use Rattle.pssm_semantics.specs.declared.entry.ObjectId.{ObjectId}
+use Rattle.pssm_semantics.specs.declared.entry.Entry.{Entry}
+use Rattle.pssm_semantics.specs.Journal.{StepAt, IsLastStep, IsActive, IsPost, IsStart}
+use Rattle.pssm_semantics.specs.Items.{Called, Before, HasRun, HeadGoesBy}
+use Rattle.pssm_semantics.specs.Pool.{signals_of, takes}
 use Rattle.pssm_system.specs.declared.progress.Progress.{Progress}
 use Rattle.pssm_system.specs.declared.progress.Progress.TheVariants.{Unstarted, Opening, Resting, Exiting, Acting, Entering}
 

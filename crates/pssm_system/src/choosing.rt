@@ -8,8 +8,8 @@ ghost use Rattle.pssm_system.specs.Choosing.{the_opening, IsIdle, ChoosesTake, C
 use crate::judging::{Standing, reacts_in};
 use crate::progress::{Progress, TOP_REGION};
 use crate::routes::single_route;
-use pssm_acts::{Entry, ObjectId};
 use pssm_model::{Firing, How, Machine, Mode, Row, SignalId, TransId, VertexId};
+use pssm_semantics::{Entry, ObjectId};
 use std::alloc::{AllocError as NoMemory, Global};
 
 /// The one object.

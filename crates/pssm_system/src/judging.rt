@@ -1,15 +1,15 @@
 //! The verdict on one more entry, where the object stands as is told.
 ghost use Rattle.std.specs.Prelude.{◌≡◌, ◌≢◌, ◌↔◌, ◌<◌, ◌+◌, ◌++◌, if◌then◌else◌, IsTrue, Contains, MatchOption, MatchResult, vec_len, vec_capacity, option_to_list};
 ghost use Rattle.pssm_model.specs.OneRegion.{single_route, first_transition};
-ghost use Rattle.pssm_acts.specs.Known.{IsRouteOf, IsFiringOf};
+ghost use Rattle.pssm_semantics.specs.Known.{IsRouteOf, IsFiringOf};
 ghost use Rattle.pssm_system.specs.Reactions.{AreReactions};
 ghost use Rattle.pssm_system.specs.Judging.{IsReaction, FiresAt, IsNumbered, JudgesRest, JudgesStart, JudgesTake, JudgesDone, JudgesItem, JudgesWork, JudgesOpened, JudgesNever, NamesTransitions, Judges};
 
 use crate::progress::Progress;
 use crate::reactions::Reactions;
 use crate::routes::single_start;
-use pssm_acts::{Entry, Out, Rule};
 use pssm_model::{Firing, How, Item, Machine, Route, SignalId, TransId, Transition, VertexId};
+use pssm_semantics::{Entry, Out, Rule};
 
 /// What is kept of the journal beside its entries.
 #[derive(Drop)]

@@ -2,7 +2,7 @@
 ghost use Rattle.std.specs.Prelude.{◌≡◌, ◌↔◌, ◌<◌, ◌⊎◌, ℕ, List, Bool, true, false, length, Contains, IfOk, replicate, slice_index_or};
 ghost use Rattle.std.specs.List.{AllByRecursion};
 ghost use Rattle.pssm_model.specs.BuiltMachine.{IsBuiltMachine};
-ghost use Rattle.pssm_acts.specs.Built.{ListsSignals};
+ghost use Rattle.pssm_semantics.specs.Built.{ListsSignals};
 ghost use Rattle.pssm_system.specs.Reactions.{has_mark, AreReactions, IsMarkedBelow};
 
 use pssm_model::{Machine, SignalId, TransId, VertexId};

@@ -2,14 +2,14 @@
 ghost use Rattle.std.specs.Prelude.{◌≡◌, ◌++◌, ◌∷◌, [], ◌+◌, ℕ, List, MatchOption, MatchBool};
 ghost use Rattle.pssm_model.specs.BuiltMachine.{IsBuiltMachine};
 ghost use Rattle.pssm_model.specs.OneRegion.{first_transition};
-ghost use Rattle.pssm_acts.specs.Known.{IsFiringOf};
+ghost use Rattle.pssm_semantics.specs.Known.{IsFiringOf};
 ghost use Rattle.pssm_system.specs.Judging.{NamesTransitions};
 ghost use Rattle.pssm_system.specs.Advancing.{AdvancesByFiring, Advances, signals_after, taken_after};
 
 use crate::progress::Progress;
 use crate::routes::single_start;
-use pssm_acts::Entry;
 use pssm_model::{Firing, Machine, SignalId, TransId};
+use pssm_semantics::Entry;
 
 /// The progress after the entry; `first` is the transition out of the initial vertex.
 pub fn progress_after(

@@ -1,16 +1,16 @@
 //! `System`: a setting and the journal of an admissible run of it.
 ghost use Rattle.std.specs.Prelude.{◌≡◌, ◌<◌, ◌↔◌, ◌++◌, ◌∷◌, [], length, IsTrue, IfOk, IfNone, IfSome, OnOk, OnErr, Some};
 ghost use Rattle.std.specs.List.{AllByRecursion};
-ghost use Rattle.pssm_acts.specs.Values.{no_params};
-ghost use Rattle.pssm_acts.specs.Built.{IsBuilt, IsPlainEntry};
+ghost use Rattle.pssm_semantics.specs.Values.{no_params};
+ghost use Rattle.pssm_semantics.specs.Built.{IsBuilt, IsPlainEntry};
 
 use crate::judging::Standing;
 use crate::progress::Progress;
 use crate::reactions::{Reactions, reactions_of};
 use crate::routes::first_transition;
 use crate::stepping::{posted_signal, progress_after, takes_signal};
-use pssm_acts::{Args, Entry, ObjectId, Rule, Setting};
 use pssm_model::{Machine, TransId};
+use pssm_semantics::{Args, Entry, ObjectId, Rule, Setting};
 use std::alloc::{AllocError as NoMemory, Global};
 use std::marker::Model;
 
@@ -34,9 +34,9 @@ pub struct System {
 }
 
 impl Model for System {
-    ghost use Rattle.pssm_acts.specs.contracts.tree.Stmt as stmt;
-    ghost use Rattle.pssm_acts.specs.contracts.tree.Cond as cond;
-    ghost use Rattle.pssm_acts.specs.contracts.tree.Expr as expr;
+    ghost use Rattle.pssm_semantics.specs.contracts.tree.Stmt as stmt;
+    ghost use Rattle.pssm_semantics.specs.contracts.tree.Cond as cond;
+    ghost use Rattle.pssm_semantics.specs.contracts.tree.Expr as expr;
     ghost use Rattle.std.specs.Coded.{codes};
     ghost use Rattle.pssm_system.specs.History.{History};
 
@@ -52,16 +52,16 @@ impl Model for System {
 }
 
 impl System {
-    ghost use Rattle.pssm_acts.specs.Settings.{class_of};
-    ghost use Rattle.pssm_acts.specs.Journal.{IsPost};
-    ghost use Rattle.pssm_acts.specs.Pool.{told_by};
-    ghost use Rattle.pssm_acts.specs.Behaviours.{store_of, params_of};
-    ghost use Rattle.pssm_acts.specs.Rules.{Holds};
-    ghost use Rattle.pssm_acts.specs.Runs.{MayFollow, IsAdmissibleIn, IsQuiet, KeepsJournalLimits};
-    ghost use Rattle.pssm_acts.specs.Laws.{CompletesWithin, KeepsTakes, KeepsRegions};
-    ghost use Rattle.pssm_acts.specs.Verdict.{IsFirstBroken};
-    ghost use Rattle.pssm_acts.specs.declared.entry.Rule.TheVariants.{A1};
-    ghost use Rattle.pssm_acts.specs.declared.setting.Class.{Class};
+    ghost use Rattle.pssm_semantics.specs.Settings.{class_of};
+    ghost use Rattle.pssm_semantics.specs.Journal.{IsPost};
+    ghost use Rattle.pssm_semantics.specs.Pool.{told_by};
+    ghost use Rattle.pssm_semantics.specs.Behaviours.{store_of, params_of};
+    ghost use Rattle.pssm_semantics.specs.Rules.{Holds};
+    ghost use Rattle.pssm_semantics.specs.Runs.{MayFollow, IsAdmissibleIn, IsQuiet, KeepsJournalLimits};
+    ghost use Rattle.pssm_semantics.specs.Laws.{CompletesWithin, KeepsTakes, KeepsRegions};
+    ghost use Rattle.pssm_semantics.specs.Verdict.{IsFirstBroken};
+    ghost use Rattle.pssm_semantics.specs.declared.entry.Rule.TheVariants.{A1};
+    ghost use Rattle.pssm_semantics.specs.declared.setting.Class.{Class};
 
     /// A system with no entry yet.
     ///

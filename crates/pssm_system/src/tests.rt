@@ -1,11 +1,11 @@
 //! Runs of machines that go from A to B on Go, what is chosen in them, and the rule that a wrong entry breaks.
 ghost use Rattle.std.specs.Prelude.{◌≡◌};
-ghost use Rattle.pssm_acts.specs.Runs.{MayFollow};
-ghost use Rattle.pssm_acts.specs.Built.{IsBuilt};
+ghost use Rattle.pssm_semantics.specs.Runs.{MayFollow};
+ghost use Rattle.pssm_semantics.specs.Built.{IsBuilt};
 
 use crate::System;
-use pssm_acts::{Entry, ObjectId};
 use pssm_model::SignalId;
+use pssm_semantics::{Entry, ObjectId};
 use std::alloc::AllocError as NoMemory;
 
 mod choosing;

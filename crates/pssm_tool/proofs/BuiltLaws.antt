@@ -5,10 +5,10 @@ use Rattle.pssm_base.specs.Reading.{Contents}
 use Rattle.pssm_model.specs.Shape.{HasShape}
 use Rattle.pssm_model.specs.WellFormed.{KeepsModelRules}
 use Rattle.pssm_model.proofs.BuiltFrom.{built_from_rules}
-use Rattle.pssm_acts.specs.declared.setting.Class.{Class}
-use Rattle.pssm_acts.specs.declared.setting.Setting.{Setting}
-use Rattle.pssm_acts.specs.Built.{IsBuilt}
-use Rattle.pssm_acts.proofs.BuiltSettings.{built_setting}
+use Rattle.pssm_semantics.specs.declared.setting.Class.{Class}
+use Rattle.pssm_semantics.specs.declared.setting.Setting.{Setting}
+use Rattle.pssm_semantics.specs.Built.{IsBuilt}
+use Rattle.pssm_semantics.proofs.BuiltSettings.{built_setting}
 use Rattle.pssm_flat.specs.Flat.{IsFlat}
 use Rattle.pssm_tool.specs.Refusals.{IsBuiltWhole}
 use Rattle.pssm_tool.specs.Due.{HasBuiltModel}

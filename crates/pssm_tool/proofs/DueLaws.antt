@@ -2,7 +2,7 @@
 use Rattle.std.proofs.Common.{◌≡◌, ◌≢◌, ◌⊎◌, ◌<◌, ◌≤◌, ℕ, List, [], ◌∷◌, length, codes, Option, None, Some, IfSome, IfNone, Result, Ok, Err, IfOk, IfErr, refl, sym, subst, inl, inr, arith, ap, ◌∙◌}
 use Rattle.pssm_base.specs.Faults.{Rose, NoneFell}
 use Rattle.pssm_base.specs.Reading.{Contents, ReadsWhole, HoldsMore, SameContent}
-use Rattle.pssm_acts.specs.declared.setting.Setting.{Setting}
+use Rattle.pssm_semantics.specs.declared.setting.Setting.{Setting}
 use Rattle.pssm_judge.specs.declared.verdict.Verdict.{Verdict}
 use Rattle.pssm_judge.specs.declared.verdict.Verdict.TheVariants as verdicts
 use Rattle.pssm_judge.specs.declared.verdict.JudgeFault.{JudgeFault}

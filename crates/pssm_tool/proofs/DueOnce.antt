@@ -2,8 +2,8 @@
 use Rattle.std.proofs.Common.{◌≡◌, ◌≢◌, ◌⊎◌, ◌<◌, ℕ, List, [], length, refl, sym, ap, subst, ◌∙◌, inl, inr, arith}
 use Rattle.std.specs.Prelude.{Option, Some, None, IsSome, IfSome}
 use Rattle.pssm_base.specs.Reading.{Contents, ReadsWhole, HoldsMore}
-use Rattle.pssm_acts.specs.declared.setting.Setting.{Setting}
-use Rattle.pssm_acts.specs.declared.stimulus.Stimulus.{Stimulus}
+use Rattle.pssm_semantics.specs.declared.setting.Setting.{Setting}
+use Rattle.pssm_semantics.specs.declared.stimulus.Stimulus.{Stimulus}
 use Rattle.pssm_flat.specs.Text.{flat_text}
 use Rattle.pssm_flat.specs.Faults.{IsFlatFault}
 use Rattle.pssm_flat.proofs.FaultLaws.{one_setting, not_both}

@@ -1,6 +1,5 @@
 pub mod Regrouped
 pub mod Three
-pub mod NumberLaws
 pub mod WordLaws
 pub mod CallLaws
 pub mod RunLaws

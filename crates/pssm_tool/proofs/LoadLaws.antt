@@ -1,7 +1,7 @@
 -- How a model that is not there is told.
 use Rattle.std.proofs.Common.{◌≡◌, ◌≢◌, ◌⊎◌, ℕ, List, Result, Ok, Err, IfErr, refl, ⊎_elim}
 use Rattle.pssm_base.specs.Reading.{Contents, ReadsWhole}
-use Rattle.pssm_acts.specs.declared.setting.Setting.{Setting}
+use Rattle.pssm_semantics.specs.declared.setting.Setting.{Setting}
 use Rattle.pssm_flat.specs.declared.fault.FlatFault.{FlatFault}
 use Rattle.pssm_flat.specs.declared.fault.FlatFault.TheVariants as faults
 use Rattle.pssm_flat.specs.Faults.{IsFlatFault}

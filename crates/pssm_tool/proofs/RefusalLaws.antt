@@ -7,7 +7,7 @@ use Rattle.pssm_model.specs.declared.elements.DraftMachine.{DraftMachine}
 use Rattle.pssm_model.specs.declared.elements.FaultPlace.{FaultPlace}
 use Rattle.pssm_model.specs.WellFormed.{Breaks, KeepsModelRules}
 use Rattle.pssm_model.specs.NotBuilt.{IsFirstNotBuilt}
-use Rattle.pssm_acts.specs.declared.setting.Class.{Class}
+use Rattle.pssm_semantics.specs.declared.setting.Class.{Class}
 use Rattle.pssm_wellformed.specs.declared.fault.Fault.{Fault}
 use Rattle.pssm_tool.specs.Refusals.{fault_line, not_built_line, AreFaults, AreFaultLines, KeepRules, IsBuiltWhole, AreBuilt, IsNotBuiltLine}
 

@@ -7,17 +7,17 @@ use Rattle.std.proofs.lemmas.List.Sums.{sum_by-append}
 use Rattle.std.specs.Option.{option_copied}
 use Rattle.std.proofs.lemmas.Option.{slice_get_within, slice_get_past, slice_get_read}
 use Rattle.std.proofs.Math.Seq.{take-length}
-use Rattle.pssm_acts.specs.declared.entry.Entry.{Entry}
-use Rattle.pssm_acts.specs.declared.entry.Entry.TheVariants.{Post, Start, Take, Done, Exit, Effect, Enter, Opened, Pick, DoStep}
-use Rattle.pssm_acts.specs.declared.entry.Rule.TheVariants.{A1, A12}
-use Rattle.pssm_acts.specs.declared.setting.Class.{Class}
-use Rattle.pssm_acts.specs.declared.setting.Setting.{Setting}
-use Rattle.pssm_acts.specs.declared.stimulus.Stimulus.{Stimulus}
-use Rattle.pssm_acts.specs.Built.{IsBuilt, IsPlainClass}
-use Rattle.pssm_acts.specs.Journal.{object_of}
-use Rattle.pssm_acts.specs.Pool.{told_by, posts_of_entry, outs_of, posts_of, output_count}
-use Rattle.pssm_acts.specs.Behaviours.{store_of}
-use Rattle.pssm_acts.specs.Runs.{MayFollow, IsQuiet, IsFull, KeepsJournalLimits, FitsStimuli, HasEndedQuietly}
+use Rattle.pssm_semantics.specs.declared.entry.Entry.{Entry}
+use Rattle.pssm_semantics.specs.declared.entry.Entry.TheVariants.{Post, Start, Take, Done, Exit, Effect, Enter, Opened, Pick, DoStep}
+use Rattle.pssm_semantics.specs.declared.entry.Rule.TheVariants.{A1, A12}
+use Rattle.pssm_semantics.specs.declared.setting.Class.{Class}
+use Rattle.pssm_semantics.specs.declared.setting.Setting.{Setting}
+use Rattle.pssm_semantics.specs.declared.stimulus.Stimulus.{Stimulus}
+use Rattle.pssm_semantics.specs.Built.{IsBuilt, IsPlainClass}
+use Rattle.pssm_semantics.specs.Journal.{object_of}
+use Rattle.pssm_semantics.specs.Pool.{told_by, posts_of_entry, outs_of, posts_of, output_count}
+use Rattle.pssm_semantics.specs.Behaviours.{store_of}
+use Rattle.pssm_semantics.specs.Runs.{MayFollow, IsQuiet, IsFull, KeepsJournalLimits, FitsStimuli, HasEndedQuietly}
 use Rattle.pssm_system.specs.History.{History}
 use Rattle.pssm_system.proofs.Kept.{class_is}
 use Rattle.pssm_system.proofs.Rules.{outs_are_none}

@@ -3,8 +3,9 @@ use Rattle.std.proofs.Common.{◌≡◌, ◌<◌, ◌≤◌, ◌-◌, ◌^◌, �
 use Rattle.std.specs.declared.alloc.Global.{Global}
 use Rattle.std.specs.List.{AllByRecursion}
 use Rattle.pssm_tool.specs.declared.words.Options.{Options}
-use Rattle.pssm_tool.specs.Words.{texts, IsNumber, BeginWith, HasOption, given, left_out, BeginsWithDashes, IsStimulusText, IsJudge, IsRun, IsCheck, IsPrint, Meaning, Judges, Runs, Checks, Prints, Means, IsUsage}
-use Rattle.pssm_tool.proofs.NumberLaws.{one_number}
+use Rattle.pssm_spelling.specs.Numbers.{IsNumber}
+use Rattle.pssm_tool.specs.Words.{texts, BeginWith, HasOption, given, left_out, BeginsWithDashes, IsStimulusText, IsJudge, IsRun, IsCheck, IsPrint, Meaning, Judges, Runs, Checks, Prints, Means, IsUsage}
+use Rattle.pssm_spelling.proofs.WordNumbers.{one_number}
 
 all_taken : {X : Type 0} (xs : List X) → take (length xs) xs ≡ xs
 all_taken [] = refl

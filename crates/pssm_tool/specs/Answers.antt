@@ -1,8 +1,8 @@
 -- What the program writes, and its statuses.
 use Rattle.std.specs.Prelude.{◌≤◌, ℕ, List, [], ◌∷◌, ◌++◌, codes}
 use Rattle.std.specs.Fmt.{decimal}
-use Rattle.pssm_acts.specs.declared.entry.Rule.{Rule}
-use Rattle.pssm_acts.specs.declared.entry.Rule.TheVariants.{A1, A2, A3, A4, A5, A6, A7, A8, A9, A10, A11, A12}
+use Rattle.pssm_semantics.specs.declared.entry.Rule.{Rule}
+use Rattle.pssm_semantics.specs.declared.entry.Rule.TheVariants.{A1, A2, A3, A4, A5, A6, A7, A8, A9, A10, A11, A12}
 use Rattle.pssm_tool.specs.declared.answer.Answer.{Answer}
 use Rattle.pssm_tool.specs.declared.answer.Answer.TheVariants.{Accept, Refuse, Limit, WellFormed, Usage, BadJournal, TooLarge}
 use Rattle.pssm_tool.specs.declared.reply.Reply.{Reply}

@@ -3,8 +3,8 @@ use Rattle.std.specs.Prelude.{◌≡◌, ◌≢◌, ◌⊎◌, ℕ, List, [], Op
 use Rattle.std.specs.Io.KnownBytes.{Appends}
 use Rattle.pssm_base.specs.Faults.{Rose}
 use Rattle.pssm_base.specs.Reading.{Contents, ReadsWhole, HoldsMore}
-use Rattle.pssm_acts.specs.declared.setting.Setting.{Setting}
-use Rattle.pssm_acts.specs.declared.stimulus.Stimulus.{Stimulus}
+use Rattle.pssm_semantics.specs.declared.setting.Setting.{Setting}
+use Rattle.pssm_semantics.specs.declared.stimulus.Stimulus.{Stimulus}
 use Rattle.pssm_flat.specs.Flat.{IsFlat}
 use Rattle.pssm_flat.specs.Text.{flat_text}
 use Rattle.pssm_flat.specs.declared.fault.FlatFault.{FlatFault}

@@ -11,7 +11,7 @@ use Rattle.pssm_model.specs.declared.elements.Shape.{Shape}
 use Rattle.pssm_model.specs.declared.elements.Shape.TheVariants as shapes
 use Rattle.pssm_model.specs.WellFormed.{Breaks, KeepsModelRules}
 use Rattle.pssm_model.specs.NotBuilt.{IsNotBuilt, IsFirstNotBuilt}
-use Rattle.pssm_acts.specs.declared.setting.Class.{Class}
+use Rattle.pssm_semantics.specs.declared.setting.Class.{Class}
 use Rattle.pssm_flat.specs.declared.fault.FlatFault.{FlatFault}
 use Rattle.pssm_flat.specs.declared.fault.FlatFault.TheVariants as faults
 use Rattle.pssm_wellformed.specs.declared.fault.Fault.{Fault}

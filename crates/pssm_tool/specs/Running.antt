@@ -1,10 +1,10 @@
 -- Where a run stands, and what may come next.
 use Rattle.std.specs.Prelude.{◌≡◌, ◌≤◌, ◌<◌, ◌⊎◌, ℕ, List, [], ◌∷◌, length, take, Option, Some, None}
-use Rattle.pssm_acts.specs.declared.entry.Entry.{Entry}
-use Rattle.pssm_acts.specs.declared.setting.Setting.{Setting}
-use Rattle.pssm_acts.specs.declared.stimulus.Stimulus.{Stimulus}
-use Rattle.pssm_acts.specs.Pool.{posts_of_entry, posts_of, output_count}
-use Rattle.pssm_acts.specs.Runs.{MayFollow, IsQuiet}
+use Rattle.pssm_semantics.specs.declared.entry.Entry.{Entry}
+use Rattle.pssm_semantics.specs.declared.setting.Setting.{Setting}
+use Rattle.pssm_semantics.specs.declared.stimulus.Stimulus.{Stimulus}
+use Rattle.pssm_semantics.specs.Pool.{posts_of_entry, posts_of, output_count}
+use Rattle.pssm_semantics.specs.Runs.{MayFollow, IsQuiet}
 use Rattle.pssm_journal.specs.Entries.{KeepsNames}
 use Rattle.pssm_system.specs.History.{History}
 use Rattle.pssm_tool.specs.Stimuli.{post_of}

@@ -1,10 +1,10 @@
 -- The stimuli that words name in a setting.
 use Rattle.std.specs.Prelude.{ℕ, List, [], ◌∷◌}
-use Rattle.pssm_acts.specs.declared.entry.Entry.{Entry}
-use Rattle.pssm_acts.specs.declared.entry.Entry.TheVariants.{Post}
-use Rattle.pssm_acts.specs.declared.line.Line.TheVariants as lines
-use Rattle.pssm_acts.specs.declared.setting.Setting.{Setting}
-use Rattle.pssm_acts.specs.declared.stimulus.Stimulus.{Stimulus}
+use Rattle.pssm_semantics.specs.declared.entry.Entry.{Entry}
+use Rattle.pssm_semantics.specs.declared.entry.Entry.TheVariants.{Post}
+use Rattle.pssm_semantics.specs.declared.line.Line.TheVariants as lines
+use Rattle.pssm_semantics.specs.declared.setting.Setting.{Setting}
+use Rattle.pssm_semantics.specs.declared.stimulus.Stimulus.{Stimulus}
 use Rattle.pssm_journal.specs.Entries.{IsEntryOf, KeepsNames}
 use Rattle.pssm_tool.specs.Words.{IsCall}
 

@@ -2,7 +2,7 @@
 use Rattle.std.specs.Prelude.{◌≡◌, ◌≢◌, ℕ, List, []}
 use Rattle.pssm_base.specs.Faults.{Rose}
 use Rattle.pssm_base.specs.Reading.{Contents, HoldsMore}
-use Rattle.pssm_acts.specs.declared.setting.Class.{Class}
+use Rattle.pssm_semantics.specs.declared.setting.Class.{Class}
 use Rattle.pssm_tool.specs.declared.answer.Answer.TheVariants.{Accept, TooLarge}
 use Rattle.pssm_tool.specs.declared.reply.Reply.{Reply}
 use Rattle.pssm_tool.specs.declared.reply.Reply.TheVariants.{Line, BadModel}

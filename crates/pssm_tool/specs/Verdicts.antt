@@ -1,6 +1,6 @@
 -- The answer on a journal's bytes.
 use Rattle.std.specs.Prelude.{ℕ, List, Result, Ok, Err}
-use Rattle.pssm_acts.specs.declared.setting.Setting.{Setting}
+use Rattle.pssm_semantics.specs.declared.setting.Setting.{Setting}
 use Rattle.pssm_journal.specs.Judged.{IsJudged, Accepted, Refused, Limited, BadText}
 use Rattle.pssm_tool.specs.declared.answer.Answer.{Answer}
 use Rattle.pssm_tool.specs.declared.answer.Answer.TheVariants.{Accept, Refuse, Limit, BadJournal, TooLarge}

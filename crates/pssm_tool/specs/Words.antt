@@ -1,9 +1,9 @@
 -- The words of the command line, and the command that they mean.
 use Rattle.std.specs.Prelude.{◌≡◌, ◌≤◌, ℕ, List, [], ◌∷◌, ◌++◌, map, codes, String, string_bytes}
 use Rattle.std.specs.List.{AllByRecursion}
-use Rattle.std.specs.Fmt.{decimal}
 use Rattle.std.specs.declared.alloc.Global.{Global}
-use Rattle.pssm_acts.specs.Spelling.{IsName}
+use Rattle.pssm_spelling.specs.Spelling.{IsName}
+use Rattle.pssm_spelling.specs.Numbers.{IsNumber}
 use Rattle.pssm_journal.specs.LineText.{call_text}
 use Rattle.pssm_tool.specs.declared.words.Options.{Options}
 use Rattle.pssm_tool.specs.declared.words.Command.{Command}
@@ -12,12 +12,6 @@ use Rattle.pssm_tool.specs.declared.words.Command.TheVariants.{Judge, Run, Check
 -- the words as texts
 abbrev pub texts : List (String Global) → List (List ℕ)
 texts words = map string_bytes words
-
--- The word is the number in decimal, without sign or leading zeros, and the number is in its range.
-pub record IsNumber (word : List ℕ) (least greatest n : ℕ) : Type 0 where
-  pub spelled : word ≡ decimal n
-  pub low : least ≤ n
-  pub high : n ≤ greatest
 
 -- The first of the words is this one.
 abbrev pub BeginWith : List (List ℕ) → List ℕ → Type 0

@@ -3,7 +3,7 @@ ghost use Rattle.std.specs.Prelude.{◌≡◌, IfOk, string_bytes};
 ghost use Rattle.pssm_tool.specs.Answers.{text_of, code_of, number_of_rule, refusal_line};
 
 use crate::status::Status;
-use pssm_acts::Rule;
+use pssm_semantics::Rule;
 use std::alloc::{AllocError as NoMemory, Global};
 
 /// An answer to the words. Each is one line on standard output.

@@ -4,7 +4,7 @@ ghost use Rattle.std.specs.List.{AllByRecursion};
 ghost use Rattle.pssm_base.specs.Faults.{NoneFell};
 ghost use Rattle.pssm_base.specs.Reading.{SameContent};
 ghost use Rattle.pssm_model.specs.Shape.{HasShape};
-ghost use Rattle.pssm_acts.specs.declared.setting.Class.{Class};
+ghost use Rattle.pssm_semantics.specs.declared.setting.Class.{Class};
 ghost use Rattle.pssm_tool.specs.Refusals.{KeepRules};
 ghost use Rattle.pssm_tool.specs.Due.{LoadsModel, HasBuiltModel};
 ghost use Rattle.pssm_tool.specs.Stops.{StopsModel, StopsBuiltModel, StopsRules};
@@ -13,10 +13,10 @@ use crate::answer::Answer;
 use crate::refusal::{fault_text, flat_fault_text, not_built_text};
 use crate::reply::Reply;
 use crate::stop::Stop;
-use pssm_acts::Setting;
 use pssm_base::{Inputs, WholeFault, read_whole};
 use pssm_flat::read_flat;
 use pssm_model::Text;
+use pssm_semantics::Setting;
 use std::alloc::Global;
 
 // The most bytes that a model may have.

@@ -9,7 +9,6 @@
 mod answer;
 mod commands;
 mod load;
-mod numbers;
 mod refusal;
 mod reply;
 mod run;

@@ -3,12 +3,13 @@ ghost use Rattle.std.specs.Prelude.{◌≡◌, ◌≢◌, ◌++◌, ℕ, List, I
 ghost use Rattle.std.specs.List.{AllByRecursion, flat_map};
 ghost use Rattle.std.specs.Fmt.{decimal};
 ghost use Rattle.pssm_model.specs.Shape.{HasShape};
-ghost use Rattle.pssm_acts.specs.declared.setting.Class.{Class};
+ghost use Rattle.pssm_semantics.specs.declared.setting.Class.{Class};
 ghost use Rattle.pssm_tool.specs.Refusals.{element_text, place_text, rule_text, fault_line, shape_word, flat_fault_line, not_built_line, AreFaultLines, AreBuilt, IsNotBuiltLine};
 
-use pssm_acts::Class;
 use pssm_flat::FlatFault;
 use pssm_model::{Element, FaultPlace, Shape, Text, first_not_built};
+use pssm_semantics::Class;
+use pssm_spelling::put_number;
 use pssm_wellformed::{Fault, check};
 use std::alloc::{AllocError as NoMemory, Global};
 
@@ -111,7 +112,7 @@ fn put_rule(alloc: Global, text: &mut Vec<u8>, rule: u8) -> Result<(), NoMemory>
     } else {
         b"E".as_slice()
     })?;
-    put_number(alloc, text, u16::from(rule))
+    put_number(alloc, text, u64::from(rule))
 }
 
 // Writes a place of a machine.
@@ -131,25 +132,17 @@ fn put_element(alloc: Global, text: &mut Vec<u8>, element: Element) -> Result<()
     match element {
         Element::Region(region) => {
             text.push(b'r')?;
-            put_number(alloc, text, region.0)
+            put_number(alloc, text, u64::from(region.0))
         }
         Element::Vertex(vertex) => {
             text.push(b'v')?;
-            put_number(alloc, text, vertex.0)
+            put_number(alloc, text, u64::from(vertex.0))
         }
         Element::Transition(transition) => {
             text.push(b't')?;
-            put_number(alloc, text, transition.0)
+            put_number(alloc, text, u64::from(transition.0))
         }
     }
-}
-
-// Writes a number in decimal.
-fn put_number(alloc: Global, text: &mut Vec<u8>, number: u16) -> Result<(), NoMemory>
-    ensures { OnOk result (text.new.items ≡ text.old.items ++ decimal number) }
-{
-    let digits = format!(in alloc; "{number}")?;
-    text.extend_from_slice(digits.as_bytes())
 }
 
 /// The line on the first element of these classes' machines that the code does not run yet, if there is one.

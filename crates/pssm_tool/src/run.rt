@@ -2,12 +2,12 @@
 ghost use Rattle.std.specs.Prelude.{◌≡◌, ◌≤◌, ◌↔◌, length, IsTrue, IfOk, IfSome, IfNone};
 ghost use Rattle.std.specs.List.{AllByRecursion};
 ghost use Rattle.std.specs.Option.{option_copied};
-ghost use Rattle.pssm_acts.specs.Built.{IsBuilt};
-ghost use Rattle.pssm_acts.specs.Pool.{posts_of_entry, outs_of};
+ghost use Rattle.pssm_semantics.specs.Built.{IsBuilt};
+ghost use Rattle.pssm_semantics.specs.Pool.{posts_of_entry, outs_of};
 ghost use Rattle.pssm_tool.specs.Runs.{EndsRun};
 ghost use Rattle.pssm_tool.specs.Running.{IsNext, IsOver, IsKnown, IsFullAt};
 
-use pssm_acts::{Entry, Setting, Stimulus};
+use pssm_semantics::{Entry, Setting, Stimulus};
 use pssm_system::System;
 use rand_core::{Rng, SeedableRng};
 use rand_pcg::Pcg64;

@@ -2,18 +2,18 @@
 ghost use Rattle.std.specs.Prelude.{◌≡◌, ◌↔◌, [], slice_get, IfOk, IfSome, IfNone, IsTrue};
 ghost use Rattle.std.specs.List.{AllByRecursion};
 ghost use Rattle.std.specs.Option.{option_map};
-ghost use Rattle.pssm_acts.specs.declared.stimulus.Stimulus.{Stimulus};
-ghost use Rattle.pssm_acts.specs.declared.line.Line.TheVariants.{Post};
-ghost use Rattle.pssm_acts.specs.Pool.{posts_of_entry};
+ghost use Rattle.pssm_semantics.specs.declared.stimulus.Stimulus.{Stimulus};
+ghost use Rattle.pssm_semantics.specs.declared.line.Line.TheVariants.{Post};
+ghost use Rattle.pssm_semantics.specs.Pool.{posts_of_entry};
 ghost use Rattle.pssm_journal.specs.Entries.{IsEntryOf, KeepsNames, BreaksNames};
 ghost use Rattle.pssm_journal.specs.LineReading.{post_taken};
 ghost use Rattle.pssm_tool.specs.Words.{texts, IsStimulusText};
 ghost use Rattle.pssm_tool.specs.Stimuli.{Names, AreStimuli, NameNoStimuli};
 
-use pssm_acts::spelling::{name_at, strip};
-use pssm_acts::{Args, Entry, Line, Setting, Stimulus};
 use pssm_journal::entry_of;
 use pssm_model::Text;
+use pssm_semantics::{Args, Entry, Line, Setting, Stimulus};
+use pssm_spelling::{name_at, strip};
 use std::alloc::{AllocError as NoMemory, Global};
 
 /// Whether each word is spelled as a stimulus, `OBJ.SIG()`.

@@ -1,6 +1,6 @@
 //! The text of a run's journal.
 ghost use Rattle.std.specs.Prelude.{IfOk};
-ghost use Rattle.pssm_acts.specs.Built.{IsBuilt};
+ghost use Rattle.pssm_semantics.specs.Built.{IsBuilt};
 ghost use Rattle.pssm_tool.specs.Runs.{IsTextOf};
 
 use pssm_journal::{line_of, write_line};

@@ -1,9 +1,9 @@
 //! The top call: from words to a status.
 ghost use Rattle.std.specs.Prelude.{◌≡◌, ◌≢◌, ◌⊎◌, ℕ, List, IfOk, IfErr, IsErrOf};
 ghost use Rattle.std.specs.Io.KnownBytes.{Appends, Keeps};
-ghost use Rattle.pssm_acts.specs.declared.entry.Rule.{Rule};
-ghost use Rattle.pssm_acts.specs.declared.setting.Setting.{Setting};
-ghost use Rattle.pssm_acts.specs.declared.stimulus.Stimulus.{Stimulus};
+ghost use Rattle.pssm_semantics.specs.declared.entry.Rule.{Rule};
+ghost use Rattle.pssm_semantics.specs.declared.setting.Setting.{Setting};
+ghost use Rattle.pssm_semantics.specs.declared.stimulus.Stimulus.{Stimulus};
 ghost use Rattle.pssm_tool.specs.declared.answer.Answer.{Answer};
 ghost use Rattle.pssm_tool.specs.declared.reply.Reply.{Reply};
 ghost use Rattle.pssm_tool.specs.declared.run.Ended.{Ended};

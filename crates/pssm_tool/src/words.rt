@@ -2,8 +2,8 @@
 ghost use Rattle.std.specs.Prelude.{◌≡◌, ◌≤◌, ◌∷◌, ◌++◌, List, ℕ, codes, IfSome, IfNone, IsTrue, ◌↔◌, string_bytes};
 ghost use Rattle.pssm_tool.specs.Words.{texts, BeginWith, HasOption, BeginsWithDashes, Meaning, Means, IsUsage, meaning_of};
 
-use crate::numbers::number_of;
 use crate::stimuli::are_spelled;
+use pssm_spelling::number_of;
 
 /// What may be chosen for a run.
 #[derive(Clone, Copy, PartialEq, Eq, Debug)]

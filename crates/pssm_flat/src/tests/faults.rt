@@ -1,5 +1,5 @@
-use super::{changed, fault_of, is_bad};
 use crate::FlatFault;
+use super::{changed, fault_of, is_bad};
 use pssm_model::{Element, RegionId, Shape, VertexId};
 use std::alloc::Global;
 use std::test::Fail;

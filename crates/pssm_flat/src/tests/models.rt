@@ -1,7 +1,7 @@
-use super::{changed, fault_of};
 use crate::read_flat;
-use pssm_acts::Setting;
+use super::{changed, fault_of};
 use pssm_model::{Guard, Owner, RegionId, SignalId, TransId, TransKind, VertexId, VertexKind};
+use pssm_semantics::Setting;
 use std::test::Fail;
 
 const M1: &str =

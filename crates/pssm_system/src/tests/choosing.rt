@@ -1,14 +1,14 @@
 //! Runs that go by what is chosen.
 ghost use Rattle.std.specs.Prelude.{◌≡◌, IfOk};
-ghost use Rattle.pssm_acts.specs.Built.{IsBuilt};
+ghost use Rattle.pssm_semantics.specs.Built.{IsBuilt};
 ghost use Rattle.pssm_system.specs.Sample.{sample_setting};
 
 use crate::System;
 use crate::tests::entries::post;
 use crate::tests::sample::system;
 use crate::tests::{OBJECT, append};
-use pssm_acts::Entry;
 use pssm_model::TransId;
+use pssm_semantics::Entry;
 use std::alloc::{AllocError as NoMemory, Global};
 use std::test::Fail;
 

@@ -4,8 +4,8 @@ ghost use Rattle.pssm_model.specs.OneRegion.{single_route};
 ghost use Rattle.pssm_system.specs.Sample.{IsNamed};
 
 use crate::tests::{GO, OBJECT};
-use pssm_acts::{Args, Entry, Out};
 use pssm_model::{Firing, How, Mode, RegionId, Route, Row, TransId, VertexId};
+use pssm_semantics::{Args, Entry, Out};
 use std::alloc::{AllocError as NoMemory, Global};
 
 pub fn post(alloc: Global) -> Entry

@@ -8,7 +8,7 @@ use crate::tests::entries::{
     do_step, done, effect, enter, exit, exit_sending, open_by, post, start, take, take_nothing,
 };
 use crate::tests::sample::system;
-use pssm_acts::{Entry, Rule};
+use pssm_semantics::{Entry, Rule};
 use std::alloc::{AllocError as NoMemory, Global};
 use std::test::Fail;
 

@@ -4,7 +4,7 @@ ghost use Rattle.pssm_system.specs.Sample.{sample_vertex, sample_transition, to_
 
 use crate::System;
 use crate::tests::GO;
-use pssm_acts::{Act, Class, ObjectDecl, Program, Setting, SignalDecl};
+use pssm_semantics::{Act, Class, ObjectDecl, Program, Setting, SignalDecl};
 use pssm_model::{
     ActId, DraftMachine, Guard, Machine, Owner, RegionId, Row, SignalId, Text, TransKind,
     Transition, Vertex, VertexId, VertexKind,

@@ -1,9 +1,9 @@
 //! Files that cannot be read or are too large, and outputs that cannot be written.
 ghost use Rattle.std.specs.Prelude.{◌≢◌};
 
-use super::{GO, NoGate, files, spelled, words};
 use crate::status::Status;
 use crate::top::pssm;
+use super::{GO, NoGate, files, spelled, words};
 use pssm_base::{MemInputs, MemSink, SureInputs, SureSink};
 use std::alloc::AllocError;
 use std::test::Fail;

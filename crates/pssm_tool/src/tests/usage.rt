@@ -1,6 +1,6 @@
 //! Words that mean nothing, stimuli that do not fit, and models that do not read.
-use super::{GO, NoGate, answer, files, spelled};
 use crate::top::pssm;
+use super::{GO, NoGate, answer, files, spelled};
 use pssm_base::{MemInputs, MemSink};
 use std::test::Fail;
 

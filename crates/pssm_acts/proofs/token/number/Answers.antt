@@ -1,7 +1,7 @@
 use Rattle.std.proofs.Common.{ℕ, arith, length-drop}
 use Rattle.std.proofs.lemmas.List.{length-take}
 use Rattle.std.proofs.lemmas.List.Sums.{prefix_len-le-length}
-use Rattle.pssm_acts.specs.SpellingReading.{is_digit}
+use Rattle.pssm_spelling.specs.SpellingReading.{is_digit}
 use Rattle.pssm_acts.proofs.token.number.Goals as goal
 
 pub overflow_add-result : goal.overflow_add-result

@@ -1,7 +1,7 @@
 use Rattle.std.proofs.Common.{ℕ, arith}
 use Rattle.std.proofs.lemmas.List.{length-take}
 use Rattle.std.proofs.lemmas.List.Sums.{prefix_len-le-length}
-use Rattle.pssm_acts.specs.Spelling.{continues_name}
+use Rattle.pssm_spelling.specs.Spelling.{continues_name}
 use Rattle.pssm_acts.proofs.token.token_at.Goals as goal
 
 pub slice_bounds-kind_of_word-end : goal.slice_bounds-kind_of_word-end

@@ -2,7 +2,7 @@
 use Rattle.std.proofs.Common.{◌++◌, refl, arith, codes}
 use Rattle.std.proofs.lemmas.Result.{IfOk-equal}
 use Rattle.pssm_acts.specs.ActText.{block_text, stmts_text}
-use Rattle.pssm_acts.proofs.Blocks.{first_smaller, other_smaller, one_smaller}
+use Rattle.pssm_semantics.proofs.Blocks.{first_smaller, other_smaller, one_smaller}
 use Rattle.pssm_acts.proofs.StmtText.{Choose-written, Choose_else-written, stmt-written}
 use Rattle.pssm_acts.proofs.writing.+stmts.Goals as goal
 

@@ -1,7 +1,7 @@
 -- The first statements are written, and how much is left to write.
 use Rattle.std.proofs.Common.{◌≡◌, ◌+◌, ◌*◌, ◌++◌, take}
 use Rattle.pssm_acts.specs.ActText.{stmts_text}
-use Rattle.pssm_acts.specs.Fits.{stmt_count, stmts_count}
+use Rattle.pssm_semantics.specs.Fits.{stmt_count, stmts_count}
 use Rattle.pssm_acts.proofs.writing.+stmts.Given as goal
 
 abbrev pub decreases-put_stmt : goal.decreases-put_stmt

@@ -1,7 +1,7 @@
 use Rattle.std.proofs.Common.{◌≡◌, take}
 use Rattle.std.specs.Prelude.{map}
-use Rattle.pssm_acts.specs.declared.setting.VarDecl.{VarDecl}
-use Rattle.pssm_acts.specs.declared.setting.ObjectDecl.{ObjectDecl}
+use Rattle.pssm_semantics.specs.declared.setting.VarDecl.{VarDecl}
+use Rattle.pssm_semantics.specs.declared.setting.ObjectDecl.{ObjectDecl}
 use Rattle.pssm_flat.proofs.writing.names_of.Given as goal
 
 abbrev pub invariant-loop-variable : goal.invariant-loop-variable

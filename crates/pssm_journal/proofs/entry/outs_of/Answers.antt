@@ -1,7 +1,7 @@
 use Rattle.std.proofs.Common.{◌≡◌, ◌+◌, ap, sym, ◌∙◌, ◌∷◌, [], List, drop, arith}
 use Rattle.std.proofs.lemmas.List.{drop_more, drop_all}
-use Rattle.pssm_acts.specs.declared.entry.Out.{Out}
-use Rattle.pssm_acts.specs.declared.line.LineOut.{LineOut}
+use Rattle.pssm_semantics.specs.declared.entry.Out.{Out}
+use Rattle.pssm_semantics.specs.declared.line.LineOut.{LineOut}
 use Rattle.pssm_journal.specs.Entries.{outs_named}
 use Rattle.pssm_journal.proofs.EntryLaws.{with_front, outs_more, outs_stop, outs_end}
 use Rattle.pssm_journal.proofs.entry.outs_of.Goals as goal

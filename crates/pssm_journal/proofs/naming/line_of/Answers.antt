@@ -1,7 +1,7 @@
 use Rattle.std.proofs.Common.{◌≡◌, ◌+◌, length, sym, subst}
 use Rattle.std.proofs.lemmas.Result.{IfOk-weaker}
-use Rattle.pssm_acts.specs.declared.line.Line.{Line}
-use Rattle.pssm_acts.specs.Pool.{posts_of_entry, outs_of}
+use Rattle.pssm_semantics.specs.declared.line.Line.{Line}
+use Rattle.pssm_semantics.specs.Pool.{posts_of_entry, outs_of}
 use Rattle.pssm_journal.specs.Entries.{IsEntryOf}
 use Rattle.pssm_journal.specs.Judged.{line_output_count}
 use Rattle.pssm_journal.specs.EntryLine.{line_of_entry}

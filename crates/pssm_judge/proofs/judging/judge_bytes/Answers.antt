@@ -1,6 +1,6 @@
 use Rattle.std.proofs.Common.{List, ℕ, Option, refl, sym, subst, ◌∙◌}
 use Rattle.std.specs.Prelude.{IsSome}
-use Rattle.pssm_acts.specs.declared.line.Line.{Line}
+use Rattle.pssm_semantics.specs.declared.line.Line.{Line}
 use Rattle.pssm_journal.specs.declared.fault.LineFault.{LineFault}
 use Rattle.pssm_judge.specs.declared.verdict.Verdict.TheVariants.{Accept}
 use Rattle.pssm_judge.specs.Verdicts.{IsVerdictOn}

@@ -1,6 +1,6 @@
 use Rattle.std.proofs.Common.{List, refl, subst, sym}
 use Rattle.std.specs.List.{AllByRecursion}
-use Rattle.pssm_acts.specs.declared.stimulus.Stimulus.{Stimulus}
+use Rattle.pssm_semantics.specs.declared.stimulus.Stimulus.{Stimulus}
 use Rattle.pssm_tool.specs.Words.{texts, Runs}
 use Rattle.pssm_tool.specs.Running.{IsKnown}
 use Rattle.pssm_tool.specs.Due.{unfit}

@@ -1,5 +1,5 @@
 use Rattle.std.proofs.Common.{List, refl, subst, sym}
-use Rattle.pssm_acts.specs.declared.setting.Class.{Class}
+use Rattle.pssm_semantics.specs.declared.setting.Class.{Class}
 use Rattle.pssm_tool.specs.declared.stop.Stop.{Stop}
 use Rattle.pssm_tool.specs.Refusals.{IsNotBuiltLine}
 use Rattle.pssm_tool.specs.Stops.{not_built, StopsBuiltModel}

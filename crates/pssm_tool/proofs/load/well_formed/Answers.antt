@@ -1,7 +1,7 @@
 use Rattle.std.proofs.Common.{List, length, subst, sym, ap, ◌∙◌}
 use Rattle.std.proofs.lemmas.Bool.{eqb-true}
 use Rattle.std.proofs.lemmas.List.{nil_from_length}
-use Rattle.pssm_acts.specs.declared.setting.Class.{Class}
+use Rattle.pssm_semantics.specs.declared.setting.Class.{Class}
 use Rattle.pssm_tool.specs.Refusals.{AreFaultLines}
 use Rattle.pssm_tool.proofs.RefusalLaws.{rules_kept}
 use Rattle.pssm_tool.proofs.load.well_formed.Goals as goal

@@ -1,5 +1,5 @@
 use Rattle.std.proofs.Common.{List, ℕ, String, string_bytes, subst}
-use Rattle.pssm_acts.specs.declared.stimulus.Stimulus.{Stimulus}
+use Rattle.pssm_semantics.specs.declared.stimulus.Stimulus.{Stimulus}
 use Rattle.pssm_tool.specs.Stimuli.{Names}
 use Rattle.pssm_tool.proofs.CallLaws.{more_named, not_named}
 use Rattle.pssm_tool.proofs.stimuli.stimuli_of.Goals as goal

@@ -1,9 +1,9 @@
 use Rattle.std.proofs.Common.{List, sym, subst, ◌∙◌, ap, ◌++◌}
 use Rattle.std.specs.List.{AllByRecursion}
-use Rattle.pssm_acts.specs.declared.entry.Entry.{Entry}
-use Rattle.pssm_acts.specs.declared.setting.Setting.{Setting}
-use Rattle.pssm_acts.specs.Built.{IsPlainEntry}
-use Rattle.pssm_acts.specs.Runs.{IsAdmissibleIn}
+use Rattle.pssm_semantics.specs.declared.entry.Entry.{Entry}
+use Rattle.pssm_semantics.specs.declared.setting.Setting.{Setting}
+use Rattle.pssm_semantics.specs.Built.{IsPlainEntry}
+use Rattle.pssm_semantics.specs.Runs.{IsAdmissibleIn}
 use Rattle.pssm_journal.specs.Entries.{IsEntryOf, KeepsNames}
 use Rattle.pssm_journal.specs.Grammar.{IsSpelled}
 use Rattle.pssm_journal.specs.Naming.{NamesDiffer, HasSpelledNames, IsSpelledEntry}

@@ -1,5 +1,6 @@
 use Rattle.std.proofs.Common.{List, ℕ, subst}
-use Rattle.pssm_tool.specs.Words.{IsNumber, given}
+use Rattle.pssm_spelling.specs.Numbers.{IsNumber}
+use Rattle.pssm_tool.specs.Words.{given}
 use Rattle.pssm_tool.proofs.WordLaws.{words_two}
 use Rattle.pssm_tool.proofs.words.option_at.Goals as goal
 

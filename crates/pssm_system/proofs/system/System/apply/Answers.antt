@@ -1,6 +1,6 @@
 -- the longer journal is that of an admissible run, and what is kept is kept of it; where memory fails nothing has changed
 use Rattle.std.proofs.Common.{◌++◌, length, refl, sym, ap, subst, ◌∙◌, arith}
-use Rattle.pssm_acts.specs.declared.entry.Rule.TheVariants.{A1}
+use Rattle.pssm_semantics.specs.declared.entry.Rule.TheVariants.{A1}
 use Rattle.pssm_system.specs.declared.judging.Standing.{Standing}
 use Rattle.std.specs.Option.{option_to_list}
 use Rattle.pssm_system.specs.Advancing.{Advances}

@@ -4,7 +4,7 @@ use Rattle.std.specs.List.{AllByRecursion}
 use Rattle.pssm_model.specs.declared.elements.DraftMachine.{DraftMachine}
 use Rattle.pssm_model.specs.BuiltMachine.{IsBuiltMachine}
 use Rattle.pssm_model.specs.OneRegion.{first_transition}
-use Rattle.pssm_acts.specs.Built.{ListsSignals}
+use Rattle.pssm_semantics.specs.Built.{ListsSignals}
 use Rattle.pssm_system.specs.declared.progress.Progress.TheVariants.{Unstarted}
 use Rattle.pssm_system.specs.declared.judging.Standing.{Standing}
 use Rattle.pssm_system.proofs.Histories.{keeps_new}

@@ -1,5 +1,5 @@
 -- what is chosen keeps the rules
-use Rattle.pssm_acts.specs.declared.entry.Rule.TheVariants.{A1}
+use Rattle.pssm_semantics.specs.declared.entry.Rule.TheVariants.{A1}
 use Rattle.pssm_system.proofs.tests.choosing.runs_to_quiet.Goals as goal
 
 pub allows-requires : goal.allows-requires

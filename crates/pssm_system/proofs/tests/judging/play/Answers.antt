@@ -1,6 +1,6 @@
 -- the entry names what the sample has
 use Rattle.std.proofs.Common.{false, sym, subst}
-use Rattle.pssm_acts.specs.Built.{IsBuilt}
+use Rattle.pssm_semantics.specs.Built.{IsBuilt}
 use Rattle.pssm_system.proofs.Samples.{sample_is_built, named_holds}
 use Rattle.pssm_system.proofs.tests.judging.play.Goals as goal
 

@@ -1,6 +1,6 @@
 -- the code runs the sample
 use Rattle.std.proofs.Common.{sym, subst}
-use Rattle.pssm_acts.specs.Built.{IsBuilt}
+use Rattle.pssm_semantics.specs.Built.{IsBuilt}
 use Rattle.pssm_system.proofs.Samples.{sample_is_built}
 use Rattle.pssm_system.proofs.tests.sample.system.Goals as goal
 

@@ -1,5 +1,0 @@
-use Rattle.pssm_acts.proofs.SpellingLaws.{strip_gives}
-use Rattle.pssm_acts.proofs.spelling.strip.Goals as goal
-
-pub returns : goal.returns
-returns c = strip_gives c.args.front.now c.args.bytes.now c.strip_prefix.result c.strip_prefix.ensures.cases

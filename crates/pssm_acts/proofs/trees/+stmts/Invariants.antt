@@ -1,6 +1,0 @@
--- How far two blocks were found equal.
-use Rattle.std.proofs.Common.{◌≡◌, take, length}
-use Rattle.pssm_acts.proofs.trees.+stmts.Given as goal
-
-abbrev pub invariant-same_block-loop-i : goal.invariant-same_block-loop-i
-invariant-same_block-loop-i l = record { front : take l.i l.a ≡ take l.i l.b; long : length l.a ≡ length l.b }

@@ -1,7 +1,0 @@
--- The comparison by codes is what the function says.
-use Rattle.pssm_model.specs.Codes.{same_by_is}
-use Rattle.pssm_acts.specs.contracts.tree.Act.{the_row}
-use Rattle.pssm_acts.proofs.trees.ActPartialEq.eq.Goals as goal
-
-pub returns : goal.returns
-returns c = same_by_is the_row.coded _ _ _ c.same_act.ensures

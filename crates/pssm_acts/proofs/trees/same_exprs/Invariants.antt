@@ -1,6 +1,0 @@
--- How far two lists of expressions were found equal.
-use Rattle.std.proofs.Common.{◌≡◌, take, length}
-use Rattle.pssm_acts.proofs.trees.same_exprs.Given as goal
-
-abbrev pub invariant-loop-i : goal.invariant-loop-i
-invariant-loop-i l = record { front : take l.i l.a ≡ take l.i l.b; long : length l.a ≡ length l.b }

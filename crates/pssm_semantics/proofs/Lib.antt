@@ -1,0 +1,15 @@
+pub mod Appended
+pub mod Active
+pub mod LastStep
+pub mod Waiting
+pub mod Views
+pub mod Admissible
+pub mod Ended
+pub mod Stores
+pub mod Appending
+pub mod Outputs
+pub mod Takes
+pub mod Meaning
+pub mod Blocks
+pub mod ArgumentLaws
+pub mod BuiltSettings

@@ -1,0 +1,144 @@
+-- What each rule of a run asks of an entry after the entries before it.
+use Rattle.std.specs.Prelude.{◌≡◌, ◌<◌, ◌++◌, ℕ, List, ◌∷◌, Option, Some, None, Contains}
+use Rattle.std.specs.List.{AllByRecursion}
+use Rattle.pssm_model.specs.declared.ids.VertexId.{VertexId}
+use Rattle.pssm_model.specs.declared.elements.DraftMachine.{DraftMachine}
+use Rattle.pssm_model.specs.declared.steps.Firing.{Firing}
+use Rattle.pssm_model.specs.declared.steps.Event.{Event}
+use Rattle.pssm_model.specs.declared.steps.Event.TheVariants.{Signal, Completion}
+use Rattle.pssm_model.specs.declared.steps.Item.{Item}
+use Rattle.pssm_model.specs.Firing.{IsFiring, IsLateRoute}
+use Rattle.pssm_semantics.specs.declared.entry.ObjectId.{ObjectId}
+use Rattle.pssm_semantics.specs.declared.entry.Entry.{Entry}
+use Rattle.pssm_semantics.specs.declared.entry.Entry.TheVariants.{Post, Start, Take, Done, Opened, Pick, DoStep}
+use Rattle.pssm_semantics.specs.declared.entry.Rule.{Rule}
+use Rattle.pssm_semantics.specs.declared.entry.Rule.TheVariants.{A1, A2, A3, A4, A5, A6, A7, A8, A9, A10, A11, A12}
+use Rattle.pssm_semantics.specs.declared.stimulus.Stimulus.{Stimulus}
+use Rattle.pssm_semantics.specs.declared.setting.Class.{Class}
+use Rattle.pssm_semantics.specs.declared.setting.Setting.{Setting}
+use Rattle.pssm_semantics.specs.Settings.{class_of}
+use Rattle.pssm_semantics.specs.Journal.{StepAt, IsActive, IsLastStep, IsPost, IsStart, object_of}
+use Rattle.pssm_semantics.specs.Items.{Runs, Called, Before, HasRun}
+use Rattle.pssm_semantics.specs.Values.{Params, eight_of, no_params}
+use Rattle.pssm_semantics.specs.Pool.{Told, told_by, pool_of, outs_of}
+use Rattle.pssm_semantics.specs.Completion.{stand_after, HasEnded, IsQueueHead, IsQueueEmpty, HasStepped, steps_of}
+use Rattle.pssm_semantics.specs.Behaviours.{store_of, guards_under, guards_at, outcome_at}
+use Rattle.pssm_semantics.specs.Ways.{IsDeferred, CanOpen, IsStepFinished}
+use Rattle.pssm_semantics.specs.Known.{NamesKnown}
+
+-- The object has not ended; a post may come after its end (UML 2.5.1 14.2.3.6 and 14.2.3.7, final states and terminate).
+abbrev pub KeepsEnd : DraftMachine → List Entry → Entry → Type 0
+KeepsEnd m J (Post o signal args) = Unit {0}
+KeepsEnd m J e = HasEnded m J (object_of e) → ⊥
+
+-- The entry is a post, or it is the object's start and the object has no other entry but posts, or the object has started
+-- (PSSM 1.0 8.5, the initial run-to-completion step).
+abbrev pub KeepsStart : List Entry → Entry → Type 0
+KeepsStart J (Post o signal args) = Unit {0}
+KeepsStart J (Start o) = AllByRecursion (λ f. (object_of f ≡ o) → IsPost f) J
+KeepsStart J e = (f : Entry) × Contains J f × IsStart f (object_of e)
+
+-- The object's step is finished before the next begins (UML 2.5.1 14.2.3.9, run to completion).
+abbrev pub KeepsStep : DraftMachine → List Entry → Entry → Type 0
+KeepsStep m J (Take o number firing) = IsStepFinished m J o
+KeepsStep m J (Done o state firing) = IsStepFinished m J o
+KeepsStep m J _ = Unit {0}
+
+-- Completions are dispatched in their order and before all signals (UML 2.5.1 14.2.3.8, completion events; the order is this profile's choice).
+abbrev pub KeepsQueue : DraftMachine → List Entry → Entry → Type 0
+KeepsQueue m J (Take o number firing) = IsQueueEmpty m J o
+KeepsQueue m J (Done o state firing) = IsQueueHead m J o state
+KeepsQueue m J _ = Unit {0}
+
+-- The number is that of the first signal in the object's pool that is not deferred (UML 2.5.1 14.2.3.9, event pool; the order is this profile's choice).
+abbrev pub IsFirstWaiting : Class → List Entry → ObjectId → ℕ → Type 0
+IsFirstWaiting class J o number =
+    (held rest : List (ℕ × Stimulus)) × (x : Stimulus) × (pool_of J o ≡ held ++ (number, x) ∷ rest)
+    × AllByRecursion (λ w. IsDeferred class (told_by J) J o w.1) held × (IsDeferred class (told_by J) J o x → ⊥)
+
+-- A take names this signal (UML 2.5.1 14.2.3.9, event pool).
+abbrev pub KeepsPool : Class → List Entry → Entry → Type 0
+KeepsPool class J (Take o number firing) = IsFirstWaiting class J o number
+KeepsPool class J _ = Unit {0}
+
+-- The firing is what the event fires for the object after these entries, with guards under these parameters (UML 2.5.1 14.2.3.9, transition selection).
+abbrev pub Fires : Class → Told → List Entry → ObjectId → Params → Event → Firing → Type 0
+Fires class told J o params event firing =
+    IsFiring class.machine (stand_after class.machine J o) (guards_under class (store_of class told J o) params) event firing.routes
+
+-- A take lists what its signal fires, where the signal is known, and a done what the completion fires (UML 2.5.1 14.2.3.9, transition selection).
+abbrev pub KeepsFiring : Class → Told → Option Stimulus → List Entry → Entry → Type 0
+KeepsFiring class told signal J (Take o number firing) =
+    (x : Stimulus) → signal ≡ Some x → Fires class told J o (eight_of x.args) (Signal x.signal) firing
+KeepsFiring class told signal J (Done o state firing) = Fires class told J o no_params (Completion state) firing
+KeepsFiring class told signal J _ = Unit {0}
+
+-- an item that the object's last step calls and that has not run in it (UML 2.5.1 14.2.3.9, transition execution sequence)
+pub record IsCalledItem (m : DraftMachine) (J : List Entry) (o : ObjectId) (item : Item) : Type 0 where
+  pub step : StepAt
+  pub last : IsLastStep J o step
+  pub called : Called m o step item
+  pub waiting : HasRun o step item → ⊥
+
+-- The item that the entry runs is called and has not run (UML 2.5.1 14.2.3.9, transition execution sequence).
+abbrev pub KeepsCalls : DraftMachine → List Entry → Entry → Type 0
+KeepsCalls m J e = (item : Item) → Runs e (object_of e) item → IsCalledItem m J (object_of e) item
+
+-- All called items that come before it have run (UML 2.5.1 14.2.3.9, transition execution sequence).
+abbrev pub KeepsOrder : DraftMachine → List Entry → Entry → Type 0
+KeepsOrder m J e =
+    (item x : Item) (step : StepAt) → Runs e (object_of e) item → IsLastStep J (object_of e) step
+    → Called m (object_of e) step x → Before m (object_of e) step x item → HasRun (object_of e) step x
+
+-- An opening goes by one of its ways, and a pick by a branch of its choice (UML 2.5.1 14.2.3.2, 14.2.3.4 and 14.2.3.7).
+abbrev pub KeepsWay : Class → Told → List Entry → Entry → Type 0
+KeepsWay class told J (Opened o region mode how) = CanOpen class.machine (guards_at class told J o) J o region mode how
+KeepsWay class told J (Pick o choice route) = IsLateRoute class.machine (guards_at class told J o) choice route
+KeepsWay class told J _ = Unit {0}
+
+-- the next do step of an active State: those before it are done since its last entry, and it is not (UML 2.5.1 14.2.3.4, doActivity)
+pub record IsNextStep (m : DraftMachine) (J : List Entry) (o : ObjectId) (s : VertexId) (k : ℕ) : Type 0 where
+  pub active : IsActive J o s
+  pub in_range : k < steps_of m s
+  pub earlier : (j : ℕ) → j < k → HasStepped J o s j
+  pub waiting : HasStepped J o s k → ⊥
+
+-- A do entry is the next step of its State (UML 2.5.1 14.2.3.4, doActivity).
+abbrev pub KeepsSteps : DraftMachine → List Entry → Entry → Type 0
+KeepsSteps m J (DoStep o state step outs) = IsNextStep m J o state step
+KeepsSteps m J _ = Unit {0}
+
+-- The outputs are those of the behaviour on the store and parameters; an entry without behaviour has none (UML 2.5.1 13.2.3, behaviours).
+abbrev pub KeepsOuts : Class → Told → List Entry → Entry → Type 0
+KeepsOuts class told J e = outs_of e ≡ (outcome_at class told J e (store_of class told J (object_of e))).outs
+
+-- The entry keeps the rule as far as the object itself shows it, where these signals are known and this one is handed in with a take
+-- (the list of rules is this profile's choice).
+abbrev pub KeepsOwn : Class → Told → Option Stimulus → Rule → List Entry → Entry → Type 0
+KeepsOwn class told signal A1 J e = Unit {0}
+KeepsOwn class told signal A2 J e = KeepsEnd class.machine J e
+KeepsOwn class told signal A3 J e = KeepsStart J e
+KeepsOwn class told signal A4 J e = KeepsStep class.machine J e
+KeepsOwn class told signal A5 J e = KeepsQueue class.machine J e
+KeepsOwn class told signal A6 J e = Unit {0}
+KeepsOwn class told signal A7 J e = KeepsFiring class told signal J e
+KeepsOwn class told signal A8 J e = KeepsCalls class.machine J e
+KeepsOwn class told signal A9 J e = KeepsOrder class.machine J e
+KeepsOwn class told signal A10 J e = KeepsWay class told J e
+KeepsOwn class told signal A11 J e = KeepsSteps class.machine J e
+KeepsOwn class told signal A12 J e = KeepsOuts class told J e
+
+-- the signal that a take names, where it is known (this profile's choice)
+abbrev pub taken_by : Told → Entry → Option Stimulus
+taken_by told (Take o number firing) = told number
+taken_by told _ = None
+
+-- The entry keeps the rule in a journal of all objects, which shows the pools (the list of rules is this profile's choice).
+abbrev pub KeepsShared : Class → Rule → List Entry → Entry → Type 0
+KeepsShared class A6 J e = KeepsPool class J e
+KeepsShared class rule J e = KeepsOwn class (told_by J) (taken_by (told_by J) e) rule J e
+
+-- The entry keeps the rule after these entries in the setting (the list of rules is this profile's choice).
+abbrev pub Holds : Setting → Rule → List Entry → Entry → Type 0
+Holds setting A1 J e = (class : Class) × (class_of setting (object_of e) ≡ Some class) × NamesKnown setting class e
+Holds setting rule J e = (class : Class) → class_of setting (object_of e) ≡ Some class → KeepsShared class rule J e

@@ -1,0 +1,32 @@
+//! What happens in a run: the types of behaviours, entries and settings, what a behaviour is worth, and the rules.
+//!
+//! The definitions that speak of entries stand in this crate's `specs/`: what a journal says of an object, the items
+//! of a step and their order, the rules of a run, the verdict on a journal, and when a setting is proper and well
+//! formed; the laws about them in its `proofs/`. How a behaviour, a model or a journal is spelled is for the crates
+//! above.
+#![tactic(auto)]
+
+mod args;
+mod copies;
+mod entry;
+mod equal;
+mod line;
+mod running;
+mod setting;
+mod stimulus;
+mod tree;
+mod trees;
+mod value;
+mod worked;
+
+pub use args::Args;
+pub use entry::{Entry, ObjectId, Out, Rule};
+pub use line::{Line, LineOut};
+pub use setting::{Class, Names, ObjectDecl, Outcome, Program, Setting, SignalDecl, VarDecl};
+pub use stimulus::{Stimulus, Task};
+pub use tree::{Act, Cond, Expr, Rel, Stmt};
+pub use value::truth;
+pub use worked::{Worked, run};
+
+#[cfg(test)]
+mod tests;
