@@ -1,27 +1,9 @@
-//! `zawhiroke judge MODEL JOURNAL` says whether a journal of a state machine's run is what UML says,
-//! `zawhiroke run MODEL STIMULUS*` runs a state machine and writes the journal, `zawhiroke check MODEL` says what is
-//! wrong with a model, and `zawhiroke flat MODEL` writes its flat text.
-//!
-//! [`top::pssm`] does all of it, over inputs and a sink that it is handed; its clauses are what the program promises.
-//! `main` only hands it the words, the system's files and standard output.
+//! The program: it hands its words, the system's files and standard output to `pssm`, and ends with the status that
+//! `pssm` answers. What the words do, and what is promised of it, stands at `pssm`.
 #![tactic(auto)]
 
-mod answer;
-mod commands;
-mod load;
-mod refusal;
-mod reply;
-mod run;
-mod status;
-mod stimuli;
-mod stop;
-#[cfg(test)]
-mod tests;
-mod text;
-mod top;
-mod words;
-
 use pssm_base::{FileInputs, Gate, StdoutSink};
+use pssm_tool::pssm;
 use std::alloc::{AllocError, Global};
 use std::env;
 use std::io::ErrorKind;
@@ -42,7 +24,7 @@ fn main(rt: HostRuntime) -> ExitCode {
     };
     let mut inputs = FileInputs::new(&rt, alloc);
     let mut out = StdoutSink::new(&rt);
-    let status = top::pssm(
+    let status = pssm(
         &rt,
         alloc,
         words.as_slice(),

@@ -1,0 +1,25 @@
+//! The call that does what the words of the program say.
+//!
+//! `judge MODEL JOURNAL` says whether a journal of a state machine's run is what UML says, `run MODEL STIMULUS*` runs a
+//! state machine and writes the journal, `check MODEL` says what is wrong with a model, and `flat MODEL` writes its flat
+//! text. [`pssm`] does all of it, over inputs and a sink that it is handed; its clauses are what the program promises.
+#![tactic(auto)]
+
+mod answer;
+mod commands;
+mod load;
+mod numbers;
+mod refusal;
+mod reply;
+mod run;
+mod status;
+mod stimuli;
+mod stop;
+#[cfg(test)]
+mod tests;
+mod text;
+mod top;
+mod words;
+
+pub use status::Status;
+pub use top::pssm;
