@@ -8,7 +8,6 @@
 mod answer;
 mod commands;
 mod load;
-mod numbers;
 mod refusal;
 mod reply;
 mod run;
