@@ -2,9 +2,9 @@
 """How fast behaviours are read and run, and how much memory that takes.
 
 Run it at the top of the repository: python3 bench/acts.py
-No model that the program reads has behaviours yet, so this builds a program of its own over pssm_model and pssm_acts (bench/acts has its text and its
-proof; they end in .txt since no crate of this repository holds them): in a temporary folder, with what an earlier proof of these crates left in their
-out/ folders (where there is nothing, they are proved first, which takes some twenty minutes). Each text has 4,096 bytes: a behaviour of 64
+No model that the program reads has behaviours yet, so this builds a program of its own over pssm_acts and the crates below it (bench/acts has its text
+and its proof; they end in .txt since no crate of this repository holds them): in a temporary folder, with what an earlier proof of these crates left in
+their out/ folders (where there is nothing, they are proved first, which takes some ten minutes). Each text has 4,096 bytes: a behaviour of 64
 assignments, each a sum of 29 ones and a variable; a behaviour of 64 marks with different names; and the guard `true` behind 4,092 `!`. It prints a
 line for reading each of them 2,000 times (bytes per second) and one for running the first 20,000 times (statements per second).
 """
@@ -17,7 +17,6 @@ import tempfile
 import measure
 from measure import report
 
-CRATES = {'pssm_model': '', 'pssm_acts': 'pssm_model', 'bench_acts': 'pssm_model pssm_acts'}
 BYTES, STATEMENTS = 4096, 64
 ROWS = (
     ('read behaviour', 'read', 2000, BYTES, 'bytes'),
@@ -27,16 +26,29 @@ ROWS = (
 )
 
 
+def crates_to(name):
+    """The crate and those that it stands on, each with its line of crates.txt."""
+    with open(os.path.join(measure.TOP, 'crates.txt')) as file:
+        lines = dict(line.split(':') for line in file if not line.startswith('#'))
+    found = {name: lines[name]}
+    for below in lines[name].split():
+        if below in lines:
+            found.update(crates_to(below))
+    return found
+
+
 def build(folder):
     """The program, proved and built in the folder."""
-    for crate in ('pssm_model', 'pssm_acts'):
+    crates = crates_to('pssm_acts')
+    for crate in crates:
         shutil.copytree(os.path.join(measure.TOP, 'crates', crate), os.path.join(folder, 'crates', crate))
     for text, place in (('main.rt.txt', 'src/main.rt'), ('Answers.antt.txt', 'proofs/run_often/Answers.antt')):
         place = os.path.join(folder, 'crates', 'bench_acts', place)
         os.makedirs(os.path.dirname(place))
         shutil.copy(os.path.join(measure.TOP, 'bench', 'acts', text), place)
     with open(os.path.join(folder, 'crates.txt'), 'w') as file:
-        file.writelines('%s: %s\n' % item for item in CRATES.items())
+        file.writelines('%s: %s\n' % (crate, uses.strip()) for crate, uses in crates.items())
+        file.write('bench_acts: %s\n' % ' '.join(crates))
     with open(os.path.join(folder, 'HANDLES'), 'w') as file:
         file.write('Handles allowed: none.\n')
     crate = os.path.join(folder, 'crates', 'bench_acts')

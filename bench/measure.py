@@ -9,7 +9,7 @@ import sys
 import time
 
 TOP = os.path.dirname(os.path.dirname(os.path.abspath(__file__)))
-PROGRAM = os.path.join(TOP, 'crates', 'pssm_tool', 'out', 'pssm_tool')
+PROGRAM = os.path.join(TOP, 'crates', 'zawhiroke', 'out', 'zawhiroke')
 ROOM_FOR_WORDS = 64 << 20
 
 
