@@ -1,6 +1,6 @@
 //! What programs share that run cases which stand in files.
 //!
-//! [`names_in`] finds the files of a folder, [`put_spelled`] reads the escapes of a text, and a [`Tally`] keeps what became of
+//! [`names_in`] finds the files of a folder, [`put_spelled`] and [`put_line`] read the escapes of a text, and a [`Tally`] keeps what became of
 //! the cases of a file, which [`report`] writes and [`all_hold`] asks. This crate knows nothing of what a case shows.
 #![tactic(auto)]
 
@@ -9,5 +9,5 @@ mod spelled;
 mod tally;
 
 pub use folder::names_in;
-pub use spelled::{SpellFault, put_spelled};
+pub use spelled::{SpellFault, put_line, put_spelled};
 pub use tally::{Outcome, Tally, all_hold, report};

@@ -1,6 +1,6 @@
 //! The escapes of a text: how bytes are spelled that cannot stand in it, or are too many.
 //!
-//! `\xHH` is the byte with these two hexadecimal digits, `\\` a backslash, `\#` a number in decimal that the reader hands in,
+//! `\xHH` is the byte with these two hexadecimal digits, `\\` a backslash, `\#` a number in decimal that the caller hands in,
 //! and `\{N}` in front of a byte or an escape stands for N times what it is. Every other byte stands for itself.
 ghost use Rattle.std.specs.Prelude.{◌<◌, IfOk};
 
@@ -44,14 +44,33 @@ enum Met {
     Times(u32),
     // A byte.
     Byte(u8),
-    // The number that the reader hands in.
+    // A number that the caller hands in.
     Number,
 }
 
-/// Puts the bytes that the text spells behind those that are there. `\#` is spelled as `number`.
+/// Puts the bytes that the text spells behind those that are there. Each `\#` is this number.
 pub fn put_spelled(into: &mut Vec<u8>, text: &[u8], number: u32) -> Result<(), SpellFault> {
+    match put(into, text, &[number])? {
+        Place::Between => Ok(()),
+        _ => Err(SpellFault::NoEscape),
+    }
+}
+
+/// Puts the line that the text spells: its bytes and a line feed, which a backslash at the end of the text leaves out. The
+/// first `\#` is the first of these numbers, and so on; the last stands for all that follow.
+pub fn put_line(into: &mut Vec<u8>, text: &[u8], numbers: &[u32]) -> Result<(), SpellFault> {
+    match put(into, text, numbers)? {
+        Place::Between => Ok(into.extend_from_slice(b"\n")?),
+        Place::Escape => Ok(()),
+        _ => Err(SpellFault::NoEscape),
+    }
+}
+
+// Puts what the text spells, and says where its end stands.
+fn put(into: &mut Vec<u8>, text: &[u8], numbers: &[u32]) -> Result<Place, SpellFault> {
     let mut place = Place::Between;
     let mut times = None;
+    let mut numbers = numbers;
     for byte in text {
         let met = next(place, *byte)?;
         place = Place::Between;
@@ -59,13 +78,16 @@ pub fn put_spelled(into: &mut Vec<u8>, text: &[u8], number: u32) -> Result<(), S
             Met::Within(inner) => place = inner,
             Met::Times(count) => times = Some(count),
             Met::Byte(byte) => put_times(into, &[byte], times.take())?,
-            Met::Number => put_number(into, number, times.take())?,
+            Met::Number => {
+                let (number, others) = numbers.split_first().ok_or(SpellFault::NoEscape)?;
+                put_number(into, *number, times.take())?;
+                numbers = if others.is_empty() { numbers } else { others };
+            }
         }
     }
-    if place == Place::Between && times.is_none() {
-        Ok(())
-    } else {
-        Err(SpellFault::NoEscape)
+    match times {
+        None => Ok(place),
+        Some(_) => Err(SpellFault::NoEscape),
     }
 }
 
@@ -80,7 +102,7 @@ fn next(place: Place, byte: u8) -> Result<Met, SpellFault> {
         (Place::Escape, b'{') => Met::Within(Place::Times(0)),
         (Place::Escape, _) => return Err(SpellFault::NoEscape),
         (Place::High, _) => Met::Within(Place::Low(digit(byte)?)),
-        (Place::Low(high), _) => Met::Byte(high * 16 + digit(byte)?),
+        (Place::Low(high), _) => Met::Byte(high << 4 | digit(byte)?),
         (Place::Times(count), b'}') => Met::Times(count),
         (Place::Times(count), b'0'..=b'9') => Met::Within(Place::Times(longer(count, byte - b'0'))),
         (Place::Times(_), _) => return Err(SpellFault::NoEscape),

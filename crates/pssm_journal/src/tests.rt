@@ -1,3 +1,5 @@
+//! What no answer of the program says of the lines of a journal: what they are read as, on which line a fault stands, and that
+//! lines come in any pieces.
 ghost use Rattle.std.specs.Prelude.{◌<◌};
 
 use super::*;
@@ -6,88 +8,9 @@ use pssm_semantics::{Class, ObjectDecl, ObjectId, Program, Setting, SignalDecl};
 use std::alloc::{AllocError, Global};
 use std::test::Fail;
 
-/// Lines of the grammar, one of each kind and at each limit of a number.
-const GOOD: [&str; 13] = [
-    "post a.Go()",
-    "post _b9.Z_()",
-    "start a",
-    "take a 1 -",
-    "take a 1 t0",
-    "take a 4294967295 t65535",
-    "exit a v0",
-    "exit a v65535",
-    "effect a t10",
-    "enter a v7",
-    "open a r0 default by t0",
-    "open a r65535 default by t65535",
-    // a name of 64 bytes
-    "start aaaaaaaaaaaaaaaaaaaaaaaaaaaaaaaaaaaaaaaaaaaaaaaaaaaaaaaaaaaaaaaa",
-];
-
-/// What is no line of the grammar.
-const BAD: [&str; 50] = [
-    "",
-    " ",
-    "pssm-journal 1",
-    "post",
-    "post a.Go",
-    "post a.Go( )",
-    "post a.Go(1)",
-    "post a.Go() ",
-    " post a.Go()",
-    "post  a.Go()",
-    "post a .Go()",
-    "post .Go()",
-    "post a.()",
-    "post a.9()",
-    "Post a.Go()",
-    "start",
-    "start ",
-    "start a ",
-    "start a b",
-    "start 1a",
-    "start a-b",
-    "start a\r",
-    "start \u{e9}",
-    // a name of 65 bytes
-    "start aaaaaaaaaaaaaaaaaaaaaaaaaaaaaaaaaaaaaaaaaaaaaaaaaaaaaaaaaaaaaaaaa",
-    "take a 1",
-    "take a 1 ",
-    "take a 0 -",
-    "take a 01 -",
-    "take a -1 -",
-    "take a 4294967296 -",
-    "take a 99999999999999999999 -",
-    "take a 1 --",
-    "take a 1 t",
-    "take a 1 t07",
-    "take a 1  t7",
-    "take a 1 t7 ",
-    "take a 1 t7 t8",
-    "take a 1 t7,t8",
-    "take a 1 v7",
-    "exit a t0",
-    "exit a v",
-    "exit a v00",
-    "exit a v0 !m()",
-    "effect a v0",
-    "enter a v07",
-    "enter a v65536",
-    "open a r0 shallow by t0",
-    "open a r0 default by v0",
-    "done a v1 -",
-    "pick a v2 t2",
-];
-
-/// The text of a journal with these lines.
-fn journal(alloc: Global, lines: &[&str]) -> Result<String, AllocError> {
-    let mut text = String::from_str(alloc, "pssm-journal 1\n")?;
-    for line in lines {
-        text.push_str(line)?;
-        text.push('\n')?;
-    }
-    Ok(text)
-}
+/// A line of each kind.
+const LINES: &[u8] =
+    b"pssm-journal 1\npost a.Go()\nstart a\ntake a 1 -\nexit a v0\neffect a t10\nenter a v7\nopen a r0 default by t0\n";
 
 /// The lines of a text that comes in pieces of this size, and the fault.
 fn read(
@@ -109,86 +32,47 @@ fn read(
 }
 
 #[test]
-fn good_lines(rt: HostRuntime) -> Result<(), Fail> {
-    for line in GOOD {
-        let text = journal(rt.alloc(), &[line])?;
-        let (lines, fault) = read(rt.alloc(), text.as_bytes(), 1 << 20)?;
-        assert_eq!(rt; lines.len(), 1, "{line}");
-        assert_eq!(rt; fault, None, "{line}");
-    }
-    Ok(())
-}
-
-#[test]
-fn bad_lines(rt: HostRuntime) -> Result<(), Fail> {
-    for line in BAD {
-        let text = journal(rt.alloc(), &["start a", line, "start a"])?;
-        let (lines, fault) = read(rt.alloc(), text.as_bytes(), 1 << 20)?;
-        assert_eq!(rt; lines.len(), 1, "{line}");
-        assert_eq!(rt;
-            fault,
-            Some(LineFault::BadLine { line: 3, byte: 1 }),
-            "{line}"
-        );
-    }
-    Ok(())
-}
-
-#[test]
-fn bytes_that_are_no_text(rt: HostRuntime) -> Result<(), Fail> {
-    for bytes in [
-        b"pssm-journal 1\nstart \xff\n".as_slice(),
-        b"pssm-journal 1\nstart a\0\n".as_slice(),
-    ] {
-        let (lines, fault) = read(rt.alloc(), bytes, 4)?;
-        assert_eq!(rt; lines.len(), 0);
-        assert_eq!(rt; fault, Some(LineFault::BadLine { line: 2, byte: 1 }));
-    }
-    Ok(())
-}
-
-#[test]
-fn first_lines(rt: HostRuntime) -> Result<(), Fail> {
-    for (text, fault) in [
-        ("pssm-journal 1\n", None),
-        ("", Some(LineFault::NoEnd { line: 1 })),
-        ("pssm-journal 1", Some(LineFault::NoEnd { line: 1 })),
-        ("\n", Some(LineFault::BadLine { line: 1, byte: 1 })),
-        (
-            "pssm-journal 2\n",
-            Some(LineFault::BadLine { line: 1, byte: 1 }),
-        ),
-        (
-            "pssm-journal 1 \n",
-            Some(LineFault::BadLine { line: 1, byte: 1 }),
-        ),
-        (
-            "pssm-journal 1\r\n",
-            Some(LineFault::BadLine { line: 1, byte: 1 }),
-        ),
-        ("start a\n", Some(LineFault::BadLine { line: 1, byte: 1 })),
-        (
-            "pssm-journal 1\nstart a",
-            Some(LineFault::NoEnd { line: 2 }),
-        ),
-    ] {
-        let (lines, found) = read(rt.alloc(), text.as_bytes(), 5)?;
-        assert_eq!(rt; lines.len(), 0, "{text}");
-        assert_eq!(rt; found, fault, "{text}");
-    }
-    Ok(())
-}
-
-#[test]
 fn pieces(rt: HostRuntime) -> Result<(), Fail> {
-    let text = journal(rt.alloc(), &GOOD)?;
-    let (whole, fault) = read(rt.alloc(), text.as_bytes(), 1 << 20)?;
+    let (whole, fault) = read(rt.alloc(), LINES, 1 << 20)?;
     assert_eq!(rt; fault, None);
-    assert_eq!(rt; whole.len(), GOOD.len());
+    assert_eq!(rt; whole.len(), 7);
     for size in [1, 2, 7] {
-        let (lines, fault) = read(rt.alloc(), text.as_bytes(), size)?;
+        let (lines, fault) = read(rt.alloc(), LINES, size)?;
         assert_eq!(rt; fault, None);
         assert!(rt; lines == whole);
+    }
+    Ok(())
+}
+
+#[test]
+fn says_where(rt: HostRuntime) -> Result<(), Fail> {
+    let rows = [
+        (b"".as_slice(), LineFault::NoEnd { line: 1 }),
+        (b"\n".as_slice(), LineFault::BadLine { line: 1, byte: 1 }),
+        (
+            b"pssm-journal 1\nstart a".as_slice(),
+            LineFault::NoEnd { line: 2 },
+        ),
+        (
+            b"pssm-journal 1\nstart a\nstart \xff\nstart a\n".as_slice(),
+            LineFault::BadLine { line: 3, byte: 1 },
+        ),
+    ];
+    for (text, want) in rows {
+        let (_, fault) = read(rt.alloc(), text, 5)?;
+        assert_eq!(rt; fault, Some(want));
+    }
+    Ok(())
+}
+
+#[test]
+fn long_lines(rt: HostRuntime) -> Result<(), Fail> {
+    let mut text = b"pssm-journal 1\nstart a\n".to_vec(rt.alloc())?;
+    text.extend_from_slice(vec![in rt.alloc(); b'a'; 65_537]?.as_slice())?;
+    for size in [1000, 1 << 20] {
+        let (lines, fault) = read(rt.alloc(), text.as_slice(), size)?;
+        assert_eq!(rt; lines.len(), 1);
+        assert_eq!(rt; fault, Some(LineFault::LongLine { line: 3 }));
     }
     Ok(())
 }
@@ -205,20 +89,6 @@ fn a_fault_stays(rt: HostRuntime) -> Result<(), Fail> {
     assert_eq!(rt; fed.fault, fault);
     assert_eq!(rt; reader.finish(), fault);
     assert_eq!(rt; reader.finish(), fault);
-    Ok(())
-}
-
-#[test]
-fn long_lines(rt: HostRuntime) -> Result<(), Fail> {
-    let mut text = String::from_str(rt.alloc(), "pssm-journal 1\nstart a\n")?;
-    for _ in 0..65_537 {
-        text.push('a')?;
-    }
-    for size in [1, 1000, 1 << 16, 1 << 20] {
-        let (lines, fault) = read(rt.alloc(), text.as_bytes(), size)?;
-        assert_eq!(rt; lines.len(), 1);
-        assert_eq!(rt; fault, Some(LineFault::LongLine { line: 3 }));
-    }
     Ok(())
 }
 
@@ -311,33 +181,6 @@ fn small_setting(alloc: Global) -> Result<Setting, AllocError> {
         classes: Row::from_vec(classes),
         objects: Row::from_vec(objects),
     })
-}
-
-#[test]
-fn names_of_a_setting(rt: HostRuntime) -> Result<(), Fail> {
-    let setting = small_setting(rt.alloc())?;
-    for (line, is_known) in [
-        ("post a.Go()", true),
-        ("start a", true),
-        ("take a 7 -", true),
-        ("post b.Go()", false),
-        ("post a.go()", false),
-        ("start b", false),
-        ("take a 1 t0", false),
-        ("exit a v0", false),
-        ("effect a t0", false),
-        ("enter a v0", false),
-        ("open a r0 default by t0", false),
-    ] {
-        let text = journal(rt.alloc(), &[line])?;
-        let (lines, _) = read(rt.alloc(), text.as_bytes(), 64)?;
-        assert_eq!(rt; lines.len(), 1);
-        for read in &lines {
-            let entry = entry_of(rt.alloc(), &setting, read)?;
-            assert_eq!(rt; entry.is_some(), is_known, "{line}");
-        }
-    }
-    Ok(())
 }
 
 #[test]

@@ -1,4 +1,4 @@
-//! Runs of machines that go from A to B on Go, what is chosen in them, and the rule that a wrong entry breaks.
+//! What no journal says in lines: what a word picks, what is stored, and the rules that entries break which no line spells.
 ghost use Rattle.std.specs.Prelude.{◌≡◌};
 ghost use Rattle.pssm_semantics.specs.Runs.{MayFollow};
 ghost use Rattle.pssm_semantics.specs.Built.{IsBuilt};

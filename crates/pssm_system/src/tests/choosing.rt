@@ -31,7 +31,7 @@ fn runs_to_quiet(system: &mut System, word: u64) -> Result<bool, NoMemory>
 }
 
 /// A system of the machine, into which Go was posted so many times.
-fn posted(alloc: Global, forked: bool, posts: usize) -> Result<System, NoMemory>
+pub fn posted(alloc: Global, forked: bool, posts: usize) -> Result<System, NoMemory>
     ensures { IfOk result (λ system. system.setting ≡ sample_setting forked) }
 {
     let mut system = system(alloc, forked)?;
@@ -42,21 +42,6 @@ fn posted(alloc: Global, forked: bool, posts: usize) -> Result<System, NoMemory>
         }
     }
     Ok(system)
-}
-
-/// How many times Go is posted, and how many entries the run has then: a start, an opening, an effect and an entry; for
-/// the first Go a post, a take, an exit, an effect and an entry; for the second, which B does not react to, a post and a take.
-const RUNS: [(usize, usize); 3] = [(0, 4), (1, 9), (2, 11)];
-
-#[test]
-fn runs_what_is_chosen(rt: HostRuntime) -> Result<(), Fail> {
-    let alloc = rt.alloc();
-    for (posts, entries) in RUNS.iter() {
-        let mut system = posted(alloc, false, *posts)?;
-        assert!(rt; runs_to_quiet(&mut system, 0)?);
-        assert_eq!(rt; system.entries().len(), *entries);
-    }
-    Ok(())
 }
 
 /// The transition that the first take of the journal fires.
@@ -95,6 +80,8 @@ fn stores_nothing(rt: HostRuntime) -> Result<(), Fail> {
     let alloc = rt.alloc();
     let mut system = posted(alloc, false, 1)?;
     assert!(rt; runs_to_quiet(&mut system, 0)?);
+    assert_eq!(rt; system.entries().len(), 9);
+    assert_eq!(rt; system.setting().signals.as_slice().len(), 1);
     assert!(rt; system.store(OBJECT).is_empty());
     assert!(rt; system.params(OBJECT).as_slice() == [0, 0, 0, 0, 0, 0, 0, 0].as_slice());
     Ok(())

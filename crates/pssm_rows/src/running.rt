@@ -1,0 +1,150 @@
+//! Runs cases over `pssm`.
+ghost use Rattle.std.specs.Prelude.{◌≡◌, ◌<◌};
+
+use crate::case::{Ask, Case, File};
+use pssm_base::{Gate, MemInputs, MemSink};
+use pssm_cases::{SpellFault, put_spelled};
+use pssm_tool::pssm;
+use std::alloc::{AllocError as NoMemory, Global};
+use std::str;
+
+// How many bytes a run may write.
+const ROOM: usize = 1 << 25;
+
+// The file that holds what the run before wrote.
+const WRITTEN: &str = "written";
+
+// How many bytes are told of what a run wrote.
+const MOST_TOLD: usize = 200;
+
+// No run waits at a gate.
+struct OpenGate;
+
+impl Gate for OpenGate {
+    fn before(&self, _object: u8, _turn: u64) {}
+}
+
+/// Why a case does not hold; nothing where it does. `shared` are the files that are there in every case.
+pub fn failure_of(
+    rt: &HostRuntime,
+    shared: &[File],
+    case: &Case,
+) -> Result<Option<String>, NoMemory> {
+    for step in 0..case.count {
+        let failure = failure_at(rt, shared, case, case.first.saturating_add(step))?;
+        if failure.is_some() {
+            return Ok(failure);
+        }
+    }
+    if case.asks.is_empty() {
+        return told(rt.alloc(), "nothing is run");
+    }
+    Ok(None)
+}
+
+// Why a case does not hold that is tried at this number.
+fn failure_at(
+    rt: &HostRuntime,
+    shared: &[File],
+    case: &Case,
+    number: u32,
+) -> Result<Option<String>, NoMemory> {
+    let mut before = Vec::new(rt.alloc());
+    for ask in &case.asks {
+        let failure = failure_in(rt, shared, case, ask, number, &mut before)?;
+        if failure.is_some() {
+            return Ok(failure);
+        }
+    }
+    Ok(None)
+}
+
+// Why some run is not given what it is owed. `before` is what the run before wrote.
+fn failure_in(
+    rt: &HostRuntime,
+    shared: &[File],
+    case: &Case,
+    ask: &Ask,
+    number: u32,
+    before: &mut Vec<u8>,
+) -> Result<Option<String>, NoMemory> {
+    let Some(owed) = &ask.owed else {
+        return told(rt.alloc(), "nothing is owed");
+    };
+    for run in &ask.runs {
+        let Some(words) = words_of(rt.alloc(), run.as_str(), number)? else {
+            return told(rt.alloc(), "the words of the run spell no text");
+        };
+        let files = files_of(rt.alloc(), before.as_slice(), case.files.as_slice(), shared)?;
+        let (code, written) = answer_of(rt, case, files, words.as_slice())?;
+        if !owed.is_met(code, written.as_slice(), before.as_slice()) {
+            return told_of(rt.alloc(), run.as_str(), code, written.as_slice());
+        }
+        *before = written;
+    }
+    Ok(None)
+}
+
+// The words of a run, read at this number, where each spells a text.
+fn words_of(alloc: Global, run: &str, number: u32) -> Result<Option<Vec<String>>, NoMemory> {
+    let mut words = Vec::new(alloc);
+    for word in run.split_whitespace() {
+        let mut bytes = Vec::new(alloc);
+        match put_spelled(&mut bytes, word.as_bytes(), number) {
+            Ok(()) => {}
+            Err(SpellFault::NoEscape) => return Ok(None),
+            Err(SpellFault::NoMemory) => return Err(NoMemory),
+        }
+        match String::from_utf8(bytes) {
+            Ok(word) => words.push(word)?,
+            Err(_) => return Ok(None),
+        }
+    }
+    Ok(Some(words))
+}
+
+// The files of a run: what the run before wrote, and those of the case in front of the shared ones, which they hide.
+fn files_of(
+    alloc: Global,
+    before: &[u8],
+    own: &[File],
+    shared: &[File],
+) -> Result<Vec<(String, Vec<u8>)>, NoMemory> {
+    let mut files = Vec::new(alloc);
+    files.push((String::from_str(alloc, WRITTEN)?, before.to_vec(alloc)?))?;
+    for file in own.iter().chain(shared) {
+        files.push((file.name.clone()?, file.bytes.as_slice().to_vec(alloc)?))?;
+    }
+    Ok(files)
+}
+
+// The status and the text that a run gives.
+fn answer_of(
+    rt: &HostRuntime,
+    case: &Case,
+    files: Vec<(String, Vec<u8>)>,
+    words: &[String],
+) -> Result<(u8, Vec<u8>), NoMemory> {
+    let alloc = rt.alloc();
+    let mut inputs = MemInputs::new(
+        files,
+        case.reads.fails.as_slice().to_vec(alloc)?,
+        case.reads.most,
+    );
+    let fails = case.writes.fails.as_slice().to_vec(alloc)?;
+    let mut out = MemSink::new(alloc, ROOM, fails, case.writes.most)?;
+    let status = pssm(rt, alloc, words, &mut inputs, &mut out, &OpenGate);
+    Ok((status.code, out.bytes().to_vec(alloc)?))
+}
+
+// These words.
+fn told(alloc: Global, words: &str) -> Result<Option<String>, NoMemory> {
+    Ok(Some(String::from_str(alloc, words)?))
+}
+
+// What a run gave in place of what it is owed.
+fn told_of(alloc: Global, run: &str, code: u8, written: &[u8]) -> Result<Option<String>, NoMemory> {
+    let front = written.get(..MOST_TOLD).unwrap_or(written);
+    let text = str::from_utf8(front).unwrap_or("no text");
+    Ok(Some(format!(in alloc; "`{run}` gives status {code} and {text:?}")?))
+}
