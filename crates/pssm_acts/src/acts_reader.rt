@@ -17,7 +17,7 @@ use pssm_semantics::{Act, Cond, Names, Stmt};
 use std::alloc::Global;
 
 /// How many levels of parentheses, brackets and blocks may be open at once (this profile's choice).
-const LEVELS: usize = 16;
+pub(crate) const LEVELS: usize = 16;
 
 /// How many steps there may be (this profile's choice).
 const STEPS: usize = 64;

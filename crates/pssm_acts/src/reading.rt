@@ -16,7 +16,7 @@ ghost use Rattle.pssm_acts.specs.TextFaults.{TextFault};
 ghost use Rattle.pssm_acts.specs.Vocabularies.{vocabulary};
 
 use crate::act_fault::ActFault;
-use crate::acts_reader::{ReadActs, acts_end, acts_next, new_acts};
+use crate::acts_reader::{LEVELS, ReadActs, acts_end, acts_next, new_acts};
 use crate::guard_reader::{guard_end, guard_next, new_guard};
 use crate::read_blocks::with_step;
 use crate::token::{Piece, blank, closes_operand, token_at};
@@ -26,9 +26,6 @@ use std::alloc::Global;
 
 /// The greatest length of a text, in bytes (this profile's choice).
 const TEXT_LEN: usize = 4096;
-
-/// How many levels of parentheses, brackets and blocks may be open at once (this profile's choice).
-const LEVELS: usize = 16;
 
 /// The guard that the tokens of a text spell.
 fn cond_of(alloc: Global, text: &[u8], names: &Names) -> Result<Cond, ActFault>

@@ -3,7 +3,7 @@ ghost use Rattle.std.specs.Prelude.{◌≡◌, ◌<◌, ◌≤◌, length, IfSom
 ghost use Rattle.pssm_acts.specs.Tokens.{double_sign, ends_operand, front, is_blank, number_len, sign_front, single_sign, word_kind};
 
 use pssm_semantics::Rel;
-use pssm_spelling::{digits_len, name_len, name_starts};
+use pssm_spelling::{NAME_LEN, digits_len, name_len, name_starts};
 
 /// What a token is: a name, a number, a parameter, or a word or sign of the language (this profile's choice).
 ///
@@ -40,9 +40,6 @@ pub enum Kind {
     Dot,
     Unknown,
 }
-
-/// The greatest length of a name, in bytes (this profile's choice).
-const NAME_LEN: usize = 64;
 
 /// Whether the byte is a space, a tab, a carriage return or a line feed.
 pub(crate) fn blank(c: u8) -> bool

@@ -10,7 +10,7 @@ ghost use Rattle.pssm_spelling.specs.Spelling.{begins_name, continues_name};
 ghost use Rattle.pssm_spelling.specs.SpellingReading.{is_digit, is_plain, starts_name, stripped, name_taken, number_below, number_taken, index_taken};
 
 /// The greatest length of a name, in bytes (this profile's choice).
-const NAME_LEN: usize = 64;
+pub const NAME_LEN: usize = 64;
 
 /// What follows `front`, where the bytes begin with it.
 pub fn strip<'a>(bytes: &'a [u8], front: &[u8]) -> Option<&'a [u8]>

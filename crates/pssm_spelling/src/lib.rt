@@ -11,8 +11,8 @@ mod words;
 mod writing;
 
 pub use front::{
-    digits_len, index_at, is_decimal, is_plain_number, name_at, name_len, name_starts, number_at,
-    strip,
+    NAME_LEN, digits_len, index_at, is_decimal, is_plain_number, name_at, name_len, name_starts,
+    number_at, strip,
 };
 pub use numbers::{magnitude, spells_natural};
 pub use words::number_of;
