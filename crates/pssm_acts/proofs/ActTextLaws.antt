@@ -29,6 +29,7 @@ use Rattle.pssm_acts.specs.GuardReading.{fresh_guard, guard_step, guard_value, n
 use Rattle.pssm_acts.specs.Marks.{KeepsMarks, with_mark, grown, mark_of}
 use Rattle.pssm_acts.specs.PhraseReading.{AnswersWith, beside, mark_read, phrase_begun, phrase_step}
 use Rattle.pssm_acts.specs.ActReading.{acts_read, acts_step, acts_value, after_choice, at_turn, begun_at, block_closed, block_closed_in, block_opened, condition_read, else_opened, fresh_acts, fresh_blocks, if_closed, next_act, next_act_in, phrase_read, phrased, statement_counted, step_taken, text_acts, turn_nots, with_act, without_else}
+use Rattle.pssm_acts.proofs.AnswerLaws.{never_read, read_same}
 use Rattle.pssm_acts.proofs.NotsLaws.{nots_more}
 use Rattle.pssm_acts.proofs.TextLaws.{failed, cut_blank, cut_token, piece_at}
 
@@ -45,9 +46,9 @@ pub beside_ok : {A M : Type 0} (marks : M) (r : Result A ActFault) (a : A) (m : 
 beside_ok {A} {M} marks (Ok x) a m is =
     let was : A × M = (x, marks) in
     let now : A × M = (a, m) in
-    let same : was ≡ now = cc in
+    let same = read_same was now is in
     (ap (λ y. Ok y.0) same, sym (ap (λ y. y.1) same))
-beside_ok {A} {M} marks (Err fault) a m is = absurd cc
+beside_ok {A} {M} marks (Err fault) a m is = absurd (never_read _ _ is)
 
 beside_noted : {A : Type 0} (marks : List (List ℕ)) (r : Result A ActFault) (a : A) (m : List (List ℕ)) → beside marks r ≡ Ok (a, m) → AreNoted marks m
 beside_noted marks r a m is = inl ((beside_ok marks r a m is).1)
@@ -61,9 +62,9 @@ unfolding mark_read
 mark_noted marks p m kinds.Name at word is =
     let was : Phrased × List (List ℕ) = (Goes (Named (calls.Mark (mark_of marks word))), with_mark marks word) in
     let now : Phrased × List (List ℕ) = (p, m) in
-    let same : was ≡ now = cc in
+    let same = read_same was now is in
     subst (λ x. AreNoted marks x) (ap (λ y. y.1) same) (grown_noted (position (λ k. bytes_eq k word) marks) marks word)
-mark_noted marks p m kind at word is = absurd cc
+mark_noted marks p m kind at word is = absurd (never_read _ _ is)
 
 phrase_noted : (names : Names) (room : ℕ) (marks : List (List ℕ)) (phrase : Phrase) (t : Token) (p : Phrased) (m : List (List ℕ)) → phrase_step names room marks phrase t ≡ Ok (p, m) → AreNoted marks m
 unfolding phrase_step
@@ -90,9 +91,9 @@ phrase_apart names marks blocks phrase t n m is = go (phrase_step names (16 - le
   go (Ok next) e is =
       let was : ActsReader × List (List ℕ) = (phrased blocks next.0, next.1) in
       let now : ActsReader × List (List ℕ) = (n, m) in
-      let same : was ≡ now = cc in
+      let same = read_same was now is in
       record { made = next.0; step = subst (λ x. phrase_step names (16 - length blocks.outer) marks phrase t ≡ Ok (next.0, x)) (ap (λ y. y.1) same) e; reader = ap (λ y. y.0) same }
-  go (Err fault) e is = absurd cc
+  go (Err fault) e is = absurd (never_read _ _ is)
 
 step_noted : (names : Names) (stepped : Bool) (marks : List (List ℕ)) (turn : Turn) (blocks : Blocks) (t : Token) (n : ActsReader) (m : List (List ℕ)) → acts_step names stepped marks (at_turn blocks turn) t ≡ Ok (n, m) → AreNoted marks m
 unfolding acts_step
@@ -111,7 +112,7 @@ if_nots None under c block n e = subst (λ x. turn_nots x.turn ≡ 0) e refl
 if_nots (Some body) under c block n e = subst (λ x. turn_nots x.turn ≡ 0) e refl
 
 closed_nots : (outer : List OpenIf) (blocks : Blocks) (at : ℕ) (n : ActsReader) → block_closed_in outer blocks at ≡ Ok n → turn_nots n.turn ≡ 0
-closed_nots [] blocks at n is = absurd cc
+closed_nots [] blocks at n is = absurd (never_read _ _ is)
 closed_nots (first ∷ outer) blocks at n is = if_nots first.body (record { earlier = blocks.earlier; outer = outer; stmts = first.before; begun = blocks.begun }) first.condition blocks.stmts n cc
 
 opened_nots : (blocks : Blocks) (c : Cond) (body : Option (List Stmt)) (at : ℕ) (n : ActsReader) → block_opened blocks c body at ≡ Ok n → turn_nots n.turn ≡ 0
@@ -121,8 +122,8 @@ opened_nots blocks c body at n is = go (ltb (length blocks.outer) 16) is where
   inner = record { earlier = blocks.earlier; outer = record { before = blocks.stmts; condition = c; body = body } ∷ blocks.outer; stmts = []; begun = blocks.begun }
 
   go : (b : Bool) → (if b then Ok (at_turn inner Begins) else Err (TooLong at)) ≡ Ok n → turn_nots n.turn ≡ 0
-  go true e = let same : at_turn inner Begins ≡ n = cc in subst (λ x. turn_nots x.turn ≡ 0) same refl
-  go false e = absurd cc
+  go true e = let same = read_same (at_turn inner Begins) n e in subst (λ x. turn_nots x.turn ≡ 0) same refl
+  go false e = absurd (never_read _ _ e)
 
 next_nots : (stepped : Bool) (outer : List OpenIf) (blocks : Blocks) (at : ℕ) (n : ActsReader) → next_act_in stepped outer blocks at ≡ Ok n → turn_nots n.turn ≡ 0
 next_nots true [] blocks at n is = go (ltb (length blocks.earlier + 1) 64) is where
@@ -130,16 +131,16 @@ next_nots true [] blocks at n is = go (ltb (length blocks.earlier + 1) 64) is wh
   after = at_turn (fresh_blocks (with_act blocks.earlier blocks.stmts)) turns.Step
 
   go : (b : Bool) → (if b then Ok after else Err (TooLong at)) ≡ Ok n → turn_nots n.turn ≡ 0
-  go true e = let same : after ≡ n = cc in subst (λ x. turn_nots x.turn ≡ 0) same refl
-  go false e = absurd cc
-next_nots true (first ∷ outer) blocks at n is = absurd cc
-next_nots false outer blocks at n is = absurd cc
+  go true e = let same = read_same after n e in subst (λ x. turn_nots x.turn ≡ 0) same refl
+  go false e = absurd (never_read _ _ e)
+next_nots true (first ∷ outer) blocks at n is = absurd (never_read _ _ is)
+next_nots false outer blocks at n is = absurd (never_read _ _ is)
 
 counted_nots : (blocks : Blocks) (turn : Turn) (at : ℕ) (n : ActsReader) → turn_nots turn ≡ 0 → and_then (statement_counted blocks at) (λ more. Ok (at_turn more turn)) ≡ Ok n → turn_nots n.turn ≡ 0
 counted_nots blocks turn at n none is = go (statement_counted blocks at) is where
   go : (r : Result Blocks ActFault) → and_then r (λ more. Ok (at_turn more turn)) ≡ Ok n → turn_nots n.turn ≡ 0
-  go (Ok more) e = let same : at_turn more turn ≡ n = cc in subst (λ x. turn_nots x.turn ≡ 0) same none
-  go (Err fault) e = absurd cc
+  go (Ok more) e = let same = read_same (at_turn more turn) n e in subst (λ x. turn_nots x.turn ≡ 0) same none
+  go (Err fault) e = absurd (never_read _ _ e)
 
 begun_nots : (names : Names) (stepped : Bool) (blocks : Blocks) (n : ActsReader) (kind : Kind) (at : ℕ) (word : List ℕ) → begun_at names stepped blocks (token_as at kind word) ≡ Ok n → turn_nots n.turn ≡ 0
 unfolding begun_at block_closed next_act
@@ -149,35 +150,35 @@ begun_nots names stepped blocks n kinds.If at word is = counted_nots blocks (Con
 begun_nots names stepped blocks n kind at word is = go (phrase_begun names (token_as at kind word)) is where
   go : (r : Result Phrase ActFault) → and_then r (λ phrase. and_then (statement_counted blocks at) (λ more. Ok (at_turn more (Within phrase)))) ≡ Ok n → turn_nots n.turn ≡ 0
   go (Ok phrase) e = counted_nots blocks (Within phrase) at n refl e
-  go (Err fault) e = absurd cc
+  go (Err fault) e = absurd (never_read _ _ e)
 
 chosen_nots : (names : Names) (stepped : Bool) (blocks : Blocks) (c : Cond) (body : List Stmt) (n : ActsReader) (kind : Kind) (at : ℕ) (word : List ℕ) → after_choice names stepped blocks c body (token_as at kind word) ≡ Ok n → turn_nots n.turn ≡ 0
 unfolding after_choice
-chosen_nots names stepped blocks c body n kinds.Else at word is = let same : at_turn blocks (Else c body) ≡ n = cc in subst (λ x. turn_nots x.turn ≡ 0) same refl
+chosen_nots names stepped blocks c body n kinds.Else at word is = let same = read_same (at_turn blocks (Else c body)) n is in subst (λ x. turn_nots x.turn ≡ 0) same refl
 chosen_nots names stepped blocks c body n kind at word is = begun_nots names stepped (without_else blocks c body) n kind at word is
 
 else_nots : (blocks : Blocks) (c : Cond) (body : List Stmt) (n : ActsReader) (kind : Kind) (at : ℕ) (word : List ℕ) → else_opened blocks c body (token_as at kind word) ≡ Ok n → turn_nots n.turn ≡ 0
 unfolding else_opened
 else_nots blocks c body n kinds.OpenBrace at word is = opened_nots blocks c (Some body) at n is
-else_nots blocks c body n kind at word is = absurd cc
+else_nots blocks c body n kind at word is = absurd (never_read _ _ is)
 
 condition_nots : (names : Names) (blocks : Blocks) (guard : GuardReader) (n : ActsReader) (kind : Kind) (at : ℕ) (word : List ℕ) → condition_read names blocks guard (token_as at kind word) ≡ Ok n → turn_nots n.turn ≤ nots_waiting guard + 1
 unfolding condition_read
 condition_nots names blocks guard n kinds.OpenBrace at word is = go (guard_value guard at) is where
   go : (r : Result Cond ActFault) → and_then r (λ c. block_opened blocks c None at) ≡ Ok n → turn_nots n.turn ≤ nots_waiting guard + 1
   go (Ok c) e = let none = opened_nots blocks c None at n e in omega (arith, none)
-  go (Err fault) e = absurd cc
+  go (Err fault) e = absurd (never_read _ _ e)
 condition_nots names blocks guard n kind at word is = go (guard_step names (16 - length blocks.outer) guard (token_as at kind word)) refl is where
   go : (r : Result GuardReader ActFault) → guard_step names (16 - length blocks.outer) guard (token_as at kind word) ≡ r → and_then r (λ more. Ok (at_turn blocks (Condition more))) ≡ Ok n → turn_nots n.turn ≤ nots_waiting guard + 1
   go (Ok more) step e =
-      let same : at_turn blocks (Condition more) ≡ n = cc in
+      let same = read_same (at_turn blocks (Condition more)) n e in
       subst (λ x. turn_nots x.turn ≤ nots_waiting guard + 1) same (nots_more names (16 - length blocks.outer) guard more (token_as at kind word) step)
-  go (Err fault) step e = absurd cc
+  go (Err fault) step e = absurd (never_read _ _ e)
 
 taken_nots : (blocks : Blocks) (n : ActsReader) (kind : Kind) (at : ℕ) (word : List ℕ) → step_taken blocks (token_as at kind word) ≡ Ok n → turn_nots n.turn ≡ 0
 unfolding step_taken
-taken_nots blocks n kinds.Semicolon at word is = let same : at_turn blocks Begins ≡ n = cc in subst (λ x. turn_nots x.turn ≡ 0) same refl
-taken_nots blocks n kind at word is = absurd cc
+taken_nots blocks n kinds.Semicolon at word is = let same = read_same (at_turn blocks Begins) n is in subst (λ x. turn_nots x.turn ≡ 0) same refl
+taken_nots blocks n kind at word is = absurd (never_read _ _ is)
 
 phrased_nots : (blocks : Blocks) (made : Phrased) (n : ActsReader) → phrased blocks made ≡ n → turn_nots n.turn ≡ 0
 phrased_nots blocks (Goes phrase) n e = subst (λ x. turn_nots x.turn ≡ 0) e refl

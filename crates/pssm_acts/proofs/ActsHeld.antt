@@ -30,6 +30,7 @@ use Rattle.pssm_acts.specs.Grammar.{Either, SpellsGuard}
 use Rattle.pssm_acts.specs.GuardReading.{guard_step, guard_value}
 use Rattle.pssm_acts.specs.PhraseReading.{beside, phrase_step}
 use Rattle.pssm_acts.specs.Tokens.{Token}
+use Rattle.pssm_acts.proofs.AnswerLaws.{never_read, read_same}
 use Rattle.pssm_acts.proofs.ExprHeld.{token_as}
 use Rattle.pssm_acts.proofs.GuardHeld.{held_more, held_whole}
 use Rattle.pssm_acts.proofs.PhraseTokens.{PhrasedHeld}
@@ -62,10 +63,10 @@ module _ (names : Names) (stepped : Bool) (start : List (List ℕ)) where
     go : (r : Result (Phrased × List (List ℕ)) ActFault) → phrase_step names (16 - length blocks.outer) marks phrase t ≡ r → and_then r (λ next. Ok (phrased blocks next.0, next.1)) ≡ Ok n → ReaderHeld names stepped start n.0 (ts ++ t ∷ []) n.1
     go (Ok next) e is =
         let due : ActsReader × List (List ℕ) = (phrased blocks next.0, next.1) in
-        let same : due ≡ n = cc in
+        let same = read_same due n is in
         let held = phrase_held names h.noted (16 - length blocks.outer) marks phrase next h.vs t e h.here in
         subst (λ r. ReaderHeld names stepped start r.0 (ts ++ t ∷ []) r.1) same (phrased_held blocks phrase next.0 ts t marks next.1 h held)
-    go (Err fault) e is = absurd cc
+    go (Err fault) e is = absurd (never_read _ _ is)
 
   -- a brace opens a block
   opens_held : (blocks : Blocks) (turn : Turn) (c : Cond) (body : Option (List Stmt)) (n : ActsReader) (ts : List Token) (t : Token) (marks : List (List ℕ)) (h : BehaviourHeld names stepped start blocks turn ts marks)
@@ -86,9 +87,9 @@ module _ (names : Names) (stepped : Bool) (start : List (List ℕ)) where
 
     go : (b : Bool) → ltb (length blocks.outer) 16 ≡ b → (if b then Ok (at_turn opened Begins) else Err (TooLong t.at)) ≡ Ok n → ReaderHeld names stepped start n (ts ++ t ∷ []) marks
     go true e is =
-        let same : at_turn opened Begins ≡ n = cc in
+        let same = read_same (at_turn opened Begins) n is in
         subst (λ r. ReaderHeld names stepped start r (ts ++ t ∷ []) marks) same (behind (ltb-true (length blocks.outer) 16 e))
-    go false e is = absurd cc
+    go false e is = absurd (never_read _ _ is)
 
   -- a token in the condition of an `if`
   condition_held : (blocks : Blocks) (guard : GuardReader) (n : ActsReader) (ts : List Token) (kind : Kind) (at : ℕ) (word : List ℕ) (marks : List (List ℕ)) → condition_read names blocks guard (token_as at kind word) ≡ Ok n
@@ -107,7 +108,7 @@ module _ (names : Names) (stepped : Bool) (start : List (List ℕ)) where
 
     go : (r : Result Cond ActFault) → guard_value guard at ≡ r → and_then r (λ c. block_opened blocks c None at) ≡ Ok n → ReaderHeld names stepped start n (ts ++ t ∷ []) marks
     go (Ok c) e is = opens_held blocks (Condition guard) c None n ts t marks h is refl (λ within. (head c e within, h.here.1))
-    go (Err fault) e is = absurd cc
+    go (Err fault) e is = absurd (never_read _ _ is)
   condition_held blocks guard n ts kind at word marks step h = go (guard_step names (16 - length blocks.outer) guard (token_as at kind word)) refl step where
     t : Token
     t = token_as at kind word
@@ -115,12 +116,12 @@ module _ (names : Names) (stepped : Bool) (start : List (List ℕ)) where
     go : (r : Result GuardReader ActFault) → guard_step names (16 - length blocks.outer) guard t ≡ r → and_then r (λ more. Ok (at_turn blocks (Condition more))) ≡ Ok n → ReaderHeld names stepped start n (ts ++ t ∷ []) marks
     go (Ok more) e is =
         let w = h.here.0 in
-        let same : at_turn blocks (Condition more) ≡ n = cc in
+        let same = read_same (at_turn blocks (Condition more)) n is in
         let read : ConditionHeld names (16 - length blocks.outer) more (h.vs ++ t ∷ []) =
         record { if' = w.if'; cs = w.cs ++ t ∷ []; is = w.is; held = held_more names (16 - length blocks.outer) guard more w.cs t e w.held; whole = ap (λ x. x ++ t ∷ []) w.whole } in
         let counts = turn_counted stepped blocks.earlier blocks.outer blocks.stmts blocks.begun (Condition guard) (Condition more) refl h.counts in
         subst (λ r. ReaderHeld names stepped start r (ts ++ t ∷ []) marks) same (statement_goes names stepped start blocks (Condition guard) ts t marks h (Condition more) blocks.begun marks (read, h.here.1) counts)
-    go (Err fault) e is = absurd cc
+    go (Err fault) e is = absurd (never_read _ _ is)
 
   -- an `if` that has no `else`
   pub no_else : (blocks : Blocks) (c : Cond) (body : List Stmt) (ts : List Token) (marks : List (List ℕ)) → BehaviourHeld names stepped start blocks (Chosen c body) ts marks
@@ -143,7 +144,7 @@ module _ (names : Names) (stepped : Bool) (start : List (List ℕ)) where
   unfolding after_choice
   choice_held blocks c body n ts kinds.Else at word marks step h =
       let t = token_as at kinds.Else word in
-      let same : at_turn blocks (Else c body) ≡ n = cc in
+      let same = read_same (at_turn blocks (Else c body)) n step in
       let here : TurnHeld names blocks.outer h.noted (Else c body) (h.vs ++ t ∷ []) marks = (h.here.0, record { front = h.vs; else' = t; chosen = h.here.1; is = refl; whole = refl }) in
       let counts = turn_counted stepped blocks.earlier blocks.outer blocks.stmts blocks.begun (Chosen c body) (Else c body) refl h.counts in
       subst (λ r. ReaderHeld names stepped start r (ts ++ t ∷ []) marks) same (statement_goes names stepped start blocks (Chosen c body) ts t marks h (Else c body) blocks.begun marks here counts)
@@ -155,7 +156,7 @@ module _ (names : Names) (stepped : Bool) (start : List (List ℕ)) where
   else_held blocks c body n ts kinds.OpenBrace at word marks step h =
       let t = token_as at kinds.OpenBrace word in
       opens_held blocks (Else c body) c (Some body) n ts t marks h step refl (λ within. record { front = h.vs; opening = t; first = h.here.1; opens = refl; whole = refl })
-  else_held blocks c body n ts kind at word marks step h = absurd cc
+  else_held blocks c body n ts kind at word marks step h = absurd (never_read _ _ step)
 
   -- the semicolon behind `step`
   taken_held : (blocks : Blocks) (n : ActsReader) (ts : List Token) (kind : Kind) (at : ℕ) (word : List ℕ) (marks : List (List ℕ)) → step_taken blocks (token_as at kind word) ≡ Ok n → StepHeld names stepped start blocks ts marks
@@ -163,7 +164,7 @@ module _ (names : Names) (stepped : Bool) (start : List (List ℕ)) where
   unfolding step_taken
   taken_held blocks n ts kinds.Semicolon at word marks step h =
       let t = token_as at kinds.Semicolon word in
-      let same : at_turn blocks Begins ≡ n = cc in
+      let same = read_same (at_turn blocks Begins) n step in
       let held : BehaviourHeld names stepped start blocks Begins (ts ++ t ∷ []) marks = record {
         steps = ts ++ t ∷ [];
         xs = [];
@@ -177,16 +178,16 @@ module _ (names : Names) (stepped : Bool) (start : List (List ℕ)) where
         whole = sym (append-nil (ts ++ t ∷ []));
       } in
       subst (λ r. ReaderHeld names stepped start r (ts ++ t ∷ []) marks) same held
-  taken_held blocks n ts kind at word marks step h = absurd cc
+  taken_held blocks n ts kind at word marks step h = absurd (never_read _ _ step)
 
   -- where the marks stay as they were
   beside_held : (marks : List (List ℕ)) (r : Result ActsReader ActFault) (n : ActsReader × List (List ℕ)) (ts : List Token) → beside marks r ≡ Ok n → ((next : ActsReader) → r ≡ Ok next → ReaderHeld names stepped start next ts marks)
       → ReaderHeld names stepped start n.0 ts n.1
   beside_held marks (Ok next) n ts step held =
       let due : ActsReader × List (List ℕ) = (next, marks) in
-      let same : due ≡ n = cc in
+      let same = read_same due n step in
       subst (λ p. ReaderHeld names stepped start p.0 ts p.1) same (held next refl)
-  beside_held marks (Err fault) n ts step held = absurd cc
+  beside_held marks (Err fault) n ts step held = absurd (never_read _ _ step)
 
   -- one token more
   pub turn_held : (blocks : Blocks) (turn : Turn) (n : ActsReader × List (List ℕ)) (ts : List Token) (t : Token) (marks : List (List ℕ)) → acts_step names stepped marks (at_turn blocks turn) t ≡ Ok n → StateHeld names stepped start blocks turn ts marks
@@ -220,21 +221,21 @@ module _ (names : Names) (stepped : Bool) (start : List (List ℕ)) where
       let held : ActsHeld names stepped start read ts marks =
       record { steps = b.steps; us = b.xs; began = b.began; done = b.done; spelled = act_spelled names stepped start earlier block begun ts marks b; few = b.counts.steps; lone = b.counts.lone; whole = b.whole } in
       subst (λ x. ActsHeld names stepped start x ts marks) same held
-  whole_held earlier (open' ∷ outer) block begun r at ts marks is h = absurd cc
+  whole_held earlier (open' ∷ outer) block begun r at ts marks is h = absurd (never_read _ _ is)
 
   value_held : (blocks : Blocks) (turn : Turn) (r : ReadActs) (at : ℕ) (ts : List Token) (marks : List (List ℕ)) → acts_value (at_turn blocks turn) at ≡ Ok r → StateHeld names stepped start blocks turn ts marks → ActsHeld names stepped start r ts marks
   unfolding acts_value whole_acts
   value_held blocks Begins r at ts marks is h = whole_held blocks.earlier blocks.outer blocks.stmts blocks.begun r at ts marks is h
   value_held blocks (Chosen c body) r at ts marks is h =
       whole_held blocks.earlier blocks.outer (blocks.stmts ++ stmts.Choose c body None ∷ []) blocks.begun r at ts marks is (no_else names stepped start blocks c body ts marks h)
-  value_held blocks turn r at ts marks is h = absurd cc
+  value_held blocks turn r at ts marks is h = absurd (never_read _ _ is)
 
   end_held : (r : Result ReadActs ActFault) (n : ReadActs × List (List ℕ)) (ts : List Token) (marks : List (List ℕ)) → beside marks r ≡ Ok n → ((x : ReadActs) → r ≡ Ok x → ActsHeld names stepped start x ts marks) → ActsHeld names stepped start n.0 ts n.1
   end_held (Ok x) n ts marks is held =
       let due : ReadActs × List (List ℕ) = (x, marks) in
-      let same : due ≡ n = cc in
+      let same = read_same due n is in
       subst (λ p. ActsHeld names stepped start p.0 ts p.1) same (held x refl)
-  end_held (Err fault) n ts marks is held = absurd cc
+  end_held (Err fault) n ts marks is held = absurd (never_read _ _ is)
 
 -- the end of the text
 read_held : (names : Names) (stepped : Bool) (start : List (List ℕ)) (end : ℕ) (marks : List (List ℕ)) (reader : ActsReader) (us ts : List Token) (n : ReadActs × List (List ℕ)) → acts_read names stepped end marks reader ts ≡ Ok n
@@ -248,7 +249,7 @@ read_held names stepped start end marks reader us (t ∷ ts) n is h = go (λ nex
       → (x : Result (ActsReader × List (List ℕ)) ActFault) → acts_step names stepped marks reader t ≡ x → and_then x (λ next. acts_read names stepped end next.1 next.0 ts) ≡ Ok n → ActsHeld names stepped start n.0 (us ++ (t ∷ ts)) n.1
   go more (Ok next) e is =
       subst (λ xs. ActsHeld names stepped start n.0 xs n.1) (append_assoc us (t ∷ []) ts) (more next is (turn_held names stepped start reader.blocks reader.turn next us t marks e h))
-  go more (Err fault) e is = absurd cc
+  go more (Err fault) e is = absurd (never_read _ _ is)
 
 pub start_held : (names : Names) (stepped : Bool) (start : List (List ℕ)) → IsLone stepped [] → ReaderHeld names stepped start fresh_acts [] start
 start_held names stepped start lone = record {

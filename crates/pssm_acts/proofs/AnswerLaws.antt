@@ -7,6 +7,19 @@ use Rattle.pssm_acts.specs.ExprReading.{Answers}
 use Rattle.pssm_acts.specs.Marks.{KeepsMarks, grown, with_mark}
 use Rattle.pssm_acts.specs.PhraseReading.{AnswersWith, beside}
 
+-- A fault is no value that is read, and what is read is one value.
+pub never_read : {A : Type 0} (fault : ActFault) (x : A) → Err fault ≡ Ok x → ⊥
+never_read fault x is = cc
+
+pub never_refused : {A : Type 0} (x : A) (fault : ActFault) → Ok x ≡ Err fault → ⊥
+never_refused x fault is = cc
+
+abbrev pub read : {A : Type 0} → A → Result A ActFault
+read x = Ok x
+
+pub read_same : {A : Type 0} (x y : A) → read x ≡ read y → x ≡ y
+read_same x y is = cc
+
 pub beside_answers : {A M : Type 0} (due r : Result A ActFault) (marks left : M) → Answers due r → left ≡ marks → AnswersWith (beside marks due) r left
 beside_answers due (Ok x) marks left h same = ap (λ d. beside marks d) h ∙ ap (λ m. Ok (x, m)) (sym same)
 beside_answers due (Err NoMemory) marks left h same = tt

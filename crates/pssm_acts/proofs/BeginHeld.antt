@@ -23,6 +23,7 @@ use Rattle.pssm_acts.specs.ExprReading.{and_then}
 use Rattle.pssm_acts.specs.GuardReading.{fresh_guard}
 use Rattle.pssm_acts.specs.PhraseReading.{phrase_begun}
 use Rattle.pssm_acts.specs.Tokens.{Token}
+use Rattle.pssm_acts.proofs.AnswerLaws.{never_read, read_same}
 use Rattle.pssm_acts.proofs.ExprHeld.{token_as}
 use Rattle.pssm_acts.proofs.GuardHeld.{held_start}
 use Rattle.pssm_acts.proofs.PhraseHeld.{phrase_start}
@@ -57,11 +58,11 @@ next_held names true start earlier [] block begun n ts at word marks step h = go
 
   go : (b : Bool) → ltb (length earlier + 1) 64 ≡ b → (if b then Ok (at_turn (fresh_blocks (with_act earlier block)) turns.Step) else Err (TooLong at)) ≡ Ok n → ReaderHeld names true start n (ts ++ t ∷ []) marks
   go true e is =
-      let same : at_turn (fresh_blocks (with_act earlier block)) turns.Step ≡ n = cc in
+      let same = read_same (at_turn (fresh_blocks (with_act earlier block)) turns.Step) n is in
       subst (λ r. ReaderHeld names true start r (ts ++ t ∷ []) marks) same (held (ltb-true (length earlier + 1) 64 e))
-  go false e is = absurd cc
-next_held names true start earlier (open' ∷ outer) block begun n ts at word marks step h = absurd cc
-next_held names false start earlier outer block begun n ts at word marks step h = absurd cc
+  go false e is = absurd (never_read _ _ is)
+next_held names true start earlier (open' ∷ outer) block begun n ts at word marks step h = absurd (never_read _ _ step)
+next_held names false start earlier outer block begun n ts at word marks step h = absurd (never_read _ _ step)
 
 module _ (names : Names) (stepped : Bool) (start : List (List ℕ)) where
   -- a brace closes a block
@@ -99,9 +100,9 @@ module _ (names : Names) (stepped : Bool) (start : List (List ℕ)) where
 
   brace_held : (earlier : List Act) (outer : List OpenIf) (block : List Stmt) (begun : ℕ) (n : ActsReader) (ts : List Token) (at : ℕ) (word : List ℕ) (marks : List (List ℕ)) → block_closed_in outer (blocks_at earlier outer block begun) at ≡ Ok n
       → BeginsHeld names stepped start earlier outer block begun ts marks → ReaderHeld names stepped start n (ts ++ token_as at kinds.CloseBrace word ∷ []) marks
-  brace_held earlier [] block begun n ts at word marks step h = absurd cc
+  brace_held earlier [] block begun n ts at word marks step h = absurd (never_read _ _ step)
   brace_held earlier (open' ∷ outer) block begun n ts at word marks step h =
-      let same : if_closed open'.body (blocks_at earlier outer open'.before begun) open'.condition block ≡ n = cc in
+      let same = read_same (if_closed open'.body (blocks_at earlier outer open'.before begun) open'.condition block) n step in
       closed_held earlier outer open'.before open'.condition open'.body block begun n ts (token_as at kinds.CloseBrace word) marks same refl h
 
   -- a statement begins
@@ -131,9 +132,9 @@ module _ (names : Names) (stepped : Bool) (start : List (List ℕ)) where
 
     go : (b : Bool) → ltb blocks.begun 64 ≡ b → and_then (if b then Ok more else Err (TooLong t.at)) (λ x. Ok (at_turn x turn)) ≡ Ok n → ReaderHeld names stepped start n (ts ++ t ∷ []) marks
     go true e is =
-        let same : at_turn more turn ≡ n = cc in
+        let same = read_same (at_turn more turn) n is in
         subst (λ r. ReaderHeld names stepped start r (ts ++ t ∷ []) marks) same (keep more (held (ltb-true blocks.begun 64 e)))
-    go false e is = absurd cc
+    go false e is = absurd (never_read _ _ is)
 
   pub begun_held : (blocks : Blocks) (n : ActsReader) (ts : List Token) (kind : Kind) (at : ℕ) (word : List ℕ) (marks : List (List ℕ)) → begun_at names stepped blocks (token_as at kind word) ≡ Ok n
       → BehaviourHeld names stepped start blocks Begins ts marks → ReaderHeld names stepped start n (ts ++ token_as at kind word ∷ []) marks
@@ -148,4 +149,4 @@ module _ (names : Names) (stepped : Bool) (start : List (List ℕ)) where
     go : (r : Result Phrase ActFault) → phrase_begun names (token_as at kind word) ≡ r → and_then r (λ phrase. and_then (statement_counted blocks at) (λ more. Ok (at_turn more (Within phrase)))) ≡ Ok n
         → ReaderHeld names stepped start n (ts ++ token_as at kind word ∷ []) marks
     go (Ok phrase) e is = counted_held blocks (Within phrase) n ts (token_as at kind word) marks is refl (phrase_start names marks (16 - length blocks.outer) phrase (token_as at kind word) e) h (λ b x. x)
-    go (Err fault) e is = absurd cc
+    go (Err fault) e is = absurd (never_read _ _ is)

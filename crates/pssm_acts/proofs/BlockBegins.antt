@@ -23,6 +23,7 @@ use Rattle.pssm_acts.specs.PhraseReading.{phrase_begun, phrase_step}
 use Rattle.pssm_acts.specs.ActReading.{at_turn, without_else, phrased, block_opened, block_closed_in, block_closed, next_act_in, next_act, begun_at, after_choice, else_opened, condition_read, phrase_read, step_taken, acts_step}
 use Rattle.pssm_acts.specs.Grammar.{Either}
 use Rattle.pssm_acts.specs.Shapes.{GuardShape, truth, lone_unit, lone_conjunction, PhraseShape, StmtsShape, nothing, phrase, choice, alternative, StepsShape, first, step, Begins}
+use Rattle.pssm_acts.proofs.AnswerLaws.{never_refused}
 use Rattle.pssm_acts.proofs.ExprHeld.{token_as}
 use Rattle.pssm_acts.proofs.GuardHeld.{held_whole}
 use Rattle.pssm_acts.proofs.BlockHeld.{ChosenHeld, ElseHeld, IfHeld, OpenHeld, BlocksHeld, blocks_whole}
@@ -30,7 +31,7 @@ use Rattle.pssm_acts.proofs.BlockCounts.{IsLone}
 use Rattle.pssm_acts.proofs.StepsHeld.{EarlierHeld, BehaviourHeld, StateHeld, ReaderHeld}
 use Rattle.pssm_acts.proofs.ActsHeld.{no_else}
 use Rattle.pssm_acts.proofs.EndLaws.{guard_ends}
-use Rattle.pssm_acts.proofs.Fares.{IsOther}
+use Rattle.pssm_acts.proofs.Fares.{IsOther, place_no_other}
 use Rattle.pssm_acts.proofs.ShapeLaws.{ShapeOf, guard_shape, stmts_shape, steps_shape, begins_shorter, begins_same}
 use Rattle.pssm_acts.proofs.GuardBegins.{guard_begins, guard_other, failed_first}
 use Rattle.pssm_acts.proofs.PhraseBegins.{sign, assigns_begins, send_begins, mark_begins, phrase_begins, phrase_other}
@@ -186,12 +187,12 @@ module _ (names : Names) (stepped : Bool) (start : List (List ℕ)) where
       let same : (h.steps ++ h.xs) ++ t ∷ semicolon ∷ [] ≡ (ts ++ t ∷ []) ++ semicolon ∷ [] =
       sym (append_assoc ts (t ∷ []) (semicolon ∷ []) ∙ ap (λ x. x ++ t ∷ semicolon ∷ []) (h.whole ∙ ap (λ x. h.steps ++ (h.xs ++ x)) h.here.0 ∙ ap (λ x. h.steps ++ x) (append-nil h.xs))) in
       record { more = semicolon ∷ []; shape = subst (λ b. ShapeOf b ((ts ++ t ∷ []) ++ semicolon ∷ [])) all (subst StepsShape same whole) }
-  step_other true blocks (open' ∷ outer) at word ts marks fault all bare e other h = let same : Syntax at ≡ fault = cc in absurd (subst IsOther (sym same) other)
-  step_other false blocks outer at word ts marks fault all bare e other h = let same : Syntax at ≡ fault = cc in absurd (subst IsOther (sym same) other)
+  step_other true blocks (open' ∷ outer) at word ts marks fault all bare e other h = absurd (place_no_other at fault e other)
+  step_other false blocks outer at word ts marks fault all bare e other h = absurd (place_no_other at fault e other)
 
   brace_other : (outer : List OpenIf) (blocks : Blocks) (at : ℕ) (fault : ActFault) → block_closed_in outer blocks at ≡ Err fault → IsOther fault → ⊥
-  brace_other [] blocks at fault e other = let same : Syntax at ≡ fault = cc in subst IsOther (sym same) other
-  brace_other (open' ∷ outer) blocks at fault e other = absurd cc
+  brace_other [] blocks at fault e other = place_no_other at fault e other
+  brace_other (open' ∷ outer) blocks at fault e other = absurd (never_refused _ fault e)
 
   begun_other : (blocks : Blocks) (ts : List Token) (kind : Kind) (at : ℕ) (word : List ℕ) (marks : List (List ℕ)) (fault : ActFault) → begun_at names stepped blocks (token_as at kind word) ≡ Err fault → IsOther fault
       → BehaviourHeld names stepped start blocks turns.Begins ts marks → Begins (ShapeOf stepped) (ts ++ token_as at kind word ∷ [])
@@ -205,7 +206,7 @@ module _ (names : Names) (stepped : Bool) (start : List (List ℕ)) where
   begun_other blocks ts kinds.Name at word marks fault e other h = let t = token_as at kinds.Name word in statement_begins blocks ts t marks (phrase_extends (t ∷ []) (assigns_begins t refl)) h
   begun_other blocks ts kinds.Send at word marks fault e other h = let t = token_as at kinds.Send word in statement_begins blocks ts t marks (phrase_extends (t ∷ []) (send_begins t refl)) h
   begun_other blocks ts kinds.Mark at word marks fault e other h = let t = token_as at kinds.Mark word in statement_begins blocks ts t marks (phrase_extends (t ∷ []) (mark_begins t refl)) h
-  begun_other blocks ts kind at word marks fault e other h = let same : Syntax at ≡ fault = cc in absurd (subst IsOther (sym same) other)
+  begun_other blocks ts kind at word marks fault e other h = absurd (place_no_other at fault e other)
 
   condition_other : (blocks : Blocks) (guard : GuardReader) (ts : List Token) (kind : Kind) (at : ℕ) (word : List ℕ) (marks : List (List ℕ)) (fault : ActFault) → condition_read names blocks guard (token_as at kind word) ≡ Err fault → IsOther fault
       → BehaviourHeld names stepped start blocks (Condition guard) ts marks → Begins (ShapeOf stepped) (ts ++ token_as at kind word ∷ [])
@@ -229,7 +230,7 @@ module _ (names : Names) (stepped : Bool) (start : List (List ℕ)) where
   choice_other : (blocks : Blocks) (c : Cond) (body : List Stmt) (ts : List Token) (kind : Kind) (at : ℕ) (word : List ℕ) (marks : List (List ℕ)) (fault : ActFault) → after_choice names stepped blocks c body (token_as at kind word) ≡ Err fault → IsOther fault
       → BehaviourHeld names stepped start blocks (Chosen c body) ts marks → Begins (ShapeOf stepped) (ts ++ token_as at kind word ∷ [])
   unfolding after_choice
-  choice_other blocks c body ts kinds.Else at word marks fault e other h = absurd cc
+  choice_other blocks c body ts kinds.Else at word marks fault e other h = absurd (never_refused _ fault e)
   choice_other blocks c body ts kind at word marks fault e other h = begun_other (without_else blocks c body) ts kind at word marks fault e other (no_else names stepped start blocks c body ts marks h)
 
   else_other : (blocks : Blocks) (c : Cond) (body : List Stmt) (ts : List Token) (kind : Kind) (at : ℕ) (word : List ℕ) (marks : List (List ℕ)) (fault : ActFault) → else_opened blocks c body (token_as at kind word) ≡ Err fault → IsOther fault
@@ -238,12 +239,12 @@ module _ (names : Names) (stepped : Bool) (start : List (List ℕ)) where
   else_other blocks c body ts kinds.OpenBrace at word marks fault e other h =
       let t = token_as at kinds.OpenBrace word in
       behaviour_begins blocks (Else c body) ts (t ∷ []) marks h (other_extends names h.noted (15 - length blocks.outer) c body h.vs t marks h.here.1 refl)
-  else_other blocks c body ts kind at word marks fault e other h = let same : Syntax at ≡ fault = cc in absurd (subst IsOther (sym same) other)
+  else_other blocks c body ts kind at word marks fault e other h = absurd (place_no_other at fault e other)
 
   taken_other : (blocks : Blocks) (kind : Kind) (at : ℕ) (word : List ℕ) (fault : ActFault) → step_taken blocks (token_as at kind word) ≡ Err fault → IsOther fault → ⊥
   unfolding step_taken
-  taken_other blocks kinds.Semicolon at word fault e other = absurd cc
-  taken_other blocks kind at word fault e other = let same : Syntax at ≡ fault = cc in subst IsOther (sym same) other
+  taken_other blocks kinds.Semicolon at word fault e other = absurd (never_refused _ fault e)
+  taken_other blocks kind at word fault e other = place_no_other at fault e other
 
   turn_other : (blocks : Blocks) (turn : Turn) (ts : List Token) (t : Token) (marks : List (List ℕ)) (fault : ActFault) → acts_step names stepped marks (at_turn blocks turn) t ≡ Err fault → IsOther fault
       → StateHeld names stepped start blocks turn ts marks → Begins (ShapeOf stepped) (ts ++ t ∷ [])

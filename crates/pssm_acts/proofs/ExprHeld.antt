@@ -19,6 +19,7 @@ use Rattle.pssm_acts.specs.NumberReading.{number_read}
 use Rattle.pssm_acts.specs.Tokens.{Token}
 use Rattle.pssm_acts.specs.ExprReading.{and_then, product_of, sum_of, variable_read, atom_by, atom_of, level_opened, at_atom, closed, after_atom, expr_step, expr_value}
 use Rattle.pssm_acts.specs.Grammar.{Part, Atom, Product, Sum, SpellsExpr, number, variable, parameter, parentheses, atom, times, product, plus, minus}
+use Rattle.pssm_acts.proofs.AnswerLaws.{never_read, read_same}
 use Rattle.pssm_acts.proofs.ExprRead.{reader_at}
 use Rattle.pssm_acts.proofs.NumberSpelled.{spelled_number}
 
@@ -84,14 +85,14 @@ token_as at kind word = record { at = at; kind = kind; word = word }
 atom_spelled : (names : Names) (l : ℕ) (kind : Kind) (at : ℕ) (word : List ℕ) (a : Expr) → atom_by names kind at word ≡ Ok a → SpellsExpr names Atom l (token_as at kind word ∷ []) a
 atom_spelled names l kinds.Number at word a read = go (number_read at word) refl read where
   go : (r : Result ℤ ActFault) → number_read at word ≡ r → and_then r (λ n. Ok (Num n)) ≡ Ok a → SpellsExpr names Atom l (token_as at kinds.Number word ∷ []) a
-  go (Ok n) e is = let same : Num n ≡ a = cc in subst (λ x. SpellsExpr names Atom l (token_as at kinds.Number word ∷ []) x) same (number refl (spelled_number at word n e))
-  go (Err fault) e is = absurd cc
+  go (Ok n) e is = let same = read_same (Num n) a is in subst (λ x. SpellsExpr names Atom l (token_as at kinds.Number word ∷ []) x) same (number refl (spelled_number at word n e))
+  go (Err fault) e is = absurd (never_read _ _ is)
 atom_spelled names l kinds.Name at word a read = go (position (λ n. bytes_eq n word) names.vars) refl read where
   go : (r : Option ℕ) → position (λ n. bytes_eq n word) names.vars ≡ r → variable_read at r ≡ Ok a → SpellsExpr names Atom l (token_as at kinds.Name word ∷ []) a
-  go (Some x) e is = let same : Var x ≡ a = cc in subst (λ x. SpellsExpr names Atom l (token_as at kinds.Name word ∷ []) x) same (variable refl e)
-  go None e is = absurd cc
-atom_spelled names l (kinds.Param k) at word a read = let same : Param k ≡ a = cc in subst (λ x. SpellsExpr names Atom l (token_as at (kinds.Param k) word ∷ []) x) same (parameter refl)
-atom_spelled names l kind at word a read = absurd cc
+  go (Some x) e is = let same = read_same (Var x) a is in subst (λ x. SpellsExpr names Atom l (token_as at kinds.Name word ∷ []) x) same (variable refl e)
+  go None e is = absurd (never_read _ _ is)
+atom_spelled names l (kinds.Param k) at word a read = let same = read_same (Param k) a read in subst (λ x. SpellsExpr names Atom l (token_as at (kinds.Param k) word ∷ []) x) same (parameter refl)
+atom_spelled names l kind at word a read = absurd (never_read _ _ read)
 
 module _ (names : Names) (room : ℕ) (outer : List Level) (left : Left) where
   -- an atom that has been read
@@ -189,29 +190,29 @@ unfolding expr_step at_atom atom_of after_atom level_opened closed
 expr_more names room outer left (Wants factor) n ts kinds.Open at word step h = go (ltb (length outer) room) refl step where
   go : (b : Bool) → ltb (length outer) room ≡ b → and_then (if b then Ok (record { left = left; factor = factor } ∷ outer) else Err (TooLong at)) (λ levels. Ok (reader_at levels Nothing (Wants None))) ≡ Ok n → ExprHeld names room n (ts ++ token_as at kinds.Open word ∷ [])
   go true e is =
-      let same : reader_at (record { left = left; factor = factor } ∷ outer) Nothing (Wants None) ≡ n = cc in
+      let same = read_same (reader_at (record { left = left; factor = factor } ∷ outer) Nothing (Wants None)) n is in
       subst (λ x. ExprHeld names room x (ts ++ token_as at kinds.Open word ∷ [])) same (opens names room outer left factor ts (token_as at kinds.Open word) h refl (ltb-true (length outer) room e))
-  go false e is = absurd cc
+  go false e is = absurd (never_read _ _ is)
 expr_more names room outer left (Wants factor) n ts kind at word step h = go (atom_by names kind at word) refl step where
   go : (r : Result Expr ActFault) → atom_by names kind at word ≡ r → and_then r (λ a. Ok (reader_at outer left (Has (product_of factor a)))) ≡ Ok n → ExprHeld names room n (ts ++ token_as at kind word ∷ [])
   go (Ok a) e is =
-      let same : reader_at outer left (Has (product_of factor a)) ≡ n = cc in
+      let same = read_same (reader_at outer left (Has (product_of factor a))) n is in
       subst (λ x. ExprHeld names room x (ts ++ token_as at kind word ∷ [])) same (with_atom names room outer left factor ts (token_as at kind word ∷ []) a h (λ l. atom_spelled names l kind at word a e))
-  go (Err fault) e is = absurd cc
+  go (Err fault) e is = absurd (never_read _ _ is)
 expr_more names room outer left (Has term) n ts kinds.Times at word step h =
-    let same : reader_at outer left (Wants (Some term)) ≡ n = cc in
+    let same = read_same (reader_at outer left (Wants (Some term))) n step in
     subst (λ x. ExprHeld names room x (ts ++ token_as at kinds.Times word ∷ [])) same (multiplies names room outer left term ts (token_as at kinds.Times word) h refl)
 expr_more names room outer left (Has term) n ts kinds.Plus at word step h =
-    let same : reader_at outer (Plus (sum_of left term)) (Wants None) ≡ n = cc in
+    let same = read_same (reader_at outer (Plus (sum_of left term)) (Wants None)) n step in
     subst (λ x. ExprHeld names room x (ts ++ token_as at kinds.Plus word ∷ [])) same (adds names room outer left term ts (token_as at kinds.Plus word) h refl)
 expr_more names room outer left (Has term) n ts kinds.Minus at word step h =
-    let same : reader_at outer (Minus (sum_of left term)) (Wants None) ≡ n = cc in
+    let same = read_same (reader_at outer (Minus (sum_of left term)) (Wants None)) n step in
     subst (λ x. ExprHeld names room x (ts ++ token_as at kinds.Minus word ∷ [])) same (subtracts names room outer left term ts (token_as at kinds.Minus word) h refl)
-expr_more names room [] left (Has term) n ts kinds.Close at word step h = absurd cc
+expr_more names room [] left (Has term) n ts kinds.Close at word step h = absurd (never_read _ _ step)
 expr_more names room (level ∷ outer) left (Has term) n ts kinds.Close at word step h =
-    let same : reader_at outer level.left (Has (product_of level.factor (sum_of left term))) ≡ n = cc in
+    let same = read_same (reader_at outer level.left (Has (product_of level.factor (sum_of left term)))) n step in
     subst (λ x. ExprHeld names room x (ts ++ token_as at kinds.Close word ∷ [])) same (closes names room outer left level term ts (token_as at kinds.Close word) h refl)
-expr_more names room outer left (Has term) n ts kind at word step h = absurd cc
+expr_more names room outer left (Has term) n ts kind at word step h = absurd (never_read _ _ step)
 
 -- the whole expression
 pub expr_whole : (names : Names) (room : ℕ) (r : ExprReader) (at : ℕ) (ts : List Token) (e : Expr) → expr_value r at ≡ Ok e → ExprHeld names room r ts → SpellsExpr names Sum room ts e
@@ -219,15 +220,15 @@ unfolding expr_value
 expr_whole names room r at ts e value h = go r.outer r.place h.outside h.here value where
   go : (outer : List Level) (place : Place) → OuterHeld names room outer h.l h.front → PlaceHeld names h.l h.vs place → expr_value (reader_at outer r.left place) at ≡ Ok e → SpellsExpr names Sum room ts e
   go [] (Has term) outside here is =
-      let same : sum_of r.left term ≡ e = cc in
+      let same = read_same (sum_of r.left term) e is in
       let all : ts ≡ h.us ++ h.vs = h.whole ∙ ap (λ x. x ++ (h.us ++ h.vs)) outside.1 in
       let spelled : SpellsExpr names Sum h.l (h.us ++ h.vs) (sum_of r.left term) = sum_held names h.l h.us h.vs term r.left h.before here in
       let deep = subst (λ x. SpellsExpr names Sum x (h.us ++ h.vs) (sum_of r.left term)) outside.0 spelled in
       let named = subst (λ x. SpellsExpr names Sum room (h.us ++ h.vs) x) same deep in
       subst (λ x. SpellsExpr names Sum room x e) (sym all) named
-  go [] (Wants factor) outside here is = absurd cc
-  go (level ∷ outer) (Has term) outside here is = absurd cc
-  go (level ∷ outer) (Wants factor) outside here is = absurd cc
+  go [] (Wants factor) outside here is = absurd (never_read _ _ is)
+  go (level ∷ outer) (Has term) outside here is = absurd (never_read _ _ is)
+  go (level ∷ outer) (Wants factor) outside here is = absurd (never_read _ _ is)
 
 pub expr_start : (names : Names) (room : ℕ) → ExprHeld names room (reader_at [] Nothing (Wants None)) []
 expr_start names room = record { l = room; front = []; us = []; vs = []; outside = (refl, refl); before = refl; here = refl; whole = refl }

@@ -25,6 +25,12 @@ abbrev pub IsOther : ActFault → Type 0
 IsOther (Syntax at) = ⊥
 IsOther fault = Unit {0}
 
+abbrev refusal : {A : Type 0} → ActFault → Result A ActFault
+refusal fault = Err fault
+
+pub place_no_other : {A : Type 0} (at : ℕ) (fault : ActFault) → refusal {A = A} (Syntax at) ≡ refusal fault → IsOther fault → ⊥
+place_no_other at fault is other = let same : Syntax at ≡ fault = cc in subst IsOther (sym same) other
+
 -- The tokens are taken one after another and lead to the goal; or one of them is refused, by a fault that is not `Syntax`.
 pub data Fares {S : Type 0} (step : S → Token → Result S ActFault) (Goal : S → Type 0) : S → List Token → Type 0 where
   arrives : {s : S} → Goal s → Fares step Goal s []

@@ -29,13 +29,14 @@ use Rattle.pssm_acts.specs.ExprReading.{and_then, product_of, at_atom, atom_of, 
 use Rattle.pssm_acts.specs.GuardReading.{unit_of, bracket_opened, bracket_closed, side_begun, unit_wanted, in_first, compared, after_unit, in_second, guard_step}
 use Rattle.pssm_acts.specs.Grammar.{Atom, Product, Sum, Unit', Both, Either}
 use Rattle.pssm_acts.specs.Shapes.{natural, ExprShape, number, name, parentheses, atom, times, product, plus, minus, GuardShape, truth, negation, brackets, relation, lone_unit, conjoined, lone_conjunction, disjoined, Begins}
+use Rattle.pssm_acts.proofs.AnswerLaws.{never_refused}
 use Rattle.pssm_acts.proofs.ExprRead.{reader_at}
 use Rattle.pssm_acts.proofs.ExprHeld.{LeftHeld, FactorHeld, PlaceHeld, OuterHeld, ExprHeld, token_as}
 use Rattle.pssm_acts.proofs.GuardHeld.{EitherHeld, BothHeld, NotsHeld, BeforeHeld, OutsideHeld, GuardHeld, Held}
 use Rattle.pssm_acts.proofs.GuardRead.{guard_at}
 use Rattle.pssm_acts.proofs.NumberFaults.{NumberFault, unwritten, too_wide, number_fault}
 use Rattle.pssm_acts.proofs.EndLaws.{expr_ends}
-use Rattle.pssm_acts.proofs.Fares.{IsOther}
+use Rattle.pssm_acts.proofs.Fares.{IsOther, place_no_other}
 use Rattle.pssm_acts.proofs.ShapeLaws.{expr_shape, guard_shape, begins_shorter, begins_same}
 
 -- ---- expressions
@@ -101,14 +102,14 @@ expr_other names room outer left (places.Wants factor) kinds.Number at word faul
       → (g : Option Expr) × (places.Wants factor ≡ places.Wants g) × BeginsAtom (token_as at kinds.Number word)
   go (Ok v) read is = absurd cc
   go (Err f) read is = let same : f ≡ fault = cc in from f same (number_fault at word f read)
-expr_other names room outer left (places.Wants factor) (kinds.Param k) at word fault e other = absurd cc
-expr_other names room outer left (places.Wants factor) kind at word fault e other = let same : Syntax at ≡ fault = cc in absurd (subst IsOther (sym same) other)
-expr_other names room outer left (places.Has term) kinds.Times at word fault e other = absurd cc
-expr_other names room outer left (places.Has term) kinds.Plus at word fault e other = absurd cc
-expr_other names room outer left (places.Has term) kinds.Minus at word fault e other = absurd cc
-expr_other names room [] left (places.Has term) kinds.Close at word fault e other = let same : Syntax at ≡ fault = cc in absurd (subst IsOther (sym same) other)
-expr_other names room (level ∷ outer) left (places.Has term) kinds.Close at word fault e other = absurd cc
-expr_other names room outer left (places.Has term) kind at word fault e other = let same : Syntax at ≡ fault = cc in absurd (subst IsOther (sym same) other)
+expr_other names room outer left (places.Wants factor) (kinds.Param k) at word fault e other = absurd (never_refused _ fault e)
+expr_other names room outer left (places.Wants factor) kind at word fault e other = absurd (place_no_other at fault e other)
+expr_other names room outer left (places.Has term) kinds.Times at word fault e other = absurd (never_refused _ fault e)
+expr_other names room outer left (places.Has term) kinds.Plus at word fault e other = absurd (never_refused _ fault e)
+expr_other names room outer left (places.Has term) kinds.Minus at word fault e other = absurd (never_refused _ fault e)
+expr_other names room [] left (places.Has term) kinds.Close at word fault e other = absurd (place_no_other at fault e other)
+expr_other names room (level ∷ outer) left (places.Has term) kinds.Close at word fault e other = absurd (never_refused _ fault e)
+expr_other names room outer left (places.Has term) kind at word fault e other = absurd (place_no_other at fault e other)
 
 begun_atom : {names : Names} {room : ℕ} (outer : List Level) (left : Left) (factor : Option Expr) (us : List Token) (t : Token) → BeginsAtom t → ExprHeld names room (reader_at outer left (places.Wants factor)) us → Begins (ExprShape Sum) (us ++ t ∷ [])
 unfolding closing
@@ -223,9 +224,9 @@ module _ (names others : Names) (held room : ℕ) (outer : List Bracket) (either
       let true' = token_as 0 kinds.True [] in
       let unit : GuardShape Unit' (t ∷ (true' ∷ [] ++ bracket ∷ [])) = brackets bracket refl (lone_conjunction (lone_unit (truth refl))) refl in
       begins_shorter (xs ++ t ∷ []) (true' ∷ bracket ∷ []) (begins_same (sym (append_assoc xs (t ∷ []) (true' ∷ bracket ∷ []))) (unit_begins names held outer either xs before (t ∷ (true' ∷ [] ++ bracket ∷ [])) h unit))
-  wants_other before kinds.Not at word fault e other h = absurd cc
-  wants_other before kinds.True at word fault e other h = absurd cc
-  wants_other before kinds.False at word fault e other h = absurd cc
+  wants_other before kinds.Not at word fault e other h = absurd (never_refused _ fault e)
+  wants_other before kinds.True at word fault e other h = absurd (never_refused _ fault e)
+  wants_other before kinds.False at word fault e other h = absurd (never_refused _ fault e)
   wants_other before kind at word fault e other h =
       let t = token_as at kind word in
       let found = expr_other others (room - length outer) [] Nothing (places.Wants None) kind at word fault (failed_first (λ side. guard_at outer either (First before side)) (expr_step others (room - length outer) fresh_expr t) fault e) other in
@@ -259,13 +260,13 @@ module _ (names others : Names) (held room : ℕ) (outer : List Bracket) (either
 
   after_other : (c : Cond) (kind : Kind) (at : ℕ) (word : List ℕ) (fault : ActFault) → after_unit outer either c (token_as at kind word) ≡ Err fault → IsOther fault → ⊥
   unfolding after_unit bracket_closed
-  after_other c kinds.And at word fault e other = absurd cc
-  after_other c kinds.Or at word fault e other = absurd cc
+  after_other c kinds.And at word fault e other = absurd (never_refused _ fault e)
+  after_other c kinds.Or at word fault e other = absurd (never_refused _ fault e)
   after_other c kinds.CloseBracket at word fault e other = go outer e where
     go : (open' : List Bracket) → bracket_closed open' either c at ≡ Err fault → ⊥
     go [] is = let same : Syntax at ≡ fault = cc in subst IsOther (sym same) other
     go (first ∷ rest) is = absurd cc
-  after_other c kind at word fault e other = let same : Syntax at ≡ fault = cc in subst IsOther (sym same) other
+  after_other c kind at word fault e other = place_no_other at fault e other
 
   compared_other : (half : Half) (kind : Kind) (at : ℕ) (word : List ℕ) (fault : ActFault) → and_then (compared half at) (λ c. after_unit outer either c (token_as at kind word)) ≡ Err fault → IsOther fault → ⊥
   unfolding compared

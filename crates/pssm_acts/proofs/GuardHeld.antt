@@ -22,6 +22,7 @@ use Rattle.pssm_acts.specs.Tokens.{Token}
 use Rattle.pssm_acts.specs.ExprReading.{and_then, expr_step, expr_value, fresh_expr}
 use Rattle.pssm_acts.specs.GuardReading.{nothing_before, fresh_guard, nots_of, conjunction_of, disjunction_of, unit_of, bracket_opened, side_begun, unit_wanted, in_first, compared, bracket_closed, after_unit, in_second, guard_step, whole_guard, guard_value, guard_read}
 use Rattle.pssm_acts.specs.Grammar.{Sum, SpellsExpr, GuardPart, Unit', Both, Either, SpellsGuard, truth, falsity, negation, brackets, relation, lone_unit, conjoined, lone_conjunction, disjoined}
+use Rattle.pssm_acts.proofs.AnswerLaws.{never_read, read_same}
 use Rattle.pssm_acts.proofs.ExprHeld.{ExprHeld, token_as, expr_more, expr_whole, expr_start}
 use Rattle.pssm_acts.proofs.GuardRead.{guard_at}
 
@@ -132,11 +133,11 @@ unfolding compared
 half_held names l vs half at c is h = go (expr_value half.side at) refl is where
   go : (r : Result Expr ActFault) → expr_value half.side at ≡ r → and_then r (λ right. Ok (unit_of half.before (Compare half.rel half.left right))) ≡ Ok c → SpellsGuard names Both l vs c
   go (Ok b) value is =
-      let same : unit_of half.before (Compare half.rel half.left b) ≡ c = cc in
+      let same = read_same (unit_of half.before (Compare half.rel half.left b)) c is in
       let right : SpellsExpr names Sum l h.ws b = expr_whole names l half.side at h.ws b value h.held in
       let spelled = unit_held names l h.front (h.more ++ h.t ∷ h.ws) half.before (Compare half.rel half.left b) h.before (relation h.t h.left h.is right) in
       subst (λ x. SpellsGuard names Both l vs x) same (subst (λ x. SpellsGuard names Both l x (unit_of half.before (Compare half.rel half.left b))) (sym h.whole) spelled)
-  go (Err fault) value is = absurd cc
+  go (Err fault) value is = absurd (never_read _ _ is)
 
 nothing_held : (names : Names) (l : ℕ) → BeforeHeld names l [] nothing_before
 nothing_held names l = record { bs = []; ns = []; both = refl; nots = refl; whole = refl }
@@ -317,16 +318,16 @@ after_held : (names : Names) (room : ℕ) (outer : List Bracket) (either' : Opti
     → after_unit outer either' c (token_as at kind word) ≡ Ok n → GuardHeld names room outer either' (Has c) ts → Held names room n (ts ++ token_as at kind word ∷ [])
 unfolding after_unit bracket_closed
 after_held names room outer either' c n ts kinds.And at word step h =
-    let same : guard_at outer either' (Wants (record { both = Some c; nots = 0 })) ≡ n = cc in
+    let same = read_same (guard_at outer either' (Wants (record { both = Some c; nots = 0 }))) n step in
     subst (λ x. Held names room x (ts ++ token_as at kinds.And word ∷ [])) same (and_read names room outer either' c ts (token_as at kinds.And word) h refl)
 after_held names room outer either' c n ts kinds.Or at word step h =
-    let same : guard_at outer (Some (disjunction_of either' c)) (Wants nothing_before) ≡ n = cc in
+    let same = read_same (guard_at outer (Some (disjunction_of either' c)) (Wants nothing_before)) n step in
     subst (λ x. Held names room x (ts ++ token_as at kinds.Or word ∷ [])) same (or_read names room outer either' c ts (token_as at kinds.Or word) h refl)
-after_held names room [] either' c n ts kinds.CloseBracket at word step h = absurd cc
+after_held names room [] either' c n ts kinds.CloseBracket at word step h = absurd (never_read _ _ step)
 after_held names room (bracket ∷ outer) either' c n ts kinds.CloseBracket at word step h =
-    let same : guard_at outer bracket.either (Has (unit_of bracket.before (disjunction_of either' c))) ≡ n = cc in
+    let same = read_same (guard_at outer bracket.either (Has (unit_of bracket.before (disjunction_of either' c)))) n step in
     subst (λ x. Held names room x (ts ++ token_as at kinds.CloseBracket word ∷ [])) same (bracket_ended names room outer either' bracket c ts (token_as at kinds.CloseBracket word) h refl)
-after_held names room outer either' c n ts kind at word step h = absurd cc
+after_held names room outer either' c n ts kind at word step h = absurd (never_read _ _ step)
 
 wants_held : (names : Names) (room : ℕ) (outer : List Bracket) (either' : Option Cond) (before : Before) (n : GuardReader) (ts : List Token) (kind : Kind) (at : ℕ) (word : List ℕ)
     → unit_wanted names room outer either' before (token_as at kind word) ≡ Ok n → GuardHeld names room outer either' (Wants before) ts → Held names room n (ts ++ token_as at kind word ∷ [])
@@ -334,24 +335,24 @@ unfolding unit_wanted bracket_opened side_begun
 wants_held names room outer either' before n ts kinds.OpenBracket at word step h = go (ltb (length outer) room) refl step where
   go : (b : Bool) → ltb (length outer) room ≡ b → (if b then Ok (guard_at (record { either = either'; before = before } ∷ outer) None (Wants nothing_before)) else Err (TooLong at)) ≡ Ok n → Held names room n (ts ++ token_as at kinds.OpenBracket word ∷ [])
   go true e is =
-      let same : guard_at (record { either = either'; before = before } ∷ outer) None (Wants nothing_before) ≡ n = cc in
+      let same = read_same (guard_at (record { either = either'; before = before } ∷ outer) None (Wants nothing_before)) n is in
       subst (λ x. Held names room x (ts ++ token_as at kinds.OpenBracket word ∷ [])) same (bracket_read names room outer either' before ts (token_as at kinds.OpenBracket word) h refl (ltb-true (length outer) room e))
-  go false e is = absurd cc
+  go false e is = absurd (never_read _ _ is)
 wants_held names room outer either' before n ts kinds.Not at word step h =
-    let same : guard_at outer either' (Wants (record { both = before.both; nots = before.nots + 1 })) ≡ n = cc in
+    let same = read_same (guard_at outer either' (Wants (record { both = before.both; nots = before.nots + 1 }))) n step in
     subst (λ x. Held names room x (ts ++ token_as at kinds.Not word ∷ [])) same (not_read names room outer either' before ts (token_as at kinds.Not word) h refl)
 wants_held names room outer either' before n ts kinds.True at word step h =
-    let same : guard_at outer either' (Has (unit_of before True)) ≡ n = cc in
+    let same = read_same (guard_at outer either' (Has (unit_of before True))) n step in
     subst (λ x. Held names room x (ts ++ token_as at kinds.True word ∷ [])) same (unit_read names room outer either' before ts (token_as at kinds.True word ∷ []) True h (λ l. truth refl))
 wants_held names room outer either' before n ts kinds.False at word step h =
-    let same : guard_at outer either' (Has (unit_of before False)) ≡ n = cc in
+    let same = read_same (guard_at outer either' (Has (unit_of before False))) n step in
     subst (λ x. Held names room x (ts ++ token_as at kinds.False word ∷ [])) same (unit_read names room outer either' before ts (token_as at kinds.False word ∷ []) False h (λ l. falsity refl))
 wants_held names room outer either' before n ts kind at word step h = go (expr_step names (room - length outer) fresh_expr (token_as at kind word)) refl step where
   go : (r : Result ExprReader ActFault) → expr_step names (room - length outer) fresh_expr (token_as at kind word) ≡ r → and_then r (λ side. Ok (guard_at outer either' (First before side))) ≡ Ok n → Held names room n (ts ++ token_as at kind word ∷ [])
   go (Ok side) e is =
-      let same : guard_at outer either' (First before side) ≡ n = cc in
+      let same = read_same (guard_at outer either' (First before side)) n is in
       subst (λ x. Held names room x (ts ++ token_as at kind word ∷ [])) same (begun names room outer either' before side ts kind at word e h)
-  go (Err fault) e is = absurd cc
+  go (Err fault) e is = absurd (never_read _ _ is)
 
 first_held : (names : Names) (room : ℕ) (outer : List Bracket) (either' : Option Cond) (before : Before) (side : ExprReader) (n : GuardReader) (ts : List Token) (kind : Kind) (at : ℕ) (word : List ℕ)
     → and_then (in_first names (room - length outer) before side (token_as at kind word)) (λ stage. Ok (guard_at outer either' stage)) ≡ Ok n → GuardHeld names room outer either' (First before side) ts → Held names room n (ts ++ token_as at kind word ∷ [])
@@ -360,22 +361,22 @@ first_held names room outer either' before side n ts (kinds.Relation rel) at wor
   go : (r : Result Expr ActFault) → expr_value side at ≡ r
       → and_then (and_then r (λ left. Ok (Second (record { before = before; rel = rel; left = left; side = fresh_expr })))) (λ stage. Ok (guard_at outer either' stage)) ≡ Ok n → Held names room n (ts ++ token_as at (kinds.Relation rel) word ∷ [])
   go (Ok a) e is =
-      let same : guard_at outer either' (Second (record { before = before; rel = rel; left = a; side = fresh_expr })) ≡ n = cc in
+      let same = read_same (guard_at outer either' (Second (record { before = before; rel = rel; left = a; side = fresh_expr }))) n is in
       subst (λ x. Held names room x (ts ++ token_as at (kinds.Relation rel) word ∷ [])) same (first_ended names room outer either' before side a rel at ts (token_as at (kinds.Relation rel) word) e refl h)
-  go (Err fault) e is = absurd cc
+  go (Err fault) e is = absurd (never_read _ _ is)
 first_held names room outer either' before side n ts kind at word step h = go (expr_step names (room - length outer) side (token_as at kind word)) refl step where
   go : (r : Result ExprReader ActFault) → expr_step names (room - length outer) side (token_as at kind word) ≡ r → and_then (and_then r (λ more. Ok (First before more))) (λ stage. Ok (guard_at outer either' stage)) ≡ Ok n → Held names room n (ts ++ token_as at kind word ∷ [])
   go (Ok more) e is =
-      let same : guard_at outer either' (First before more) ≡ n = cc in
+      let same = read_same (guard_at outer either' (First before more)) n is in
       subst (λ x. Held names room x (ts ++ token_as at kind word ∷ [])) same (first_more names room outer either' before side more ts kind at word e h)
-  go (Err fault) e is = absurd cc
+  go (Err fault) e is = absurd (never_read _ _ is)
 
 compared_held : (names : Names) (room : ℕ) (outer : List Bracket) (either' : Option Cond) (half : Half) (n : GuardReader) (ts : List Token) (kind : Kind) (at : ℕ) (word : List ℕ)
     → and_then (compared half at) (λ c. after_unit outer either' c (token_as at kind word)) ≡ Ok n → GuardHeld names room outer either' (Second half) ts → Held names room n (ts ++ token_as at kind word ∷ [])
 compared_held names room outer either' half n ts kind at word step h = go (compared half at) refl step where
   go : (r : Result Cond ActFault) → compared half at ≡ r → and_then r (λ c. after_unit outer either' c (token_as at kind word)) ≡ Ok n → Held names room n (ts ++ token_as at kind word ∷ [])
   go (Ok c) e is = after_held names room outer either' c n ts kind at word is (second_ended names room outer either' half c at ts e h)
-  go (Err fault) e is = absurd cc
+  go (Err fault) e is = absurd (never_read _ _ is)
 
 second_held : (names : Names) (room : ℕ) (outer : List Bracket) (either' : Option Cond) (half : Half) (n : GuardReader) (ts : List Token) (kind : Kind) (at : ℕ) (word : List ℕ)
     → in_second names room outer either' half (token_as at kind word) ≡ Ok n → GuardHeld names room outer either' (Second half) ts → Held names room n (ts ++ token_as at kind word ∷ [])
@@ -387,9 +388,9 @@ second_held names room outer either' half n ts kind at word step h = go (expr_st
   go : (r : Result ExprReader ActFault) → expr_step names (room - length outer) half.side (token_as at kind word) ≡ r
       → and_then r (λ more. Ok (guard_at outer either' (Second (record { before = half.before; rel = half.rel; left = half.left; side = more })))) ≡ Ok n → Held names room n (ts ++ token_as at kind word ∷ [])
   go (Ok more) e is =
-      let same : guard_at outer either' (Second (record { before = half.before; rel = half.rel; left = half.left; side = more })) ≡ n = cc in
+      let same = read_same (guard_at outer either' (Second (record { before = half.before; rel = half.rel; left = half.left; side = more }))) n is in
       subst (λ x. Held names room x (ts ++ token_as at kind word ∷ [])) same (second_more names room outer either' half more ts kind at word e h)
-  go (Err fault) e is = absurd cc
+  go (Err fault) e is = absurd (never_read _ _ is)
 
 step_held : (names : Names) (room : ℕ) (outer : List Bracket) (either' : Option Cond) (stage : Stage) (n : GuardReader) (ts : List Token) (t : Token)
     → guard_step names room (guard_at outer either' stage) t ≡ Ok n → GuardHeld names room outer either' stage ts → Held names room n (ts ++ t ∷ [])
@@ -411,16 +412,16 @@ whole_held names room [] either' c d end ts is h =
     let spelled = either_held names h.l h.us h.vs either' c h.before h.here in
     let deep = subst (λ x. SpellsGuard names Either x (h.us ++ h.vs) (disjunction_of either' c)) h.outside.0 spelled in
     subst (λ x. SpellsGuard names Either room x d) (sym all') (subst (λ x. SpellsGuard names Either room (h.us ++ h.vs) x) same deep)
-whole_held names room (bracket ∷ outer) either' c d end ts is h = absurd cc
+whole_held names room (bracket ∷ outer) either' c d end ts is h = absurd (never_read _ _ is)
 
 value_held : (names : Names) (room : ℕ) (outer : List Bracket) (either' : Option Cond) (stage : Stage) (d : Cond) (end : ℕ) (ts : List Token) → guard_value (guard_at outer either' stage) end ≡ Ok d → GuardHeld names room outer either' stage ts → SpellsGuard names Either room ts d
 unfolding guard_value
-value_held names room outer either' (Wants before) d end ts is h = absurd cc
-value_held names room outer either' (First before side) d end ts is h = absurd cc
+value_held names room outer either' (Wants before) d end ts is h = absurd (never_read _ _ is)
+value_held names room outer either' (First before side) d end ts is h = absurd (never_read _ _ is)
 value_held names room outer either' (Second half) d end ts is h = go (compared half end) refl is where
   go : (r : Result Cond ActFault) → compared half end ≡ r → and_then r (λ c. whole_guard outer either' c end) ≡ Ok d → SpellsGuard names Either room ts d
   go (Ok c) e is = whole_held names room outer either' c d end ts is (second_ended names room outer either' half c end ts e h)
-  go (Err fault) e is = absurd cc
+  go (Err fault) e is = absurd (never_read _ _ is)
 value_held names room outer either' (Has c) d end ts is h = whole_held names room outer either' c d end ts is h
 
 pub held_whole : (names : Names) (room : ℕ) (r : GuardReader) (end : ℕ) (ts : List Token) (c : Cond) → guard_value r end ≡ Ok c → Held names room r ts → SpellsGuard names Either room ts c
@@ -436,7 +437,7 @@ read_held names end r us [] c is h = subst (λ x. SpellsGuard names Either 16 x 
 read_held names end r us (t ∷ ts) c is h = go (λ n rest h'. read_held names end n (us ++ t ∷ []) ts c rest h') (guard_step names 16 r t) refl is where
   go : ((n : GuardReader) → guard_read names end n ts ≡ Ok c → Held names 16 n (us ++ t ∷ []) → SpellsGuard names Either 16 ((us ++ t ∷ []) ++ ts) c) → (x : Result GuardReader ActFault) → guard_step names 16 r t ≡ x → and_then x (λ next. guard_read names end next ts) ≡ Ok c → SpellsGuard names Either 16 (us ++ (t ∷ ts)) c
   go more (Ok n) e is = subst (λ x. SpellsGuard names Either 16 x c) (append_assoc us (t ∷ []) ts) (more n is (held_more names 16 r n us t e h))
-  go more (Err fault) e is = absurd cc
+  go more (Err fault) e is = absurd (never_read _ _ is)
 
 -- What is read as a guard is spelled so.
 pub spelled_guard : (names : Names) (end : ℕ) (ts : List Token) (c : Cond) → guard_read names end fresh_guard ts ≡ Ok c → SpellsGuard names Either 16 ts c

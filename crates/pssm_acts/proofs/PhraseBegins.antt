@@ -28,11 +28,12 @@ use Rattle.pssm_acts.specs.PhraseReading.{beside, became, value_read, receiver_r
 use Rattle.pssm_acts.specs.ActGrammar.{SpellsArguments}
 use Rattle.pssm_acts.specs.Grammar.{Sum}
 use Rattle.pssm_acts.specs.Shapes.{ExprShape, atom, product, ListShape, one, further, ArgumentsShape, none, some, PhraseShape, assignment, sending, bare_mark, marking, Begins}
+use Rattle.pssm_acts.proofs.AnswerLaws.{never_refused}
 use Rattle.pssm_acts.proofs.ExprHeld.{token_as, expr_start}
 use Rattle.pssm_acts.proofs.ArgumentHeld.{EarlierHeld, ListHeld, ArgumentsHeld, arguments_held}
 use Rattle.pssm_acts.proofs.PhraseTokens.{CallHeld, CalledHeld, PhraseHeld}
 use Rattle.pssm_acts.proofs.EndLaws.{expr_ends}
-use Rattle.pssm_acts.proofs.Fares.{IsOther}
+use Rattle.pssm_acts.proofs.Fares.{IsOther, place_no_other}
 use Rattle.pssm_acts.proofs.ShapeLaws.{list_shape, arguments_shape, receiver_shape, phrase_shape, begins_shorter, begins_same}
 use Rattle.pssm_acts.proofs.GuardBegins.{expr_begins, other_begins, failed_first, zero_shape}
 
@@ -93,7 +94,7 @@ listed_other names room args last ts kinds.Close at word fault e other h = go la
 listed_other names room args last ts kind at word fault e other h = more_other names room args last ts (token_as at kind word) fault e other h
 
 opened_other : (names : Names) (room : ℕ) (kind : Kind) (at : ℕ) (word : List ℕ) (fault : ActFault) → opened_step_by kind names room (token_as at kind word) ≡ Err fault → IsOther fault → IsArgued (token_as at kind word ∷ [])
-opened_other names room kinds.Close at word fault e other = absurd cc
+opened_other names room kinds.Close at word fault e other = absurd (never_refused _ fault e)
 opened_other names room kind at word fault e other =
     listed_other names room [] fresh_expr [] kind at word fault e other (record { us = []; vs = []; before = refl; here = expr_start names room; whole = refl })
 
@@ -172,41 +173,41 @@ phrase_begins names noted room (Whole s) vs marks h = record { more = sign kinds
 
 became_other : (x at : ℕ) (kind : Kind) (word : List ℕ) (fault : ActFault) → became x (token_as at kind word) ≡ Err fault → IsOther fault → ⊥
 unfolding became
-became_other x at kinds.Becomes word fault e other = absurd cc
-became_other x at kind word fault e other = let same : Syntax at ≡ fault = cc in subst IsOther (sym same) other
+became_other x at kinds.Becomes word fault e other = absurd (never_refused _ fault e)
+became_other x at kind word fault e other = place_no_other at fault e other
 
 dotted_other : (to : Option ObjectId) (at : ℕ) (kind : Kind) (word : List ℕ) (fault : ActFault) → dotted to (token_as at kind word) ≡ Err fault → IsOther fault → ⊥
 unfolding dotted
-dotted_other to at kinds.Dot word fault e other = absurd cc
-dotted_other to at kind word fault e other = let same : Syntax at ≡ fault = cc in subst IsOther (sym same) other
+dotted_other to at kinds.Dot word fault e other = absurd (never_refused _ fault e)
+dotted_other to at kind word fault e other = place_no_other at fault e other
 
 ended_call_other : (s : Stmt) (at : ℕ) (kind : Kind) (word : List ℕ) (fault : ActFault) → called_ended s (token_as at kind word) ≡ Err fault → IsOther fault → ⊥
 unfolding called_ended
-ended_call_other s at kinds.Semicolon word fault e other = absurd cc
-ended_call_other s at kind word fault e other = let same : Syntax at ≡ fault = cc in subst IsOther (sym same) other
+ended_call_other s at kinds.Semicolon word fault e other = absurd (never_refused _ fault e)
+ended_call_other s at kind word fault e other = place_no_other at fault e other
 
 receiver_other : (names : Names) (at : ℕ) (kind : Kind) (word : List ℕ) (fault : ActFault) → receiver_read names (token_as at kind word) ≡ Err fault → IsOther fault → kind ≡ kinds.Name
 unfolding receiver_read
-receiver_other names at kinds.Own word fault e other = absurd cc
+receiver_other names at kinds.Own word fault e other = absurd (never_refused _ fault e)
 receiver_other names at kinds.Name word fault e other = refl
-receiver_other names at kind word fault e other = let same : Syntax at ≡ fault = cc in absurd (subst IsOther (sym same) other)
+receiver_other names at kind word fault e other = absurd (place_no_other at fault e other)
 
 signal_other : (names : Names) (to : Option ObjectId) (at : ℕ) (kind : Kind) (word : List ℕ) (fault : ActFault) → signal_read names to (token_as at kind word) ≡ Err fault → IsOther fault → kind ≡ kinds.Name
 unfolding signal_read
 signal_other names to at kinds.Name word fault e other = refl
-signal_other names to at kind word fault e other = let same : Syntax at ≡ fault = cc in absurd (subst IsOther (sym same) other)
+signal_other names to at kind word fault e other = absurd (place_no_other at fault e other)
 
 mark_other : (marks : List (List ℕ)) (at : ℕ) (kind : Kind) (word : List ℕ) (fault : ActFault) → mark_read marks (token_as at kind word) ≡ Err fault → IsOther fault → ⊥
 unfolding mark_read
-mark_other marks at kinds.Name word fault e other = absurd cc
-mark_other marks at kind word fault e other = let same : Syntax at ≡ fault = cc in subst IsOther (sym same) other
+mark_other marks at kinds.Name word fault e other = absurd (never_refused _ fault e)
+mark_other marks at kind word fault e other = place_no_other at fault e other
 
 named_other : (room : ℕ) (call : Call) (at : ℕ) (kind : Kind) (word : List ℕ) (fault : ActFault) → named room call (token_as at kind word) ≡ Err fault → IsOther fault → kind ≡ kinds.Open
 unfolding named
 named_other room call at kinds.Open word fault e other = refl
-named_other room (calls.Mark mark) at kinds.Semicolon word fault e other = absurd cc
-named_other room (calls.Send to signal count) at kinds.Semicolon word fault e other = let same : Syntax at ≡ fault = cc in absurd (subst IsOther (sym same) other)
-named_other room call at kind word fault e other = let same : Syntax at ≡ fault = cc in absurd (subst IsOther (sym same) other)
+named_other room (calls.Mark mark) at kinds.Semicolon word fault e other = absurd (never_refused _ fault e)
+named_other room (calls.Send to signal count) at kinds.Semicolon word fault e other = absurd (place_no_other at fault e other)
+named_other room call at kind word fault e other = absurd (place_no_other at fault e other)
 
 value_other : (names : Names) (room x : ℕ) (reader : ExprReader) (at : ℕ) (kind : Kind) (word : List ℕ) (fault : ActFault) → value_read names room x reader (token_as at kind word) ≡ Err fault → IsOther fault → expr_step names room reader (token_as at kind word) ≡ Err fault
 unfolding value_read

@@ -29,6 +29,7 @@ use Rattle.pssm_acts.specs.ExprReading.{and_then, expr_step, expr_value, fresh_e
 use Rattle.pssm_acts.specs.Marks.{mark_of, with_mark}
 use Rattle.pssm_acts.specs.PhraseReading.{beside, signal_count, signal_found, variable_begun, phrase_begun, became, value_read, object_read, receiver_read, dotted, signal_named, signal_read, mark_read, named, call_made, argued, argument_read, called_ended, phrase_step}
 use Rattle.pssm_acts.specs.Tokens.{Token}
+use Rattle.pssm_acts.proofs.AnswerLaws.{never_read, read_same}
 use Rattle.pssm_acts.proofs.ExprHeld.{ExprHeld, token_as, expr_more, expr_whole, expr_start}
 use Rattle.pssm_acts.proofs.ArgumentHeld.{ArguedHeld, arguments_held}
 use Rattle.pssm_acts.proofs.PhraseTokens.{VariableHeld, ValueHeld, WordHeld, ReceiverHeld, DottedHeld, SendHeld, MarkHeld, CallHeld, CalledHeld, PhraseHeld, PhrasedHeld}
@@ -39,29 +40,29 @@ module _ (names : Names) (noted : List (List ℕ)) (l : ℕ) where
   begun_held phrase kinds.Name at word step = go (position (λ n. bytes_eq n word) names.vars) refl step where
     go : (r : Option ℕ) → position (λ n. bytes_eq n word) names.vars ≡ r → variable_begun at r ≡ Ok phrase → PhraseHeld names noted l phrase (token_as at kinds.Name word ∷ []) noted
     go (Some x) e is =
-        let same : Variable x ≡ phrase = cc in
+        let same = read_same (Variable x) phrase is in
         let held : PhraseHeld names noted l (Variable x) (token_as at kinds.Name word ∷ []) noted = (record { variable = token_as at kinds.Name word; is = refl; found = e; whole = refl }, refl) in
         subst (λ p. PhraseHeld names noted l p (token_as at kinds.Name word ∷ []) noted) same held
-    go None e is = absurd cc
+    go None e is = absurd (never_read _ _ is)
   begun_held phrase kinds.Send at word step =
-      let same : phrases.Send ≡ phrase = cc in
+      let same = read_same (phrases.Send) phrase step in
       let held : PhraseHeld names noted l phrases.Send (token_as at kinds.Send word ∷ []) noted = (record { word = token_as at kinds.Send word; is = refl; whole = refl }, refl) in
       subst (λ p. PhraseHeld names noted l p (token_as at kinds.Send word ∷ []) noted) same held
   begun_held phrase kinds.Mark at word step =
-      let same : phrases.Mark ≡ phrase = cc in
+      let same = read_same (phrases.Mark) phrase step in
       let held : PhraseHeld names noted l phrases.Mark (token_as at kinds.Mark word ∷ []) noted = (record { word = token_as at kinds.Mark word; is = refl; whole = refl }, refl) in
       subst (λ p. PhraseHeld names noted l p (token_as at kinds.Mark word ∷ []) noted) same held
-  begun_held phrase kind at word step = absurd cc
+  begun_held phrase kind at word step = absurd (never_read _ _ step)
 
   became_held : (x : ℕ) (n : Phrased) (ts : List Token) (kind : Kind) (at : ℕ) (word : List ℕ) → became x (token_as at kind word) ≡ Ok n → VariableHeld names x ts → PhrasedHeld names noted l n (ts ++ token_as at kind word ∷ []) noted
   unfolding became
   became_held x n ts kinds.Becomes at word step h =
       let t = token_as at kinds.Becomes word in
-      let same : Goes (Value x fresh_expr) ≡ n = cc in
+      let same = read_same (Goes (Value x fresh_expr)) n step in
       let held : PhrasedHeld names noted l (Goes (Value x fresh_expr)) (ts ++ t ∷ []) noted =
       (record { variable = h.variable; becomes = t; us = []; is = h.is; found = h.found; assigns = refl; held = expr_start names l; whole = ap (λ xs. xs ++ t ∷ []) h.whole }, refl) in
       subst (λ p. PhrasedHeld names noted l p (ts ++ t ∷ []) noted) same held
-  became_held x n ts kind at word step h = absurd cc
+  became_held x n ts kind at word step h = absurd (never_read _ _ step)
 
   value_held : (x : ℕ) (reader : ExprReader) (n : Phrased) (ts : List Token) (kind : Kind) (at : ℕ) (word : List ℕ) → value_read names l x reader (token_as at kind word) ≡ Ok n → ValueHeld names l x reader ts
       → PhrasedHeld names noted l n (ts ++ token_as at kind word ∷ []) noted
@@ -70,21 +71,21 @@ module _ (names : Names) (noted : List (List ℕ)) (l : ℕ) where
     go : (r : Result Expr ActFault) → expr_value reader at ≡ r → and_then r (λ e. Ok (Ends (Assign x e))) ≡ Ok n → PhrasedHeld names noted l n (ts ++ token_as at kinds.Semicolon word ∷ []) noted
     go (Ok e) value is =
         let t = token_as at kinds.Semicolon word in
-        let same : Ends (Assign x e) ≡ n = cc in
+        let same = read_same (Ends (Assign x e)) n is in
         let spelled : SpellsPhrase names noted l (h.variable ∷ h.becomes ∷ (h.us ++ t ∷ [])) (Assign x e) noted = assignment t h.is h.found h.assigns (expr_whole names l reader at h.us e value h.held) refl in
         let held : PhrasedHeld names noted l (Ends (Assign x e)) (ts ++ t ∷ []) noted = subst (λ xs. SpellsPhrase names noted l xs (Assign x e) noted) (sym (ap (λ xs. xs ++ t ∷ []) h.whole)) spelled in
         subst (λ p. PhrasedHeld names noted l p (ts ++ t ∷ []) noted) same held
-    go (Err fault) value is = absurd cc
+    go (Err fault) value is = absurd (never_read _ _ is)
   value_held x reader n ts kind at word step h = go (expr_step names l reader (token_as at kind word)) refl step where
     go : (r : Result ExprReader ActFault) → expr_step names l reader (token_as at kind word) ≡ r → and_then r (λ more. Ok (Goes (Value x more))) ≡ Ok n → PhrasedHeld names noted l n (ts ++ token_as at kind word ∷ []) noted
     go (Ok more) e is =
         let t = token_as at kind word in
-        let same : Goes (Value x more) ≡ n = cc in
+        let same = read_same (Goes (Value x more)) n is in
         let read : ExprHeld names l more (h.us ++ t ∷ []) = expr_more names l reader.outer reader.left reader.place more h.us kind at word e h.held in
         let held : PhrasedHeld names noted l (Goes (Value x more)) (ts ++ t ∷ []) noted =
         (record { variable = h.variable; becomes = h.becomes; us = h.us ++ t ∷ []; is = h.is; found = h.found; assigns = h.assigns; held = read; whole = ap (λ xs. xs ++ t ∷ []) h.whole }, refl) in
         subst (λ p. PhrasedHeld names noted l p (ts ++ t ∷ []) noted) same held
-    go (Err fault) e is = absurd cc
+    go (Err fault) e is = absurd (never_read _ _ is)
 
   -- the object to which a signal is sent
   received : (to : Option ObjectId) (ts : List Token) (t : Token) → NamesReceiver names t to → WordHeld kinds.Send ts → PhrasedHeld names noted l (Goes (Receiver to)) (ts ++ t ∷ []) noted
@@ -93,26 +94,26 @@ module _ (names : Names) (noted : List (List ℕ)) (l : ℕ) where
   receiver_held : (n : Phrased) (ts : List Token) (kind : Kind) (at : ℕ) (word : List ℕ) → receiver_read names (token_as at kind word) ≡ Ok n → WordHeld kinds.Send ts → PhrasedHeld names noted l n (ts ++ token_as at kind word ∷ []) noted
   unfolding receiver_read
   receiver_held n ts kinds.Own at word step h =
-      let same : Goes (Receiver None) ≡ n = cc in
+      let same = read_same (Goes (Receiver None)) n step in
       subst (λ p. PhrasedHeld names noted l p (ts ++ token_as at kinds.Own word ∷ []) noted) same (received None ts (token_as at kinds.Own word) (running refl) h)
   receiver_held n ts kinds.Name at word step h = go (position (λ n. bytes_eq n word) names.objects) refl step where
     go : (r : Option ℕ) → position (λ n. bytes_eq n word) names.objects ≡ r → object_read at r ≡ Ok n → PhrasedHeld names noted l n (ts ++ token_as at kinds.Name word ∷ []) noted
     go (Some o) e is =
         let it : ObjectId = record { 0 = o } in
-        let same : Goes (Receiver (Some it)) ≡ n = cc in
+        let same = read_same (Goes (Receiver (Some it))) n is in
         subst (λ p. PhrasedHeld names noted l p (ts ++ token_as at kinds.Name word ∷ []) noted) same (received (Some it) ts (token_as at kinds.Name word) (object refl e) h)
-    go None e is = absurd cc
-  receiver_held n ts kind at word step h = absurd cc
+    go None e is = absurd (never_read _ _ is)
+  receiver_held n ts kind at word step h = absurd (never_read _ _ step)
 
   dotted_held : (to : Option ObjectId) (n : Phrased) (ts : List Token) (kind : Kind) (at : ℕ) (word : List ℕ) → dotted to (token_as at kind word) ≡ Ok n → ReceiverHeld names to ts → PhrasedHeld names noted l n (ts ++ token_as at kind word ∷ []) noted
   unfolding dotted
   dotted_held to n ts kinds.Dot at word step h =
       let t = token_as at kinds.Dot word in
-      let same : Goes (Dotted to) ≡ n = cc in
+      let same = read_same (Goes (Dotted to)) n step in
       let held : PhrasedHeld names noted l (Goes (Dotted to)) (ts ++ t ∷ []) noted =
       (record { send = h.send; receiver = h.receiver; dot = t; is = h.is; receives = h.receives; dots = refl; whole = ap (λ xs. xs ++ t ∷ []) h.whole }, refl) in
       subst (λ p. PhrasedHeld names noted l p (ts ++ t ∷ []) noted) same held
-  dotted_held to n ts kind at word step h = absurd cc
+  dotted_held to n ts kind at word step h = absurd (never_read _ _ step)
 
   signal_held : (to : Option ObjectId) (n : Phrased) (ts : List Token) (kind : Kind) (at : ℕ) (word : List ℕ) → signal_read names to (token_as at kind word) ≡ Ok n → DottedHeld names to ts → PhrasedHeld names noted l n (ts ++ token_as at kind word ∷ []) noted
   unfolding signal_read
@@ -121,22 +122,22 @@ module _ (names : Names) (noted : List (List ℕ)) (l : ℕ) where
     go (Some s) e is =
         let t = token_as at kinds.Name word in
         let signal : SignalId = record { 0 = s } in
-        let same : Goes (Named (calls.Send to signal (signal_count names.signals s))) ≡ n = cc in
+        let same = read_same (Goes (Named (calls.Send to signal (signal_count names.signals s)))) n is in
         let held : PhrasedHeld names noted l (Goes (Named (calls.Send to signal (signal_count names.signals s)))) (ts ++ t ∷ []) noted =
         (record { send = h.send; receiver = h.receiver; dot = h.dot; name = t; is = h.is; receives = h.receives; dots = h.dots; names' = refl; found = e; counts = refl; whole = ap (λ xs. xs ++ t ∷ []) h.whole }, refl) in
         subst (λ p. PhrasedHeld names noted l p (ts ++ t ∷ []) noted) same held
-    go None e is = absurd cc
-  signal_held to n ts kind at word step h = absurd cc
+    go None e is = absurd (never_read _ _ is)
+  signal_held to n ts kind at word step h = absurd (never_read _ _ step)
 
   mark_held : (n : Phrased × List (List ℕ)) (ts : List Token) (kind : Kind) (at : ℕ) (word : List ℕ) → mark_read noted (token_as at kind word) ≡ Ok n → WordHeld kinds.Mark ts → PhrasedHeld names noted l n.0 (ts ++ token_as at kind word ∷ []) n.1
   unfolding mark_read
   mark_held n ts kinds.Name at word step h =
       let t = token_as at kinds.Name word in
       let due : Phrased × List (List ℕ) = (Goes (Named (calls.Mark (mark_of noted word))), with_mark noted word) in
-      let same : due ≡ n = cc in
+      let same = read_same due n step in
       let held : PhrasedHeld names noted l due.0 (ts ++ t ∷ []) due.1 = record { word = h.word; name = t; is = h.is; names' = refl; which = refl; more = refl; whole = ap (λ xs. xs ++ t ∷ []) h.whole } in
       subst (λ p. PhrasedHeld names noted l p.0 (ts ++ t ∷ []) p.1) same held
-  mark_held n ts kind at word step h = absurd cc
+  mark_held n ts kind at word step h = absurd (never_read _ _ step)
 
   -- a token behind the name of a signal that is sent or of a mark
   called : (call : Call) (ts : List Token) (marks : List (List ℕ)) (t : Token) → t.kind ≡ kinds.Open → 0 < l → CallHeld names noted call ts marks → PhrasedHeld names noted l (Goes (Called call Opened)) (ts ++ t ∷ []) marks
@@ -156,15 +157,15 @@ module _ (names : Names) (noted : List (List ℕ)) (l : ℕ) where
     go : (b : Bool) → ltb 0 l ≡ b → (if b then Ok (Goes (Called call Opened)) else Err (TooLong at)) ≡ Ok n → PhrasedHeld names noted l n (ts ++ token_as at kinds.Open word ∷ []) marks
     go true e is =
         let t = token_as at kinds.Open word in
-        let same : Goes (Called call Opened) ≡ n = cc in
+        let same = read_same (Goes (Called call Opened)) n is in
         subst (λ p. PhrasedHeld names noted l p (ts ++ t ∷ []) marks) same (called call ts marks t refl (ltb-true 0 l e) h)
-    go false e is = absurd cc
+    go false e is = absurd (never_read _ _ is)
   named_held (calls.Mark mark) n ts marks kinds.Semicolon at word step h =
       let t = token_as at kinds.Semicolon word in
-      let same : Ends (Mark mark []) ≡ n = cc in
+      let same = read_same (Ends (Mark mark [])) n step in
       subst (λ p. PhrasedHeld names noted l p (ts ++ t ∷ []) marks) same (mark_ended mark ts marks t refl h)
-  named_held (calls.Send to signal count) n ts marks kinds.Semicolon at word step h = absurd cc
-  named_held call n ts marks kind at word step h = absurd cc
+  named_held (calls.Send to signal count) n ts marks kinds.Semicolon at word step h = absurd (never_read _ _ step)
+  named_held call n ts marks kind at word step h = absurd (never_read _ _ step)
 
   -- a send or a mark with its arguments
   sent : (to : Option ObjectId) (signal : SignalId) (count : ℕ) (front us : List Token) (args : List Expr) (semicolon : Token)
@@ -188,34 +189,34 @@ module _ (names : Names) (noted : List (List ℕ)) (l : ℕ) where
   made (calls.Send to signal count) args s at front us marks step h spelled = go (eqb (length args) count) refl step where
     go : (b : Bool) → eqb (length args) count ≡ b → (if b then Ok (Send to signal args) else Err (Arity at)) ≡ Ok s → PhrasedHeld names noted l (Goes (Whole s)) (front ++ us) marks
     go true e is = λ semicolon ends.
-        let same : Send to signal args ≡ s = cc in
+        let same = read_same (Send to signal args) s is in
         let whole = sent to signal count front us args semicolon h.0 spelled (eqb-true (length args) count e) ends in
         subst (λ x. SpellsPhrase names noted l ((front ++ us) ++ semicolon ∷ []) x marks) same (subst (λ m. SpellsPhrase names noted l ((front ++ us) ++ semicolon ∷ []) (Send to signal args) m) (sym h.1) whole)
-    go false e is = absurd cc
+    go false e is = absurd (never_read _ _ is)
   made (calls.Mark mark) args s at front us marks step h spelled = go (ltb 8 (length args)) refl step where
     go : (b : Bool) → ltb 8 (length args) ≡ b → (if b then Err (Arity at) else Ok (Mark mark args)) ≡ Ok s → PhrasedHeld names noted l (Goes (Whole s)) (front ++ us) marks
     go false e is = λ semicolon ends.
-        let same : Mark mark args ≡ s = cc in
+        let same = read_same (Mark mark args) s is in
         let whole = marked mark front us args marks semicolon h spelled (ltb-false 8 (length args) e) ends in
         subst (λ x. SpellsPhrase names noted l ((front ++ us) ++ semicolon ∷ []) x marks) same whole
-    go true e is = absurd cc
+    go true e is = absurd (never_read _ _ is)
 
   -- a token in arguments
   argued_held : (call : Call) (n : Phrased) (ts front us : List Token) (marks : List (List ℕ)) (opening : Token) (at : ℕ) (a : Argued) → argued call a at ≡ Ok n → CallHeld names noted call front marks → opening.kind ≡ kinds.Open → 0 < l
       → ts ≡ front ++ opening ∷ us → ArguedHeld names (l - 1) a us → PhrasedHeld names noted l n ts marks
   argued_held call n ts front us marks opening at (arguments.Goes args) step h opens deep whole held =
-      let same : Goes (Called call args) ≡ n = cc in
+      let same = read_same (Goes (Called call args)) n step in
       let all : CalledHeld names noted l call args ts marks = record { front = front; opening = opening; us = us; calls = h; opens = opens; deep = deep; held = held; whole = whole } in
       subst (λ p. PhrasedHeld names noted l p ts marks) same all
   argued_held call n ts front us marks opening at (arguments.Ends args) step h opens deep whole held = go (call_made call args at) refl step where
     go : (r : Result Stmt ActFault) → call_made call args at ≡ r → and_then r (λ s. Ok (Goes (Whole s))) ≡ Ok n → PhrasedHeld names noted l n ts marks
     go (Ok s) e is =
-        let same : Goes (Whole s) ≡ n = cc in
+        let same = read_same (Goes (Whole s)) n is in
         let level : suc (l - 1) ≡ l = omega arith in
         let spelled : SpellsArguments names l (opening ∷ us) args = subst (λ x. SpellsArguments names x (opening ∷ us) args) level (held opening opens) in
         let all : PhrasedHeld names noted l (Goes (Whole s)) (front ++ opening ∷ us) marks = made call args s at front (opening ∷ us) marks e h spelled in
         subst (λ p. PhrasedHeld names noted l p ts marks) same (subst (λ xs. PhrasedHeld names noted l (Goes (Whole s)) xs marks) (sym whole) all)
-    go (Err fault) e is = absurd cc
+    go (Err fault) e is = absurd (never_read _ _ is)
 
   called_held : (call : Call) (args : Arguments) (n : Phrased) (ts : List Token) (marks : List (List ℕ)) (t : Token) → argument_read names (l - 1) call args t ≡ Ok n → CalledHeld names noted l call args ts marks
       → PhrasedHeld names noted l n (ts ++ t ∷ []) marks
@@ -225,25 +226,25 @@ module _ (names : Names) (noted : List (List ℕ)) (l : ℕ) where
     go (Ok a) e is =
         let held : ArguedHeld names (l - 1) a (h.us ++ t ∷ []) = arguments_held names (l - 1) args a h.us t e h.held in
         argued_held call n (ts ++ t ∷ []) h.front (h.us ++ t ∷ []) marks h.opening t.at a is h.calls h.opens h.deep (ap (λ xs. xs ++ t ∷ []) h.whole ∙ append_assoc h.front (h.opening ∷ h.us) (t ∷ [])) held
-    go (Err fault) e is = absurd cc
+    go (Err fault) e is = absurd (never_read _ _ is)
 
   ended_held : (s : Stmt) (n : Phrased) (ts : List Token) (marks : List (List ℕ)) (kind : Kind) (at : ℕ) (word : List ℕ) → called_ended s (token_as at kind word) ≡ Ok n → PhraseHeld names noted l (Whole s) ts marks
       → PhrasedHeld names noted l n (ts ++ token_as at kind word ∷ []) marks
   unfolding called_ended
   ended_held s n ts marks kinds.Semicolon at word step h =
       let t = token_as at kinds.Semicolon word in
-      let same : Ends s ≡ n = cc in
+      let same = read_same (Ends s) n step in
       subst (λ p. PhrasedHeld names noted l p (ts ++ t ∷ []) marks) same (h t refl)
-  ended_held s n ts marks kind at word step h = absurd cc
+  ended_held s n ts marks kind at word step h = absurd (never_read _ _ step)
 
   -- where the marks stay as they were
   beside_held : (marks : List (List ℕ)) (r : Result Phrased ActFault) (n : Phrased × List (List ℕ)) (ts : List Token) → beside marks r ≡ Ok n → ((next : Phrased) → r ≡ Ok next → PhrasedHeld names noted l next ts marks)
       → PhrasedHeld names noted l n.0 ts n.1
   beside_held marks (Ok next) n ts step held =
       let due : Phrased × List (List ℕ) = (next, marks) in
-      let same : due ≡ n = cc in
+      let same = read_same due n step in
       subst (λ p. PhrasedHeld names noted l p.0 ts p.1) same (held next refl)
-  beside_held marks (Err fault) n ts step held = absurd cc
+  beside_held marks (Err fault) n ts step held = absurd (never_read _ _ step)
 
   at_marks : (marks : List (List ℕ)) (n : Phrased) (ts : List Token) → marks ≡ noted → PhrasedHeld names noted l n ts noted → PhrasedHeld names noted l n ts marks
   at_marks marks n ts same held = subst (λ m. PhrasedHeld names noted l n ts m) (sym same) held

@@ -85,12 +85,16 @@ next_act_in stepped outer blocks at = Err (Syntax at)
 unfoldable pub next_act : Bool → Blocks → ℕ → Result ActsReader ActFault
 next_act stepped blocks at = next_act_in stepped blocks.outer blocks at
 
+-- an assignment, a send or a mark has begun
+abbrev pub phrase_counted : Blocks → Phrase → ℕ → Result ActsReader ActFault
+phrase_counted blocks phrase at = and_then (statement_counted blocks at) (λ more. Ok (at_turn more (Within phrase)))
+
 -- a token where a statement may begin
 abbrev pub begun_by : Kind → Names → Bool → Blocks → Token → Result ActsReader ActFault
 begun_by kinds.CloseBrace names stepped blocks t = block_closed blocks t.at
 begun_by kinds.Step names stepped blocks t = next_act stepped blocks t.at
 begun_by kinds.If names stepped blocks t = and_then (statement_counted blocks t.at) (λ more. Ok (at_turn more (Condition fresh_guard)))
-begun_by kind names stepped blocks t = and_then (phrase_begun names t) (λ phrase. and_then (statement_counted blocks t.at) (λ more. Ok (at_turn more (Within phrase))))
+begun_by kind names stepped blocks t = and_then (phrase_begun names t) (λ phrase. phrase_counted blocks phrase t.at)
 
 unfoldable pub begun_at : Names → Bool → Blocks → Token → Result ActsReader ActFault
 begun_at names stepped blocks t = begun_by t.kind names stepped blocks t

@@ -37,6 +37,10 @@ abbrev pub product_of : Option Expr → Expr → Expr
 product_of None atom = atom
 product_of (Some factor) atom = views.Prod factor atom
 
+-- a product has been read
+abbrev pub behind_product : List Level → Left → Expr → ExprReader
+behind_product outer left term = record { outer = outer; left = left; place = Has term }
+
 -- the left side of `+` or `-`, and a product behind it
 abbrev pub sum_of : Left → Expr → Expr
 sum_of Nothing term = term
@@ -67,7 +71,7 @@ abbrev pub at_atom_by : Kind → Names → ℕ → List Level → Left → Optio
 at_atom_by kinds.Open names room outer left factor t =
     and_then (level_opened room outer (record { left = left; factor = factor }) t) (λ levels. Ok (record { outer = levels; left = Nothing; place = Wants None }))
 at_atom_by kind names room outer left factor t =
-    and_then (atom_of names t) (λ atom. Ok (record { outer = outer; left = left; place = Has (product_of factor atom) }))
+    and_then (atom_of names t) (λ atom. Ok (behind_product outer left (product_of factor atom)))
 
 unfoldable pub at_atom : Names → ℕ → List Level → Left → Option Expr → Token → Result ExprReader ActFault
 at_atom names room outer left factor t = at_atom_by t.kind names room outer left factor t
@@ -75,7 +79,7 @@ at_atom names room outer left factor t = at_atom_by t.kind names room outer left
 -- a closing parenthesis behind a product
 unfoldable pub closed : List Level → Left → Expr → ℕ → Result ExprReader ActFault
 closed [] left term at = Err (Syntax at)
-closed (level ∷ outer) left term at = Ok (record { outer = outer; left = level.left; place = Has (product_of level.factor (sum_of left term)) })
+closed (level ∷ outer) left term at = Ok (behind_product outer level.left (product_of level.factor (sum_of left term)))
 
 -- a token behind a product
 abbrev pub after_atom_by : Kind → List Level → Left → Expr → ℕ → Result ExprReader ActFault

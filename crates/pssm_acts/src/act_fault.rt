@@ -1,5 +1,5 @@
 //! Why a text is no behaviour or guard.
-ghost use Rattle.std.specs.Prelude.{◌≡◌};
+ghost use Rattle.std.specs.Prelude.{◌≡◌, Err};
 ghost use Rattle.pssm_acts.specs.declared.act_fault.ActFault.TheVariants.{NoMemory};
 
 use std::alloc::AllocError;
@@ -26,4 +26,11 @@ impl From<AllocError> for ActFault {
     fn from(_e: AllocError) -> ActFault {
         ActFault::NoMemory
     }
+}
+
+/// A fault, in place of what was to be made of these parts.
+pub(crate) fn refused<P: Drop, T, E>(_parts: P, fault: E) -> Result<T, E>
+    ensures { result ≡ Err fault }
+{
+    Err(fault)
 }

@@ -1,12 +1,12 @@
 //! Reading behaviours token by token: what has been read of them, and what the next token makes of that.
-ghost use Rattle.std.specs.Prelude.{◌≡◌, ◌≤◌, ◌<◌, ◌++◌, ◌∷◌, [], Err, length, IfOk};
+ghost use Rattle.std.specs.Prelude.{◌≡◌, ◌≤◌, ◌<◌, ◌++◌, ◌∷◌, [], length, IfOk};
 ghost use Rattle.pssm_acts.specs.ExprReading.{Answers, token_of};
 ghost use Rattle.pssm_acts.specs.Marks.{KeepsMarks};
 ghost use Rattle.pssm_acts.specs.PhraseReading.{AnswersWith};
-ghost use Rattle.pssm_acts.specs.ActReading.{acts_step, acts_value, after_choice, begun_at, block_closed, block_opened, condition_read, else_opened, fresh_acts, fresh_blocks, next_act, phrase_read, statement_counted, step_taken, turn_nots, whole_acts, with_act, with_statement, without_else};
+ghost use Rattle.pssm_acts.specs.ActReading.{acts_step, acts_value, after_choice, begun_at, block_closed, block_opened, condition_read, else_opened, fresh_acts, fresh_blocks, next_act, phrase_counted, phrase_read, statement_counted, step_taken, turn_nots, whole_acts, with_act, with_statement, without_else};
 ghost use Rattle.pssm_acts.specs.GuardReading.{nots_waiting};
 
-use crate::act_fault::ActFault;
+use crate::act_fault::{ActFault, refused};
 use crate::guard_reader::{GuardReader, guard_end, guard_next, new_guard};
 use crate::phrase_reader::{Phrase, Phrased, new_phrase, phrase_next};
 use crate::read_blocks::{Blocks, OpenIf, counted, new_blocks, with_if, with_step, with_stmt};
@@ -72,15 +72,15 @@ fn open_block(
 ) -> Result<ActsReader, ActFault>
     ensures { Answers (block_opened blocks condition body at) result }
 {
+    if blocks.outer.len() >= LEVELS {
+        return refused((blocks, (condition, body)), ActFault::TooLong { at });
+    }
     let Blocks {
         earlier,
         outer,
         stmts: before,
         begun,
     } = blocks;
-    if outer.len() >= LEVELS {
-        return Err(ActFault::TooLong { at });
-    }
     let outer = outer.with(OpenIf {
         before,
         condition,
@@ -167,6 +167,19 @@ fn next_step(alloc: Global, blocks: Blocks, stepped: bool, at: u32) -> Result<Ac
     })
 }
 
+/// An assignment, a send or a mark has begun, where the behaviour may have one more statement.
+fn begin_phrase(blocks: Blocks, phrase: Phrase, at: u32) -> Result<ActsReader, ActFault>
+    ensures { result ≡ phrase_counted blocks phrase at }
+{
+    match counted(blocks, at) {
+        Ok(blocks) => Ok(ActsReader {
+            blocks,
+            turn: Turn::Within(phrase),
+        }),
+        Err(fault) => refused(phrase, fault),
+    }
+}
+
 /// A token where a statement may begin.
 #[tactic(auto, unfolding(crate::specs::ActReading::begun_at))]
 fn begin(
@@ -186,13 +199,10 @@ fn begin(
             blocks: counted(blocks, piece.at)?,
             turn: Turn::Condition(new_guard(alloc)),
         }),
-        _ => {
-            let phrase = new_phrase(piece, names)?;
-            Ok(ActsReader {
-                blocks: counted(blocks, piece.at)?,
-                turn: Turn::Within(phrase),
-            })
-        }
+        _ => match new_phrase(piece, names) {
+            Ok(phrase) => begin_phrase(blocks, phrase, piece.at),
+            Err(fault) => refused(blocks, fault),
+        },
     }
 }
 
@@ -238,7 +248,10 @@ fn behind_else(
 {
     match piece.kind {
         Kind::OpenBrace => open_block(alloc, blocks, condition, Some(body), piece.at),
-        _ => Err(ActFault::Syntax { at: piece.at }),
+        _ => refused(
+            (blocks, (condition, body)),
+            ActFault::Syntax { at: piece.at },
+        ),
     }
 }
 
@@ -257,16 +270,20 @@ fn in_condition(
 {
     match piece.kind {
         Kind::OpenBrace => {
-            let condition = guard_end(alloc, guard, piece.at)?;
-            open_block(alloc, blocks, condition, None, piece.at)
+            match guard_end(alloc, guard, piece.at) {
+                Ok(condition) => open_block(alloc, blocks, condition, None, piece.at),
+                Err(fault) => refused(blocks, fault),
+            }
         }
         _ => {
             let room = LEVELS.saturating_sub(blocks.outer.len());
-            let guard = guard_next(alloc, guard, piece, names, room)?;
-            Ok(ActsReader {
-                blocks,
-                turn: Turn::Condition(guard),
-            })
+            match guard_next(alloc, guard, piece, names, room) {
+                Ok(guard) => Ok(ActsReader {
+                    blocks,
+                    turn: Turn::Condition(guard),
+                }),
+                Err(fault) => refused(blocks, fault),
+            }
         }
     }
 }
@@ -289,15 +306,16 @@ fn in_phrase(
     ensures kept { KeepsMarks marks.old.items marks.new.items }
 {
     let room = LEVELS.saturating_sub(blocks.outer.len());
-    match phrase_next(alloc, phrase, piece, names, marks, room)? {
-        Phrased::Goes(phrase) => Ok(ActsReader {
+    match phrase_next(alloc, phrase, piece, names, marks, room) {
+        Ok(Phrased::Goes(phrase)) => Ok(ActsReader {
             blocks,
             turn: Turn::Within(phrase),
         }),
-        Phrased::Ends(stmt) => Ok(ActsReader {
+        Ok(Phrased::Ends(stmt)) => Ok(ActsReader {
             blocks: with_stmt(blocks, stmt)?,
             turn: Turn::Begins,
         }),
+        Err(fault) => refused(blocks, fault),
     }
 }
 
@@ -379,13 +397,6 @@ fn whole_with_if(
     whole(blocks, at)
 }
 
-/// A part of a statement has been read where the text ends.
-fn unfinished<T: Drop>(_part: T, at: u32) -> Result<ReadActs, ActFault>
-    ensures { result ≡ Err (ActFault.Syntax at) }
-{
-    Err(ActFault::Syntax { at })
-}
-
 /// The behaviours that have been read, where they may end at this byte; otherwise the fault of ending there.
 #[tactic(auto, unfolding(crate::specs::ActReading::acts_value))]
 pub(crate) fn acts_end(reader: ActsReader, at: u32) -> Result<ReadActs, ActFault>
@@ -395,9 +406,11 @@ pub(crate) fn acts_end(reader: ActsReader, at: u32) -> Result<ReadActs, ActFault
     match turn {
         Turn::Begins => whole(blocks, at),
         Turn::Chosen(condition, body) => whole_with_if(blocks, condition, body, at),
-        Turn::Within(phrase) => unfinished(phrase, at),
-        Turn::Condition(guard) => unfinished(guard, at),
-        Turn::Else(condition, body) => unfinished((condition, body), at),
-        Turn::Step => unfinished((), at),
+        Turn::Within(phrase) => refused((blocks, phrase), ActFault::Syntax { at }),
+        Turn::Condition(guard) => refused((blocks, guard), ActFault::Syntax { at }),
+        Turn::Else(condition, body) => {
+            refused((blocks, (condition, body)), ActFault::Syntax { at })
+        }
+        Turn::Step => refused(blocks, ActFault::Syntax { at }),
     }
 }

@@ -1,8 +1,8 @@
 //! Reading an expression token by token: what has been read of it, and what the next token makes of that.
 ghost use Rattle.std.specs.Prelude.{◌≡◌, ◌≤◌, ◌<◌, length, position, bytes_eq, IfOk, IfSome};
-ghost use Rattle.pssm_acts.specs.ExprReading.{Answers, after_atom, at_atom, atom_of, closed, expr_step, expr_value, fresh_expr, level_opened, product_of, sum_of, token_of};
+ghost use Rattle.pssm_acts.specs.ExprReading.{Answers, after_atom, at_atom, atom_of, behind_product, closed, expr_step, expr_value, fresh_expr, level_opened, product_of, sum_of, token_of};
 
-use crate::act_fault::ActFault;
+use crate::act_fault::{ActFault, refused};
 use crate::numbers::number_of;
 use crate::stack::Stack;
 use crate::token::{Kind, Piece};
@@ -51,13 +51,32 @@ pub(crate) fn new_reader(alloc: Global) -> ExprReader
     }
 }
 
+/// Two values, put on the heap.
+pub(crate) fn boxed_pair<T: Drop>(
+    alloc: Global,
+    first: T,
+    second: T,
+) -> Result<(Boxed<T>, Boxed<T>), NoMemory>
+    ensures { IfOk result (λ pair. pair ≡ (first, second)) }
+{
+    let first = match Boxed::new(alloc, first) {
+        Ok(boxed) => boxed,
+        Err(fault) => return refused(second, fault),
+    };
+    let second = Boxed::new(alloc, second)?;
+    Ok((first, second))
+}
+
 /// The factors and an atom behind them.
 fn product(alloc: Global, factor: Option<Expr>, atom: Expr) -> Result<Expr, NoMemory>
     ensures { IfOk result (λ e. e ≡ product_of factor atom) }
 {
     match factor {
         None => Ok(atom),
-        Some(factor) => Ok(Expr::Prod(Boxed::new(alloc, factor)?, Boxed::new(alloc, atom)?)),
+        Some(factor) => {
+            let (factor, atom) = boxed_pair(alloc, factor, atom)?;
+            Ok(Expr::Prod(factor, atom))
+        }
     }
 }
 
@@ -67,8 +86,14 @@ fn sum(alloc: Global, left: Left, term: Expr) -> Result<Expr, NoMemory>
 {
     match left {
         Left::Nothing => Ok(term),
-        Left::Plus(left) => Ok(Expr::Sum(Boxed::new(alloc, left)?, Boxed::new(alloc, term)?)),
-        Left::Minus(left) => Ok(Expr::Diff(Boxed::new(alloc, left)?, Boxed::new(alloc, term)?)),
+        Left::Plus(left) => {
+            let (left, term) = boxed_pair(alloc, left, term)?;
+            Ok(Expr::Sum(left, term))
+        }
+        Left::Minus(left) => {
+            let (left, term) = boxed_pair(alloc, left, term)?;
+            Ok(Expr::Diff(left, term))
+        }
     }
 }
 
@@ -120,9 +145,29 @@ fn opened(
     ensures { Answers (level_opened room outer level (token_of piece.entry)) result }
 {
     if outer.len() >= room {
-        return Err(ActFault::TooLong { at: piece.at });
+        return refused((outer, level), ActFault::TooLong { at: piece.at });
     }
     Ok(outer.with(level)?)
+}
+
+/// The reader of an expression behind these factors and an atom.
+fn with_atom(
+    alloc: Global,
+    outer: Stack<Level>,
+    left: Left,
+    factor: Option<Expr>,
+    atom: Expr,
+) -> Result<ExprReader, NoMemory>
+    ensures { IfOk result (λ reader. reader ≡ behind_product outer left (product_of factor atom)) }
+{
+    match product(alloc, factor, atom) {
+        Ok(term) => Ok(ExprReader {
+            outer,
+            left,
+            place: Place::Has(term),
+        }),
+        Err(fault) => refused((outer, left), fault),
+    }
 }
 
 /// A token where an atom may stand.
@@ -139,17 +184,20 @@ fn wants_atom(
     requires few { length names.now.vars ≤ 65536 }
     ensures { Answers (at_atom names.now room outer left factor (token_of piece.entry)) result }
 {
-    if piece.kind == Kind::Open {
-        let outer = opened(outer, Level { left, factor }, piece, room)?;
-        return Ok(ExprReader {
-            outer,
-            left: Left::Nothing,
-            place: Place::Wants(None),
-        });
+    match piece.kind {
+        Kind::Open => {
+            let outer = opened(outer, Level { left, factor }, piece, room)?;
+            Ok(ExprReader {
+                outer,
+                left: Left::Nothing,
+                place: Place::Wants(None),
+            })
+        }
+        _ => match atom(piece, names) {
+            Ok(atom) => Ok(with_atom(alloc, outer, left, factor, atom)?),
+            Err(fault) => refused((outer, (left, factor)), fault),
+        },
     }
-    let atom = atom(piece, names)?;
-    let place = Place::Has(product(alloc, factor, atom)?);
-    Ok(ExprReader { outer, left, place })
 }
 
 /// A closing parenthesis behind a product.
@@ -169,15 +217,12 @@ fn close(
                 left: before,
                 factor,
             } = level;
-            let inner = sum(alloc, left, term)?;
-            let place = Place::Has(product(alloc, factor, inner)?);
-            Ok(ExprReader {
-                outer,
-                left: before,
-                place,
-            })
+            match sum(alloc, left, term) {
+                Ok(inner) => Ok(with_atom(alloc, outer, before, factor, inner)?),
+                Err(_) => refused((outer, (before, factor)), ActFault::NoMemory),
+            }
         }
-        None => Err(ActFault::Syntax { at }),
+        None => refused((left, term), ActFault::Syntax { at }),
     }
 }
 
@@ -209,7 +254,7 @@ fn behind_atom(
             place: Place::Wants(None),
         }),
         Kind::Close => close(alloc, outer, left, term, piece.at),
-        _ => Err(ActFault::Syntax { at: piece.at }),
+        _ => refused((outer, (left, term)), ActFault::Syntax { at: piece.at }),
     }
 }
 
@@ -241,10 +286,10 @@ pub(crate) fn expr_end(alloc: Global, reader: ExprReader, at: u32) -> Result<Exp
     match place {
         Place::Has(term) => {
             if outer.len() > 0 {
-                return Err(ActFault::Syntax { at });
+                return refused((outer, (left, term)), ActFault::Syntax { at });
             }
             Ok(sum(alloc, left, term)?)
         }
-        Place::Wants(_) => Err(ActFault::Syntax { at }),
+        Place::Wants(factor) => refused((outer, (left, factor)), ActFault::Syntax { at }),
     }
 }

@@ -1,10 +1,10 @@
 //! Reading a guard token by token: what has been read of it, and what the next token makes of that.
 ghost use Rattle.std.specs.Prelude.{◌≡◌, ◌≤◌, ◌<◌, ◌^◌, length, IfOk};
 ghost use Rattle.pssm_acts.specs.ExprReading.{Answers, token_of};
-ghost use Rattle.pssm_acts.specs.GuardReading.{after_unit, bracket_closed, bracket_opened, compared, conjunction_of, disjunction_of, fresh_guard, guard_step, guard_value, in_first, in_second, nots_of, nots_waiting, side_begun, unit_of, unit_wanted, whole_guard};
+ghost use Rattle.pssm_acts.specs.GuardReading.{after_unit, bracket_closed, bracket_opened, compared, conjunction_of, disjunction_of, fresh_guard, guard_step, guard_value, in_first, in_second, nots_of, nots_waiting, side_begun, unit_of, unit_wanted, whole_guard, with_unit};
 
-use crate::act_fault::ActFault;
-use crate::expr_reader::{ExprReader, expr_end, expr_next, new_reader};
+use crate::act_fault::{ActFault, refused};
+use crate::expr_reader::{ExprReader, boxed_pair, expr_end, expr_next, new_reader};
 use crate::stack::Stack;
 use crate::token::{Kind, Piece};
 use pssm_model::Boxed;
@@ -83,7 +83,10 @@ fn conjunction(alloc: Global, both: Option<Cond>, cond: Cond) -> Result<Cond, No
 {
     match both {
         None => Ok(cond),
-        Some(both) => Ok(Cond::And(Boxed::new(alloc, both)?, Boxed::new(alloc, cond)?)),
+        Some(both) => {
+            let (both, cond) = boxed_pair(alloc, both, cond)?;
+            Ok(Cond::And(both, cond))
+        }
     }
 }
 
@@ -93,7 +96,10 @@ fn disjunction(alloc: Global, either: Option<Cond>, cond: Cond) -> Result<Cond, 
 {
     match either {
         None => Ok(cond),
-        Some(either) => Ok(Cond::Or(Boxed::new(alloc, either)?, Boxed::new(alloc, cond)?)),
+        Some(either) => {
+            let (either, cond) = boxed_pair(alloc, either, cond)?;
+            Ok(Cond::Or(either, cond))
+        }
     }
 }
 
@@ -102,8 +108,10 @@ fn unit(alloc: Global, before: Before, cond: Cond) -> Result<Cond, NoMemory>
     ensures { IfOk result (λ c. c ≡ unit_of before cond) }
 {
     let Before { both, nots } = before;
-    let negated = with_nots(alloc, nots, cond)?;
-    conjunction(alloc, both, negated)
+    match with_nots(alloc, nots, cond) {
+        Ok(negated) => conjunction(alloc, both, negated),
+        Err(fault) => refused(both, fault),
+    }
 }
 
 /// A bracket opens, where as many levels as there is room for may be open.
@@ -117,7 +125,7 @@ fn open_bracket(
     ensures { Answers (bracket_opened room outer bracket at) result }
 {
     if outer.len() >= room {
-        return Err(ActFault::TooLong { at });
+        return refused((outer, bracket), ActFault::TooLong { at });
     }
     Ok(GuardReader {
         outer: outer.with(bracket)?,
@@ -144,12 +152,34 @@ fn begin_side(
     ensures { Answers (side_begun names.now room outer either before (token_of piece.entry)) result }
 {
     let room = room.saturating_sub(outer.len());
-    let side = expr_next(alloc, new_reader(alloc), piece, names, room)?;
-    Ok(GuardReader {
-        outer,
-        either,
-        stage: Stage::First(before, side),
-    })
+    match expr_next(alloc, new_reader(alloc), piece, names, room) {
+        Ok(side) => Ok(GuardReader {
+            outer,
+            either,
+            stage: Stage::First(before, side),
+        }),
+        Err(fault) => refused((outer, (either, before)), fault),
+    }
+}
+
+/// The reader of a guard behind a unit and what stands before it.
+fn has_unit(
+    alloc: Global,
+    outer: Stack<Bracket>,
+    either: Option<Cond>,
+    before: Before,
+    cond: Cond,
+) -> Result<GuardReader, NoMemory>
+    ensures { IfOk result (λ reader. reader ≡ with_unit outer either (unit_of before cond)) }
+{
+    match unit(alloc, before, cond) {
+        Ok(cond) => Ok(GuardReader {
+            outer,
+            either,
+            stage: Stage::Has(cond),
+        }),
+        Err(fault) => refused((outer, either), fault),
+    }
 }
 
 /// A token where a unit may stand.
@@ -167,23 +197,20 @@ fn wants_unit(
     requires nots { before.nots < 4294967295 }
     ensures { Answers (unit_wanted names.now room outer either before (token_of piece.entry)) result }
 {
-    let stage = match piece.kind {
-        Kind::OpenBracket => {
-            return open_bracket(outer, Bracket { either, before }, piece.at, room);
-        }
-        Kind::Not => Stage::Wants(Before {
-            both: before.both,
-            nots: before.nots + 1,
+    match piece.kind {
+        Kind::OpenBracket => open_bracket(outer, Bracket { either, before }, piece.at, room),
+        Kind::Not => Ok(GuardReader {
+            outer,
+            either,
+            stage: Stage::Wants(Before {
+                both: before.both,
+                nots: before.nots + 1,
+            }),
         }),
-        Kind::True => Stage::Has(unit(alloc, before, Cond::True)?),
-        Kind::False => Stage::Has(unit(alloc, before, Cond::False)?),
-        _ => return begin_side(alloc, outer, either, before, piece, names, room),
-    };
-    Ok(GuardReader {
-        outer,
-        either,
-        stage,
-    })
+        Kind::True => Ok(has_unit(alloc, outer, either, before, Cond::True)?),
+        Kind::False => Ok(has_unit(alloc, outer, either, before, Cond::False)?),
+        _ => begin_side(alloc, outer, either, before, piece, names, room),
+    }
 }
 
 /// A token in the left side of a comparison.
@@ -200,17 +227,19 @@ fn first_side(
     ensures { Answers (in_first names.now room before side (token_of piece.entry)) result }
 {
     match piece.kind {
-        Kind::Relation(rel) => {
-            let left = expr_end(alloc, side, piece.at)?;
-            let side = new_reader(alloc);
-            Ok(Stage::Second(Half {
+        Kind::Relation(rel) => match expr_end(alloc, side, piece.at) {
+            Ok(left) => Ok(Stage::Second(Half {
                 before,
                 rel,
                 left,
-                side,
-            }))
-        }
-        _ => Ok(Stage::First(before, expr_next(alloc, side, piece, names, room)?)),
+                side: new_reader(alloc),
+            })),
+            Err(fault) => refused(before, fault),
+        },
+        _ => match expr_next(alloc, side, piece, names, room) {
+            Ok(side) => Ok(Stage::First(before, side)),
+            Err(fault) => refused(before, fault),
+        },
     }
 }
 
@@ -225,8 +254,10 @@ fn comparison(alloc: Global, half: Half, at: u32) -> Result<Cond, ActFault>
         left,
         side,
     } = half;
-    let right = expr_end(alloc, side, at)?;
-    Ok(unit(alloc, before, Cond::Compare(rel, left, right))?)
+    match expr_end(alloc, side, at) {
+        Ok(right) => Ok(unit(alloc, before, Cond::Compare(rel, left, right))?),
+        Err(fault) => refused((before, left), fault),
+    }
 }
 
 /// A closing bracket behind units that are joined by `&&`.
@@ -246,15 +277,12 @@ fn close_bracket(
                 either: outside,
                 before,
             } = bracket;
-            let inner = disjunction(alloc, either, cond)?;
-            let stage = Stage::Has(unit(alloc, before, inner)?);
-            Ok(GuardReader {
-                outer,
-                either: outside,
-                stage,
-            })
+            match disjunction(alloc, either, cond) {
+                Ok(inner) => Ok(has_unit(alloc, outer, outside, before, inner)?),
+                Err(_) => refused((outer, (outside, before)), ActFault::NoMemory),
+            }
         }
-        None => Err(ActFault::Syntax { at }),
+        None => refused((either, cond), ActFault::Syntax { at }),
     }
 }
 
@@ -287,7 +315,7 @@ fn behind_unit(
             }),
         }),
         Kind::CloseBracket => close_bracket(alloc, outer, either, cond, piece.at),
-        _ => Err(ActFault::Syntax { at: piece.at }),
+        _ => refused((outer, (either, cond)), ActFault::Syntax { at: piece.at }),
     }
 }
 
@@ -307,8 +335,10 @@ fn second_side(
 {
     match piece.kind {
         Kind::And | Kind::Or | Kind::CloseBracket => {
-            let cond = comparison(alloc, half, piece.at)?;
-            behind_unit(alloc, outer, either, cond, piece)
+            match comparison(alloc, half, piece.at) {
+                Ok(cond) => behind_unit(alloc, outer, either, cond, piece),
+                Err(fault) => refused((outer, either), fault),
+            }
         }
         _ => {
             let Half {
@@ -318,18 +348,19 @@ fn second_side(
                 side,
             } = half;
             let room = room.saturating_sub(outer.len());
-            let side = expr_next(alloc, side, piece, names, room)?;
-            let stage = Stage::Second(Half {
-                before,
-                rel,
-                left,
-                side,
-            });
-            Ok(GuardReader {
-                outer,
-                either,
-                stage,
-            })
+            match expr_next(alloc, side, piece, names, room) {
+                Ok(side) => Ok(GuardReader {
+                    outer,
+                    either,
+                    stage: Stage::Second(Half {
+                        before,
+                        rel,
+                        left,
+                        side,
+                    }),
+                }),
+                Err(fault) => refused((outer, (either, (before, left))), fault),
+            }
         }
     }
 }
@@ -356,12 +387,14 @@ pub(crate) fn guard_next(
         Stage::Wants(before) => wants_unit(alloc, outer, either, before, piece, names, room),
         Stage::First(before, side) => {
             let room = room.saturating_sub(outer.len());
-            let stage = first_side(alloc, before, side, piece, names, room)?;
-            Ok(GuardReader {
-                outer,
-                either,
-                stage,
-            })
+            match first_side(alloc, before, side, piece, names, room) {
+                Ok(stage) => Ok(GuardReader {
+                    outer,
+                    either,
+                    stage,
+                }),
+                Err(fault) => refused((outer, either), fault),
+            }
         }
         Stage::Second(half) => second_side(alloc, outer, either, half, piece, names, room),
         Stage::Has(cond) => behind_unit(alloc, outer, either, cond, piece),
@@ -379,7 +412,7 @@ fn whole(
     ensures { Answers (whole_guard outer either cond at) result }
 {
     if outer.len() > 0 {
-        return Err(ActFault::Syntax { at });
+        return refused((outer, (either, cond)), ActFault::Syntax { at });
     }
     Ok(disjunction(alloc, either, cond)?)
 }
@@ -395,12 +428,14 @@ pub(crate) fn guard_end(alloc: Global, reader: GuardReader, at: u32) -> Result<C
         stage,
     } = reader;
     match stage {
-        Stage::Second(half) => {
-            let cond = comparison(alloc, half, at)?;
-            whole(alloc, outer, either, cond, at)
-        }
+        Stage::Second(half) => match comparison(alloc, half, at) {
+            Ok(cond) => whole(alloc, outer, either, cond, at),
+            Err(fault) => refused((outer, either), fault),
+        },
         Stage::Has(cond) => whole(alloc, outer, either, cond, at),
-        Stage::Wants(_) => Err(ActFault::Syntax { at }),
-        Stage::First(..) => Err(ActFault::Syntax { at }),
+        Stage::Wants(before) => refused((outer, (either, before)), ActFault::Syntax { at }),
+        Stage::First(before, side) => {
+            refused((outer, (either, (before, side))), ActFault::Syntax { at })
+        }
     }
 }

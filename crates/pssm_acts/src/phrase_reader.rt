@@ -4,7 +4,7 @@ ghost use Rattle.pssm_acts.specs.ExprReading.{Answers, token_of};
 ghost use Rattle.pssm_acts.specs.Marks.{KeepsMarks, mark_of, with_mark};
 ghost use Rattle.pssm_acts.specs.PhraseReading.{AnswersWith, argument_read, became, call_made, called_ended, dotted, mark_read, named, phrase_begun, phrase_step, receiver_read, signal_found, signal_read, value_read};
 
-use crate::act_fault::ActFault;
+use crate::act_fault::{ActFault, refused};
 use crate::argument_reader::{Argued, Arguments, arguments_next};
 use crate::expr_reader::{ExprReader, expr_end, expr_next, new_reader, place_of, variable};
 use crate::token::{Kind, Piece};
@@ -268,7 +268,7 @@ fn end(stmt: Stmt, piece: Piece<'_>) -> Result<Phrased, ActFault>
 {
     match piece.kind {
         Kind::Semicolon => Ok(Phrased::Ends(stmt)),
-        _ => Err(ActFault::Syntax { at: piece.at }),
+        _ => refused(stmt, ActFault::Syntax { at: piece.at }),
     }
 }
 

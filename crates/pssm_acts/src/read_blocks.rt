@@ -2,7 +2,7 @@
 ghost use Rattle.std.specs.Prelude.{◌≡◌, ◌++◌, ◌∷◌, [], IfOk};
 ghost use Rattle.pssm_acts.specs.ActReading.{fresh_blocks, statement_counted, with_act, with_statement, without_else};
 
-use crate::act_fault::ActFault;
+use crate::act_fault::{ActFault, refused};
 use crate::stack::Stack;
 use pssm_model::Row;
 use pssm_semantics::{Act, Cond, Stmt};
@@ -88,7 +88,7 @@ pub(crate) fn counted(blocks: Blocks, at: u32) -> Result<Blocks, ActFault>
     ensures { result ≡ statement_counted blocks at }
 {
     if blocks.begun >= STATEMENTS {
-        return Err(ActFault::TooLong { at });
+        return refused(blocks, ActFault::TooLong { at });
     }
     let mut blocks = blocks;
     blocks.begun += 1;
