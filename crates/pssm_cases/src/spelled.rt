@@ -1,7 +1,8 @@
 //! The escapes of a text: how bytes are spelled that cannot stand in it, or are too many.
 //!
-//! `\xHH` is the byte with these two hexadecimal digits, `\\` a backslash, `\#` a number in decimal that the caller hands in,
-//! and `\{N}` in front of a byte or an escape stands for N times what it is. Every other byte stands for itself.
+//! `\xHH` is the byte with these two hexadecimal digits, `\\` a backslash, `\#` a number in decimal that the reader hands in,
+//! `\+K#` the number that is K more, and `\{N}` in front of a byte or an escape stands for N times what it is. Every other byte
+//! stands for itself.
 ghost use Rattle.std.specs.Prelude.{◌<◌, IfOk};
 
 use std::alloc::AllocError;
@@ -34,6 +35,8 @@ enum Place {
     Low(u8),
     // Behind `\{` and the digits of this number.
     Times(u32),
+    // Behind `\+` and the digits of this number.
+    More(u32),
 }
 
 // What a reader knows behind one more byte.
@@ -44,22 +47,21 @@ enum Met {
     Times(u32),
     // A byte.
     Byte(u8),
-    // A number that the caller hands in.
-    Number,
+    // The number that is so much more than the one that the reader hands in.
+    Number(u32),
 }
 
-/// Puts the bytes that the text spells behind those that are there. Each `\#` is this number.
+/// Puts the bytes that the text spells behind those that are there. `\#` is spelled as `number`.
 pub fn put_spelled(into: &mut Vec<u8>, text: &[u8], number: u32) -> Result<(), SpellFault> {
-    match put(into, text, &[number])? {
+    match put(into, text, number)? {
         Place::Between => Ok(()),
         _ => Err(SpellFault::NoEscape),
     }
 }
 
-/// Puts the line that the text spells: its bytes and a line feed, which a backslash at the end of the text leaves out. The
-/// first `\#` is the first of these numbers, and so on; the last stands for all that follow.
-pub fn put_line(into: &mut Vec<u8>, text: &[u8], numbers: &[u32]) -> Result<(), SpellFault> {
-    match put(into, text, numbers)? {
+/// Puts the line that the text spells: its bytes and a line feed, which a backslash at the end of the text leaves out.
+pub fn put_line(into: &mut Vec<u8>, text: &[u8], number: u32) -> Result<(), SpellFault> {
+    match put(into, text, number)? {
         Place::Between => Ok(into.extend_from_slice(b"\n")?),
         Place::Escape => Ok(()),
         _ => Err(SpellFault::NoEscape),
@@ -67,10 +69,9 @@ pub fn put_line(into: &mut Vec<u8>, text: &[u8], numbers: &[u32]) -> Result<(), 
 }
 
 // Puts what the text spells, and says where its end stands.
-fn put(into: &mut Vec<u8>, text: &[u8], numbers: &[u32]) -> Result<Place, SpellFault> {
+fn put(into: &mut Vec<u8>, text: &[u8], number: u32) -> Result<Place, SpellFault> {
     let mut place = Place::Between;
     let mut times = None;
-    let mut numbers = numbers;
     for byte in text {
         let met = next(place, *byte)?;
         place = Place::Between;
@@ -78,11 +79,7 @@ fn put(into: &mut Vec<u8>, text: &[u8], numbers: &[u32]) -> Result<Place, SpellF
             Met::Within(inner) => place = inner,
             Met::Times(count) => times = Some(count),
             Met::Byte(byte) => put_times(into, &[byte], times.take())?,
-            Met::Number => {
-                let (number, others) = numbers.split_first().ok_or(SpellFault::NoEscape)?;
-                put_number(into, *number, times.take())?;
-                numbers = if others.is_empty() { numbers } else { others };
-            }
+            Met::Number(more) => { put_number(into, number.saturating_add(more), times.take())? }
         }
     }
     match times {
@@ -97,7 +94,8 @@ fn next(place: Place, byte: u8) -> Result<Met, SpellFault> {
         (Place::Between, b'\\') => Met::Within(Place::Escape),
         (Place::Between, _) => Met::Byte(byte),
         (Place::Escape, b'\\') => Met::Byte(b'\\'),
-        (Place::Escape, b'#') => Met::Number,
+        (Place::Escape, b'#') => Met::Number(0),
+        (Place::Escape, b'+') => Met::Within(Place::More(0)),
         (Place::Escape, b'x') => Met::Within(Place::High),
         (Place::Escape, b'{') => Met::Within(Place::Times(0)),
         (Place::Escape, _) => return Err(SpellFault::NoEscape),
@@ -106,6 +104,9 @@ fn next(place: Place, byte: u8) -> Result<Met, SpellFault> {
         (Place::Times(count), b'}') => Met::Times(count),
         (Place::Times(count), b'0'..=b'9') => Met::Within(Place::Times(longer(count, byte - b'0'))),
         (Place::Times(_), _) => return Err(SpellFault::NoEscape),
+        (Place::More(more), b'#') => Met::Number(more),
+        (Place::More(more), b'0'..=b'9') => Met::Within(Place::More(longer(more, byte - b'0'))),
+        (Place::More(_), _) => return Err(SpellFault::NoEscape),
     };
     Ok(met)
 }

@@ -1,6 +1,5 @@
 //! What became of cases.
-ghost use Rattle.std.specs.Prelude.{◌≡◌, ◌↔◌, IsTrue, None, length, count_by};
-ghost use Rattle.std.specs.List.{AllByRecursion};
+ghost use Rattle.std.specs.Prelude.{◌≡◌, All, IsNone, IsTrue, count_by, is_none};
 
 use std::alloc::{AllocError, Global};
 
@@ -18,7 +17,7 @@ pub struct Outcome {
 impl Outcome {
     /// Whether the case holds.
     pub fn holds(&self) -> bool
-        ensures { IsTrue result ↔ (self.now.failure ≡ None) }
+        ensures { result ≡ is_none self.now.failure }
     {
         self.failure.is_none()
     }
@@ -35,7 +34,9 @@ pub struct Tally {
 
 impl Tally {
     // How many cases hold.
-    fn held(&self) -> usize {
+    fn held(&self) -> usize
+        ensures { result ≡ count_by (λ outcome. is_none outcome.failure) self.now.outcomes.items }
+    {
         self.outcomes
             .iter()
             .filter(|outcome| outcome.holds())
@@ -43,13 +44,17 @@ impl Tally {
     }
 
     // Whether there is a case, and each holds.
-    fn all_hold(&self) -> bool {
+    fn all_hold(&self) -> bool
+        ensures { IsTrue result → All (λ outcome. IsNone outcome.failure) self.now.outcomes.items }
+    {
         !self.outcomes.is_empty() && self.outcomes.iter().all(|outcome| outcome.holds())
     }
 }
 
 /// Whether there is a file, each file has a case, and each case holds.
-pub fn all_hold(tallies: &[Tally]) -> bool {
+pub fn all_hold(tallies: &[Tally]) -> bool
+    ensures { IsTrue result → All (λ tally. All (λ outcome. IsNone outcome.failure) tally.outcomes.items) tallies.now }
+{
     !tallies.is_empty() && tallies.iter().all(|tally| tally.all_hold())
 }
 

@@ -17,6 +17,3 @@ mod writing;
 pub use fault::FlatFault;
 pub use reading::{one_reading, read_flat};
 pub use writing::write_flat;
-
-#[cfg(test)]
-mod tests;

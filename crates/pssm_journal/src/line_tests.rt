@@ -172,86 +172,50 @@ fn pick(alloc: Global) -> Result<Line, AllocError> {
     })
 }
 
-#[test]
-fn line_of_a_post(rt: HostRuntime) -> Result<(), Fail> {
-    let line = post(rt.alloc())?;
-    check(
-        &rt,
-        rt.alloc(),
-        &line,
+/// The greatest route, with joined starts.
+fn opened_by(alloc: Global) -> Result<Line, AllocError> {
+    let by = How::By(route(alloc, &[5, 6], &[7])?);
+    opened(alloc, Mode::Plain, by)
+}
+
+/// A line of each kind, and its text.
+fn samples(alloc: Global) -> Result<Vec<(Line, &'static str)>, AllocError> {
+    let mut all = Vec::new(alloc);
+    all.push((
+        post(alloc)?,
         "post a.Go(-9223372036854775808,9223372036854775807,0,-1,1,10,-10,7)\n",
-    )
+    ))?;
+    all.push((take(alloc)?, "take a 4294967295 t7 t8+t9\n"))?;
+    all.push((done(alloc)?, "done a v1 -\n"))?;
+    all.push((exit(alloc, 0)?, "exit a v65535\n"))?;
+    all.push((effect(alloc)?, "effect a t0 !m(-3)\n"))?;
+    all.push((enter(alloc)?, "enter a v10 !m(-3) >b.Go() !m(-3)\n"))?;
+    all.push((do_step(alloc)?, "do a v1 65535 !m(-3) >b.Go()\n"))?;
+    all.push((opened_by(alloc)?, "open a r0 default by t5+t6,t7\n"))?;
+    let restored = How::Restore(VertexId(4));
+    all.push((
+        opened(alloc, Mode::Shallow, restored)?,
+        "open a r0 shallow state v4\n",
+    ))?;
+    all.push((
+        opened(alloc, Mode::Deep, How::Nothing)?,
+        "open a r0 deep none\n",
+    ))?;
+    all.push((pick(alloc)?, "pick a v2 t2,t5,t65535\n"))?;
+    Ok(all)
 }
 
 #[test]
-fn line_of_a_take(rt: HostRuntime) -> Result<(), Fail> {
-    let line = take(rt.alloc())?;
-    check(&rt, rt.alloc(), &line, "take a 4294967295 t7 t8+t9\n")
-}
-
-#[test]
-fn line_of_a_done(rt: HostRuntime) -> Result<(), Fail> {
-    let line = done(rt.alloc())?;
-    check(&rt, rt.alloc(), &line, "done a v1 -\n")
-}
-
-#[test]
-fn line_of_an_exit(rt: HostRuntime) -> Result<(), Fail> {
-    let line = exit(rt.alloc(), 0)?;
-    check(&rt, rt.alloc(), &line, "exit a v65535\n")
-}
-
-#[test]
-fn line_of_an_effect(rt: HostRuntime) -> Result<(), Fail> {
-    let line = effect(rt.alloc())?;
-    check(&rt, rt.alloc(), &line, "effect a t0 !m(-3)\n")
-}
-
-#[test]
-fn line_of_an_entry(rt: HostRuntime) -> Result<(), Fail> {
-    let line = enter(rt.alloc())?;
-    check(
-        &rt,
-        rt.alloc(),
-        &line,
-        "enter a v10 !m(-3) >b.Go() !m(-3)\n",
-    )
-}
-
-#[test]
-fn line_of_a_do_step(rt: HostRuntime) -> Result<(), Fail> {
-    let line = do_step(rt.alloc())?;
-    check(&rt, rt.alloc(), &line, "do a v1 65535 !m(-3) >b.Go()\n")
-}
-
-#[test]
-fn line_of_an_opening(rt: HostRuntime) -> Result<(), Fail> {
-    let by = How::By(route(rt.alloc(), &[5, 6], &[7])?);
-    let line = opened(rt.alloc(), Mode::Plain, by)?;
-    check(&rt, rt.alloc(), &line, "open a r0 default by t5+t6,t7\n")
-}
-
-#[test]
-fn line_of_a_restoring(rt: HostRuntime) -> Result<(), Fail> {
-    let line = opened(rt.alloc(), Mode::Shallow, How::Restore(VertexId(4)))?;
-    check(&rt, rt.alloc(), &line, "open a r0 shallow state v4\n")
-}
-
-#[test]
-fn line_of_an_empty_opening(rt: HostRuntime) -> Result<(), Fail> {
-    let line = opened(rt.alloc(), Mode::Deep, How::Nothing)?;
-    check(&rt, rt.alloc(), &line, "open a r0 deep none\n")
-}
-
-#[test]
-fn line_of_a_pick(rt: HostRuntime) -> Result<(), Fail> {
-    let line = pick(rt.alloc())?;
-    check(&rt, rt.alloc(), &line, "pick a v2 t2,t5,t65535\n")
+fn writes_lines(rt: HostRuntime) -> Result<(), Fail> {
+    for (line, expected) in samples(rt.alloc())? {
+        check(&rt, rt.alloc(), &line, expected)?;
+    }
+    Ok(())
 }
 
 /// The longest list of outputs.
 #[test]
-fn line_of_many_outputs(rt: HostRuntime) -> Result<(), Fail> {
+fn writes_many_outputs(rt: HostRuntime) -> Result<(), Fail> {
     let line = exit(rt.alloc(), 64)?;
     let mut expected = String::from_str(rt.alloc(), "exit a v65535")?;
     for _ in 0..32 {
@@ -336,36 +300,26 @@ fn check_entry(rt: &impl Abort, alloc: Global, entry: &Entry, expected: &str) ->
 }
 
 #[test]
-fn line_of_a_posted_signal(rt: HostRuntime) -> Result<(), Fail> {
-    let args = args(rt.alloc(), &EIGHT)?;
-    let entry = Entry::Post {
-        object: ObjectId(0),
+fn writes_entries(rt: HostRuntime) -> Result<(), Fail> {
+    let alloc = rt.alloc();
+    let object = ObjectId(0);
+    let start = Entry::Start { object };
+    check_entry(&rt, alloc, &start, "start a\n")?;
+    let take = Entry::Take {
+        object,
+        number: 4294967295,
+        firing: firing(alloc, &[])?,
+    };
+    check_entry(&rt, alloc, &take, "take a 4294967295 -\n")?;
+    let post = Entry::Post {
+        object,
         signal: SignalId(0),
-        args,
+        args: args(alloc, &EIGHT)?,
     };
     check_entry(
         &rt,
-        rt.alloc(),
-        &entry,
+        alloc,
+        &post,
         "post a.Go(-9223372036854775808,9223372036854775807,0,-1,1,10,-10,7)\n",
     )
-}
-
-#[test]
-fn line_of_a_start(rt: HostRuntime) -> Result<(), Fail> {
-    let entry = Entry::Start {
-        object: ObjectId(0),
-    };
-    check_entry(&rt, rt.alloc(), &entry, "start a\n")
-}
-
-#[test]
-fn line_of_a_taken_signal(rt: HostRuntime) -> Result<(), Fail> {
-    let firing = firing(rt.alloc(), &[])?;
-    let entry = Entry::Take {
-        object: ObjectId(0),
-        number: 4294967295,
-        firing,
-    };
-    check_entry(&rt, rt.alloc(), &entry, "take a 4294967295 -\n")
 }

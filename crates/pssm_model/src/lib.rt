@@ -32,6 +32,3 @@ pub use row::Row;
 pub use same::Same;
 pub use steps::{Event, Firing, How, Item, Mode, Route};
 pub use text::Text;
-
-#[cfg(test)]
-mod tests;

@@ -54,11 +54,11 @@ pub enum Line<'a> {
         code: u8,
         text: Wanted,
     },
-    /// A text line, so many times, read at numbers that count from the first ones.
+    /// A text line, so many times, read at numbers from the first on.
     Text {
         text: &'a str,
         times: u32,
-        first: &'a str,
+        first: u32,
     },
     /// The text of a file.
     All {
@@ -167,7 +167,7 @@ fn entries_of(text: &str) -> Option<u32> {
         .ok()
 }
 
-// `| TEXT`, `N | TEXT` and `N from F .. | TEXT`.
+// `| TEXT`, `N | TEXT` and `N from F | TEXT`.
 fn text_line(line: &str) -> Option<Line<'_>> {
     let (head, text) = line.split_once('|')?;
     let (times, first) = times_of(head)?;
@@ -179,12 +179,12 @@ fn text_line(line: &str) -> Option<Line<'_>> {
     Some(Line::Text { text, times, first })
 }
 
-// How often a text line stands there, and the numbers that it is read at first.
-fn times_of(head: &str) -> Option<(u32, &str)> {
+// How often a text line stands there, and the number that it is read at first.
+fn times_of(head: &str) -> Option<(u32, u32)> {
     if head.is_empty() {
-        return Some((1, "0"));
+        return Some((1, 0));
     }
     let head = head.strip_suffix(' ')?;
     let (times, first) = head.split_once(" from ").unwrap_or((head, "0"));
-    Some((times.parse::<u32>().ok()?, first))
+    Some((times.parse::<u32>().ok()?, first.parse::<u32>().ok()?))
 }

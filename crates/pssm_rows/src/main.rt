@@ -18,9 +18,8 @@
 //!   the run before wrote, and `status N unlike before` anything else.
 //! - `judge MODEL`: the run of `judge MODEL written`. The file `written` is there in every run but the first of a case: what
 //!   the run before it wrote.
-//! - `| TEXT`: a text line, the bytes of TEXT and a line feed. `N | TEXT` is the line N times, and `N from F G .. | TEXT` too,
-//!   where the first `\#` counts from F, the second from G, and so on, and those that are left over go with the last.
-//!   `pssm_cases` has the escapes of TEXT; a backslash at its end leaves the line feed out.
+//! - `| TEXT`: a text line, the bytes of TEXT and a line feed. `N | TEXT` is the line N times, and `N from F | TEXT` too, with
+//!   F, F+1, and so on for `\#`. `pssm_cases` has the escapes of TEXT; a backslash at its end leaves the line feed out.
 //! - `+ NAME`: in the place of text lines, the whole text of a file.
 //!
 //! The answers that are owed stand in the files, and none in this program.

@@ -101,12 +101,10 @@ impl Reader {
     }
 
     // Puts a text line, so many times.
-    fn put_text(&mut self, text: &str, times: u32, first: &str) -> Result<(), Refusal> {
-        let mut numbers = numbers_of(self.alloc, first)?;
+    fn put_text(&mut self, text: &str, times: u32, first: u32) -> Result<(), Refusal> {
         let into = self.target()?;
-        for _ in 0..times {
-            put_line(into, text.as_bytes(), numbers.as_slice())?;
-            count_on(&mut numbers);
+        for step in 0..times {
+            put_line(into, text.as_bytes(), first.saturating_add(step))?;
         }
         Ok(())
     }
@@ -161,11 +159,10 @@ impl Reader {
 
     // Gives a file to the last case, or to all where there is none yet.
     fn give(&mut self, file: File) -> Result<(), Refusal> {
-        let files = match self.cases.last_mut() {
-            Some(case) => &mut case.files,
-            None => &mut self.files,
-        };
-        Ok(files.push(file)?)
+        match self.cases.last_mut() {
+            Some(case) => Ok(case.files.push(file)?),
+            None => Ok(self.files.push(file)?),
+        }
     }
 
     // Says what the last runs are owed.
@@ -269,7 +266,7 @@ impl Reader {
         let alloc = self.alloc;
         let case = self.last_case()?;
         match line {
-            Line::Each { count, first } => {
+            Line::Each { count, first } if count > 0 => {
                 case.count = count;
                 case.first = first;
             }
@@ -290,30 +287,14 @@ fn file_of<'a>(files: &'a [File], name: &str) -> Option<&'a File> {
     files.iter().find(|file| file.name.as_str() == name)
 }
 
-// Counts each number on.
-fn count_on(numbers: &mut Vec<u32>) {
-    for number in numbers.iter_mut() {
-        *number = number.saturating_add(1);
-    }
-}
-
-// The numbers of a text, with blanks between.
-fn numbers_of(alloc: Global, text: &str) -> Result<Vec<u32>, Refusal> {
-    let mut numbers = Vec::new(alloc);
-    for word in text.split_whitespace() {
-        match word.parse::<u32>() {
-            Ok(number) => numbers.push(number)?,
-            Err(_) => return Err(Refusal::BadLine),
-        }
-    }
-    Ok(numbers)
-}
-
 // The numbers of the calls in a text, with blanks between.
 fn calls_of(alloc: Global, text: &str) -> Result<Vec<u64>, Refusal> {
     let mut calls = Vec::new(alloc);
-    for number in &numbers_of(alloc, text)? {
-        calls.push(u64::from(*number))?;
+    for word in text.split_whitespace() {
+        match word.parse::<u64>() {
+            Ok(call) => calls.push(call)?,
+            Err(_) => return Err(Refusal::BadLine),
+        }
     }
     Ok(calls)
 }

@@ -1,7 +1,9 @@
 //! Runs cases over `pssm`.
-ghost use Rattle.std.specs.Prelude.{◌≡◌, ◌<◌};
+ghost use Rattle.std.specs.Prelude.{◌↔◌, ◌<◌, IfOk, IsNone};
+ghost use Rattle.pssm_rows.specs.Owed.{Meets};
 
 use crate::case::{Ask, Case, File};
+use crate::owed::Answer;
 use pssm_base::{Gate, MemInputs, MemSink};
 use pssm_cases::{SpellFault, put_spelled};
 use pssm_tool::pssm;
@@ -22,6 +24,13 @@ struct OpenGate;
 
 impl Gate for OpenGate {
     fn before(&self, _object: u8, _turn: u64) {}
+}
+
+// The status and the text that a run gives.
+#[derive(Drop)]
+struct Given {
+    code: u8,
+    text: Vec<u8>,
 }
 
 /// Why a case does not hold; nothing where it does. `shared` are the files that are there in every case.
@@ -76,11 +85,12 @@ fn failure_in(
             return told(rt.alloc(), "the words of the run spell no text");
         };
         let files = files_of(rt.alloc(), before.as_slice(), case.files.as_slice(), shared)?;
-        let (code, written) = answer_of(rt, case, files, words.as_slice())?;
-        if !owed.is_met(code, written.as_slice(), before.as_slice()) {
-            return told_of(rt.alloc(), run.as_str(), code, written.as_slice());
+        let given = given_of(rt, case, files, words.as_slice())?;
+        let failure = failure_on(rt.alloc(), owed, run.as_str(), &given, before.as_slice())?;
+        if failure.is_some() {
+            return Ok(failure);
         }
-        *before = written;
+        *before = given.text;
     }
     Ok(None)
 }
@@ -118,13 +128,13 @@ fn files_of(
     Ok(files)
 }
 
-// The status and the text that a run gives.
-fn answer_of(
+// What a run gives.
+fn given_of(
     rt: &HostRuntime,
     case: &Case,
     files: Vec<(String, Vec<u8>)>,
     words: &[String],
-) -> Result<(u8, Vec<u8>), NoMemory> {
+) -> Result<Given, NoMemory> {
     let alloc = rt.alloc();
     let mut inputs = MemInputs::new(
         files,
@@ -134,7 +144,10 @@ fn answer_of(
     let fails = case.writes.fails.as_slice().to_vec(alloc)?;
     let mut out = MemSink::new(alloc, ROOM, fails, case.writes.most)?;
     let status = pssm(rt, alloc, words, &mut inputs, &mut out, &OpenGate);
-    Ok((status.code, out.bytes().to_vec(alloc)?))
+    Ok(Given {
+        code: status.code,
+        text: out.bytes().to_vec(alloc)?,
+    })
 }
 
 // These words.
@@ -142,9 +155,22 @@ fn told(alloc: Global, words: &str) -> Result<Option<String>, NoMemory> {
     Ok(Some(String::from_str(alloc, words)?))
 }
 
-// What a run gave in place of what it is owed.
-fn told_of(alloc: Global, run: &str, code: u8, written: &[u8]) -> Result<Option<String>, NoMemory> {
+// Why what a run gave is not what it is owed; nothing where it is.
+fn failure_on(
+    alloc: Global,
+    owed: &Answer,
+    run: &str,
+    given: &Given,
+    before: &[u8],
+) -> Result<Option<String>, NoMemory>
+    ensures { IfOk result (λ failure. IsNone failure ↔ Meets owed.now given.now.code given.now.text.items before.now) }
+{
+    let written = given.text.as_slice();
+    if owed.is_met(given.code, written, before) {
+        return Ok(None);
+    }
     let front = written.get(..MOST_TOLD).unwrap_or(written);
     let text = str::from_utf8(front).unwrap_or("no text");
+    let code = given.code;
     Ok(Some(format!(in alloc; "`{run}` gives status {code} and {text:?}")?))
 }

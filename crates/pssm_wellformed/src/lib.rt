@@ -35,6 +35,3 @@ mod walks;
 
 pub use checking::check;
 pub use fault::Fault;
-
-#[cfg(test)]
-mod tests;

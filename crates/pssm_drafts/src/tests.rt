@@ -1,27 +1,19 @@
-//! `check` on machines that break one rule alone, on those machines mended, and on a large one.
-//!
-//! The machines are spelled by bytes. A number is a byte from `0` on. A region is `t`, or `A` plus the number of its State. A vertex is its
+//! Drafts are spelled by bytes. A number is a byte from `0` on. A region is `t`, or `A` plus the number of its State. A vertex is its
 //! owner, a region's number or a State as before, and a letter for its kind; a transition is its source, its target, and `.`, `!` with a
-//! trigger, `?` with a guard, `e` with `else`, `l` local or `n` internal. A fault is `m`, `r`, `v` or `t`, a number, and a letter for the
-//! rule, `a` being E01.
+//! trigger, `?` with a guard, `e` with `else`, or `l` local with a trigger.
 ghost use Rattle.std.specs.Prelude.{◌<◌};
 
-use crate::{Fault, check};
 use pssm_model::{
-    ActId, DraftMachine, Element, FaultPlace, Guard, GuardId, Machine, Owner, RegionId, Row,
-    SignalId, Text, TransId, TransKind, Transition, Vertex, VertexId, VertexKind,
+    ActId, DraftMachine, Guard, GuardId, Machine, Owner, RegionId, Row, SignalId, Text, TransKind,
+    Transition, Vertex, VertexId, VertexKind,
 };
 use std::alloc::Global;
 use std::test::Fail;
 
-mod cycles;
-mod paths;
-mod samples;
-mod single;
-
-const TOP: Owner = Owner::Top;
-
-const R0: Owner = Owner::Region(RegionId(0));
+mod copies;
+mod places;
+mod rules;
+mod shapes;
 
 /// The number that a byte spells.
 fn number(byte: u8) -> u16 {
@@ -31,7 +23,7 @@ fn number(byte: u8) -> u16 {
 /// The owner that a byte spells.
 fn owner(byte: u8) -> Owner {
     match byte {
-        b't' => TOP,
+        b't' => Owner::Top,
         b'A'..=b'Z' => Owner::State(VertexId(u16::from(byte - b'A'))),
         _ => Owner::Region(RegionId(number(byte))),
     }
@@ -49,8 +41,6 @@ fn kind(byte: u8) -> VertexKind {
         b'u' => VertexKind::Junction,
         b'c' => VertexKind::Choice,
         b'n' => VertexKind::EntryPoint,
-        b'x' => VertexKind::ExitPoint,
-        b't' => VertexKind::Terminate,
         _ => VertexKind::State,
     }
 }
@@ -69,16 +59,16 @@ fn vertex(alloc: Global, owner: Owner, kind: VertexKind) -> Vertex {
 
 fn transition(alloc: Global, source: u16, target: u16, form: u8) -> Result<Transition, Fail> {
     let mut triggers = Vec::new(alloc);
-    if form == b'!' {
+    if form == b'!' || form == b'l' {
         triggers.push(SignalId(0))?;
     }
     Ok(Transition {
         source: VertexId(source),
         target: VertexId(target),
-        kind: match form {
-            b'l' => TransKind::Local,
-            b'n' => TransKind::Internal,
-            _ => TransKind::External,
+        kind: if form == b'l' {
+            TransKind::Local
+        } else {
+            TransKind::External
         },
         triggers: Row::from_vec(triggers),
         guard: match form {
@@ -127,45 +117,28 @@ fn draft_of(
     })
 }
 
-/// The faults of a draft that is a machine.
-fn faults_of(alloc: Global, draft: &DraftMachine) -> Result<Vec<Fault>, Fail> {
-    match Machine::new(alloc, draft) {
-        Ok(machine) => Ok(check(alloc, &machine)?),
-        Err(shape) => Err(Fail::from(shape)),
-    }
-}
-
-/// Whether three bytes spell the fault.
-fn spells(part: &[u8], fault: &Fault) -> bool {
-    if let [place, of, rule] = part {
-        let element = match place {
-            b'm' => FaultPlace::Top,
-            b'r' => FaultPlace::At(Element::Region(RegionId(number(*of)))),
-            b'v' => FaultPlace::At(Element::Vertex(VertexId(number(*of)))),
-            _ => FaultPlace::At(Element::Transition(TransId(number(*of)))),
-        };
-        return fault.element == element && fault.rule == rule.saturating_sub(b'a' - 1);
-    }
-    false
-}
-
-/// Whether the machine has exactly these faults, in this order.
-fn has_faults(
+/// The machine of a draft that has a shape.
+fn machine_of(
     alloc: Global,
     regions: &[u8],
     vertices: &[u8],
     transitions: &[u8],
-    told: &[u8],
-) -> Result<bool, Fail> {
-    let draft = draft_of(alloc, regions, vertices, transitions)?;
-    let faults = faults_of(alloc, &draft)?;
-    if told.chunks_exact(3).len() != faults.len() {
-        return Ok(false);
-    }
-    for (part, fault) in told.chunks_exact(3).zip(&faults) {
-        if !spells(part, fault) {
-            return Ok(false);
-        }
-    }
-    Ok(true)
+) -> Result<Machine, Fail> {
+    Ok(Machine::new(alloc, &draft_of(alloc, regions, vertices, transitions)?)?)
+}
+
+/// The machine of one State in one region.
+fn machine_of_a_state(alloc: Global, state: Vertex) -> Result<Machine, Fail> {
+    let draft = DraftMachine {
+        regions: Row::from_vec([Owner::Top].to_vec(alloc)?),
+        vertices: Row::from_vec(vec_of(alloc, state)?),
+        transitions: Row::from_vec(Vec::new(alloc)),
+    };
+    Ok(Machine::new(alloc, &draft)?)
+}
+
+fn vec_of<T: Drop>(alloc: Global, item: T) -> Result<Vec<T>, Fail> {
+    let mut items = Vec::new(alloc);
+    items.push(item)?;
+    Ok(items)
 }

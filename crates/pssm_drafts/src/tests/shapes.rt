@@ -1,0 +1,80 @@
+//! Shapes that no text has: owners of a wrong sort, and numbers past those of a text; and forms that are not built.
+use crate::tests::{draft_of, machine_of, machine_of_a_state, vec_of, vertex};
+use pssm_model::{
+    ActId, DraftMachine, Element, Machine, Owner, RegionId, Row, Shape, TransId, VertexId,
+    VertexKind, first_not_built,
+};
+use std::alloc::Global;
+use std::test::Fail;
+
+fn fault_of(alloc: Global, regions: &[u8], vertices: &[u8]) -> Result<Option<Shape>, Fail> {
+    Ok(Machine::new(alloc, &draft_of(alloc, regions, vertices, b"")?).err())
+}
+
+/// A region on a region, alone and before a vertex at fault; and a State on the machine, alone and before another.
+#[test]
+fn owners_of_a_wrong_sort(rt: HostRuntime) -> Result<(), Fail> {
+    let region = Some(Shape::BadOwner(Element::Region(RegionId(1))));
+    assert_eq!(rt; fault_of(rt.alloc(), b"t0", b"0s")?, region);
+    assert_eq!(rt; fault_of(rt.alloc(), b"t01", b"ts")?, region);
+    let state = Some(Shape::BadOwner(Element::Vertex(VertexId(0))));
+    assert_eq!(rt; fault_of(rt.alloc(), b"t", b"ts")?, state);
+    let second = Some(Shape::BadOwner(Element::Vertex(VertexId(1))));
+    assert_eq!(rt; fault_of(rt.alloc(), b"t", b"0stsAs")?, second);
+    Ok(())
+}
+
+/// A million regions and a million States: each region is owned by the State of its number, and each State stands in the next region, but
+/// for the last, which the machine owns.
+fn long_chain(alloc: Global) -> Result<DraftMachine, Fail> {
+    let mut owners = Vec::new(alloc);
+    let mut vertices = Vec::new(alloc);
+    for place in 0..0x10_0000u32 {
+        let number = (place % 0x1_0000) as u16;
+        owners.push(Owner::State(VertexId(number)))?;
+        let owner = match number.checked_add(1) {
+            Some(next) => Owner::Region(RegionId(next)),
+            None => Owner::Top,
+        };
+        vertices.push(vertex(alloc, owner, VertexKind::State))?;
+    }
+    Ok(DraftMachine {
+        regions: Row::from_vec(owners),
+        vertices: Row::from_vec(vertices),
+        transitions: Row::from_vec(Vec::new(alloc)),
+    })
+}
+
+/// The chain of region 0 passes 65,536 regions and ends at the machine.
+#[test]
+fn a_long_chain_of_regions(rt: HostRuntime) -> Result<(), Fail> {
+    let draft = long_chain(rt.alloc())?;
+    assert_eq!(rt;
+        Machine::new(rt.alloc(), &draft).err(),
+        Some(Shape::TooDeep(Element::Region(RegionId(0))))
+    );
+    Ok(())
+}
+
+/// A join, a fork, a local transition, and a State that does: in well-formed machines a region comes before the first three.
+#[test]
+fn forms_that_are_not_built(rt: HostRuntime) -> Result<(), Fail> {
+    let alloc = rt.alloc();
+    let third = Some(Element::Vertex(VertexId(3)));
+    let join = machine_of(alloc, b"t", b"0s0s0i0j0j", b"01!20.")?;
+    assert_eq!(rt; first_not_built(&join), third);
+    let fork = machine_of(alloc, b"t", b"0s0s0i0k0k", b"01!20.")?;
+    assert_eq!(rt; first_not_built(&fork), third);
+    let local = machine_of(alloc, b"t", b"0s0s0i", b"01!20.00l00l")?;
+    assert_eq!(rt;
+        first_not_built(&local),
+        Some(Element::Transition(TransId(2)))
+    );
+    let mut doing = vertex(alloc, Owner::Region(RegionId(0)), VertexKind::State);
+    doing.steps = Row::from_vec(vec_of(alloc, ActId(0))?);
+    let doing = machine_of_a_state(alloc, doing)?;
+    assert_eq!(rt; first_not_built(&doing), Some(Element::Vertex(VertexId(0))));
+    let built = machine_of(alloc, b"t", b"0s0s0i", b"01!20.")?;
+    assert_eq!(rt; first_not_built(&built), None);
+    Ok(())
+}
