@@ -57,6 +57,26 @@ Diff-parts a b c d e = let same = sym (Diff-is a b) ∙ e ∙ Diff-is c d in (ap
 pub Prod-parts : (a b c d : Expr) → views.Prod a b ≡ views.Prod c d → (a ≡ c) × (b ≡ d)
 Prod-parts a b c d e = let same = sym (Prod-is a b) ∙ e ∙ Prod-is c d in (ap first_of same, ap second_of same)
 
+abbrev inner_of : Cond → Cond
+inner_of (Not' p (more_of-Cond a end_of-Cond)) = a
+inner_of (And' p (more_of-Cond a end_of-Cond) q b) = a
+inner_of (Or' p (more_of-Cond a end_of-Cond) q b) = a
+inner_of c = c
+
+abbrev further_of : Cond → Cond
+further_of (And' p a q (more_of-Cond b end_of-Cond)) = b
+further_of (Or' p a q (more_of-Cond b end_of-Cond)) = b
+further_of c = c
+
+pub Not-part : (a b : Cond) → tests.Not a ≡ tests.Not b → a ≡ b
+Not-part a b e = ap inner_of (sym (Not-is a) ∙ e ∙ Not-is b)
+
+pub And-parts : (a b c d : Cond) → tests.And a b ≡ tests.And c d → (a ≡ c) × (b ≡ d)
+And-parts a b c d e = let same = sym (And-is a b) ∙ e ∙ And-is c d in (ap inner_of same, ap further_of same)
+
+pub Or-parts : (a b c d : Cond) → tests.Or a b ≡ tests.Or c d → (a ≡ c) × (b ≡ d)
+Or-parts a b c d e = let same = sym (Or-is a b) ∙ e ∙ Or-is c d in (ap inner_of same, ap further_of same)
+
 -- where the first parts are equal, the second ones decide
 pub rest_decides : {X A B : Type 0} (make : A → B → X) → ((a : A) (b : B) (c : A) (d : B) → make a b ≡ make c d → (a ≡ c) × (b ≡ d)) → {x y : X} {a c p q : A} {b d u v : B} {first rest : Bool}
     → x ≡ make a b → y ≡ make c d → p ≡ a → q ≡ c → (IsTrue first ↔ (p ≡ q)) → first ≡ true → u ≡ b → v ≡ d → (IsTrue rest ↔ (u ≡ v)) → IsTrue rest ↔ (x ≡ y)
@@ -74,3 +94,8 @@ first_differs make parts {a = a} {c = c} {b = b} {d = d} left right got other he
 -- a tree that is made otherwise is another one
 pub made_otherwise : {X : Type 0} {x y made : X} → x ≡ made → (y ≡ made → ⊥) → IsTrue false ↔ (x ≡ y)
 made_otherwise is not = (λ same. absurd cc, λ same. absurd (not (sym same ∙ is)))
+
+-- the one part decides
+pub part_decides : {X A : Type 0} (make : A → X) → ((a b : A) → make a ≡ make b → a ≡ b) → {x y : X} {a b p q : A} {same : Bool} → x ≡ make a → y ≡ make b → p ≡ a → q ≡ b → (IsTrue same ↔ (p ≡ q)) → IsTrue same ↔ (x ≡ y)
+part_decides make part {a = a} {b = b} left right got other decides =
+    (λ is. left ∙ ap make (sym got ∙ decides.0 is ∙ other) ∙ sym right, λ is. decides.1 (got ∙ part a b (sym left ∙ is ∙ right) ∙ sym other))
