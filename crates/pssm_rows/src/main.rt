@@ -16,11 +16,11 @@
 //! - `status N`: what the runs are owed that stand above it, up to the next status: this status, and exactly the text lines
 //!   below. In their place, `status N with E entries` owes a journal of E entries, whatever they are, `status N as before` what
 //!   the run before wrote, and `status N unlike before` anything else.
-//! - `judge MODEL`: the run of `judge MODEL written`. The file `written` is there in every run but the first of a case: what
-//!   the run before it wrote.
+//! - `judge MODEL`: the run of `judge MODEL written`. The file `written` holds what the run before it in the case wrote, and is
+//!   empty in the first.
 //! - `| TEXT`: a text line, the bytes of TEXT and a line feed. `N | TEXT` is the line N times, and `N from F | TEXT` too, with
 //!   F, F+1, and so on for `\#`. `pssm_cases` has the escapes of TEXT; a backslash at its end leaves the line feed out.
-//! - `+ NAME`: in the place of text lines, the whole text of a file.
+//! - `+ NAME`: among the text lines, the whole text of a file that was given before.
 //!
 //! The answers that are owed stand in the files, and none in this program.
 #![tactic(auto)]

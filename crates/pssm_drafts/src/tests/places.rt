@@ -2,6 +2,7 @@
 use crate::tests::machine_of;
 use pssm_model::{Machine, RegionId, VertexId};
 use std::alloc::Global;
+use std::ops::Range;
 use std::test::Fail;
 
 /// The regions in which a vertex lies.
@@ -57,43 +58,60 @@ fn scope_of(machine: &Machine, v: u16, w: u16) -> Option<u16> {
     }
 }
 
+/// Whether each of these vertices lies in just these regions and States.
+fn all_lie_in(
+    alloc: Global,
+    machine: &Machine,
+    list: Range<u16>,
+    regions: &[u16],
+    states: &[u16],
+) -> Result<bool, Fail> {
+    for v in list {
+        if !lies_in(alloc, machine, v, regions, states)? {
+            return Ok(false);
+        }
+    }
+    Ok(true)
+}
+
 /// Region 1 of State 1, which lies in region 0, and region 2 of State 4, which lies in region 1.
+fn history_machine(alloc: Global) -> Result<Machine, Fail> {
+    machine_of(alloc, b"tBE", b"0i0s0s1i1s1h1d1f2i2s2s", b"")
+}
+
 #[test]
 fn vertices_lie_in_what_stands_on_their_owner_chains(rt: HostRuntime) -> Result<(), Fail> {
-    let machine = machine_of(rt.alloc(), b"tBE", b"0i0s0s1i1s1h1d1f2i2s2s", b"")?;
-    for v in 0..3u16 {
-        assert!(rt; lies_in(rt.alloc(), &machine, v, &[0], &[])?, "{v}");
-    }
-    for v in 3..8u16 {
-        assert!(rt; lies_in(rt.alloc(), &machine, v, &[0, 1], &[1])?, "{v}");
-    }
-    for v in 8..11u16 {
-        assert!(rt;
-            lies_in(rt.alloc(), &machine, v, &[0, 1, 2], &[1, 4])?,
-            "{v}"
-        );
-    }
-    for (v, w, scope) in [
-        (9, 10, 2),
-        (9, 4, 1),
-        (7, 10, 1),
-        (9, 2, 0),
-        (1, 4, 0),
-        (1, 1, 0),
-    ] {
-        assert_eq!(rt; scope_of(&machine, v, w), Some(scope), "{v} {w}");
-    }
+    let machine = history_machine(rt.alloc())?;
+    assert!(rt; all_lie_in(rt.alloc(), &machine, 0..3, &[0], &[])?);
+    assert!(rt; all_lie_in(rt.alloc(), &machine, 3..8, &[0, 1], &[1])?);
+    assert!(rt; all_lie_in(rt.alloc(), &machine, 8..11, &[0, 1, 2], &[1, 4])?);
     Ok(())
 }
 
-/// An entry point of State 0 lies where the State lies; State 2 in its region 1 leads to nothing in top region 2.
+#[test]
+fn the_scope_is_the_innermost_common_region(rt: HostRuntime) -> Result<(), Fail> {
+    let machine = history_machine(rt.alloc())?;
+    assert_eq!(rt; scope_of(&machine, 9, 10), Some(2));
+    assert_eq!(rt; scope_of(&machine, 9, 4), Some(1));
+    assert_eq!(rt; scope_of(&machine, 7, 10), Some(1));
+    assert_eq!(rt; scope_of(&machine, 9, 2), Some(0));
+    assert_eq!(rt; scope_of(&machine, 1, 4), Some(0));
+    assert_eq!(rt; scope_of(&machine, 1, 1), Some(0));
+    Ok(())
+}
+
+/// An entry point of State 0 lies where the State lies; State 2 stands in its region 1, and State 3 in another top region.
+fn entered_machine(alloc: Global) -> Result<Machine, Fail> {
+    machine_of(alloc, b"tAt", b"0sAn1s2s", b"12.")
+}
+
 #[test]
 fn points_lie_where_their_states_lie(rt: HostRuntime) -> Result<(), Fail> {
-    let machine = machine_of(rt.alloc(), b"tAt", b"0sAn1s2s", b"12.")?;
+    let machine = entered_machine(rt.alloc())?;
     assert!(rt; lies_in(rt.alloc(), &machine, 1, &[0], &[])?);
     assert!(rt; lies_in(rt.alloc(), &machine, 2, &[0, 1], &[0])?);
-    for (v, w, scope) in [(1, 2, Some(0)), (2, 3, None), (3, 3, Some(2))] {
-        assert_eq!(rt; scope_of(&machine, v, w), scope, "{v} {w}");
-    }
+    assert_eq!(rt; scope_of(&machine, 1, 2), Some(0));
+    assert_eq!(rt; scope_of(&machine, 2, 3), None);
+    assert_eq!(rt; scope_of(&machine, 3, 3), Some(2));
     Ok(())
 }

@@ -34,31 +34,37 @@ fn guards_out_of_place(rt: HostRuntime) -> Result<(), Fail> {
     Ok(())
 }
 
-/// A choice, or a junction that is reached late, whose branches are all guarded breaks E18; with an `else`, or reached early, it does not.
+/// The fault of a machine of one region.
+fn fault_in(
+    alloc: Global,
+    vertices: &[u8],
+    transitions: &[u8],
+) -> Result<Option<(FaultPlace, u8)>, Fail> {
+    fault_of(alloc, &machine_of(alloc, b"t", vertices, transitions)?)
+}
+
+/// A choice, or a junction that is reached late, whose branches are all guarded breaks E18.
 #[test]
-fn guarded_branches(rt: HostRuntime) -> Result<(), Fail> {
-    let rows = [
-        (
-            b"0i0s0c".as_slice(),
-            b"01.12!21?".as_slice(),
-            at_vertex(2, 18),
-        ),
-        (b"0i0s0u".as_slice(), b"02.21?".as_slice(), at_vertex(2, 18)),
-        (b"0i0s0u".as_slice(), b"01.12!21?".as_slice(), None),
-        (b"0i0s0u".as_slice(), b"02.21?21e".as_slice(), None),
-        (
-            b"0i0s0u0u".as_slice(),
-            b"02.23?21e31?".as_slice(),
-            at_vertex(3, 18),
-        ),
-        (b"0i0s0u0u".as_slice(), b"02.23?21e31.".as_slice(), None),
-        (b"0i0s0c".as_slice(), b"01.12!21?21e".as_slice(), None),
-        (b"0i0s0c0s0s".as_slice(), b"01.12!23?24e".as_slice(), None),
-    ];
-    for (vertices, transitions, fault) in rows {
-        let machine = machine_of(rt.alloc(), b"t", vertices, transitions)?;
-        assert_eq!(rt; fault_of(rt.alloc(), &machine)?, fault, "{transitions:?}");
-    }
+fn guarded_branches_alone(rt: HostRuntime) -> Result<(), Fail> {
+    let alloc = rt.alloc();
+    assert_eq!(rt; fault_in(alloc, b"0i0s0c", b"01.12!21?")?, at_vertex(2, 18));
+    assert_eq!(rt; fault_in(alloc, b"0i0s0u", b"02.21?")?, at_vertex(2, 18));
+    assert_eq!(rt;
+        fault_in(alloc, b"0i0s0u0u", b"02.23?21e31?")?,
+        at_vertex(3, 18)
+    );
+    Ok(())
+}
+
+/// With `else` or a branch without guard, or reached early, it does not.
+#[test]
+fn guarded_branches_and_others(rt: HostRuntime) -> Result<(), Fail> {
+    let alloc = rt.alloc();
+    assert_eq!(rt; fault_in(alloc, b"0i0s0u", b"01.12!21?")?, None);
+    assert_eq!(rt; fault_in(alloc, b"0i0s0u", b"02.21?21e")?, None);
+    assert_eq!(rt; fault_in(alloc, b"0i0s0u0u", b"02.23?21e31.")?, None);
+    assert_eq!(rt; fault_in(alloc, b"0i0s0c", b"01.12!21?21e")?, None);
+    assert_eq!(rt; fault_in(alloc, b"0i0s0c0s0s", b"01.12!23?24e")?, None);
     Ok(())
 }
 

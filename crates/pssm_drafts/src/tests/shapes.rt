@@ -56,25 +56,33 @@ fn a_long_chain_of_regions(rt: HostRuntime) -> Result<(), Fail> {
     Ok(())
 }
 
-/// A join, a fork, a local transition, and a State that does: in well-formed machines a region comes before the first three.
+/// The first element of a form that is not built, in a machine of one region.
+fn found(alloc: Global, vertices: &[u8], transitions: &[u8]) -> Result<Option<Element>, Fail> {
+    Ok(first_not_built(&machine_of(alloc, b"t", vertices, transitions)?))
+}
+
+/// A join, a fork and a local transition: in well-formed machines a region comes before them.
 #[test]
 fn forms_that_are_not_built(rt: HostRuntime) -> Result<(), Fail> {
     let alloc = rt.alloc();
-    let third = Some(Element::Vertex(VertexId(3)));
-    let join = machine_of(alloc, b"t", b"0s0s0i0j0j", b"01!20.")?;
-    assert_eq!(rt; first_not_built(&join), third);
-    let fork = machine_of(alloc, b"t", b"0s0s0i0k0k", b"01!20.")?;
-    assert_eq!(rt; first_not_built(&fork), third);
-    let local = machine_of(alloc, b"t", b"0s0s0i", b"01!20.00l00l")?;
-    assert_eq!(rt;
-        first_not_built(&local),
-        Some(Element::Transition(TransId(2)))
-    );
+    let fourth = Some(Element::Vertex(VertexId(3)));
+    assert_eq!(rt; found(alloc, b"0s0s0i0j0j", b"01!20.")?, fourth);
+    assert_eq!(rt; found(alloc, b"0s0s0i0k0k", b"01!20.")?, fourth);
+    let third = Some(Element::Transition(TransId(2)));
+    assert_eq!(rt; found(alloc, b"0s0s0i", b"01!20.00l00l")?, third);
+    assert_eq!(rt; found(alloc, b"0s0s0i", b"01!20.")?, None);
+    Ok(())
+}
+
+#[test]
+fn a_state_that_does_is_not_built(rt: HostRuntime) -> Result<(), Fail> {
+    let alloc = rt.alloc();
     let mut doing = vertex(alloc, Owner::Region(RegionId(0)), VertexKind::State);
     doing.steps = Row::from_vec(vec_of(alloc, ActId(0))?);
-    let doing = machine_of_a_state(alloc, doing)?;
-    assert_eq!(rt; first_not_built(&doing), Some(Element::Vertex(VertexId(0))));
-    let built = machine_of(alloc, b"t", b"0s0s0i", b"01!20.")?;
-    assert_eq!(rt; first_not_built(&built), None);
+    let machine = machine_of_a_state(alloc, doing)?;
+    assert_eq!(rt;
+        first_not_built(&machine),
+        Some(Element::Vertex(VertexId(0)))
+    );
     Ok(())
 }
