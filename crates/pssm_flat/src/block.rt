@@ -4,10 +4,10 @@ ghost use Rattle.std.specs.Option.{option_map};
 ghost use Rattle.std.specs.Str.{bytes_eq};
 ghost use Rattle.pssm_flat.specs.Drafts.{last_of, next_number, number_from, with_signal as listed_with, names_region_owner, names_vertex_owner, is_state as is_state_kind, is_always as is_always_guard, plain_vertex, plain_transition, with_region, with_vertex, deferring as deferring_too, with_defer, with_transition, triggered as triggered_too, with_trigger, with_else};
 
-use pssm_semantics::SignalDecl;
 use pssm_model::{
     ActId, Guard, Owner, Row, SignalId, Text, TransKind, Transition, Vertex, VertexId, VertexKind,
 };
+use pssm_semantics::SignalDecl;
 use std::alloc::{AllocError, Global};
 
 /// The names and the elements that have been read, in the order of their lines.

@@ -9,13 +9,12 @@ use crate::pieces::{
     name_of_signal, put_named, put_object, put_region, put_signal, put_spelled,
     put_transition_line, put_var, put_vertex_line,
 };
-use pssm_semantics::{
-    Act, Class, Cond, Names, ObjectDecl, Setting, SignalDecl, VarDecl, write_act, write_cond,
-};
+use pssm_acts::{write_act, write_cond};
 use pssm_model::{
     ActId, Duplicate, Guard, Machine, RegionId, Row, SignalId, Text, TransId, Transition, Vertex,
     VertexId,
 };
+use pssm_semantics::{Act, Class, Cond, Names, ObjectDecl, Setting, SignalDecl, VarDecl};
 use std::alloc::{AllocError, Global};
 
 /// The names that the behaviours of a class may use.
