@@ -3,11 +3,11 @@ ghost use Rattle.std.specs.Prelude.{◌≡◌, [], IfOk};
 ghost use Rattle.pssm_semantics.specs.Built.{IsBuilt};
 ghost use Rattle.pssm_judge.specs.Sample.{sample_vertex, sample_transition, sample_machine, sample_class, sample_setting};
 
-use pssm_semantics::{Act, Class, ObjectDecl, Program, Setting, SignalDecl};
 use pssm_model::{
     ActId, DraftMachine, Guard, Machine, Owner, RegionId, Row, SignalId, Text, TransKind,
     Transition, Vertex, VertexId, VertexKind,
 };
+use pssm_semantics::{Act, Class, ObjectDecl, Program, Setting, SignalDecl};
 use std::alloc::{AllocError as NoMemory, Global};
 
 fn vertex(alloc: Global, kind: VertexKind) -> Vertex

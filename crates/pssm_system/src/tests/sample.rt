@@ -4,11 +4,11 @@ ghost use Rattle.pssm_system.specs.Sample.{sample_vertex, sample_transition, to_
 
 use crate::System;
 use crate::tests::GO;
-use pssm_semantics::{Act, Class, ObjectDecl, Program, Setting, SignalDecl};
 use pssm_model::{
     ActId, DraftMachine, Guard, Machine, Owner, RegionId, Row, SignalId, Text, TransKind,
     Transition, Vertex, VertexId, VertexKind,
 };
+use pssm_semantics::{Act, Class, ObjectDecl, Program, Setting, SignalDecl};
 use std::alloc::{AllocError as NoMemory, Global};
 
 fn vertex(alloc: Global, kind: VertexKind) -> Vertex
