@@ -1,9 +1,9 @@
 ghost use Rattle.std.specs.Prelude.{◌≤◌, length, IsTrue, All, IfOk};
 ghost use Rattle.pssm_journal.specs.Naming.{NamesDiffer};
 
-use crate::*;
 use crate::known::keeps_names;
 use crate::tests::{empty_machine, text};
+use crate::*;
 use pssm_model::{Firing, How, Mode, RegionId, Route, Row, SignalId, Text, TransId, VertexId};
 use pssm_semantics::{Args, Class, ObjectDecl, ObjectId, Program, Setting, SignalDecl};
 use std::alloc::{AllocError, Global};

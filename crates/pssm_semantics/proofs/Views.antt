@@ -81,9 +81,10 @@ Or-parts a b c d e = let same = sym (Or-is a b) ∙ e ∙ Or-is c d in (ap inner
 pub rest_decides : {X A B : Type 0} (make : A → B → X) → ((a : A) (b : B) (c : A) (d : B) → make a b ≡ make c d → (a ≡ c) × (b ≡ d)) → {x y : X} {a c p q : A} {b d u v : B} {first rest : Bool}
     → x ≡ make a b → y ≡ make c d → p ≡ a → q ≡ c → (IsTrue first ↔ (p ≡ q)) → first ≡ true → u ≡ b → v ≡ d → (IsTrue rest ↔ (u ≡ v)) → IsTrue rest ↔ (x ≡ y)
 rest_decides make parts {a = a} {c = c} {b = b} {d = d} left right got other heads holds more less tails =
-    let head : a ≡ c = sym got ∙ heads.0 holds ∙ other in
-    (λ same. left ∙ ap (λ z. make z b) head ∙ ap (λ z. make c z) (sym more ∙ tails.0 same ∙ less) ∙ sym right,
-    λ same. tails.1 (more ∙ (parts a b c d (sym left ∙ same ∙ right)).1 ∙ sym less))
+    let head : a ≡ c = sym got ∙ heads.0 holds ∙ other in (
+      λ same. left ∙ ap (λ z. make z b) head ∙ ap (λ z. make c z) (sym more ∙ tails.0 same ∙ less) ∙ sym right,
+      λ same. tails.1 (more ∙ (parts a b c d (sym left ∙ same ∙ right)).1 ∙ sym less),
+    )
 
 -- where the first parts differ, so do the trees
 pub first_differs : {X A B : Type 0} (make : A → B → X) → ((a : A) (b : B) (c : A) (d : B) → make a b ≡ make c d → (a ≡ c) × (b ≡ d)) → {x y : X} {a c p q : A} {b d : B} {first : Bool}
