@@ -79,24 +79,36 @@ fn history_machine(alloc: Global) -> Result<Machine, Fail> {
     machine_of(alloc, b"tBE", b"0i0s0s1i1s1h1d1f2i2s2s", b"")
 }
 
+/// Whether its vertices lie in what stands on their owner chains.
+fn lie_as_owned(alloc: Global, machine: &Machine) -> Result<bool, Fail> {
+    Ok(
+        all_lie_in(alloc, machine, 0..3, &[0], &[])?
+            && all_lie_in(alloc, machine, 3..8, &[0, 1], &[1])?
+            && all_lie_in(alloc, machine, 8..11, &[0, 1, 2], &[1, 4])?,
+    )
+}
+
 #[test]
 fn vertices_lie_in_what_stands_on_their_owner_chains(rt: HostRuntime) -> Result<(), Fail> {
-    let machine = history_machine(rt.alloc())?;
-    assert!(rt; all_lie_in(rt.alloc(), &machine, 0..3, &[0], &[])?);
-    assert!(rt; all_lie_in(rt.alloc(), &machine, 3..8, &[0, 1], &[1])?);
-    assert!(rt; all_lie_in(rt.alloc(), &machine, 8..11, &[0, 1, 2], &[1, 4])?);
+    let holds = lie_as_owned(rt.alloc(), &history_machine(rt.alloc())?)?;
+    assert!(rt; holds);
     Ok(())
+}
+
+/// Whether the scopes are the innermost common regions.
+fn have_scopes(machine: &Machine) -> bool {
+    scope_of(machine, 9, 10) == Some(2)
+        && scope_of(machine, 9, 4) == Some(1)
+        && scope_of(machine, 7, 10) == Some(1)
+        && scope_of(machine, 9, 2) == Some(0)
+        && scope_of(machine, 1, 4) == Some(0)
+        && scope_of(machine, 1, 1) == Some(0)
 }
 
 #[test]
 fn the_scope_is_the_innermost_common_region(rt: HostRuntime) -> Result<(), Fail> {
-    let machine = history_machine(rt.alloc())?;
-    assert_eq!(rt; scope_of(&machine, 9, 10), Some(2));
-    assert_eq!(rt; scope_of(&machine, 9, 4), Some(1));
-    assert_eq!(rt; scope_of(&machine, 7, 10), Some(1));
-    assert_eq!(rt; scope_of(&machine, 9, 2), Some(0));
-    assert_eq!(rt; scope_of(&machine, 1, 4), Some(0));
-    assert_eq!(rt; scope_of(&machine, 1, 1), Some(0));
+    let holds = have_scopes(&history_machine(rt.alloc())?);
+    assert!(rt; holds);
     Ok(())
 }
 
@@ -105,13 +117,20 @@ fn entered_machine(alloc: Global) -> Result<Machine, Fail> {
     machine_of(alloc, b"tAt", b"0sAn1s2s", b"12.")
 }
 
+/// Whether its entry point and the State behind it lie so, and it has these scopes.
+fn points_lie_outside(alloc: Global, machine: &Machine) -> Result<bool, Fail> {
+    Ok(
+        lies_in(alloc, machine, 1, &[0], &[])?
+            && lies_in(alloc, machine, 2, &[0, 1], &[0])?
+            && scope_of(machine, 1, 2) == Some(0)
+            && scope_of(machine, 2, 3).is_none()
+            && scope_of(machine, 3, 3) == Some(2),
+    )
+}
+
 #[test]
 fn points_lie_where_their_states_lie(rt: HostRuntime) -> Result<(), Fail> {
-    let machine = entered_machine(rt.alloc())?;
-    assert!(rt; lies_in(rt.alloc(), &machine, 1, &[0], &[])?);
-    assert!(rt; lies_in(rt.alloc(), &machine, 2, &[0, 1], &[0])?);
-    assert_eq!(rt; scope_of(&machine, 1, 2), Some(0));
-    assert_eq!(rt; scope_of(&machine, 2, 3), None);
-    assert_eq!(rt; scope_of(&machine, 3, 3), Some(2));
+    let holds = points_lie_outside(rt.alloc(), &entered_machine(rt.alloc())?)?;
+    assert!(rt; holds);
     Ok(())
 }

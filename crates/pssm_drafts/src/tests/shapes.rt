@@ -48,11 +48,8 @@ fn long_chain(alloc: Global) -> Result<DraftMachine, Fail> {
 /// The chain of region 0 passes 65,536 regions and ends at the machine.
 #[test]
 fn a_long_chain_of_regions(rt: HostRuntime) -> Result<(), Fail> {
-    let draft = long_chain(rt.alloc())?;
-    assert_eq!(rt;
-        Machine::new(rt.alloc(), &draft).err(),
-        Some(Shape::TooDeep(Element::Region(RegionId(0))))
-    );
+    let fault = Machine::new(rt.alloc(), &long_chain(rt.alloc())?).err();
+    assert_eq!(rt; fault, Some(Shape::TooDeep(Element::Region(RegionId(0)))));
     Ok(())
 }
 
@@ -79,10 +76,7 @@ fn a_state_that_does_is_not_built(rt: HostRuntime) -> Result<(), Fail> {
     let alloc = rt.alloc();
     let mut doing = vertex(alloc, Owner::Region(RegionId(0)), VertexKind::State);
     doing.steps = Row::from_vec(vec_of(alloc, ActId(0))?);
-    let machine = machine_of_a_state(alloc, doing)?;
-    assert_eq!(rt;
-        first_not_built(&machine),
-        Some(Element::Vertex(VertexId(0)))
-    );
+    let found = first_not_built(&machine_of_a_state(alloc, doing)?);
+    assert_eq!(rt; found, Some(Element::Vertex(VertexId(0))));
     Ok(())
 }
