@@ -127,14 +127,13 @@ fn machine_of(
     Ok(Machine::new(alloc, &draft_of(alloc, regions, vertices, transitions)?)?)
 }
 
-/// The machine of one State in one region.
-fn machine_of_a_state(alloc: Global, state: Vertex) -> Result<Machine, Fail> {
-    let draft = DraftMachine {
+/// The draft of one State in one region.
+fn draft_of_a_state(alloc: Global, state: Vertex) -> Result<DraftMachine, Fail> {
+    Ok(DraftMachine {
         regions: Row::from_vec([Owner::Top].to_vec(alloc)?),
         vertices: Row::from_vec(vec_of(alloc, state)?),
         transitions: Row::from_vec(Vec::new(alloc)),
-    };
-    Ok(Machine::new(alloc, &draft)?)
+    })
 }
 
 fn vec_of<T: Drop>(alloc: Global, item: T) -> Result<Vec<T>, Fail> {

@@ -1,23 +1,30 @@
 //! Rules of models at guards and behaviours, and of a machine without regions: what no text says.
-use crate::tests::{machine_of, machine_of_a_state, vertex};
+use crate::tests::{draft_of, draft_of_a_state, vertex};
 use pssm_model::{
-    ActId, Element, FaultPlace, Machine, Owner, RegionId, TransId, VertexId, VertexKind,
+    ActId, DraftMachine, Element, FaultPlace, Machine, Owner, RegionId, TransId, VertexId,
+    VertexKind,
 };
-use pssm_wellformed::check;
+use pssm_wellformed::{Fault, check};
 use std::alloc::Global;
 use std::test::Fail;
 
 /// A place and the rule that is broken there.
 type Broken = (FaultPlace, u8);
 
-/// How many rules the machine breaks, and the last of them.
-fn faults_of(alloc: Global, machine: &Machine) -> Result<(usize, Option<Broken>), Fail> {
-    let faults = check(alloc, machine)?;
-    let last = faults
-        .as_slice()
-        .last()
-        .map(|fault| (fault.element, fault.rule));
-    Ok((faults.len(), last))
+/// How many faults there are, and the last of them.
+fn told(faults: &[Fault]) -> (usize, Option<Broken>) {
+    match faults.last() {
+        Some(fault) => (faults.len(), Some((fault.element, fault.rule))),
+        None => (0, None),
+    }
+}
+
+/// How many rules the machine of the draft breaks, and the last of them.
+fn faults_of(alloc: Global, draft: &DraftMachine) -> Result<(usize, Option<Broken>), Fail> {
+    match Machine::new(alloc, draft) {
+        Ok(machine) => Ok(told(check(alloc, &machine)?.as_slice())),
+        Err(shape) => Err(Fail::from(shape)),
+    }
 }
 
 /// Whether the machine breaks this rule alone, or none.
@@ -28,9 +35,9 @@ fn breaks(
     transitions: &[u8],
     broken: Option<Broken>,
 ) -> Result<bool, Fail> {
-    let machine = machine_of(alloc, regions, vertices, transitions)?;
+    let draft = draft_of(alloc, regions, vertices, transitions)?;
     let count = if broken.is_some() { 1 } else { 0 };
-    Ok(faults_of(alloc, &machine)? == (count, broken))
+    Ok(faults_of(alloc, &draft)? == (count, broken))
 }
 
 fn at_vertex(number: u16, rule: u8) -> Option<Broken> {
@@ -89,7 +96,7 @@ fn no_region_and_a_final_state_that_behaves(rt: HostRuntime) -> Result<(), Fail>
     assert!(rt; breaks(alloc, b"", b"", b"", Some((FaultPlace::Top, 1)))?);
     let mut last = vertex(alloc, Owner::Region(RegionId(0)), VertexKind::Final);
     last.entry = ActId(1);
-    let faults = faults_of(alloc, &machine_of_a_state(alloc, last)?)?;
+    let faults = faults_of(alloc, &draft_of_a_state(alloc, last)?)?;
     assert_eq!(rt; faults, (2, at_vertex(0, 11)));
     Ok(())
 }

@@ -1,5 +1,5 @@
 //! Shapes that no text has: owners of a wrong sort, and numbers past those of a text; and forms that are not built.
-use crate::tests::{draft_of, machine_of, machine_of_a_state, vec_of, vertex};
+use crate::tests::{draft_of, draft_of_a_state, machine_of, vec_of, vertex};
 use pssm_model::{
     ActId, DraftMachine, Element, Machine, Owner, RegionId, Row, Shape, TransId, VertexId,
     VertexKind, first_not_built,
@@ -76,7 +76,7 @@ fn a_state_that_does_is_not_built(rt: HostRuntime) -> Result<(), Fail> {
     let alloc = rt.alloc();
     let mut doing = vertex(alloc, Owner::Region(RegionId(0)), VertexKind::State);
     doing.steps = Row::from_vec(vec_of(alloc, ActId(0))?);
-    let found = first_not_built(&machine_of_a_state(alloc, doing)?);
+    let found = first_not_built(&Machine::new(alloc, &draft_of_a_state(alloc, doing)?)?);
     assert_eq!(rt; found, Some(Element::Vertex(VertexId(0))));
     Ok(())
 }
