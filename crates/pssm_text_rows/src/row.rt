@@ -84,17 +84,47 @@ fn answer(
     match place.asked {
         Asked::Comparisons => compared(alloc, names, form, text, marks),
         Asked::Worth => worth(alloc, place, form, bytes_of(alloc, text)?.as_slice(), marks),
-        Asked::Trees | Asked::Marks => {
-            let read = read(alloc, form, bytes_of(alloc, text)?.as_slice(), names, marks)?;
-            Ok(tree(alloc, &read)?)
-        }
-        Asked::Spellings => {
-            let read = read(alloc, form, bytes_of(alloc, text)?.as_slice(), names, marks)?;
-            match &place.writing {
-                Some(known) => spelling(alloc, &read, &known.names, known.marks.as_slice()),
-                None => spelling(alloc, &read, names, marks.as_slice()),
-            }
-        }
+        Asked::Trees | Asked::Marks => tree_of(alloc, names, form, text, marks),
+        Asked::Spellings => spelling_of(alloc, place, form, text, marks),
+    }
+}
+
+// What the text of a row is read as.
+fn read_row(
+    alloc: Global,
+    names: &Names,
+    form: Form,
+    text: &str,
+    marks: &mut Vec<Text>,
+) -> Result<Spelled, Stop> {
+    let bytes = bytes_of(alloc, text)?;
+    read(alloc, form, bytes.as_slice(), names, marks)
+}
+
+// The tree of what a text is read as.
+fn tree_of(
+    alloc: Global,
+    names: &Names,
+    form: Form,
+    text: &str,
+    marks: &mut Vec<Text>,
+) -> Result<Vec<u8>, Stop> {
+    let read = read_row(alloc, names, form, text, marks)?;
+    tree(alloc, &read)
+}
+
+// The canonical spelling of what a text is read as, by the names to write with.
+fn spelling_of(
+    alloc: Global,
+    place: &Place,
+    form: Form,
+    text: &str,
+    marks: &mut Vec<Text>,
+) -> Result<Vec<u8>, Stop> {
+    let read = read_row(alloc, &place.reading.names, form, text, marks)?;
+    match &place.writing {
+        Some(known) => spelling(alloc, &read, &known.names, known.marks.as_slice()),
+        None => spelling(alloc, &read, &place.reading.names, marks.as_slice()),
     }
 }
 
@@ -107,19 +137,29 @@ fn compared(
     marks: &mut Vec<Text>,
 ) -> Result<Vec<u8>, Stop> {
     let (left, right) = texts.split_once(" & ").ok_or(Stop::Unread)?;
-    let left = read(alloc, form, bytes_of(alloc, left)?.as_slice(), names, marks)?;
-    let right = read(
-        alloc,
-        form,
-        bytes_of(alloc, right)?.as_slice(),
-        names,
-        marks,
-    )?;
-    let word = if left.copy(alloc)?.equals(&right) {
-        "equal"
-    } else {
-        "different"
-    };
+    let left = read_row(alloc, names, form, left, marks)?;
+    compared_with(alloc, names, form, &left, right, marks)
+}
+
+fn compared_with(
+    alloc: Global,
+    names: &Names,
+    form: Form,
+    left: &Spelled,
+    right: &str,
+    marks: &mut Vec<Text>,
+) -> Result<Vec<u8>, Stop> {
+    let right = read_row(alloc, names, form, right, marks)?;
+    comparison(alloc, left, &right)
+}
+
+fn comparison(alloc: Global, left: &Spelled, right: &Spelled) -> Result<Vec<u8>, Stop> {
+    let copy = left.copy(alloc)?;
+    word(alloc, copy.equals(right))
+}
+
+fn word(alloc: Global, is_equal: bool) -> Result<Vec<u8>, Stop> {
+    let word = if is_equal { "equal" } else { "different" };
     Ok(word.as_bytes().to_vec(alloc)?)
 }
 

@@ -1,10 +1,11 @@
 //! What a guard or a behaviour that is read is worth.
+ghost use Rattle.pssm_semantics.specs.Arguments.{ActArgsFit};
 
 use crate::place::{Form, Place};
 use crate::polish::put_word;
 use crate::reading::{behaviour, guard};
 use crate::stop::Stop;
-use pssm_acts::{Args, Names, Out, Outcome, run, truth};
+use pssm_acts::{Act, Args, Names, Out, Outcome, run, truth};
 use pssm_model::Text;
 use std::alloc::{AllocError, Global};
 
@@ -16,22 +17,41 @@ pub(crate) fn worth(
     text: &[u8],
     marks: &mut Vec<Text>,
 ) -> Result<Vec<u8>, Stop> {
-    let params = params(alloc, place.params.as_slice())?;
-    let names = &place.reading.names;
     match form {
-        Form::Guards => {
-            let guard = guard(alloc, text, names)?;
-            let holds = truth(&guard, place.values.as_slice(), &params);
-            let word: &[u8] = if holds { b"true" } else { b"false" };
-            Ok(word.to_vec(alloc)?)
-        }
-        Form::Behaviours => {
-            let act = behaviour(alloc, text, names, marks)?;
-            let worked = run(alloc, place.own, &act, place.values.as_slice(), &params)?;
-            Ok(made(alloc, worked.outcome(), names, marks.as_slice())?)
-        }
+        Form::Guards => guard_worth(alloc, place, text),
+        Form::Behaviours => behaviour_worth(alloc, place, text, marks),
         Form::Steps => Err(Stop::Unread),
     }
+}
+
+fn guard_worth(alloc: Global, place: &Place, text: &[u8]) -> Result<Vec<u8>, Stop> {
+    let params = params(alloc, place.params.as_slice())?;
+    let guard = guard(alloc, text, &place.reading.names)?;
+    truth_word(alloc, truth(&guard, place.values.as_slice(), &params))
+}
+
+fn truth_word(alloc: Global, holds: bool) -> Result<Vec<u8>, Stop> {
+    let word = if holds { "true" } else { "false" };
+    Ok(word.as_bytes().to_vec(alloc)?)
+}
+
+fn behaviour_worth(
+    alloc: Global,
+    place: &Place,
+    text: &[u8],
+    marks: &mut Vec<Text>,
+) -> Result<Vec<u8>, Stop> {
+    let act = behaviour(alloc, text, &place.reading.names, marks)?;
+    made_by(alloc, place, &act, marks.as_slice())
+}
+
+// What a behaviour makes of the values.
+fn made_by(alloc: Global, place: &Place, act: &Act, marks: &[Text]) -> Result<Vec<u8>, Stop>
+    requires { ActArgsFit act.now }
+{
+    let params = params(alloc, place.params.as_slice())?;
+    let worked = run(alloc, place.own, act, place.values.as_slice(), &params)?;
+    made(alloc, worked.outcome(), &place.reading.names, marks)
 }
 
 fn params(alloc: Global, values: &[i64]) -> Result<Args, Stop> {
@@ -42,12 +62,7 @@ fn params(alloc: Global, values: &[i64]) -> Result<Args, Stop> {
 }
 
 // The values of the variables, and each output as a line of a journal spells it.
-fn made(
-    alloc: Global,
-    outcome: &Outcome,
-    names: &Names,
-    marks: &[Text],
-) -> Result<Vec<u8>, AllocError> {
+fn made(alloc: Global, outcome: &Outcome, names: &Names, marks: &[Text]) -> Result<Vec<u8>, Stop> {
     let mut text = Vec::new(alloc);
     for value in outcome.store.as_slice() {
         put_word(&mut text, format!(in alloc; "{value}")?.as_bytes())?;
