@@ -8,9 +8,12 @@ use pssm_semantics::{Class, ObjectDecl, ObjectId, Program, Setting, SignalDecl};
 use std::alloc::{AllocError, Global};
 use std::test::Fail;
 
-/// A line of each kind.
-const LINES: &[u8] =
-    b"pssm-journal 1\npost a.Go()\nstart a\ntake a 1 -\nexit a v0\neffect a t10\nenter a v7\nopen a r0 default by t0\n";
+/// A journal with a line of each kind.
+fn each_kind(alloc: Global) -> Result<Vec<u8>, AllocError> {
+    b"pssm-journal 1\npost a.Go()\nstart a\ntake a 1 -\nexit a v0\neffect a t10\nenter a v7\nopen a r0 default by t0\n".to_vec(
+        alloc,
+    )
+}
 
 /// The lines of a text that comes in pieces of this size, and the fault.
 fn read(
@@ -31,13 +34,20 @@ fn read(
     Ok((lines, reader.finish()))
 }
 
+/// The fault of a text that comes in pieces of five bytes.
+fn fault_of(alloc: Global, text: &[u8]) -> Result<Option<LineFault>, AllocError> {
+    let (_, fault) = read(alloc, text, 5)?;
+    Ok(fault)
+}
+
 #[test]
 fn pieces(rt: HostRuntime) -> Result<(), Fail> {
-    let (whole, fault) = read(rt.alloc(), LINES, 1 << 20)?;
+    let text = each_kind(rt.alloc())?;
+    let (whole, fault) = read(rt.alloc(), text.as_slice(), 1 << 20)?;
     assert_eq!(rt; fault, None);
     assert_eq!(rt; whole.len(), 7);
     for size in [1, 2, 7] {
-        let (lines, fault) = read(rt.alloc(), LINES, size)?;
+        let (lines, fault) = read(rt.alloc(), text.as_slice(), size)?;
         assert_eq!(rt; fault, None);
         assert!(rt; lines == whole);
     }
@@ -59,16 +69,23 @@ fn says_where(rt: HostRuntime) -> Result<(), Fail> {
         ),
     ];
     for (text, want) in rows {
-        let (_, fault) = read(rt.alloc(), text, 5)?;
-        assert_eq!(rt; fault, Some(want));
+        assert_eq!(rt; fault_of(rt.alloc(), text)?, Some(want));
     }
     Ok(())
 }
 
+/// A journal whose third line is longer than any may be.
+fn too_long(alloc: Global) -> Result<Vec<u8>, AllocError> {
+    let mut text = b"pssm-journal 1\nstart a\n".to_vec(alloc)?;
+    for _ in 0..65_537 {
+        text.push(b'a')?;
+    }
+    Ok(text)
+}
+
 #[test]
 fn long_lines(rt: HostRuntime) -> Result<(), Fail> {
-    let mut text = b"pssm-journal 1\nstart a\n".to_vec(rt.alloc())?;
-    text.extend_from_slice(vec![in rt.alloc(); b'a'; 65_537]?.as_slice())?;
+    let text = too_long(rt.alloc())?;
     for size in [1000, 1 << 20] {
         let (lines, fault) = read(rt.alloc(), text.as_slice(), size)?;
         assert_eq!(rt; lines.len(), 1);
