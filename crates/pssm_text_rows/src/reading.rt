@@ -45,12 +45,7 @@ impl Spelled {
 fn are_signals(signals: &[SignalDecl]) -> bool
     ensures { IsTrue result → All (λ signal. signal.count ≤ 8) signals.now }
 {
-    for i in 0..signals.len() {
-        if signals[i].count > 8 {
-            return false;
-        }
-    }
-    true
+    signals.iter().all(|signal| signal.count <= 8)
 }
 
 // Whether there are no more names than a model can have.
