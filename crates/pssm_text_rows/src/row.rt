@@ -40,9 +40,9 @@ pub(crate) fn failure(
         return Err(Stop::Unread);
     }
     let owed = bytes_of(alloc, owed)?;
-    for i in 0..place.forms.len() {
-        let form = place.forms[i];
-        let found = found(alloc, place, form, text)?;
+    let forms = place.forms.as_slice().to_vec(alloc)?;
+    for form in &forms {
+        let found = found(alloc, place, *form, text)?;
         if !is_owed(&found, owed.as_slice()) {
             return Ok(Some(String::from_utf8(found.text).ok().ok_or(Stop::Unread)?));
         }
