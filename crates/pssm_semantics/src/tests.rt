@@ -1,10 +1,10 @@
-//! Copies and comparisons, each once; and the one call that runs a behaviour.
+//! Copies and comparisons, each once. What behaviours and guards are worth is shown by the rows of `pssm_text_rows`.
 use crate::*;
 use pssm_model::{Boxed, Row, SignalId, VertexId};
-use std::alloc::Global;
+use std::alloc::{AllocError as NoMemory, Global};
 use std::test::Fail;
 
-fn row_of<T: Drop>(alloc: Global, item: T) -> Result<Row<T>, Fail> {
+fn row_of<T: Drop>(alloc: Global, item: T) -> Result<Row<T>, NoMemory> {
     let mut items = Vec::new(alloc);
     items.push(item)?;
     Ok(Row::from_vec(items))
@@ -13,58 +13,100 @@ fn row_of<T: Drop>(alloc: Global, item: T) -> Result<Row<T>, Fail> {
 #[test]
 fn args_keep_their_values(rt: HostRuntime) -> Result<(), Fail> {
     let args = Args::from_vec([5, -7].to_vec(rt.alloc())?);
-    assert_eq!(rt; args.as_slice(), [5, -7].as_slice());
-    let other = args.copy(rt.alloc())?;
-    assert!(rt; args == other);
-    assert!(rt; args != Args::from_vec([5].to_vec(rt.alloc())?));
-    assert_eq!(rt; other.into_vec().as_slice(), [5, -7].as_slice());
+    assert_eq!(rt; args.into_vec().as_slice(), [5, -7].as_slice());
     Ok(())
 }
 
+fn args_equal_their_copy(alloc: Global, args: &Args) -> Result<bool, NoMemory> {
+    let other = args.copy(alloc)?;
+    Ok(*args == other)
+}
+
 #[test]
-fn outputs_and_entries_are_copied_and_compared(rt: HostRuntime) -> Result<(), Fail> {
-    let out = Out::Send {
+fn args_are_copied(rt: HostRuntime) -> Result<(), Fail> {
+    let args = Args::from_vec([5, -7].to_vec(rt.alloc())?);
+    assert!(rt; args_equal_their_copy(rt.alloc(), &args)?);
+    Ok(())
+}
+
+// A signal sent to object 1.
+fn sent(alloc: Global) -> Result<Out, NoMemory> {
+    Ok(Out::Send {
         object: ObjectId(1),
         signal: SignalId(2),
-        args: Args::from_vec([3].to_vec(rt.alloc())?),
-    };
-    assert!(rt; out == out.copy(rt.alloc())?);
-    let entry = Entry::DoStep {
+        args: Args::from_vec([3].to_vec(alloc)?),
+    })
+}
+
+fn out_equals_its_copy(alloc: Global, out: &Out) -> Result<bool, NoMemory> {
+    let other = out.copy(alloc)?;
+    Ok(*out == other)
+}
+
+#[test]
+fn outputs_are_copied(rt: HostRuntime) -> Result<(), Fail> {
+    let out = sent(rt.alloc())?;
+    assert!(rt; out_equals_its_copy(rt.alloc(), &out)?);
+    Ok(())
+}
+
+// A do step that sends.
+fn do_step(alloc: Global) -> Result<Entry, NoMemory> {
+    Ok(Entry::DoStep {
         object: ObjectId(0),
         state: VertexId(4),
         step: 5,
-        outs: row_of(rt.alloc(), out)?,
-    };
-    assert!(rt; entry == entry.copy(rt.alloc())?);
-    assert!(rt;
-        entry
-            != Entry::Start {
-                object: ObjectId(0)
-            }
-    );
-    Ok(())
+        outs: row_of(alloc, sent(alloc)?)?,
+    })
+}
+
+fn entry_equals_its_copy(alloc: Global, entry: &Entry) -> Result<bool, NoMemory> {
+    let other = entry.copy(alloc)?;
+    Ok(*entry == other)
 }
 
 #[test]
-fn stimuli_are_copied_and_compared(rt: HostRuntime) -> Result<(), Fail> {
+fn entries_are_copied(rt: HostRuntime) -> Result<(), Fail> {
+    let entry = do_step(rt.alloc())?;
+    assert!(rt; entry_equals_its_copy(rt.alloc(), &entry)?);
+    Ok(())
+}
+
+fn is_start(entry: &Entry) -> bool {
+    let start = Entry::Start {
+        object: ObjectId(0),
+    };
+    *entry == start
+}
+
+#[test]
+fn entries_differ(rt: HostRuntime) -> Result<(), Fail> {
+    let entry = do_step(rt.alloc())?;
+    assert!(rt; !is_start(&entry));
+    Ok(())
+}
+
+fn stimulus_equals_its_copy(alloc: Global, stimulus: &Stimulus) -> Result<bool, NoMemory> {
+    let other = stimulus.copy(alloc)?;
+    Ok(*stimulus == other)
+}
+
+#[test]
+fn stimuli_are_copied(rt: HostRuntime) -> Result<(), Fail> {
     let stimulus = Stimulus {
         object: ObjectId(1),
         signal: SignalId(2),
         args: Args::from_vec(Vec::new(rt.alloc())),
     };
-    assert!(rt; stimulus == stimulus.copy(rt.alloc())?);
+    assert!(rt; stimulus_equals_its_copy(rt.alloc(), &stimulus)?);
     Ok(())
 }
 
-/// `if !true { x := 5; }`, where 0 is the number of `x`.
-fn choice(alloc: Global) -> Result<Act, Fail> {
-    let assignment = Stmt::Assign {
-        variable: 0,
-        value: Expr::Num(5),
-    };
+// `if !true { }`.
+fn choice(alloc: Global) -> Result<Act, NoMemory> {
     let choice = Stmt::Choose {
         condition: Cond::Not(Boxed::new(alloc, Cond::True)?),
-        body: row_of(alloc, assignment)?,
+        body: Row::from_vec(Vec::new(alloc)),
         otherwise: None,
     };
     Ok(Act {
@@ -72,43 +114,42 @@ fn choice(alloc: Global) -> Result<Act, Fail> {
     })
 }
 
+fn act_equals_its_copy(alloc: Global, act: &Act) -> Result<bool, NoMemory> {
+    let other = act.copy(alloc)?;
+    Ok(*act == other)
+}
+
 #[test]
-fn behaviours_are_copied_and_compared(rt: HostRuntime) -> Result<(), Fail> {
+fn behaviours_are_copied(rt: HostRuntime) -> Result<(), Fail> {
     let act = choice(rt.alloc())?;
-    let other = act.copy(rt.alloc())?;
-    assert!(rt; act == other);
-    let idle = Act {
-        stmts: Row::from_vec(Vec::new(rt.alloc())),
-    };
-    assert!(rt; act != idle);
+    assert!(rt; act_equals_its_copy(rt.alloc(), &act)?);
     Ok(())
 }
 
-#[test]
-fn a_behaviour_is_run(rt: HostRuntime) -> Result<(), Fail> {
-    let none = Args::from_vec(Vec::new(rt.alloc()));
-    let worked = run(rt.alloc(), ObjectId(0), &choice(rt.alloc())?, &[7], &none)?;
-    assert_eq!(rt; worked.outcome().store.as_slice(), [7].as_slice());
-    assert!(rt; truth(&Cond::True, worked.store(), worked.params()));
-    Ok(())
+fn cond_equals_its_copy(alloc: Global, cond: &Cond) -> Result<bool, NoMemory> {
+    let other = cond.copy(alloc)?;
+    Ok(*cond == other)
 }
 
 #[test]
-fn guards_are_copied_and_compared(rt: HostRuntime) -> Result<(), Fail> {
+fn guards_are_copied(rt: HostRuntime) -> Result<(), Fail> {
     let guard = Cond::Compare(Rel::Lt, Expr::Var(0), Expr::Param(1));
-    let other = guard.copy(rt.alloc())?;
-    assert!(rt; guard == other);
-    assert!(rt; guard != Cond::True);
+    assert!(rt; cond_equals_its_copy(rt.alloc(), &guard)?);
     Ok(())
 }
 
+fn setting_equals_its_copy(alloc: Global, setting: &Setting) -> Result<bool, NoMemory> {
+    let other = setting.copy(alloc)?;
+    Ok(*setting == other)
+}
+
 #[test]
-fn settings_are_copied_and_compared(rt: HostRuntime) -> Result<(), Fail> {
+fn settings_are_copied(rt: HostRuntime) -> Result<(), Fail> {
     let setting = Setting {
         signals: Row::from_vec(Vec::new(rt.alloc())),
         classes: Row::from_vec(Vec::new(rt.alloc())),
         objects: Row::from_vec(Vec::new(rt.alloc())),
     };
-    assert!(rt; setting == setting.copy(rt.alloc())?);
+    assert!(rt; setting_equals_its_copy(rt.alloc(), &setting)?);
     Ok(())
 }
