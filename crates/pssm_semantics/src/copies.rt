@@ -1,11 +1,11 @@
 //! How values of this crate are made once more.
-ghost use Rattle.std.specs.Prelude.{◌≡◌, IfOk};
+ghost use Rattle.std.specs.Prelude.{◌≡◌, IfOk, Err};
 
-use crate::entry::{Entry, Out};
+use crate::entry::{Entry, ObjectId, Out};
 use crate::setting::{Class, ObjectDecl, Program, Setting, SignalDecl, VarDecl};
 use crate::stimulus::Stimulus;
 use crate::tree::{Act, Cond, Expr, Rel, Stmt};
-use pssm_model::{Boxed, Duplicate, Row};
+use pssm_model::{Boxed, Duplicate, MarkId, Row, SignalId};
 use std::alloc::{AllocError as NoMemory, Global};
 
 impl Duplicate for Out {
@@ -284,51 +284,86 @@ fn copy_stmt(stmt: &Stmt, alloc: Global) -> Result<Stmt, NoMemory>
     ensures { IfOk result (λ other. other ≡ stmt.now) }
 {
     match stmt {
-        Stmt::Assign { variable, value } => Ok(Stmt::Assign {
-            variable: *variable,
-            value: value.duplicate(alloc)?,
-        }),
+        Stmt::Assign { variable, value } => copy_assignment(*variable, value, alloc),
         Stmt::Choose {
             condition,
             body,
             otherwise: Some(rest),
         } => {
-            let condition = condition.duplicate(alloc)?;
             let body = copy_block(body.as_slice(), alloc)?;
-            let rest = copy_block(rest.as_slice(), alloc)?;
-            Ok(Stmt::Choose {
-                condition,
-                body,
-                otherwise: Some(rest),
-            })
+            match copy_block(rest.as_slice(), alloc) {
+                Ok(rest) => choice(condition, body, Some(rest), alloc),
+                Err(fault) => instead(body, fault),
+            }
         }
         Stmt::Choose {
             condition,
             body,
             otherwise: None,
-        } => {
-            let condition = condition.duplicate(alloc)?;
-            let body = copy_block(body.as_slice(), alloc)?;
-            Ok(Stmt::Choose {
-                condition,
-                body,
-                otherwise: None,
-            })
-        }
+        } => choice(condition, copy_block(body.as_slice(), alloc)?, None, alloc),
         Stmt::Send {
             object,
             signal,
             args,
-        } => Ok(Stmt::Send {
-            object: *object,
-            signal: *signal,
-            args: args.duplicate(alloc)?,
-        }),
-        Stmt::Mark { mark, args } => Ok(Stmt::Mark {
-            mark: *mark,
-            args: args.duplicate(alloc)?,
-        }),
+        } => copy_send(*object, *signal, args, alloc),
+        Stmt::Mark { mark, args } => copy_mark(*mark, args, alloc),
     }
+}
+
+fn copy_assignment(variable: u16, value: &Expr, alloc: Global) -> Result<Stmt, NoMemory>
+    ensures { IfOk result (λ other. other ≡ Stmt.Assign variable value.now) }
+{
+    let value = value.duplicate(alloc)?;
+    Ok(Stmt::Assign { variable, value })
+}
+
+fn copy_send(
+    object: Option<ObjectId>,
+    signal: SignalId,
+    args: &Row<Expr>,
+    alloc: Global,
+) -> Result<Stmt, NoMemory>
+    ensures { IfOk result (λ other. other ≡ Stmt.Send object signal args.now) }
+{
+    let args = args.duplicate(alloc)?;
+    Ok(Stmt::Send {
+        object,
+        signal,
+        args,
+    })
+}
+
+fn copy_mark(mark: MarkId, args: &Row<Expr>, alloc: Global) -> Result<Stmt, NoMemory>
+    ensures { IfOk result (λ other. other ≡ Stmt.Mark mark args.now) }
+{
+    let args = args.duplicate(alloc)?;
+    Ok(Stmt::Mark { mark, args })
+}
+
+/// A choice of two blocks that were copied.
+fn choice(
+    condition: &Cond,
+    body: Row<Stmt>,
+    otherwise: Option<Row<Stmt>>,
+    alloc: Global,
+) -> Result<Stmt, NoMemory>
+    ensures { IfOk result (λ other. other ≡ Stmt.Choose condition.now body otherwise) }
+{
+    match condition.duplicate(alloc) {
+        Ok(condition) => Ok(Stmt::Choose {
+            condition,
+            body,
+            otherwise,
+        }),
+        Err(fault) => instead((body, otherwise), fault),
+    }
+}
+
+/// A fault, in place of what was to be made of these parts.
+fn instead<P: Drop, T, E>(_parts: P, fault: E) -> Result<T, E>
+    ensures { result ≡ Err fault }
+{
+    Err(fault)
 }
 
 #[cycle(copies)]
