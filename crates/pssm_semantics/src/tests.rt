@@ -67,8 +67,7 @@ fn entry_equals_its_copy(alloc: Global, entry: &Entry) -> Result<bool, NoMemory>
 
 #[test]
 fn entries_are_copied(rt: HostRuntime) -> Result<(), Fail> {
-    let entry = do_step(rt.alloc())?;
-    assert!(rt; entry_equals_its_copy(rt.alloc(), &entry)?);
+    assert!(rt; entry_equals_its_copy(rt.alloc(), &do_step(rt.alloc())?)?);
     Ok(())
 }
 
@@ -131,10 +130,14 @@ fn cond_equals_its_copy(alloc: Global, cond: &Cond) -> Result<bool, NoMemory> {
     Ok(*cond == other)
 }
 
+// `v < $1`.
+fn comparison() -> Cond {
+    Cond::Compare(Rel::Lt, Expr::Var(0), Expr::Param(1))
+}
+
 #[test]
 fn guards_are_copied(rt: HostRuntime) -> Result<(), Fail> {
-    let guard = Cond::Compare(Rel::Lt, Expr::Var(0), Expr::Param(1));
-    assert!(rt; cond_equals_its_copy(rt.alloc(), &guard)?);
+    assert!(rt; cond_equals_its_copy(rt.alloc(), &comparison())?);
     Ok(())
 }
 
