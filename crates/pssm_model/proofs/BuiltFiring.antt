@@ -14,7 +14,8 @@ use Rattle.pssm_model.specs.declared.steps.Event.{Event}
 use Rattle.pssm_model.specs.declared.steps.Event.TheVariants.{Signal, Completion}
 use Rattle.pssm_model.specs.Forest.{HasKind}
 use Rattle.pssm_model.specs.Legs.{Leaves}
-use Rattle.pssm_model.specs.Routes.{Truth, IsSource, Lists, Stand, IsEnabled, Conflict, HasPriority}
+use Rattle.pssm_model.specs.Configuration.{Configuration}
+use Rattle.pssm_model.specs.Routes.{Truth, IsSource, Lists, IsEnabled, Conflict, HasPriority}
 use Rattle.pssm_model.specs.Firing.{IsSound, StartsBefore, IsFiring, IsLateOrigin, IsLateRoute}
 use Rattle.pssm_model.specs.Paths.{IsInitialOf}
 use Rattle.pssm_model.specs.BuiltMachine.{IsBuiltMachine}
@@ -35,27 +36,27 @@ abbrev pub TakesNothing : DraftMachine → VertexId → SignalId → Type 0
 TakesNothing m s signal = (t : TransId) → Leaves m t s → Lists m t signal → ⊥
 
 -- nothing fires where nothing is enabled
-pub nothing_is_sound : (m : DraftMachine) (stand : Stand) (truth : Truth) (event : Event) → IsSound m stand truth event []
-nothing_is_sound m stand truth event = record {
+pub nothing_is_sound : (m : DraftMachine) (now : Configuration) (truth : Truth) (event : Event) → IsSound m now truth event []
+nothing_is_sound m now truth event = record {
   enabled = λ k d lt. absurd (omega arith);
   agree = λ p q inside. absurd (nothing_in_nil p inside);
   ranked = λ p q inside. absurd (nothing_in_nil p inside);
 }
 
-pub fires_without_enabled : (m : DraftMachine) (stand : Stand) (truth : Truth) (event : Event)
-    → ((route : Route) → IsEnabled m stand truth event route → ⊥) → IsFiring m stand truth event []
-fires_without_enabled m stand truth event none = (
+pub fires_without_enabled : (m : DraftMachine) (now : Configuration) (truth : Truth) (event : Event)
+    → ((route : Route) → IsEnabled m now truth event route → ⊥) → IsFiring m now truth event []
+fires_without_enabled m now truth event none = (
   record {
-    sound = nothing_is_sound m stand truth event;
-    largest = λ others sound more p inside. absurd (none p (All-contains (IsEnabled m stand truth event) others p sound.enabled inside));
+    sound = nothing_is_sound m now truth event;
+    largest = λ others sound more p inside. absurd (none p (All-contains (IsEnabled m now truth event) others p sound.enabled inside));
   },
   none_in_order StartsBefore,
 )
 
-pub fires_only_enabled : (m : DraftMachine) (stand : Stand) (truth : Truth) (event : Event) (routes : List Route)
-    → ((route : Route) → IsEnabled m stand truth event route → ⊥) → IsFiring m stand truth event routes → routes ≡ []
-fires_only_enabled m stand truth event [] none h = refl
-fires_only_enabled m stand truth event (p ∷ ps) none h = absurd (none p (h.0.sound.enabled 0 p (omega arith)))
+pub fires_only_enabled : (m : DraftMachine) (now : Configuration) (truth : Truth) (event : Event) (routes : List Route)
+    → ((route : Route) → IsEnabled m now truth event route → ⊥) → IsFiring m now truth event routes → routes ≡ []
+fires_only_enabled m now truth event [] none h = refl
+fires_only_enabled m now truth event (p ∷ ps) none h = absurd (none p (h.0.sound.enabled 0 p (omega arith)))
 
 -- two routes from one source conflict
 pub conflict_from_source : (m : DraftMachine) (Active : VertexId → Type 0) (p q : Route) (s : VertexId)
@@ -68,85 +69,85 @@ module _ {m : DraftMachine} (b : IsBuiltMachine m) where
   no_priority p q h = no_vertex_in_state b h.0 h.1 h.4
 
   -- nothing fires at the completion of a State
-  pub fires_at_completion : (stand : Stand) (truth : Truth) (s : VertexId) → HasKind m s kinds.State → IsFiring m stand truth (Completion s) []
-  fires_at_completion stand truth s k =
-      fires_without_enabled m stand truth (Completion s) (λ route. completion_enables_nothing b stand truth s route k)
+  pub fires_at_completion : (now : Configuration) (truth : Truth) (s : VertexId) → HasKind m s kinds.State → IsFiring m now truth (Completion s) []
+  fires_at_completion now truth s k =
+      fires_without_enabled m now truth (Completion s) (λ route. completion_enables_nothing b now truth s route k)
 
-  pub fires_nothing_at_completion : (stand : Stand) (truth : Truth) (s : VertexId) (routes : List Route) → HasKind m s kinds.State
-      → IsFiring m stand truth (Completion s) routes → routes ≡ []
-  fires_nothing_at_completion stand truth s routes k =
-      fires_only_enabled m stand truth (Completion s) routes (λ route. completion_enables_nothing b stand truth s route k)
+  pub fires_nothing_at_completion : (now : Configuration) (truth : Truth) (s : VertexId) (routes : List Route) → HasKind m s kinds.State
+      → IsFiring m now truth (Completion s) routes → routes ≡ []
+  fires_nothing_at_completion now truth s routes k =
+      fires_only_enabled m now truth (Completion s) routes (λ route. completion_enables_nothing b now truth s route k)
 
   -- what a signal enables where one State is active
-  pub enabled_from_active : (stand : Stand) (truth : Truth) (signal : SignalId) (a : VertexId) (route : Route)
-      → ((s : VertexId) → stand.Active s → s ≡ a) → IsEnabled m stand truth (Signal signal) route
-      → (t : TransId) × IsTakenBy m stand signal route t a
-  enabled_from_active stand truth signal a route only h =
-      let taken = enabled_is_taken b stand truth signal route h in
-      (taken.0, subst (λ s. IsTakenBy m stand signal route taken.0 s) (only taken.1 taken.2.active) taken.2)
+  pub enabled_from_active : (now : Configuration) (truth : Truth) (signal : SignalId) (a : VertexId) (route : Route)
+      → ((s : VertexId) → now.Active s → s ≡ a) → IsEnabled m now truth (Signal signal) route
+      → (t : TransId) × IsTakenBy m now signal route t a
+  enabled_from_active now truth signal a route only h =
+      let taken = enabled_is_taken b now truth signal route h in
+      (taken.0, subst (λ s. IsTakenBy m now signal route taken.0 s) (only taken.1 taken.2.active) taken.2)
 
-  pub fires_none : (stand : Stand) (truth : Truth) (signal : SignalId) (a : VertexId)
-      → ((s : VertexId) → stand.Active s → s ≡ a) → TakesNothing m a signal → IsFiring m stand truth (Signal signal) []
-  fires_none stand truth signal a only none =
-      fires_without_enabled m stand truth (Signal signal)
-      (λ route h. let taken = enabled_from_active stand truth signal a route only h in none taken.0 taken.1.leaves taken.1.lists)
+  pub fires_none : (now : Configuration) (truth : Truth) (signal : SignalId) (a : VertexId)
+      → ((s : VertexId) → now.Active s → s ≡ a) → TakesNothing m a signal → IsFiring m now truth (Signal signal) []
+  fires_none now truth signal a only none =
+      fires_without_enabled m now truth (Signal signal)
+      (λ route h. let taken = enabled_from_active now truth signal a route only h in none taken.0 taken.1.leaves taken.1.lists)
 
-  pub single_is_sound : (stand : Stand) (truth : Truth) (signal : SignalId) (a : VertexId) (t : TransId)
-      → stand.Active a → Leaves m t a → Lists m t signal → IsSound m stand truth (Signal signal) (single_route t ∷ [])
-  single_is_sound stand truth signal a t is l lists = record {
-    enabled = all_of_one (IsEnabled m stand truth (Signal signal)) (single_route t) (taken_is_enabled b stand truth signal t a l lists is);
+  pub single_is_sound : (now : Configuration) (truth : Truth) (signal : SignalId) (a : VertexId) (t : TransId)
+      → now.Active a → Leaves m t a → Lists m t signal → IsSound m now truth (Signal signal) (single_route t ∷ [])
+  single_is_sound now truth signal a t is l lists = record {
+    enabled = all_of_one (IsEnabled m now truth (Signal signal)) (single_route t) (taken_is_enabled b now truth signal t a l lists is);
     agree = λ p q first second conflict. conflict.0 (is_one (single_route t) p first ∙ sym (is_one (single_route t) q second));
     ranked = λ p q inside enabled conflict priority. no_priority q p priority;
   }
 
   -- a route of a sound set that starts at the source of another is that other
-  pub same_in_sound : (stand : Stand) (truth : Truth) (signal : SignalId) (a : VertexId) (t : TransId) (others : List Route) (p : Route)
-      → ((s : VertexId) → stand.Active s → s ≡ a) → Leaves m t a → IsSound m stand truth (Signal signal) others
+  pub same_in_sound : (now : Configuration) (truth : Truth) (signal : SignalId) (a : VertexId) (t : TransId) (others : List Route) (p : Route)
+      → ((s : VertexId) → now.Active s → s ≡ a) → Leaves m t a → IsSound m now truth (Signal signal) others
       → Contains others (single_route t) → Contains others p → p ≡ single_route t
-  same_in_sound stand truth signal a t others p only l sound first second =
-      let taken = enabled_from_active stand truth signal a p only (All-contains (IsEnabled m stand truth (Signal signal)) others p sound.enabled second) in
+  same_in_sound now truth signal a t others p only l sound first second =
+      let taken = enabled_from_active now truth signal a p only (All-contains (IsEnabled m now truth (Signal signal)) others p sound.enabled second) in
       ⊎_elim (λ e. taken.1.route_is ∙ ap single_route (same_transition taken.0 t e))
       (λ apart. absurd (sound.agree p (single_route t) second first
-      (conflict_from_source m stand.Active p (single_route t) a
+      (conflict_from_source m now.Active p (single_route t) a
       (λ e. apart (ap (λ (u : TransId). u.0) (single_route_same taken.0 t (sym taken.1.route_is ∙ e))))
       (subst (λ r. IsSource m r a) (sym taken.1.route_is) (single_source m taken.0 a taken.1.leaves)) (single_source m t a l))))
       (cases_eq taken.0.0 t.0)
 
-  pub fires_one : (stand : Stand) (truth : Truth) (signal : SignalId) (a : VertexId) (t : TransId)
-      → stand.Active a → ((s : VertexId) → stand.Active s → s ≡ a) → Leaves m t a → Lists m t signal
-      → IsFiring m stand truth (Signal signal) (single_route t ∷ [])
-  fires_one stand truth signal a t is only l lists = (
+  pub fires_one : (now : Configuration) (truth : Truth) (signal : SignalId) (a : VertexId) (t : TransId)
+      → now.Active a → ((s : VertexId) → now.Active s → s ≡ a) → Leaves m t a → Lists m t signal
+      → IsFiring m now truth (Signal signal) (single_route t ∷ [])
+  fires_one now truth signal a t is only l lists = (
     record {
-      sound = single_is_sound stand truth signal a t is l lists;
+      sound = single_is_sound now truth signal a t is l lists;
       largest = λ others sound more p inside.
           subst (λ r. Contains (single_route t ∷ []) r)
-          (sym (same_in_sound stand truth signal a t others p only l sound (more (single_route t) (in_one (single_route t))) inside))
+          (sym (same_in_sound now truth signal a t others p only l sound (more (single_route t) (in_one (single_route t))) inside))
           (in_one (single_route t));
     },
     one_in_order StartsBefore (single_route t),
   )
 
   -- what fires is nothing, or the one route of a transition out of the active State
-  pub fires_only : (stand : Stand) (truth : Truth) (signal : SignalId) (a : VertexId) (routes : List Route)
-      → stand.Active a → ((s : VertexId) → stand.Active s → s ≡ a) → IsFiring m stand truth (Signal signal) routes
+  pub fires_only : (now : Configuration) (truth : Truth) (signal : SignalId) (a : VertexId) (routes : List Route)
+      → now.Active a → ((s : VertexId) → now.Active s → s ≡ a) → IsFiring m now truth (Signal signal) routes
       → ((routes ≡ []) × TakesNothing m a signal) ⊎ ((t : TransId) × FiresOne m a signal routes t)
-  fires_only stand truth signal a [] is only h =
+  fires_only now truth signal a [] is only h =
       inl (
         refl,
         λ t l lists.
             nothing_in_nil (single_route t)
-            (h.0.largest (single_route t ∷ []) (single_is_sound stand truth signal a t is l lists) (λ p inside. absurd (nothing_in_nil p inside))
+            (h.0.largest (single_route t ∷ []) (single_is_sound now truth signal a t is l lists) (λ p inside. absurd (nothing_in_nil p inside))
             (single_route t) (in_one (single_route t))),
       )
-  fires_only stand truth signal a (p ∷ []) is only h =
-      let taken = enabled_from_active stand truth signal a p only (h.0.sound.enabled 0 p (omega arith)) in
+  fires_only now truth signal a (p ∷ []) is only h =
+      let taken = enabled_from_active now truth signal a p only (h.0.sound.enabled 0 p (omega arith)) in
       inr (taken.0, record { routes_are = ap (λ (r : Route). r ∷ []) taken.1.route_is; leaves = taken.1.leaves; lists = taken.1.lists })
-  fires_only stand truth signal a (p ∷ q ∷ rest) is only h =
-      let taken = enabled_from_active stand truth signal a p only (h.0.sound.enabled 0 p (omega arith)) in
+  fires_only now truth signal a (p ∷ q ∷ rest) is only h =
+      let taken = enabled_from_active now truth signal a p only (h.0.sound.enabled 0 p (omega arith)) in
       let t = taken.0 in
       let first : Contains (p ∷ q ∷ rest) (single_route t) = (0, omega arith, taken.1.route_is) in
       let second : Contains (p ∷ q ∷ rest) q = (1, omega arith, refl) in
-      let again = same_in_sound stand truth signal a t (p ∷ q ∷ rest) q only taken.1.leaves h.0.sound first second in
+      let again = same_in_sound now truth signal a t (p ∷ q ∷ rest) q only taken.1.leaves h.0.sound first second in
       let below : t.0 < t.0 =
       h.1 0 1 p (omega arith) (omega arith) t t [] [] (ap (λ (r : Route). r.starts) taken.1.route_is) (ap (λ (r : Route). r.starts) again) in
       absurd (omega arith)
@@ -182,22 +183,22 @@ module _ {m : DraftMachine} (b : IsBuiltMachine m) where
   }
 
   -- the same in both directions
-  pub fires_is : (stand : Stand) (truth : Truth) (signal : SignalId) (a : VertexId) (routes : List Route)
-      → stand.Active a → ((s : VertexId) → stand.Active s → s ≡ a)
-      → IsFiring m stand truth (Signal signal) routes
+  pub fires_is : (now : Configuration) (truth : Truth) (signal : SignalId) (a : VertexId) (routes : List Route)
+      → now.Active a → ((s : VertexId) → now.Active s → s ≡ a)
+      → IsFiring m now truth (Signal signal) routes
       ↔ (((routes ≡ []) × TakesNothing m a signal) ⊎ ((t : TransId) × FiresOne m a signal routes t))
-  fires_is stand truth signal a routes is only = (
-    fires_only stand truth signal a routes is only,
-    ⊎_elim (λ h. subst (λ rs. IsFiring m stand truth (Signal signal) rs) (sym h.0) (fires_none stand truth signal a only h.1))
-        (λ h. subst (λ rs. IsFiring m stand truth (Signal signal) rs) (sym h.1.routes_are)
-        (fires_one stand truth signal a h.0 is only h.1.leaves h.1.lists)),
+  fires_is now truth signal a routes is only = (
+    fires_only now truth signal a routes is only,
+    ⊎_elim (λ h. subst (λ rs. IsFiring m now truth (Signal signal) rs) (sym h.0) (fires_none now truth signal a only h.1))
+        (λ h. subst (λ rs. IsFiring m now truth (Signal signal) rs) (sym h.1.routes_are)
+        (fires_one now truth signal a h.0 is only h.1.leaves h.1.lists)),
   )
 
-  pub fires_at_completion_is : (stand : Stand) (truth : Truth) (s : VertexId) (routes : List Route) → HasKind m s kinds.State
-      → IsFiring m stand truth (Completion s) routes ↔ (routes ≡ [])
-  fires_at_completion_is stand truth s routes k = (
-    fires_nothing_at_completion stand truth s routes k,
-    λ e. subst (λ rs. IsFiring m stand truth (Completion s) rs) (sym e) (fires_at_completion stand truth s k),
+  pub fires_at_completion_is : (now : Configuration) (truth : Truth) (s : VertexId) (routes : List Route) → HasKind m s kinds.State
+      → IsFiring m now truth (Completion s) routes ↔ (routes ≡ [])
+  fires_at_completion_is now truth s routes k = (
+    fires_nothing_at_completion now truth s routes k,
+    λ e. subst (λ rs. IsFiring m now truth (Completion s) rs) (sym e) (fires_at_completion now truth s k),
   )
 
   pub late_route_is_first : (truth : Truth) (v : VertexId) (route : Route)

@@ -10,7 +10,8 @@ use Rattle.pssm_model.specs.declared.steps.Route.{Route}
 use Rattle.pssm_model.specs.declared.steps.Event.TheVariants.{Signal, Completion}
 use Rattle.pssm_model.specs.Forest.{HasKind}
 use Rattle.pssm_model.specs.Legs.{Leaves, On, transitions_of, Exits}
-use Rattle.pssm_model.specs.Routes.{Truth, IsTrueAt, GoesOnAt, IsReached, IsRoute, IsSource, IsStateRoute, Lists, Stand, IsEnabled}
+use Rattle.pssm_model.specs.Configuration.{Configuration}
+use Rattle.pssm_model.specs.Routes.{Truth, IsTrueAt, GoesOnAt, IsReached, IsRoute, IsSource, IsStateRoute, Lists, IsEnabled}
 use Rattle.pssm_model.specs.Routes.IsReached.{start, on}
 use Rattle.pssm_model.specs.BuiltMachine.{IsBuiltMachine}
 use Rattle.pssm_model.specs.OneRegion.{first_transition, single_route}
@@ -76,11 +77,11 @@ pub single_source : (m : DraftMachine) (t : TransId) (s : VertexId) → Leaves m
 single_source m t s h = (t, in_one t, h)
 
 -- a transition that takes an active State by a signal
-pub record IsTakenBy (m : DraftMachine) (stand : Stand) (signal : SignalId) (route : Route) (t : TransId) (s : VertexId) : Type 0 where
+pub record IsTakenBy (m : DraftMachine) (now : Configuration) (signal : SignalId) (route : Route) (t : TransId) (s : VertexId) : Type 0 where
   pub route_is : route ≡ single_route t
   pub leaves : Leaves m t s
   pub lists : Lists m t signal
-  pub active : stand.Active s
+  pub active : now.Active s
 
 module _ {m : DraftMachine} (b : IsBuiltMachine m) where
   -- no transition goes on from a State, so a route has one transition
@@ -142,9 +143,9 @@ module _ {m : DraftMachine} (b : IsBuiltMachine m) where
   single_guards truth t lt u inside = subst (λ w. IsTrueAt m truth w) (sym (on_single_is t u inside)) (true_at b truth t lt)
 
   -- a signal enables the transitions out of active States that list it
-  pub enabled_is_taken : (stand : Stand) (truth : Truth) (signal : SignalId) (route : Route) → IsEnabled m stand truth (Signal signal) route
-      → (t : TransId) × (s : VertexId) × IsTakenBy m stand signal route t s
-  enabled_is_taken stand truth signal route h =
+  pub enabled_is_taken : (now : Configuration) (truth : Truth) (signal : SignalId) (route : Route) → IsEnabled m now truth (Signal signal) route
+      → (t : TransId) × (s : VertexId) × IsTakenBy m now signal route t s
+  enabled_is_taken now truth signal route h =
       let one = state_route_is_single route h.route_of_states in
       let from = source_there b one.0 one.3 in
       let start_is : one.0 ≡ h.by_event.0 = (let e = ap (λ (r : Route). r.starts) one.1 in cc (e, h.by_event.1)) in
@@ -159,20 +160,20 @@ module _ {m : DraftMachine} (b : IsBuiltMachine m) where
         },
       )
 
-  pub taken_is_enabled : (stand : Stand) (truth : Truth) (signal : SignalId) (t : TransId) (s : VertexId)
-      → Leaves m t s → Lists m t signal → stand.Active s → IsEnabled m stand truth (Signal signal) (single_route t)
-  taken_is_enabled stand truth signal t s l lists is =
+  pub taken_is_enabled : (now : Configuration) (truth : Truth) (signal : SignalId) (t : TransId) (s : VertexId)
+      → Leaves m t s → Lists m t signal → now.Active s → IsEnabled m now truth (Signal signal) (single_route t)
+  taken_is_enabled now truth signal t s l lists is =
       let r = lists_past_first b t signal lists in
       record {
         route_of_states = single_is_state_route t r.0 r.1;
-        by_event = (t, refl, lists, λ q source. subst (λ v. stand.Active v) (leaves_one m t s q l (single_source_is m t q source)) is);
+        by_event = (t, refl, lists, λ q source. subst (λ v. now.Active v) (leaves_one m t s q l (single_source_is m t q source)) is);
         guards = single_guards truth t r.1;
       }
 
   -- the completion of a State enables nothing
-  pub completion_enables_nothing : (stand : Stand) (truth : Truth) (s : VertexId) (route : Route) → HasKind m s kinds.State
-      → IsEnabled m stand truth (Completion s) route → ⊥
-  completion_enables_nothing stand truth s route k h =
+  pub completion_enables_nothing : (now : Configuration) (truth : Truth) (s : VertexId) (route : Route) → HasKind m s kinds.State
+      → IsEnabled m now truth (Completion s) route → ⊥
+  completion_enables_nothing now truth s route k h =
       let source = h.by_event.0 in
       no_completion_transition b source.0 s (h.by_event.1 source.0 source.1) source.2 k
 
@@ -184,10 +185,10 @@ module _ {m : DraftMachine} (b : IsBuiltMachine m) where
       → IsStateRoute m route ↔ ((t : TransId) × (route ≡ single_route t) × (t ≢ first_transition m) × (t.0 < length m.transitions))
   state_route_is route = (state_route_is_single route, λ h. subst (λ r. IsStateRoute m r) (sym h.1) (single_is_state_route h.0 h.2 h.3))
 
-  pub enabled_is : (stand : Stand) (truth : Truth) (signal : SignalId) (route : Route)
-      → IsEnabled m stand truth (Signal signal) route ↔ ((t : TransId) × (s : VertexId) × IsTakenBy m stand signal route t s)
-  enabled_is stand truth signal route = (
-    enabled_is_taken stand truth signal route,
-    λ h. subst (λ r. IsEnabled m stand truth (Signal signal) r) (sym h.2.route_is)
-        (taken_is_enabled stand truth signal h.0 h.1 h.2.leaves h.2.lists h.2.active),
+  pub enabled_is : (now : Configuration) (truth : Truth) (signal : SignalId) (route : Route)
+      → IsEnabled m now truth (Signal signal) route ↔ ((t : TransId) × (s : VertexId) × IsTakenBy m now signal route t s)
+  enabled_is now truth signal route = (
+    enabled_is_taken now truth signal route,
+    λ h. subst (λ r. IsEnabled m now truth (Signal signal) r) (sym h.2.route_is)
+        (taken_is_enabled now truth signal h.0 h.1 h.2.leaves h.2.lists h.2.active),
   )

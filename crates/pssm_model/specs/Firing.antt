@@ -9,20 +9,21 @@ use Rattle.pssm_model.specs.declared.steps.Route.{Route}
 use Rattle.pssm_model.specs.declared.steps.Event.{Event}
 use Rattle.pssm_model.specs.declared.steps.Event.TheVariants.{Signal}
 use Rattle.pssm_model.specs.Forest.{HasKind, IsOrLiesIn}
+use Rattle.pssm_model.specs.Configuration.{Configuration}
 use Rattle.pssm_model.specs.Legs.{Leaves, On}
-use Rattle.pssm_model.specs.Routes.{Truth, Stand, IsRoute, IsEnabled, IsSource, IsTrueAt, Conflict, HasPriority}
+use Rattle.pssm_model.specs.Routes.{Truth, IsRoute, IsEnabled, IsSource, IsTrueAt, Conflict, HasPriority}
 
 -- a set of enabled routes, none of which conflicts with another or with an enabled one that has priority over it
 -- (UML 2.5.1 14.2.3.9, transition selection)
-pub record IsSound (m : DraftMachine) (stand : Stand) (truth : Truth) (event : Event) (routes : List Route) : Type 0 where
-  pub enabled : All (IsEnabled m stand truth event) routes
-  pub agree : (p q : Route) → Contains routes p → Contains routes q → Conflict m stand.Active p q → ⊥
-  pub ranked : (p q : Route) → Contains routes p → IsEnabled m stand truth event q → Conflict m stand.Active p q → HasPriority m q p → ⊥
+pub record IsSound (m : DraftMachine) (now : Configuration) (truth : Truth) (event : Event) (routes : List Route) : Type 0 where
+  pub enabled : All (IsEnabled m now truth event) routes
+  pub agree : (p q : Route) → Contains routes p → Contains routes q → Conflict m now.Active p q → ⊥
+  pub ranked : (p q : Route) → Contains routes p → IsEnabled m now truth event q → Conflict m now.Active p q → HasPriority m q p → ⊥
 
 -- a sound set that is contained in no other: a maximal set (UML 2.5.1 14.2.3.9, transition selection)
-pub record IsFiringSet (m : DraftMachine) (stand : Stand) (truth : Truth) (event : Event) (routes : List Route) : Type 0 where
-  pub sound : IsSound m stand truth event routes
-  pub largest : (others : List Route) → IsSound m stand truth event others → ((p : Route) → Contains routes p → Contains others p)
+pub record IsFiringSet (m : DraftMachine) (now : Configuration) (truth : Truth) (event : Event) (routes : List Route) : Type 0 where
+  pub sound : IsSound m now truth event routes
+  pub largest : (others : List Route) → IsSound m now truth event others → ((p : Route) → Contains routes p → Contains others p)
       → (p : Route) → Contains others p → Contains routes p
 
 -- The first start of the first route has a lower number than that of the second (this profile's choice).
@@ -34,8 +35,8 @@ abbrev pub IsListed : List Route → Type 0
 IsListed routes = AllPairs StartsBefore routes
 
 -- what fires: a maximal set of enabled routes, in its one spelling (UML 2.5.1 14.2.3.9, transition selection; the order is this profile's choice)
-abbrev pub IsFiring : DraftMachine → Stand → Truth → Event → List Route → Type 0
-IsFiring m stand truth event routes = IsFiringSet m stand truth event routes × IsListed routes
+abbrev pub IsFiring : DraftMachine → Configuration → Truth → Event → List Route → Type 0
+IsFiring m now truth event routes = IsFiringSet m now truth event routes × IsListed routes
 
 -- a shallow or a deep history vertex (UML 2.5.1 14.2.3.7, shallowHistory and deepHistory)
 abbrev pub IsHistory : DraftMachine → VertexId → Type 0
@@ -55,6 +56,6 @@ pub record IsLateRoute (m : DraftMachine) (truth : Truth) (origin : VertexId) (r
 
 -- A route that the signal enables starts at the State or in it, and so keeps the State from deferring the signal
 -- (UML 2.5.1 14.2.3.4, deferred events).
-abbrev pub Overrides : DraftMachine → Stand → Truth → SignalId → VertexId → Type 0
-Overrides m stand truth signal s =
-    (route : Route) × (q : VertexId) × IsEnabled m stand truth (Signal signal) route × IsSource m route q × IsOrLiesIn m q s
+abbrev pub Overrides : DraftMachine → Configuration → Truth → SignalId → VertexId → Type 0
+Overrides m now truth signal s =
+    (route : Route) × (q : VertexId) × IsEnabled m now truth (Signal signal) route × IsSource m route q × IsOrLiesIn m q s

@@ -2,9 +2,13 @@ pub mod Forest
 pub mod Limits
 pub mod Shape
 pub mod Legs
+pub mod Configuration
 pub mod Routes
 pub mod Firing
 pub mod Paths
+pub mod Course
+pub mod Items
+pub mod Ways
 pub mod WellFormed
 pub mod BuiltMachine
 pub mod Silent

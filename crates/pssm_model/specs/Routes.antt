@@ -14,6 +14,7 @@ use Rattle.pssm_model.specs.declared.steps.Route.{Route}
 use Rattle.pssm_model.specs.declared.steps.Event.{Event}
 use Rattle.pssm_model.specs.declared.steps.Event.TheVariants.{Signal, Completion}
 use Rattle.pssm_model.specs.Forest.{transition_at, HasKind, LiesInState, IsOrLiesIn}
+use Rattle.pssm_model.specs.Configuration.{Configuration, IsComplete}
 use Rattle.pssm_model.specs.Legs.{Leaves, Enters, On, transitions_of, Exits}
 
 -- the values of the guards (UML 2.5.1 14.2.3.8, guards)
@@ -95,26 +96,21 @@ Lists m t signal = IsSomeAnd (transition_at m t) (λ x. Contains x.triggers sign
 abbrev pub HasNoTrigger : DraftMachine → TransId → Type 0
 HasNoTrigger m t = option_map (λ x. x.triggers) (transition_at m t) ≡ Some []
 
--- what is known of a configuration: which States are active, and which are complete (UML 2.5.1 14.2.3.4, State configurations)
-pub record Stand : Type 1 where
-  pub Active : VertexId → Type 0
-  pub Complete : VertexId → Type 0
-
 -- by a signal that its one start lists where its source is active, or by the completion of one of its sources where all are active
 -- and the others complete (UML 2.5.1 14.2.3.9, enabled transitions)
-abbrev pub IsEnabledBy : DraftMachine → Stand → Event → Route → Type 0
-IsEnabledBy m stand (Signal signal) route =
-    (t : TransId) × (route.starts ≡ t ∷ []) × Lists m t signal × ((s : VertexId) → IsSource m route s → stand.Active s)
-IsEnabledBy m stand (Completion s) route =
+abbrev pub IsEnabledBy : DraftMachine → Configuration → Event → Route → Type 0
+IsEnabledBy m now (Signal signal) route =
+    (t : TransId) × (route.starts ≡ t ∷ []) × Lists m t signal × ((s : VertexId) → IsSource m route s → now.Active s)
+IsEnabledBy m now (Completion s) route =
     IsSource m route s
     × ((t : TransId) → Contains route.starts t → HasNoTrigger m t)
-    × ((q : VertexId) → IsSource m route q → stand.Active q)
-    × ((q : VertexId) → IsSource m route q → q ≢ s → stand.Complete q)
+    × ((q : VertexId) → IsSource m route q → now.Active q)
+    × ((q : VertexId) → IsSource m route q → q ≢ s → IsComplete m now q)
 
 -- a route of States whose event is there and whose guards are true (UML 2.5.1 14.2.3.9, enabled transitions)
-pub record IsEnabled (m : DraftMachine) (stand : Stand) (truth : Truth) (event : Event) (route : Route) : Type 0 where
+pub record IsEnabled (m : DraftMachine) (now : Configuration) (truth : Truth) (event : Event) (route : Route) : Type 0 where
   pub route_of_states : IsStateRoute m route
-  pub by_event : IsEnabledBy m stand event route
+  pub by_event : IsEnabledBy m now event route
   pub guards : (t : TransId) → On route t → IsTrueAt m truth t
 
 -- Two different routes exit the same State, one exits a source of the other, or a source of one is or lies in a source of the other

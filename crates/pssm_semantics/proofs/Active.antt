@@ -3,10 +3,11 @@ use Rattle.std.proofs.Common.{◌⊎◌, inl, inr, List, [], ◌∷◌, ◌++◌
 use Rattle.pssm_model.specs.declared.ids.VertexId.{VertexId}
 use Rattle.pssm_model.specs.declared.ids.RegionId.{RegionId}
 use Rattle.pssm_model.specs.declared.elements.DraftMachine.{DraftMachine}
+use Rattle.pssm_model.specs.Configuration.{IsDirect}
 use Rattle.pssm_semantics.specs.declared.entry.ObjectId.{ObjectId}
 use Rattle.pssm_semantics.specs.declared.entry.Entry.{Entry}
 use Rattle.pssm_semantics.specs.declared.entry.Entry.TheVariants.{Post, Start, Take, Done, Exit, Effect, Enter, Opened, Pick, DoStep}
-use Rattle.pssm_semantics.specs.Journal.{EntersAt, ExitsAt, IsActive, IsDirect, IsMemory}
+use Rattle.pssm_semantics.specs.Journal.{EntersAt, ExitsAt, IsActive, IsMemory}
 use Rattle.pssm_semantics.proofs.Appended.{LastOf, LastOf-nil, LastOf-becomes, LastOf-stays, LastOf-was}
 
 -- Nothing is active before the first entry.

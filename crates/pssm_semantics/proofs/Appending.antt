@@ -1,14 +1,13 @@
--- What one more entry at the end of a journal changes: what is active, the last step, what has run, and what is admissible.
+-- What one more entry at the end of a journal changes: what is active, the last step, and what is admissible.
 use Rattle.std.proofs.Common.{◌≡◌, ◌⊎◌, ◌++◌, List, [], ◌∷◌, refl, sym, ap, subst, ◌∙◌, inl, inr, ⊎_elim, append_assoc}
 use Rattle.std.specs.List.{AllByRecursion}
 use Rattle.std.proofs.lemmas.List.Elements.{Contains-append_left, Contains-push, Contains-push_cases}
 use Rattle.pssm_model.specs.declared.ids.VertexId.{VertexId}
-use Rattle.pssm_model.specs.declared.steps.Item.{Item}
 use Rattle.pssm_semantics.specs.declared.entry.ObjectId.{ObjectId}
 use Rattle.pssm_semantics.specs.declared.entry.Entry.{Entry}
 use Rattle.pssm_semantics.specs.declared.setting.Setting.{Setting}
-use Rattle.pssm_semantics.specs.Journal.{Splits, StepAt, IsLastStep, IsActive, Heads, EntersAt, ExitsAt}
-use Rattle.pssm_semantics.specs.Items.{Runs, HasRun}
+use Rattle.pssm_semantics.specs.Journal.{Splits, IsActive, Heads, EntersAt, ExitsAt}
+use Rattle.pssm_semantics.specs.Steps.{StepAt, IsLastStep}
 use Rattle.pssm_semantics.specs.Runs.{MayFollow, IsAdmissibleIn}
 
 -- facts about each element, with one more
@@ -121,17 +120,6 @@ active_kept J o s e (before, after, f, splits, enters, none) other =
 pub none_active : (o : ObjectId) (s : VertexId) → IsActive [] o s → ⊥
 none_active o s ([], after, f, splits, enters, none) = cc
 none_active o s (b ∷ before, after, f, splits, enters, none) = cc
-
--- what has run in a step with one more entry
-pub run_kept : (o : ObjectId) (step : StepAt) (e : Entry) (item : Item) → HasRun o step item → HasRun o (more step e) item
-run_kept o step e item (f, is, runs) = (f, Contains-append_left step.after (e ∷ []) f is, runs)
-
-pub run_now : (o : ObjectId) (step : StepAt) (e : Entry) (item : Item) → Runs e o item → HasRun o (more step e) item
-run_now o step e item runs = (e, Contains-push step.after e, runs)
-
-pub run_cases : (o : ObjectId) (step : StepAt) (e : Entry) (item : Item) → HasRun o (more step e) item → HasRun o step item ⊎ Runs e o item
-run_cases o step e item (f, is, runs) =
-    ⊎_elim (λ was. inl (f, was, runs)) (λ same. inr (subst (λ g. Runs g o item) (sym same) runs)) (Contains-push_cases step.after e f is)
 
 -- an admissible journal with an entry that may follow
 pub admissible_push : (setting : Setting) (J : List Entry) (e : Entry) → IsAdmissibleIn setting J → MayFollow setting J e → IsAdmissibleIn setting (J ++ e ∷ [])

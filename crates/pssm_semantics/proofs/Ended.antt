@@ -7,11 +7,12 @@ use Rattle.pssm_model.specs.declared.ids.TransId.{TransId}
 use Rattle.pssm_model.specs.declared.elements.DraftMachine.{DraftMachine}
 use Rattle.pssm_model.specs.declared.elements.VertexKind.TheVariants as kinds
 use Rattle.pssm_model.specs.Forest.{HasKind}
+use Rattle.pssm_model.specs.Configuration.{HasActiveFinal}
 use Rattle.pssm_model.specs.Legs.{Enters}
 use Rattle.pssm_semantics.specs.declared.entry.ObjectId.{ObjectId}
 use Rattle.pssm_semantics.specs.declared.entry.Entry.{Entry}
-use Rattle.pssm_semantics.specs.Journal.{EntersAt, ExitsAt, OpensByNone, TouchesRegion, HasActiveFinal, IsLeftEmpty}
-use Rattle.pssm_semantics.specs.Completion.{DoesAt, EffectsAt, HasStepped, HasTerminated, HasEnded}
+use Rattle.pssm_semantics.specs.Journal.{EntersAt, ExitsAt, OpensByNone, TouchesRegion, IsLeftEmpty, DoesAt, HasStepped, configuration_after}
+use Rattle.pssm_semantics.specs.Completion.{EffectsAt, HasTerminated, HasEnded}
 use Rattle.pssm_semantics.proofs.Appended.{LastOf-becomes, LastOf-stays, LastOf-was}
 use Rattle.pssm_semantics.proofs.Active.{IsActive-stays, IsActive-was}
 
@@ -43,11 +44,11 @@ pub record SparesEnd (m : DraftMachine) (e : Entry) (o : ObjectId) : Type 0 wher
   pub exits : (s : VertexId) → ExitsAt e o s → ⊥
 
 pub HasActiveFinal-stays : (m : DraftMachine) (J : List Entry) (e : Entry) (o : ObjectId) (r : RegionId) → ((s : VertexId) → ExitsAt e o s → ⊥)
-    → HasActiveFinal m J o r → HasActiveFinal m (J ++ e ∷ []) o r
+    → HasActiveFinal m (configuration_after m J o) r → HasActiveFinal m (configuration_after m (J ++ e ∷ []) o) r
 HasActiveFinal-stays m J e o r exits h = (h.0, h.1, h.2, IsActive-stays J e o h.0 h.3 (exits h.0))
 
 pub HasActiveFinal-was : (m : DraftMachine) (J : List Entry) (e : Entry) (o : ObjectId) (r : RegionId) → ((s : VertexId) → EntersAt e o s → ⊥)
-    → HasActiveFinal m (J ++ e ∷ []) o r → HasActiveFinal m J o r
+    → HasActiveFinal m (configuration_after m (J ++ e ∷ []) o) r → HasActiveFinal m (configuration_after m J o) r
 HasActiveFinal-was m J e o r enters h = elim (IsActive-was J e o h.0 h.3) [
   | inl k ↦ absurd (enters h.0 k)
   | inr k ↦ (h.0, h.1, h.2, k.0)

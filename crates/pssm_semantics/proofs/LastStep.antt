@@ -4,7 +4,8 @@ use Rattle.std.specs.List.{AllByRecursion}
 use Rattle.std.proofs.lemmas.List.{reverse-append}
 use Rattle.pssm_semantics.specs.declared.entry.ObjectId.{ObjectId}
 use Rattle.pssm_semantics.specs.declared.entry.Entry.{Entry}
-use Rattle.pssm_semantics.specs.Journal.{is_head_of, Heads, StepAt, IsLastStep}
+use Rattle.pssm_semantics.specs.Journal.{is_head_of, Heads}
+use Rattle.pssm_semantics.specs.Steps.{StepAt, IsLastStep}
 use Rattle.pssm_semantics.specs.Behaviours.{last_head}
 use Rattle.pssm_semantics.proofs.Appended.{split-append, never_ends, AllByRecursion-append, AllByRecursion-front, AllByRecursion-back, last_split-unique}
 

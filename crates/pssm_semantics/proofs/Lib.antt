@@ -1,6 +1,12 @@
 pub mod Appended
 pub mod Active
 pub mod LastStep
+pub mod Objects
+pub mod Courses
+pub mod Members
+pub mod Latest
+pub mod Memories
+pub mod Former
 pub mod Waiting
 pub mod Views
 pub mod Admissible

@@ -2,7 +2,6 @@
 use Rattle.std.proofs.Common.{◌≡◌, ◌<◌, ◌+◌, ◌++◌, ◌==◌, ◌&&◌, ◌||◌, ℕ, zero, suc, List, [], ◌∷◌, Bool, true, false, not, cond, filter, Some, None, slice_get, refl, sym, ap, subst, ◌∙◌, ⊎_elim, arith, add-one, eq-eqb}
 use Rattle.std.specs.List.{AllByRecursion, list_any, enumerate_from}
 use Rattle.std.proofs.lemmas.Bool.{false≢true}
-use Rattle.std.proofs.lemmas.Bool.Decides.{eqb_tells}
 use Rattle.std.proofs.lemmas.Grind.{flat_map-append}
 use Rattle.pssm_model.specs.declared.steps.Firing.{Firing}
 use Rattle.pssm_semantics.specs.declared.entry.ObjectId.{ObjectId}
@@ -18,6 +17,7 @@ use Rattle.pssm_semantics.specs.Ways.{IsStepFinished}
 use Rattle.pssm_semantics.specs.Runs.{IsAdmissibleIn}
 use Rattle.pssm_semantics.specs.Laws.{StepsFollow, TakesAreTold, TakesDiffer, KeepsTakes}
 use Rattle.pssm_semantics.proofs.Appended.{AllByRecursion-back}
+use Rattle.pssm_semantics.proofs.Objects.{same_object}
 
 every-weaker : {X : Type 0} (P Q : X → Type 0) → ((x : X) → P x → Q x) → (xs : List X) → AllByRecursion P xs → AllByRecursion Q xs
 every-weaker P Q f [] h = tt
@@ -54,11 +54,6 @@ and-second : (a b : Bool) → (a && b) ≡ true → b ≡ true
 and-second true b h = h
 and-second false b h = absurd (false≢true h)
 
-same-object : (o q : ObjectId) → (o.0 == q.0) ≡ true → o ≡ q
-same-object o q h =
-    let same : o.0 ≡ q.0 = ⊎_elim (λ yes. yes.1) (λ no. absurd (false≢true (sym no.0 ∙ h))) (eqb_tells o.0 q.0) in
-    ap (λ n. let x : ObjectId = record { 0 = n } in x) same
-
 -- what is known of a signal that waits
 pub record IsWaitingSignal (J : List Entry) (o : ObjectId) (number : ℕ) (x : Stimulus) : Type 0 where
   pub told : told_by J number ≡ Some x
@@ -76,7 +71,7 @@ pool_of-waits J o held rest number x e =
     let place : number ≡ h.0.0 + 1 = let is = h.0.1 in omega arith in
     record {
       told = subst (λ n. told_by J n ≡ Some x) (sym place) (rw add-one h.0.2);
-      to = same-object x.object o (and-first (x.object.0 == o.0) (not (list_any (λ f. takes f o number) J)) h.1);
+      to = same_object x.object o (and-first (x.object.0 == o.0) (not (list_any (λ f. takes f o number) J)) h.1);
       untaken = and-second (x.object.0 == o.0) (not (list_any (λ f. takes f o number) J)) h.1;
     }
 

@@ -10,16 +10,12 @@ use Rattle.pssm_model.specs.declared.elements.VertexKind.TheVariants as kinds
 use Rattle.pssm_model.specs.declared.elements.Owner.TheVariants.{Top, Region, State}
 use Rattle.pssm_model.specs.Forest.{vertex_at, HasKind, owner_of}
 use Rattle.pssm_model.specs.Legs.{Leaves, Enters}
-use Rattle.pssm_model.specs.Routes.{HasNoTrigger, Stand}
+use Rattle.pssm_model.specs.Configuration.{IsComplete, AllTopsAreFinal}
+use Rattle.pssm_model.specs.Routes.{HasNoTrigger}
 use Rattle.pssm_semantics.specs.declared.entry.ObjectId.{ObjectId}
 use Rattle.pssm_semantics.specs.declared.entry.Entry.{Entry}
-use Rattle.pssm_semantics.specs.declared.entry.Entry.TheVariants.{Done, Effect, DoStep}
-use Rattle.pssm_semantics.specs.Journal.{Splits, IsActive, IsFinished, EntersAt, HasActiveFinal}
-
--- The entry does this step of the State's do-activity (UML 2.5.1 14.2.3.4, doActivity; the steps are this profile's choice).
-abbrev pub DoesAt : Entry → ObjectId → VertexId → ℕ → Type 0
-DoesAt (DoStep object state step outs) o s k = (object ≡ o) × (state ≡ s) × (step ≡ k)
-DoesAt _ o s k = ⊥
+use Rattle.pssm_semantics.specs.declared.entry.Entry.TheVariants.{Done, Effect}
+use Rattle.pssm_semantics.specs.Journal.{Splits, IsActive, EntersAt, configuration_after}
 
 -- The entry dispatches the completion of the State (UML 2.5.1 14.2.3.8, completion events).
 abbrev pub DonesAt : Entry → ObjectId → VertexId → Type 0
@@ -31,29 +27,9 @@ abbrev pub EffectsAt : Entry → ObjectId → TransId → Type 0
 EffectsAt (Effect object transition outs) o t = (object ≡ o) × (transition ≡ t)
 EffectsAt _ o t = ⊥
 
--- The do step stands in the journal after the State's last entry (UML 2.5.1 14.2.3.4, doActivity).
-abbrev pub HasStepped : List Entry → ObjectId → VertexId → ℕ → Type 0
-HasStepped J o s k =
-    (before after : List Entry) × (e : Entry) × Splits J before e after × DoesAt e o s k × AllByRecursion (λ f. EntersAt f o s → ⊥) after
-
--- how many do steps the vertex has (UML 2.5.1 14.2.3.4, doActivity)
-abbrev pub steps_of : DraftMachine → VertexId → ℕ
-steps_of m s = option_map_or (λ x. length x.steps) (vertex_at m s) 0
-
--- an active State whose do steps are done and whose regions are finished (UML 2.5.1 14.2.3.8, completion)
-pub record IsComplete (m : DraftMachine) (J : List Entry) (o : ObjectId) (s : VertexId) : Type 0 where
-  pub state : HasKind m s kinds.State
-  pub active : IsActive J o s
-  pub stepped : (k : ℕ) → k < steps_of m s → HasStepped J o s k
-  pub finished : (r : RegionId) → owner_of m (Region r) ≡ Some (State s) → IsFinished m J o r
-
--- the configuration of the object after these entries (UML 2.5.1 14.2.3.4, State configurations)
-abbrev pub stand_after : DraftMachine → List Entry → ObjectId → Stand
-stand_after m J o = record { Active = IsActive J o; Complete = IsComplete m J o }
-
 -- The State is complete after the entry, and was not before it or is entered by it (UML 2.5.1 14.2.3.8, completion events).
 abbrev pub BecomesComplete : DraftMachine → List Entry → Entry → ObjectId → VertexId → Type 0
-BecomesComplete m before e o s = IsComplete m (before ++ e ∷ []) o s × ((IsComplete m before o s → ⊥) ⊎ EntersAt e o s)
+BecomesComplete m before e o s = IsComplete m (configuration_after m (before ++ e ∷ []) o) s × ((IsComplete m (configuration_after m before o) s → ⊥) ⊎ EntersAt e o s)
 
 -- A transition without triggers leaves the State (UML 2.5.1 14.2.3.8, completion transitions).
 abbrev pub HasCompletionTransition : DraftMachine → VertexId → Type 0
@@ -89,4 +65,4 @@ HasTerminated m J o =
 
 -- The object has terminated, or every top region has an active final state of its own (UML 2.5.1 14.2.3.6 and 14.2.3.7, final states and terminate).
 abbrev pub HasEnded : DraftMachine → List Entry → ObjectId → Type 0
-HasEnded m J o = HasTerminated m J o ⊎ ((r : RegionId) → owner_of m (Region r) ≡ Some Top → HasActiveFinal m J o r)
+HasEnded m J o = HasTerminated m J o ⊎ AllTopsAreFinal m (configuration_after m J o)

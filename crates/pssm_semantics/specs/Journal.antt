@@ -1,13 +1,13 @@
 -- What a journal says of one object, read off the whole list of entries.
-use Rattle.std.specs.Prelude.{◌≡◌, ◌⊎◌, ◌++◌, ◌==◌, List, ◌∷◌, Bool, false, true, Some}
+use Rattle.std.specs.Prelude.{◌≡◌, ◌⊎◌, ◌++◌, ◌==◌, ℕ, List, ◌∷◌, Bool, false, true, Some}
 use Rattle.std.specs.List.{AllByRecursion}
 use Rattle.pssm_model.specs.declared.ids.VertexId.{VertexId}
 use Rattle.pssm_model.specs.declared.ids.RegionId.{RegionId}
 use Rattle.pssm_model.specs.declared.elements.DraftMachine.{DraftMachine}
-use Rattle.pssm_model.specs.declared.elements.VertexKind.TheVariants as kinds
 use Rattle.pssm_model.specs.declared.elements.Owner.TheVariants.{Region, State}
 use Rattle.pssm_model.specs.declared.steps.How.TheVariants.{Nothing}
-use Rattle.pssm_model.specs.Forest.{HasKind, IsStateOrFinal, owner_of}
+use Rattle.pssm_model.specs.Forest.{owner_of}
+use Rattle.pssm_model.specs.Configuration.{Configuration, IsDirect}
 use Rattle.pssm_semantics.specs.declared.entry.ObjectId.{ObjectId}
 use Rattle.pssm_semantics.specs.declared.entry.Entry.{Entry}
 use Rattle.pssm_semantics.specs.declared.entry.Entry.TheVariants.{Post, Start, Take, Done, Exit, Effect, Enter, Opened, Pick, DoStep}
@@ -65,10 +65,6 @@ abbrev pub IsActive : List Entry → ObjectId → VertexId → Type 0
 IsActive J o s =
     (before after : List Entry) × (e : Entry) × Splits J before e after × EntersAt e o s × AllByRecursion (λ f. ExitsAt f o s → ⊥) after
 
--- a State or final state that the region owns (UML 2.5.1 14.2.3.2, direct substates of a region)
-abbrev pub IsDirect : DraftMachine → VertexId → RegionId → Type 0
-IsDirect m s r = (owner_of m (State s) ≡ Some (Region r)) × IsStateOrFinal m s
-
 -- the memory of the region: its direct State or final state that was exited last (UML 2.5.1 14.2.3.4, State history)
 abbrev pub IsMemory : DraftMachine → List Entry → ObjectId → RegionId → VertexId → Type 0
 IsMemory m J o r s =
@@ -92,27 +88,26 @@ TouchesRegion m e o r =
     ⊎ ((s : VertexId) × IsDirect m s r × (EntersAt e o s ⊎ ExitsAt e o s))
     ⊎ ((s : VertexId) × (owner_of m (Region r) ≡ Some (State s)) × EntersAt e o s)
 
--- A final state that the region owns is active (UML 2.5.1 14.2.3.6, final states).
-abbrev pub HasActiveFinal : DraftMachine → List Entry → ObjectId → RegionId → Type 0
-HasActiveFinal m J o r = (s : VertexId) × (owner_of m (State s) ≡ Some (Region r)) × HasKind m s kinds.Final × IsActive J o s
-
 -- The latest entry that touches the region opens it and leaves it empty (this profile's choice).
 abbrev pub IsLeftEmpty : DraftMachine → List Entry → ObjectId → RegionId → Type 0
 IsLeftEmpty m J o r =
     (before after : List Entry) × (e : Entry) × Splits J before e after × OpensByNone e o r × AllByRecursion (λ f. TouchesRegion m f o r → ⊥) after
 
--- The region is finished: a final state of it is active, or it was left empty (UML 2.5.1 14.2.3.6, final states; 14.2.3.8, completion).
-abbrev pub IsFinished : DraftMachine → List Entry → ObjectId → RegionId → Type 0
-IsFinished m J o r = HasActiveFinal m J o r ⊎ IsLeftEmpty m J o r
+-- The entry does this step of the State's do-activity (UML 2.5.1 14.2.3.4, doActivity; the steps are this profile's choice).
+abbrev pub DoesAt : Entry → ObjectId → VertexId → ℕ → Type 0
+DoesAt (DoStep object state step outs) o s k = (object ≡ o) × (state ≡ s) × (step ≡ k)
+DoesAt _ o s k = ⊥
 
--- a step of an object: the entries before its head, the head, and the later ones (UML 2.5.1 14.2.3.9, run to completion)
-pub record StepAt : Type 0 where
-  pub before : List Entry
-  pub head : Entry
-  pub after : List Entry
+-- The do step stands in the journal after the State's last entry (UML 2.5.1 14.2.3.4, doActivity).
+abbrev pub HasStepped : List Entry → ObjectId → VertexId → ℕ → Type 0
+HasStepped J o s k =
+    (before after : List Entry) × (e : Entry) × Splits J before e after × DoesAt e o s k × AllByRecursion (λ f. EntersAt f o s → ⊥) after
 
--- the object's last step: no later entry begins another (UML 2.5.1 14.2.3.9, run to completion)
-pub record IsLastStep (J : List Entry) (o : ObjectId) (step : StepAt) : Type 0 where
-  pub splits : Splits J step.before step.head step.after
-  pub heads : Heads step.head o
-  pub last : AllByRecursion (λ e. Heads e o → ⊥) step.after
+-- the configuration of the object after these entries (UML 2.5.1 14.2.3.4, State configurations)
+abbrev pub configuration_after : DraftMachine → List Entry → ObjectId → Configuration
+configuration_after m J o = record {
+  Active = IsActive J o;
+  Remembers = IsMemory m J o;
+  HasStepped = HasStepped J o;
+  LeftEmpty = IsLeftEmpty m J o;
+}

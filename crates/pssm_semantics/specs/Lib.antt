@@ -3,7 +3,7 @@ pub mod Settings
 pub mod Journal
 pub mod Values
 pub mod Pool
-pub mod Items
+pub mod Steps
 pub mod Completion
 pub mod Behaviours
 pub mod Ways

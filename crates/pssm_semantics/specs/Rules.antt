@@ -1,5 +1,5 @@
 -- What each rule of a run asks of an entry after the entries before it.
-use Rattle.std.specs.Prelude.{◌≡◌, ◌<◌, ◌++◌, ℕ, List, ◌∷◌, Option, Some, None, Contains}
+use Rattle.std.specs.Prelude.{◌≡◌, ◌<◌, ◌++◌, ℕ, List, ◌∷◌, Option, Some, None, IfSome, Contains}
 use Rattle.std.specs.List.{AllByRecursion}
 use Rattle.pssm_model.specs.declared.ids.VertexId.{VertexId}
 use Rattle.pssm_model.specs.declared.elements.DraftMachine.{DraftMachine}
@@ -7,7 +7,11 @@ use Rattle.pssm_model.specs.declared.steps.Firing.{Firing}
 use Rattle.pssm_model.specs.declared.steps.Event.{Event}
 use Rattle.pssm_model.specs.declared.steps.Event.TheVariants.{Signal, Completion}
 use Rattle.pssm_model.specs.declared.steps.Item.{Item}
-use Rattle.pssm_model.specs.Firing.{IsFiring, IsLateRoute}
+use Rattle.pssm_model.specs.Configuration.{IsNextStep}
+use Rattle.pssm_model.specs.Firing.{IsFiring}
+use Rattle.pssm_model.specs.Course.{HasRun}
+use Rattle.pssm_model.specs.Items.{Called, Before}
+use Rattle.pssm_model.specs.Ways.{MayRun}
 use Rattle.pssm_semantics.specs.declared.entry.ObjectId.{ObjectId}
 use Rattle.pssm_semantics.specs.declared.entry.Entry.{Entry}
 use Rattle.pssm_semantics.specs.declared.entry.Entry.TheVariants.{Post, Start, Take, Done, Opened, Pick, DoStep}
@@ -17,13 +21,13 @@ use Rattle.pssm_semantics.specs.declared.stimulus.Stimulus.{Stimulus}
 use Rattle.pssm_semantics.specs.declared.setting.Class.{Class}
 use Rattle.pssm_semantics.specs.declared.setting.Setting.{Setting}
 use Rattle.pssm_semantics.specs.Settings.{class_of}
-use Rattle.pssm_semantics.specs.Journal.{StepAt, IsActive, IsLastStep, IsPost, IsStart, object_of}
-use Rattle.pssm_semantics.specs.Items.{Runs, Called, Before, HasRun}
+use Rattle.pssm_semantics.specs.Journal.{IsPost, IsStart, object_of, configuration_after}
+use Rattle.pssm_semantics.specs.Steps.{StepAt, IsLastStep, item_of, course_of}
 use Rattle.pssm_semantics.specs.Values.{Params, eight_of, no_params}
 use Rattle.pssm_semantics.specs.Pool.{Told, told_by, pool_of, outs_of}
-use Rattle.pssm_semantics.specs.Completion.{stand_after, HasEnded, IsQueueHead, IsQueueEmpty, HasStepped, steps_of}
+use Rattle.pssm_semantics.specs.Completion.{HasEnded, IsQueueHead, IsQueueEmpty}
 use Rattle.pssm_semantics.specs.Behaviours.{store_of, guards_under, guards_at, outcome_at}
-use Rattle.pssm_semantics.specs.Ways.{IsDeferred, CanOpen, IsStepFinished}
+use Rattle.pssm_semantics.specs.Ways.{IsDeferred, IsStepFinished}
 use Rattle.pssm_semantics.specs.Known.{NamesKnown}
 
 -- The object has not ended; a post may come after its end (UML 2.5.1 14.2.3.6 and 14.2.3.7, final states and terminate).
@@ -64,7 +68,7 @@ KeepsPool class J _ = Unit {0}
 -- The firing is what the event fires for the object after these entries, with guards under these parameters (UML 2.5.1 14.2.3.9, transition selection).
 abbrev pub Fires : Class → Told → List Entry → ObjectId → Params → Event → Firing → Type 0
 Fires class told J o params event firing =
-    IsFiring class.machine (stand_after class.machine J o) (guards_under class (store_of class told J o) params) event firing.routes
+    IsFiring class.machine (configuration_after class.machine J o) (guards_under class (store_of class told J o) params) event firing.routes
 
 -- A take lists what its signal fires, where the signal is known, and a done what the completion fires (UML 2.5.1 14.2.3.9, transition selection).
 abbrev pub KeepsFiring : Class → Told → Option Stimulus → List Entry → Entry → Type 0
@@ -77,35 +81,33 @@ KeepsFiring class told signal J _ = Unit {0}
 pub record IsCalledItem (m : DraftMachine) (J : List Entry) (o : ObjectId) (item : Item) : Type 0 where
   pub step : StepAt
   pub last : IsLastStep J o step
-  pub called : Called m o step item
-  pub waiting : HasRun o step item → ⊥
+  pub called : Called m (course_of m o step) item
+  pub waiting : HasRun (course_of m o step) item → ⊥
 
 -- The item that the entry runs is called and has not run (UML 2.5.1 14.2.3.9, transition execution sequence).
 abbrev pub KeepsCalls : DraftMachine → List Entry → Entry → Type 0
-KeepsCalls m J e = (item : Item) → Runs e (object_of e) item → IsCalledItem m J (object_of e) item
+KeepsCalls m J e = IfSome (item_of e) (λ x. IsCalledItem m J (object_of e) x.0)
 
--- All called items that come before it have run (UML 2.5.1 14.2.3.9, transition execution sequence).
+-- All called items that come before it in the object's last step have run in it (UML 2.5.1 14.2.3.9, transition execution sequence).
+abbrev pub IsClearedItem : DraftMachine → List Entry → ObjectId → Item → Type 0
+IsClearedItem m J o item =
+    (x : Item) (step : StepAt) → IsLastStep J o step → Called m (course_of m o step) x → Before m (course_of m o step) x item
+    → HasRun (course_of m o step) x
+
+-- All called items that come before the one that the entry runs have run (UML 2.5.1 14.2.3.9, transition execution sequence).
 abbrev pub KeepsOrder : DraftMachine → List Entry → Entry → Type 0
-KeepsOrder m J e =
-    (item x : Item) (step : StepAt) → Runs e (object_of e) item → IsLastStep J (object_of e) step
-    → Called m (object_of e) step x → Before m (object_of e) step x item → HasRun (object_of e) step x
+KeepsOrder m J e = IfSome (item_of e) (λ x. IsClearedItem m J (object_of e) x.0)
 
--- An opening goes by one of its ways, and a pick by a branch of its choice (UML 2.5.1 14.2.3.2, 14.2.3.4 and 14.2.3.7).
+-- The item that the entry runs may run in the way that it has: an opening by one of its ways, and a pick by a branch of its choice
+-- (UML 2.5.1 14.2.3.2, 14.2.3.4 and 14.2.3.7).
 abbrev pub KeepsWay : Class → Told → List Entry → Entry → Type 0
-KeepsWay class told J (Opened o region mode how) = CanOpen class.machine (guards_at class told J o) J o region mode how
-KeepsWay class told J (Pick o choice route) = IsLateRoute class.machine (guards_at class told J o) choice route
-KeepsWay class told J _ = Unit {0}
-
--- the next do step of an active State: those before it are done since its last entry, and it is not (UML 2.5.1 14.2.3.4, doActivity)
-pub record IsNextStep (m : DraftMachine) (J : List Entry) (o : ObjectId) (s : VertexId) (k : ℕ) : Type 0 where
-  pub active : IsActive J o s
-  pub in_range : k < steps_of m s
-  pub earlier : (j : ℕ) → j < k → HasStepped J o s j
-  pub waiting : HasStepped J o s k → ⊥
+KeepsWay class told J e =
+    IfSome (item_of e)
+    (λ x. MayRun class.machine (guards_at class told J (object_of e)) (configuration_after class.machine J (object_of e)).Remembers x.0 x.1)
 
 -- A do entry is the next step of its State (UML 2.5.1 14.2.3.4, doActivity).
 abbrev pub KeepsSteps : DraftMachine → List Entry → Entry → Type 0
-KeepsSteps m J (DoStep o state step outs) = IsNextStep m J o state step
+KeepsSteps m J (DoStep o state step outs) = IsNextStep m (configuration_after m J o) state step
 KeepsSteps m J _ = Unit {0}
 
 -- The outputs are those of the behaviour on the store and parameters; an entry without behaviour has none (UML 2.5.1 13.2.3, behaviours).

@@ -3,6 +3,8 @@ use Rattle.std.specs.Prelude.{◌≡◌, ◌⊎◌, ◌≤◌, ◌<◌, ◌++◌
 use Rattle.pssm_model.specs.declared.elements.DraftMachine.{DraftMachine}
 use Rattle.pssm_model.specs.declared.steps.Item.{Item}
 use Rattle.pssm_model.specs.declared.steps.Item.TheVariants as items
+use Rattle.pssm_model.specs.Configuration.{IsNextStep}
+use Rattle.pssm_model.specs.Items.{IsReady}
 use Rattle.pssm_semantics.specs.declared.entry.ObjectId.{ObjectId}
 use Rattle.pssm_semantics.specs.declared.entry.Entry.{Entry}
 use Rattle.pssm_semantics.specs.declared.entry.Rule.{Rule}
@@ -12,12 +14,12 @@ use Rattle.pssm_semantics.specs.declared.stimulus.Task.TheVariants as tasks
 use Rattle.pssm_semantics.specs.declared.setting.Class.{Class}
 use Rattle.pssm_semantics.specs.declared.setting.Setting.{Setting}
 use Rattle.pssm_semantics.specs.Settings.{class_of}
-use Rattle.pssm_semantics.specs.Journal.{StepAt, IsLastStep, IsPost}
-use Rattle.pssm_semantics.specs.Items.{IsReady}
+use Rattle.pssm_semantics.specs.Journal.{IsPost, configuration_after}
+use Rattle.pssm_semantics.specs.Steps.{StepAt, IsLastStep, course_of}
 use Rattle.pssm_semantics.specs.Completion.{HasEnded}
 use Rattle.pssm_semantics.specs.Pool.{posts_of, output_count}
 use Rattle.pssm_semantics.specs.Ways.{IsStepFinished}
-use Rattle.pssm_semantics.specs.Rules.{Holds, IsNextStep}
+use Rattle.pssm_semantics.specs.Rules.{Holds}
 use Rattle.pssm_semantics.specs.Verdict.{IsAdmissible, IsRefused}
 
 -- The entry breaks no rule after the journal (this profile's choice).
@@ -79,14 +81,14 @@ pub record HasEndedQuietly (setting : Setting) (stimuli : List Stimulus) (limit 
 pub record IsReadyItem (m : DraftMachine) (J : List Entry) (o : ObjectId) (item : Item) : Type 0 where
   pub step : StepAt
   pub last : IsLastStep J o step
-  pub ready : IsReady m o step item
+  pub ready : IsReady m (course_of m o step) item
 
 -- what makes the work of a task ready (this profile's choice)
 abbrev pub IsReadyWork : DraftMachine → List Entry → ObjectId → Task → Type 0
 IsReadyWork m J o (tasks.Exit s) = IsReadyItem m J o (items.Exit s)
 IsReadyWork m J o (tasks.Effect t) = IsReadyItem m J o (items.Effect t)
 IsReadyWork m J o (tasks.Enter s) = IsReadyItem m J o (items.Enter s)
-IsReadyWork m J o (tasks.DoStep s k) = IsNextStep m J o s k
+IsReadyWork m J o (tasks.DoStep s k) = IsNextStep m (configuration_after m J o) s k
 
 -- a task of an object that has not ended: a ready exit, effect or entry, or the next do step of an active State (this profile's choice)
 abbrev pub IsReadyTask : DraftMachine → List Entry → ObjectId → Task → Type 0

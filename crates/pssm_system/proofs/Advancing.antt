@@ -1,5 +1,5 @@
 -- Where the object stands after one more entry.
-use Rattle.std.proofs.Common.{◌≡◌, ◌<◌, ◌+◌, ◌++◌, ℕ, List, [], ◌∷◌, length, map, Some, false, refl, sym, ap, subst, ◌∙◌, ⊎_elim, append-nil}
+use Rattle.std.proofs.Common.{◌≡◌, ◌<◌, ◌+◌, ◌++◌, ℕ, List, [], ◌∷◌, length, map, Some, None, false, refl, sym, ap, subst, ◌∙◌, ⊎_elim, append-nil}
 use Rattle.std.specs.List.{AllByRecursion}
 use Rattle.std.proofs.lemmas.List.{map-append}
 use Rattle.std.proofs.lemmas.List.Elements.{Contains-append_left}
@@ -21,13 +21,15 @@ use Rattle.pssm_semantics.specs.declared.entry.Entry.{Entry}
 use Rattle.pssm_semantics.specs.declared.entry.Entry.TheVariants.{Post, Start, Take, Exit, Effect, Enter, Opened}
 use Rattle.pssm_semantics.specs.declared.stimulus.Stimulus.{Stimulus}
 use Rattle.pssm_semantics.specs.Journal.{IsPost}
-use Rattle.pssm_semantics.specs.Items.{Runs}
+use Rattle.pssm_semantics.specs.Steps.{item_of}
 use Rattle.pssm_semantics.specs.Pool.{signals_of, signals_of_entry, takes}
-use Rattle.pssm_semantics.proofs.Appending.{every_push, more, run_cases, active_push, active_entered, active_kept, none_active}
+use Rattle.pssm_semantics.proofs.Appending.{every_push, more, active_push, active_entered, active_kept, none_active}
 use Rattle.pssm_system.specs.declared.progress.Progress.{Progress}
 use Rattle.pssm_system.specs.declared.progress.Progress.TheVariants.{Unstarted, Opening, Resting, Exiting, Acting, Entering}
 use Rattle.pssm_system.specs.Standing.{the_object, waiting, IsUnderWay, IsProgressOf, HasTaken, StandsAt}
-use Rattle.pssm_system.proofs.Steps.{AddsNothing, step_kept, step_ran, in_cases}
+use Rattle.pssm_semantics.proofs.Courses.{run_cases}
+use Rattle.pssm_semantics.proofs.Members.{in_cases}
+use Rattle.pssm_system.proofs.Steps.{AddsNothing, runs_nothing, step_kept, step_ran}
 use Rattle.pssm_system.proofs.Moves.{under_way_start, step_take_nothing, step_take_one, step_opened}
 use Rattle.pssm_system.proofs.Signals.{signals_push, taken_kept, taken_next, taken_none}
 
@@ -53,7 +55,7 @@ signals_kept m J e p signals taken none nothing s =
 
 module _ {m : DraftMachine} (b : IsBuiltMachine m) where
   -- a post
-  under_way_post : (J : List Entry) (p : Progress) (e : Entry) → AddsNothing e → ((item : Item) → Runs e the_object item → ⊥)
+  under_way_post : (J : List Entry) (p : Progress) (e : Entry) → AddsNothing e → item_of e ≡ None
       → IsUnderWay m J the_object p → IsUnderWay m (J ++ e ∷ []) the_object p
   under_way_post J p e quiet nothing u = record {
     step = more u.step e;
@@ -62,18 +64,18 @@ module _ {m : DraftMachine} (b : IsBuiltMachine m) where
     step_is = step_kept b J the_object (waiting p) u.step e quiet nothing u.step_is;
     fresh = λ is. record {
       no_route = (u.fresh is).no_route;
-      nothing_run = λ item ran. ⊎_elim ((u.fresh is).nothing_run item) (nothing item) (run_cases the_object u.step e item ran);
+      nothing_run = λ item ran. ⊎_elim ((u.fresh is).nothing_run item) (λ now. runs_nothing e the_object (item, now.0) nothing now.1) (run_cases m the_object u.step e item ran);
     };
   }
 
   progress_post : (J : List Entry) (p : Progress) (g : SignalId) (args : _) → IsProgressOf m J the_object p
       → IsProgressOf m (J ++ Post the_object g args ∷ []) the_object p
   progress_post J Unstarted g args h = every_push IsPost J (Post the_object g args) h tt
-  progress_post J Opening g args h = under_way_post J Opening (Post the_object g args) tt (λ item r. r) h
-  progress_post J (Resting s) g args h = under_way_post J (Resting s) (Post the_object g args) tt (λ item r. r) h
-  progress_post J (Exiting s t v) g args h = under_way_post J (Exiting s t v) (Post the_object g args) tt (λ item r. r) h
-  progress_post J (Acting t v) g args h = under_way_post J (Acting t v) (Post the_object g args) tt (λ item r. r) h
-  progress_post J (Entering v) g args h = under_way_post J (Entering v) (Post the_object g args) tt (λ item r. r) h
+  progress_post J Opening g args h = under_way_post J Opening (Post the_object g args) tt refl h
+  progress_post J (Resting s) g args h = under_way_post J (Resting s) (Post the_object g args) tt refl h
+  progress_post J (Exiting s t v) g args h = under_way_post J (Exiting s t v) (Post the_object g args) tt refl h
+  progress_post J (Acting t v) g args h = under_way_post J (Acting t v) (Post the_object g args) tt refl h
+  progress_post J (Entering v) g args h = under_way_post J (Entering v) (Post the_object g args) tt refl h
 
   pub after_post : (J : List Entry) (g : SignalId) (args : _) (p : Progress) (signals : List SignalId) (taken : ℕ) → StandsAt m J p signals taken
       → StandsAt m (J ++ Post the_object g args ∷ []) p (signals ++ g ∷ []) taken
@@ -194,7 +196,7 @@ module _ {m : DraftMachine} (b : IsBuiltMachine m) where
           step = more u.step e;
           start = u.start;
           started = (Contains-append_left J (e ∷ []) u.start u.started.0, u.started.1);
-          step_is = step_ran b J the_object (items.Exit v) (items.Effect t ∷ items.Enter to ∷ []) u.step e tt (λ item r. r.1) (refl, refl)
+          step_is = step_ran b J the_object (items.Exit v) (items.Effect t ∷ items.Enter to ∷ []) u.step e tt refl refl
               (λ is. ⊎_elim (λ c. cc) (λ last. let c = is_one (items.Enter to) (items.Exit v) last in cc)
               (in_cases (items.Effect t) (items.Enter to ∷ []) (items.Exit v) is))
               u.step_is u.step_is.in_order.1;
@@ -222,7 +224,7 @@ module _ {m : DraftMachine} (b : IsBuiltMachine m) where
           step = more u.step e;
           start = u.start;
           started = (Contains-append_left J (e ∷ []) u.start u.started.0, u.started.1);
-          step_is = step_ran b J the_object (items.Effect t) (items.Enter to ∷ []) u.step e tt (λ item r. r.1) (refl, refl)
+          step_is = step_ran b J the_object (items.Effect t) (items.Enter to ∷ []) u.step e tt refl refl
               (λ is. let c = is_one (items.Enter to) (items.Effect t) is in cc) u.step_is u.step_is.in_order.1;
           fresh = λ is. absurd (cc);
         };
@@ -245,7 +247,7 @@ module _ {m : DraftMachine} (b : IsBuiltMachine m) where
           step = more u.step e;
           start = u.start;
           started = (Contains-append_left J (e ∷ []) u.start u.started.0, u.started.1);
-          step_is = step_ran b J the_object (items.Enter to) [] u.step e tt (λ item r. r.1) (refl, refl)
+          step_is = step_ran b J the_object (items.Enter to) [] u.step e tt refl refl
               (λ is. nothing_in_nil (items.Enter to) is) u.step_is tt;
           fresh = λ is. absurd (cc);
         };

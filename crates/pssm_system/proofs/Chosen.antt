@@ -177,19 +177,19 @@ module _ {setting : Setting} (b : IsBuilt setting) where
         no_queue_head b.class_is.machine J the_object v (asks b J (Done the_object v firing) A5 (λ e. cc) refl (there A5))
     rests_own (Exit o v outs) own other may =
         let there = subst (λ x. MayFollow setting J (Exit x v outs)) own may in
-        uncalled (items.Exit v) (asks b J (Exit the_object v outs) A8 (λ e. cc) refl (there A8) (items.Exit v) (refl, refl))
+        uncalled (items.Exit v) (asks b J (Exit the_object v outs) A8 (λ e. cc) refl (there A8))
     rests_own (Effect o t outs) own other may =
         let there = subst (λ x. MayFollow setting J (Effect x t outs)) own may in
-        uncalled (items.Effect t) (asks b J (Effect the_object t outs) A8 (λ e. cc) refl (there A8) (items.Effect t) (refl, refl))
+        uncalled (items.Effect t) (asks b J (Effect the_object t outs) A8 (λ e. cc) refl (there A8))
     rests_own (Enter o v outs) own other may =
         let there = subst (λ x. MayFollow setting J (Enter x v outs)) own may in
-        uncalled (items.Enter v) (asks b J (Enter the_object v outs) A8 (λ e. cc) refl (there A8) (items.Enter v) (refl, refl))
+        uncalled (items.Enter v) (asks b J (Enter the_object v outs) A8 (λ e. cc) refl (there A8))
     rests_own (Opened o r mode how) own other may =
         let there = subst (λ x. MayFollow setting J (Opened x r mode how)) own may in
-        uncalled (items.Opened r mode) (asks b J (Opened the_object r mode how) A8 (λ e. cc) refl (there A8) (items.Opened r mode) (refl, refl))
+        uncalled (items.Opened r mode) (asks b J (Opened the_object r mode how) A8 (λ e. cc) refl (there A8))
     rests_own (Pick o v route) own other may =
         let there = subst (λ x. MayFollow setting J (Pick x v route)) own may in
-        uncalled (items.Pick v) (asks b J (Pick the_object v route) A8 (λ e. cc) refl (there A8) (items.Pick v) (refl, refl))
+        uncalled (items.Pick v) (asks b J (Pick the_object v route) A8 (λ e. cc) refl (there A8))
     rests_own (DoStep o v k outs) own other may =
         let there = subst (λ x. MayFollow setting J (DoStep x v k outs)) own may in
         no_do_step b.class_is.machine J the_object v k (asks b J (DoStep the_object v k outs) A11 (λ e. cc) refl (there A11))

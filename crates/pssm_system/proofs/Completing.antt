@@ -23,7 +23,7 @@ use Rattle.pssm_system.specs.declared.progress.Progress.{Progress}
 use Rattle.pssm_system.specs.declared.progress.Progress.TheVariants.{Unstarted, Opening, Resting, Exiting, Acting, Entering}
 use Rattle.pssm_system.specs.Standing.{the_object, IsProgressOf, StandsAt}
 use Rattle.pssm_system.specs.Choosing.{the_opening}
-use Rattle.pssm_system.proofs.Steps.{first_in}
+use Rattle.pssm_semantics.proofs.Members.{first_in}
 use Rattle.pssm_system.proofs.Kept.{class_is}
 use Rattle.pssm_system.proofs.Rules.{each_of, step_finished}
 use Rattle.pssm_system.proofs.Advancing.{after_opened, after_exit, after_effect, after_enter}

@@ -13,6 +13,7 @@ use Rattle.pssm_model.specs.declared.steps.How.{How}
 use Rattle.pssm_model.specs.declared.steps.How.TheVariants.{By}
 use Rattle.pssm_model.specs.declared.steps.Item.{Item}
 use Rattle.pssm_model.specs.declared.steps.Item.TheVariants as items
+use Rattle.pssm_model.specs.Ways.{Memory, CanOpen}
 use Rattle.pssm_model.specs.OneRegion.{top_region, first_transition, single_route}
 use Rattle.pssm_model.proofs.BuiltTransitions.{nothing_in_nil}
 use Rattle.pssm_semantics.specs.declared.entry.Out.{Out}
@@ -21,14 +22,11 @@ use Rattle.pssm_semantics.specs.declared.entry.Entry.TheVariants.{Post, Start, T
 use Rattle.pssm_semantics.specs.declared.entry.Rule.TheVariants.{A1, A3, A4, A5, A6, A7, A8, A9, A10, A11, A12}
 use Rattle.pssm_semantics.specs.declared.stimulus.Stimulus.{Stimulus}
 use Rattle.pssm_semantics.specs.declared.setting.Setting.{Setting}
-use Rattle.pssm_semantics.specs.Journal.{StepAt, IsLastStep, IsStart, object_of}
-use Rattle.pssm_semantics.specs.Items.{HasRun, Called, Before}
+use Rattle.pssm_semantics.specs.Journal.{IsMemory, IsStart, object_of, configuration_after}
 use Rattle.pssm_semantics.specs.Values.{eight_of}
 use Rattle.pssm_semantics.specs.Pool.{signals_of, told_by}
-use Rattle.pssm_semantics.specs.Ways.{CanOpen}
 use Rattle.pssm_semantics.specs.Behaviours.{store_of, guards_under, guards_at}
-use Rattle.pssm_semantics.specs.Completion.{stand_after}
-use Rattle.pssm_semantics.specs.Rules.{IsCalledItem}
+use Rattle.pssm_semantics.specs.Rules.{IsCalledItem, IsClearedItem}
 use Rattle.pssm_semantics.specs.Runs.{MayFollow}
 use Rattle.pssm_semantics.specs.Built.{IsBuilt}
 use Rattle.pssm_system.specs.declared.progress.Progress.{Progress}
@@ -36,7 +34,7 @@ use Rattle.pssm_system.specs.declared.progress.Progress.TheVariants.{Unstarted, 
 use Rattle.pssm_system.specs.Standing.{the_object, waiting, passed, active_in, IsStarted, StandsAt}
 use Rattle.pssm_system.specs.Judging.{FiresAt}
 use Rattle.pssm_system.specs.Advancing.{AdvancesByFiring, Advances, signals_after, taken_after}
-use Rattle.pssm_system.proofs.Steps.{first_in, in_cases}
+use Rattle.pssm_semantics.proofs.Members.{first_in, in_cases}
 use Rattle.pssm_system.proofs.Signals.{IsNext, active_states, waiting_is_next, told_next}
 use Rattle.pssm_system.proofs.Kept.{asks, own_entry}
 use Rattle.pssm_system.proofs.Rules.{starts_once, not_started, step_unfinished, no_queue_head, called_item_waits, order_broken, opens_only, no_do_step, outs_are_none}
@@ -100,8 +98,7 @@ module _ {setting : Setting} (b : IsBuilt setting) (J : List Entry) (p : Progres
 
   -- an item that is called, and before which nothing is left, is the first of what is left
   item_is_first : (x : Item) → IsStarted p → IsCalledItem b.class.machine J the_object x
-      → ((y : Item) (step : StepAt) → IsLastStep J the_object step → Called b.class.machine the_object step y
-      → Before b.class.machine the_object step y x → HasRun the_object step y)
+      → IsClearedItem b.class.machine J the_object x
       → (rest : List Item) × (waiting p ≡ x ∷ rest)
   item_is_first x is called clear =
       let waits = called_item_waits b.class_is.machine J the_object p x is s.progress_is called in
@@ -115,8 +112,8 @@ module _ {setting : Setting} (b : IsBuilt setting) (J : List Entry) (p : Progres
   following_exit v outs may q is =
       let e : Entry = Exit the_object v outs in
       let f = asks b J e A3 (λ e. cc) refl (may A3) in
-      let first = item_is_first (items.Exit v) (is_started f.0 f.1 f.2) (asks b J e A8 (λ e. cc) refl (may A8) (items.Exit v) (refl, refl))
-      (λ y step last called before. asks b J e A9 (λ e. cc) refl (may A9) (items.Exit v) y step (refl, refl) last called before) in
+      let first = item_is_first (items.Exit v) (is_started f.0 f.1 f.2) (asks b J e A8 (λ e. cc) refl (may A8))
+      (asks b J e A9 (λ e. cc) refl (may A9)) in
       let none : outs ≡ [] = asks b J e A12 (λ e. cc) refl (may A12)
       ∙ outs_are_none b.class b.class_is (told_by J) J e (store_of b.class (told_by J) J the_object) in
       let now = exiting_only p v first.0 first.1 in
@@ -130,8 +127,8 @@ module _ {setting : Setting} (b : IsBuilt setting) (J : List Entry) (p : Progres
   following_effect t outs may q is =
       let e : Entry = Effect the_object t outs in
       let f = asks b J e A3 (λ e. cc) refl (may A3) in
-      let first = item_is_first (items.Effect t) (is_started f.0 f.1 f.2) (asks b J e A8 (λ e. cc) refl (may A8) (items.Effect t) (refl, refl))
-      (λ y step last called before. asks b J e A9 (λ e. cc) refl (may A9) (items.Effect t) y step (refl, refl) last called before) in
+      let first = item_is_first (items.Effect t) (is_started f.0 f.1 f.2) (asks b J e A8 (λ e. cc) refl (may A8))
+      (asks b J e A9 (λ e. cc) refl (may A9)) in
       let none : outs ≡ [] = asks b J e A12 (λ e. cc) refl (may A12)
       ∙ outs_are_none b.class b.class_is (told_by J) J e (store_of b.class (told_by J) J the_object) in
       let now = acting_only p t first.0 first.1 in
@@ -145,8 +142,8 @@ module _ {setting : Setting} (b : IsBuilt setting) (J : List Entry) (p : Progres
   following_enter v outs may q is =
       let e : Entry = Enter the_object v outs in
       let f = asks b J e A3 (λ e. cc) refl (may A3) in
-      let first = item_is_first (items.Enter v) (is_started f.0 f.1 f.2) (asks b J e A8 (λ e. cc) refl (may A8) (items.Enter v) (refl, refl))
-      (λ y step last called before. asks b J e A9 (λ e. cc) refl (may A9) (items.Enter v) y step (refl, refl) last called before) in
+      let first = item_is_first (items.Enter v) (is_started f.0 f.1 f.2) (asks b J e A8 (λ e. cc) refl (may A8))
+      (asks b J e A9 (λ e. cc) refl (may A9)) in
       let none : outs ≡ [] = asks b J e A12 (λ e. cc) refl (may A12)
       ∙ outs_are_none b.class b.class_is (told_by J) J e (store_of b.class (told_by J) J the_object) in
       let now = entering_only p v first.0 first.1 in
@@ -161,16 +158,17 @@ module _ {setting : Setting} (b : IsBuilt setting) (J : List Entry) (p : Progres
   opens_now r mode how may =
       let e : Entry = Opened the_object r mode how in
       let f = asks b J e A3 (λ e. cc) refl (may A3) in
-      let first = item_is_first (items.Opened r mode) (is_started f.0 f.1 f.2) (asks b J e A8 (λ e. cc) refl (may A8) (items.Opened r mode) (refl, refl))
-      (λ y step last called before. asks b J e A9 (λ e. cc) refl (may A9) (items.Opened r mode) y step (refl, refl) last called before) in
+      let first = item_is_first (items.Opened r mode) (is_started f.0 f.1 f.2) (asks b J e A8 (λ e. cc) refl (may A8))
+      (asks b J e A9 (λ e. cc) refl (may A9)) in
       let now = opening_only p r mode first.0 first.1 in
-      let truth = guards_at b.class (told_by J) J the_object in (
+      let truth = guards_at b.class (told_by J) J the_object in
+      let memory : Memory = IsMemory b.class.machine J the_object in (
         now.0,
         now.1,
         now.2,
-        opens_only b.class_is.machine truth J the_object how
-            (subst (λ k. CanOpen b.class.machine truth J the_object top_region k how) now.2
-            (subst (λ g. CanOpen b.class.machine truth J the_object g mode how) now.1 (asks b J e A10 (λ e. cc) refl (may A10)))),
+        opens_only b.class_is.machine truth memory how
+            (subst (λ k. CanOpen b.class.machine truth memory top_region k how) now.2
+            (subst (λ g. CanOpen b.class.machine truth memory g mode how) now.1 (asks b J e A10 (λ e. cc) refl (may A10)))),
       )
 
   following_opened : (r : RegionId) (mode : Mode) (how : How) → MayFollow setting J (Opened the_object r mode how)
@@ -225,7 +223,7 @@ module _ {setting : Setting} (b : IsBuilt setting) (J : List Entry) (p : Progres
         rests.0,
         next,
         rests.1,
-        fires_is b.class_is.machine (stand_after b.class.machine J the_object)
+        fires_is b.class_is.machine (configuration_after b.class.machine J the_object)
             (guards_under b.class (store_of b.class (told_by J) J the_object) (eight_of next.signal.args)) next.signal.signal rests.0 firing.routes
             (s.active_there rests.0 here) (λ q active. let now = s.active q active in cc)
             (asks b J e A7 (λ e. cc) refl (may A7) next.signal
@@ -246,7 +244,7 @@ module _ {setting : Setting} (b : IsBuilt setting) (J : List Entry) (p : Progres
       let e : Entry = Pick the_object v route in
       let f = asks b J e A3 (λ e. cc) refl (may A3) in
       no_pick_waits p v (called_item_waits b.class_is.machine J the_object p (items.Pick v) (is_started f.0 f.1 f.2) s.progress_is
-      (asks b J e A8 (λ e. cc) refl (may A8) (items.Pick v) (refl, refl)))
+      (asks b J e A8 (λ e. cc) refl (may A8)))
 
   following_own : (e : Entry) → object_of e ≡ the_object → MayFollow setting J e → (q : Progress) → Advances b.class.machine p e q
       → StandsAt b.class.machine (J ++ e ∷ []) q (signals_after signals e) (taken_after taken e)

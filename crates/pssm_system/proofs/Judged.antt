@@ -1,5 +1,5 @@
 -- The verdict on one more entry is that of the rules.
-use Rattle.std.proofs.Common.{◌≡◌, ◌≢◌, ◌+◌, ℕ, zero, suc, List, [], ◌∷◌, map, Contains, Option, Some, None, slice_get, refl, sym, ap, subst, ◌∙◌, ⊎_elim}
+use Rattle.std.proofs.Common.{◌≡◌, ◌≢◌, ◌+◌, ℕ, zero, suc, List, [], ◌∷◌, map, Contains, IfSome, Option, Some, None, slice_get, refl, sym, ap, subst, ◌∙◌, ⊎_elim}
 use Rattle.std.proofs.lemmas.Option.{slice_get_within}
 use Rattle.pssm_model.specs.declared.ids.VertexId.{VertexId}
 use Rattle.pssm_model.specs.declared.ids.RegionId.{RegionId}
@@ -14,7 +14,10 @@ use Rattle.pssm_model.specs.declared.steps.Mode.TheVariants.{Plain}
 use Rattle.pssm_model.specs.declared.steps.How.{How}
 use Rattle.pssm_model.specs.declared.steps.Item.{Item}
 use Rattle.pssm_model.specs.declared.steps.Item.TheVariants as items
-use Rattle.pssm_model.specs.Routes.{Truth, Stand}
+use Rattle.pssm_model.specs.declared.steps.How.TheVariants.{By, Nothing}
+use Rattle.pssm_model.specs.Configuration.{Configuration}
+use Rattle.pssm_model.specs.Ways.{Memory, CanOpen}
+use Rattle.pssm_model.specs.Routes.{Truth}
 use Rattle.pssm_model.specs.Firing.{IsFiring}
 use Rattle.pssm_model.specs.BuiltMachine.{IsBuiltMachine}
 use Rattle.pssm_model.specs.OneRegion.{top_region, first_transition}
@@ -29,14 +32,12 @@ use Rattle.pssm_semantics.specs.declared.entry.Rule.TheVariants.{A1, A2, A3, A4,
 use Rattle.pssm_semantics.specs.declared.stimulus.Stimulus.{Stimulus}
 use Rattle.pssm_semantics.specs.declared.setting.Class.{Class}
 use Rattle.pssm_semantics.specs.declared.setting.Setting.{Setting}
-use Rattle.pssm_semantics.specs.Journal.{IsLastStep, IsActive, IsStart, object_of}
-use Rattle.pssm_semantics.specs.Items.{Runs, HasRun, Called, Before}
+use Rattle.pssm_semantics.specs.Journal.{IsActive, IsMemory, IsStart, object_of, configuration_after}
+use Rattle.pssm_semantics.specs.Steps.{item_of}
 use Rattle.pssm_semantics.specs.Values.{eight_of}
 use Rattle.pssm_semantics.specs.Pool.{signals_of, told_by, outs_of}
-use Rattle.pssm_semantics.specs.Ways.{CanOpen}
 use Rattle.pssm_semantics.specs.Behaviours.{store_of, guards_under, guards_at}
-use Rattle.pssm_semantics.specs.Completion.{stand_after}
-use Rattle.pssm_semantics.specs.Rules.{Holds, KeepsShared, IsCalledItem, IsFirstWaiting}
+use Rattle.pssm_semantics.specs.Rules.{Holds, KeepsShared, IsCalledItem, IsClearedItem, IsFirstWaiting}
 use Rattle.pssm_semantics.specs.Verdict.{number_of, IsFirstBroken}
 use Rattle.pssm_semantics.specs.Runs.{MayFollow}
 use Rattle.pssm_semantics.specs.Built.{IsBuilt}
@@ -44,7 +45,7 @@ use Rattle.pssm_system.specs.declared.progress.Progress.{Progress}
 use Rattle.pssm_system.specs.declared.progress.Progress.TheVariants.{Unstarted, Opening, Resting, Exiting, Acting, Entering}
 use Rattle.pssm_system.specs.Standing.{the_object, waiting, active_in, IsStarted, StandsAt}
 use Rattle.pssm_system.specs.Judging.{FiresAt, IsBusy, IsNumbered, JudgesStart, JudgesTake, JudgesDone, JudgesItem, JudgesWork, JudgesOpened, JudgesNever, Judges}
-use Rattle.pssm_system.proofs.Steps.{first_in, later_in, in_cases}
+use Rattle.pssm_semantics.proofs.Members.{first_in, later_in, in_cases}
 use Rattle.pssm_system.proofs.Signals.{active_states, waiting_is_next, next_is_waiting, told_next}
 use Rattle.pssm_system.proofs.Kept.{IsKeptBelow, kept_more, kept_first, follows, first_broken, holds, asks, own_entry}
 use Rattle.pssm_system.proofs.Rules.{never_ended, may_start, starts_once, has_started, not_started, step_finished, step_unfinished, never_queued, no_queue_head, called_item, called_item_waits, order_kept, order_broken, opens_first, opens_only, no_do_step, outs_are_none, started_of_waiting}
@@ -80,8 +81,8 @@ rests_idle p s e = ap waiting e
 -- an entry that runs an item and is asked nothing by the rules of heads
 pub record IsWork (c : Class) (J : List Entry) (e : Entry) (x : Item) : Type 0 where
   pub own : object_of e ≡ the_object
-  pub runs : Runs e (object_of e) x
-  pub only : (item : Item) → Runs e (object_of e) item → item ≡ x
+  pub how : How
+  pub runs : item_of e ≡ Some (x, how)
   pub ends : KeepsShared c A2 J e
   pub starts : (f : Entry) → Contains J f → IsStart f the_object → KeepsShared c A3 J e
   pub started : KeepsShared c A3 J e → (f : Entry) × Contains J f × IsStart f the_object
@@ -145,20 +146,20 @@ stimulus_at J signals taken signal e there =
     mapped_get (λ (x : Stimulus). x.signal) (signals_of J) taken signal (subst (λ xs. slice_get xs taken ≡ Some signal) e there)
 
 -- what fires, where one State is active
-module _ {m : DraftMachine} (bm : IsBuiltMachine m) (stand : Stand) (truth : Truth) (signal : SignalId) (a : VertexId) where
-  pub fires_from : (routes : List Route) → stand.Active a → ((q : VertexId) → stand.Active q → q ≡ a) → FiresAt m a signal routes
-      → IsFiring m stand truth (Signal signal) routes
-  fires_from [] active only h = fires_none bm stand truth signal a only (λ t leaves lists. h (t, leaves, lists))
+module _ {m : DraftMachine} (bm : IsBuiltMachine m) (now : Configuration) (truth : Truth) (signal : SignalId) (a : VertexId) where
+  pub fires_from : (routes : List Route) → now.Active a → ((q : VertexId) → now.Active q → q ≡ a) → FiresAt m a signal routes
+      → IsFiring m now truth (Signal signal) routes
+  fires_from [] active only h = fires_none bm now truth signal a only (λ t leaves lists. h (t, leaves, lists))
   fires_from (route ∷ []) active only (t, same, leaves, lists) =
-      subst (λ r. IsFiring m stand truth (Signal signal) (r ∷ [])) (sym same) (fires_one bm stand truth signal a t active only leaves lists)
+      subst (λ r. IsFiring m now truth (Signal signal) (r ∷ [])) (sym same) (fires_one bm now truth signal a t active only leaves lists)
   fires_from (route ∷ next ∷ rest) active only h = absurd h
 
-  pub fires_is : (routes : List Route) → stand.Active a → ((q : VertexId) → stand.Active q → q ≡ a) → IsFiring m stand truth (Signal signal) routes
+  pub fires_is : (routes : List Route) → now.Active a → ((q : VertexId) → now.Active q → q ≡ a) → IsFiring m now truth (Signal signal) routes
       → FiresAt m a signal routes
   fires_is routes active only h =
       ⊎_elim (λ none. subst (FiresAt m a signal) (sym none.0) (λ r. none.1 r.0 r.1 r.2))
       (λ one. subst (FiresAt m a signal) (sym one.1.routes_are) (one.0, refl, one.1.leaves, one.1.lists))
-      (fires_only bm stand truth signal a routes active only h)
+      (fires_only bm now truth signal a routes active only h)
 
 module _ {setting : Setting} (b : IsBuilt setting) where
   more : (J : List Entry) (e : Entry) (rule : Rule) (n : ℕ) → number_of rule ≡ n → rule ≢ A1 → KeepsShared b.class rule J e
@@ -184,7 +185,7 @@ module _ {setting : Setting} (b : IsBuilt setting) where
     work_called : Contains (waiting p) x → IsKeptBelow setting J e 9
     work_called is =
         more J e A8 8 refl (λ e. cc)
-        (λ item runs. subst (λ i. IsCalledItem b.class.machine J (object_of e) i) (sym (w.only item runs))
+        (subst (λ r. IfSome r (λ y. IsCalledItem b.class.machine J (object_of e) y.0)) (sym w.runs)
         (subst (λ o. IsCalledItem b.class.machine J o x) (sym w.own) (called_item b.class_is.machine J the_object p x is s.progress_is)))
         (work_started (started_of_waiting p x is))
 
@@ -192,12 +193,8 @@ module _ {setting : Setting} (b : IsBuilt setting) where
     work_kept (rest, is) =
         let first : Contains (waiting p) x = subst (λ xs. Contains xs x) (sym is) (first_in x rest) in
         more J e A9 9 refl (λ e. cc)
-        (λ item y step runs last called before.
-        subst (λ o. HasRun o step y) (sym w.own)
-        (order_kept b.class_is.machine J the_object p x rest is s.progress_is y step
-        (subst (λ o. IsLastStep J o step) w.own last)
-        (subst (λ o. Called b.class.machine o step y) w.own called)
-        (subst (λ o. Before b.class.machine o step y x) w.own (subst (Before b.class.machine (object_of e) step y) (w.only item runs) before))))
+        (subst (λ r. IfSome r (λ y. IsClearedItem b.class.machine J (object_of e) y.0)) (sym w.runs)
+        (subst (λ o. IsClearedItem b.class.machine J o x) (sym w.own) (order_kept b.class_is.machine J the_object p x rest is s.progress_is)))
         (work_called first)
 
     pub work_unstarted : p ≡ Unstarted → IsFirstBroken (Holds setting) J e A3
@@ -209,7 +206,8 @@ module _ {setting : Setting} (b : IsBuilt setting) where
     work_uncalled is none =
         breaks J e A8 8 refl (λ e. cc) w.own
         (λ kept. none (called_item_waits b.class_is.machine J the_object p x is s.progress_is
-        (subst (λ o. IsCalledItem b.class.machine J o x) w.own (kept x w.runs))))
+        (subst (λ o. IsCalledItem b.class.machine J o x) w.own
+        (subst (λ r. IfSome r (λ y. IsCalledItem b.class.machine J (object_of e) y.0)) w.runs kept))))
         (work_started is)
 
     pub work_early : (first : Item) (rest : List Item) → waiting p ≡ first ∷ rest → Contains rest x → IsFirstBroken (Holds setting) J e A9
@@ -217,10 +215,8 @@ module _ {setting : Setting} (b : IsBuilt setting) where
         let waits : Contains (waiting p) x = subst (λ xs. Contains xs x) (sym is) (later_in first rest x further) in
         breaks J e A9 9 refl (λ e. cc) w.own
         (λ kept. order_broken b.class_is.machine J the_object p first x rest is further s.progress_is
-        (λ y step last called before.
-        subst (λ o. HasRun o step y) w.own
-        (kept x y step w.runs (subst (λ o. IsLastStep J o step) (sym w.own) last) (subst (λ o. Called b.class.machine o step y) (sym w.own) called)
-        (subst (λ o. Before b.class.machine o step y x) (sym w.own) before))))
+        (subst (λ o. IsClearedItem b.class.machine J o x) w.own
+        (subst (λ r. IfSome r (λ y. IsClearedItem b.class.machine J (object_of e) y.0)) w.runs kept)))
         (work_called waits)
 
     pub work_refused : (rule : Rule) → JudgesItem p x (Some rule) → IsFirstBroken (Holds setting) J e rule
@@ -258,8 +254,8 @@ module _ {setting : Setting} (b : IsBuilt setting) where
       judged_work J (Exit the_object v outs) (items.Exit v) outs p signals taken
       (record {
         own = refl;
-        runs = (refl, refl);
-        only = λ item r. r.1;
+        how = Nothing;
+        runs = refl;
         ends = λ ended. never_ended b.class_is.machine J the_object ended;
         starts = λ f is start. (f, is, start);
         started = λ kept. kept;
@@ -267,7 +263,7 @@ module _ {setting : Setting} (b : IsBuilt setting) where
         queue = tt;
         pool = tt;
         firing = tt;
-      }) refl tt tt
+      }) refl refl tt
 
   judged_effect : (J : List Entry) (t : TransId) (outs : List Out) (p : Progress) (signals : List SignalId) (taken : ℕ)
       → StandsAt b.class.machine J p signals taken → Holds setting A1 J (Effect the_object t outs)
@@ -276,8 +272,8 @@ module _ {setting : Setting} (b : IsBuilt setting) where
       judged_work J (Effect the_object t outs) (items.Effect t) outs p signals taken
       (record {
         own = refl;
-        runs = (refl, refl);
-        only = λ item r. r.1;
+        how = Nothing;
+        runs = refl;
         ends = λ ended. never_ended b.class_is.machine J the_object ended;
         starts = λ f is start. (f, is, start);
         started = λ kept. kept;
@@ -285,7 +281,7 @@ module _ {setting : Setting} (b : IsBuilt setting) where
         queue = tt;
         pool = tt;
         firing = tt;
-      }) refl tt tt
+      }) refl refl tt
 
   judged_enter : (J : List Entry) (v : VertexId) (outs : List Out) (p : Progress) (signals : List SignalId) (taken : ℕ)
       → StandsAt b.class.machine J p signals taken → Holds setting A1 J (Enter the_object v outs)
@@ -294,8 +290,8 @@ module _ {setting : Setting} (b : IsBuilt setting) where
       judged_work J (Enter the_object v outs) (items.Enter v) outs p signals taken
       (record {
         own = refl;
-        runs = (refl, refl);
-        only = λ item r. r.1;
+        how = Nothing;
+        runs = refl;
         ends = λ ended. never_ended b.class_is.machine J the_object ended;
         starts = λ f is start. (f, is, start);
         started = λ kept. kept;
@@ -303,14 +299,14 @@ module _ {setting : Setting} (b : IsBuilt setting) where
         queue = tt;
         pool = tt;
         firing = tt;
-      }) refl tt tt
+      }) refl refl tt
 
   -- an opening with its way
   opened_work : (J : List Entry) (r : RegionId) (mode : Mode) (how : How) → IsWork b.class J (Opened the_object r mode how) (items.Opened r mode)
   opened_work J r mode how = record {
     own = refl;
-    runs = (refl, refl);
-    only = λ item r. r.1;
+    how = how;
+    runs = refl;
     ends = λ ended. never_ended b.class_is.machine J the_object ended;
     starts = λ f is start. (f, is, start);
     started = λ kept. kept;
@@ -327,22 +323,24 @@ module _ {setting : Setting} (b : IsBuilt setting) where
       let e : Entry = Opened the_object r mode how in
       let opening = opening_only p r mode h.0.0 h.0.1 in
       let truth = guards_at b.class (told_by J) J the_object in
+      let memory : Memory = IsMemory b.class.machine J the_object in
       follows setting J e
       (more J e A12 12 refl (λ e. cc) (sym (outs_are_none b.class b.class_is (told_by J) J e (store_of b.class (told_by J) J the_object)))
       (more J e A11 11 refl (λ e. cc) tt
       (more J e A10 10 refl (λ e. cc)
-      (subst (λ q. CanOpen b.class.machine truth J the_object q mode how) (sym opening.1)
-      (subst (λ k. CanOpen b.class.machine truth J the_object top_region k how) (sym opening.2)
-      (subst (CanOpen b.class.machine truth J the_object top_region Plain) (sym h.1) (opens_first b.class_is.machine truth J the_object))))
+      (subst (λ q. CanOpen b.class.machine truth memory q mode how) (sym opening.1)
+      (subst (λ k. CanOpen b.class.machine truth memory top_region k how) (sym opening.2)
+      (subst (CanOpen b.class.machine truth memory top_region Plain) (sym h.1) (opens_first b.class_is.machine truth memory))))
       (work_kept J e (items.Opened r mode) p signals taken (opened_work J r mode how) s names h.0))))
   judged_opened J r mode how p signals taken s names (Some A10) h =
       let e : Entry = Opened the_object r mode how in
       let opening = opening_only p r mode h.0.0 h.0.1 in
       let truth = guards_at b.class (told_by J) J the_object in
+      let memory : Memory = IsMemory b.class.machine J the_object in
       breaks J e A10 10 refl (λ e. cc) refl
-      (λ kept. h.1 (opens_only b.class_is.machine truth J the_object how
-      (subst (λ k. CanOpen b.class.machine truth J the_object top_region k how) opening.2
-      (subst (λ q. CanOpen b.class.machine truth J the_object q mode how) opening.1 kept))))
+      (λ kept. h.1 (opens_only b.class_is.machine truth memory how
+      (subst (λ k. CanOpen b.class.machine truth memory top_region k how) opening.2
+      (subst (λ q. CanOpen b.class.machine truth memory q mode how) opening.1 kept))))
       (work_kept J e (items.Opened r mode) p signals taken (opened_work J r mode how) s names h.0)
   judged_opened J r mode how p signals taken s names (Some rule) h =
       work_refused J (Opened the_object r mode how) (items.Opened r mode) p signals taken (opened_work J r mode how) s names rule h
@@ -356,8 +354,8 @@ module _ {setting : Setting} (b : IsBuilt setting) where
       let e : Entry = Pick the_object v route in
       let w : IsWork b.class J e (items.Pick v) = record {
         own = refl;
-        runs = (refl, refl);
-        only = λ item r. r.1;
+        how = By route;
+        runs = refl;
         ends = λ ended. never_ended b.class_is.machine J the_object ended;
         starts = λ f is start. (f, is, start);
         started = λ kept. kept;
@@ -383,8 +381,8 @@ module _ {setting : Setting} (b : IsBuilt setting) where
       (λ kept. not_started b.class_is.machine J the_object p is s.progress_is kept.0 kept.1 kept.2) begun)
       (λ is. breaks J e A11 11 refl (λ e. cc) refl (λ kept. no_do_step b.class_is.machine J the_object v k kept)
       (more J e A10 10 refl (λ e. cc) tt
-      (more J e A9 9 refl (λ e. cc) (λ item x step runs last called before. absurd runs)
-      (more J e A8 8 refl (λ e. cc) (λ item runs. absurd runs)
+      (more J e A9 9 refl (λ e. cc) tt
+      (more J e A8 8 refl (λ e. cc) tt
       (more J e A7 7 refl (λ e. cc) tt (more J e A6 6 refl (λ e. cc) tt (more J e A5 5 refl (λ e. cc) tt (more J e A4 4 refl (λ e. cc) tt
       (more J e A3 3 refl (λ e. cc) (has_started b.class_is.machine J the_object p is s.progress_is) begun))))))))) h
 
@@ -395,8 +393,8 @@ module _ {setting : Setting} (b : IsBuilt setting) where
       follows setting J e
       (more J e A12 12 refl (λ e. cc) (sym (outs_are_none b.class b.class_is (told_by J) J e (store_of b.class (told_by J) J the_object)))
       (more J e A11 11 refl (λ e. cc) tt (more J e A10 10 refl (λ e. cc) tt
-      (more J e A9 9 refl (λ e. cc) (λ item x step runs last called before. absurd runs)
-      (more J e A8 8 refl (λ e. cc) (λ item runs. absurd runs)
+      (more J e A9 9 refl (λ e. cc) tt
+      (more J e A8 8 refl (λ e. cc) tt
       (more J e A7 7 refl (λ e. cc) tt (more J e A6 6 refl (λ e. cc) tt (more J e A5 5 refl (λ e. cc) tt (more J e A4 4 refl (λ e. cc) tt
       (more J e A3 3 refl (λ e. cc) tt (more J e A2 2 refl (λ e. cc) tt (kept_first setting J e names))))))))))))
 
@@ -409,8 +407,8 @@ module _ {setting : Setting} (b : IsBuilt setting) where
       follows setting J e
       (more J e A12 12 refl (λ e. cc) (sym (outs_are_none b.class b.class_is (told_by J) J e (store_of b.class (told_by J) J the_object)))
       (more J e A11 11 refl (λ e. cc) tt (more J e A10 10 refl (λ e. cc) tt
-      (more J e A9 9 refl (λ e. cc) (λ item x step runs last called before. absurd runs)
-      (more J e A8 8 refl (λ e. cc) (λ item runs. absurd runs)
+      (more J e A9 9 refl (λ e. cc) tt
+      (more J e A8 8 refl (λ e. cc) tt
       (more J e A7 7 refl (λ e. cc) tt (more J e A6 6 refl (λ e. cc) tt (more J e A5 5 refl (λ e. cc) tt (more J e A4 4 refl (λ e. cc) tt
       (more J e A3 3 refl (λ e. cc) (may_start b.class_is.machine J the_object p h s.progress_is)
       (more J e A2 2 refl (λ e. cc) (λ ended. never_ended b.class_is.machine J the_object ended) (kept_first setting J e names))))))))))))
@@ -508,12 +506,12 @@ module _ {setting : Setting} (b : IsBuilt setting) where
         follows setting J e
         (more J e A12 12 refl (λ e. cc) (sym (outs_are_none b.class b.class_is (told_by J) J e (store_of b.class (told_by J) J the_object)))
         (more J e A11 11 refl (λ e. cc) tt (more J e A10 10 refl (λ e. cc) tt
-        (more J e A9 9 refl (λ e. cc) (λ item x step runs last called before. absurd runs)
-        (more J e A8 8 refl (λ e. cc) (λ item runs. absurd runs)
+        (more J e A9 9 refl (λ e. cc) tt
+        (more J e A8 8 refl (λ e. cc) tt
         (more J e A7 7 refl (λ e. cc)
         (λ y told.
         let same : x.0 ≡ y = signal_told x.0 y numbered.0 x.1 told in
-        fires_from b.class_is.machine (stand_after b.class.machine J the_object)
+        fires_from b.class_is.machine (configuration_after b.class.machine J the_object)
         (guards_under b.class (store_of b.class (told_by J) J the_object) (eight_of y.args)) y.signal a firing.routes (is_active a rests) (only_active a rests)
         (subst (λ g. FiresAt b.class.machine a g firing.routes) (sym x.2 ∙ ap (λ (z : Stimulus). z.signal) same) fires))
         (take_next a signal rests numbered)))))))
@@ -539,7 +537,7 @@ module _ {setting : Setting} (b : IsBuilt setting) where
         breaks J (Take the_object number firing) A7 7 refl (λ e. cc) refl
         (λ kept. wrong
         (subst (λ g. FiresAt b.class.machine a g firing.routes) x.2
-        (fires_is b.class_is.machine (stand_after b.class.machine J the_object)
+        (fires_is b.class_is.machine (configuration_after b.class.machine J the_object)
         (guards_under b.class (store_of b.class (told_by J) J the_object) (eight_of x.0.args)) x.0.signal a firing.routes (is_active a rests) (only_active a rests)
         (kept x.0 (subst (λ n. told_by J n ≡ Some x.0) (sym numbered.0) (told_next J taken x.0 x.1))))))
         (take_next a signal rests numbered)

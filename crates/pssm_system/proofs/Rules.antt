@@ -13,7 +13,11 @@ use Rattle.pssm_model.specs.declared.steps.How.TheVariants.{By, Restore, Nothing
 use Rattle.pssm_model.specs.declared.steps.Item.{Item}
 use Rattle.pssm_model.specs.declared.steps.Item.TheVariants as items
 use Rattle.pssm_model.specs.Forest.{vertex_at, transition_at}
+use Rattle.pssm_model.specs.Configuration.{IsNextStep}
 use Rattle.pssm_model.specs.Routes.{Truth}
+use Rattle.pssm_model.specs.Course.{HasRun}
+use Rattle.pssm_model.specs.Items.{Called, Before, IsExit, IsEffect, IsEnter}
+use Rattle.pssm_model.specs.Ways.{Memory, CanOpen}
 use Rattle.pssm_model.specs.BuiltMachine.{IsBuiltMachine}
 use Rattle.pssm_model.specs.OneRegion.{top_region, initial_vertex, first_transition, single_route}
 use Rattle.pssm_model.proofs.BuiltElements.{no_terminate, no_final, vertex_steps}
@@ -26,20 +30,21 @@ use Rattle.pssm_semantics.specs.declared.entry.Entry.{Entry}
 use Rattle.pssm_semantics.specs.declared.entry.Entry.TheVariants.{Post, Start, Take, Done, Exit, Effect, Enter, Opened, Pick, DoStep}
 use Rattle.pssm_semantics.specs.declared.setting.Class.{Class}
 use Rattle.pssm_semantics.specs.declared.tree.Act.{Act}
-use Rattle.pssm_semantics.specs.Journal.{StepAt, IsLastStep, IsPost, IsStart, object_of}
-use Rattle.pssm_semantics.specs.Items.{HasRun, Called, Before, IsExit, IsEffect, IsEnter}
+use Rattle.pssm_semantics.specs.Journal.{IsPost, IsStart, object_of, configuration_after}
+use Rattle.pssm_semantics.specs.Steps.{StepAt, IsLastStep, course_of}
 use Rattle.pssm_semantics.specs.Values.{Store, Params, outcome_of}
 use Rattle.pssm_semantics.specs.Pool.{Told}
 use Rattle.pssm_semantics.specs.Completion.{HasEnded, IsQueuedAt, IsQueueHead}
 use Rattle.pssm_semantics.specs.Behaviours.{act_of, act_at, outcome_at, params_at}
-use Rattle.pssm_semantics.specs.Ways.{CanOpen, IsStepFinished}
-use Rattle.pssm_semantics.specs.Rules.{KeepsStart, IsCalledItem, IsNextStep}
+use Rattle.pssm_semantics.specs.Ways.{IsStepFinished}
+use Rattle.pssm_semantics.specs.Rules.{KeepsStart, IsCalledItem, IsClearedItem}
 use Rattle.pssm_semantics.specs.Built.{IsPlainClass}
 use Rattle.pssm_semantics.proofs.Appending.{one_last_step}
 use Rattle.pssm_system.specs.declared.progress.Progress.{Progress}
 use Rattle.pssm_system.specs.declared.progress.Progress.TheVariants.{Unstarted, Opening, Resting, Exiting, Acting, Entering}
 use Rattle.pssm_system.specs.Standing.{waiting, IsStarted, IsInOrder, IsUnderWay, IsProgressOf}
-use Rattle.pssm_system.proofs.Steps.{first_in, later_in, in_cases, before_is}
+use Rattle.pssm_semantics.proofs.Members.{first_in, later_in, in_cases}
+use Rattle.pssm_system.proofs.Steps.{before_is}
 use Rattle.pssm_system.proofs.Kept.{and_then_some}
 
 -- a fact about each element is one about an element that is there
@@ -82,10 +87,10 @@ started_of_waiting (Entering v) item is = tt
 
 -- what stands just before an item that is left
 predecessor : (m : DraftMachine) (o : ObjectId) (step : StepAt) (x : Item) (rest : List Item) (item : Item) → IsInOrder m o step (x ∷ rest) → Contains rest item
-    → (y : Item) × Contains (x ∷ rest) y × Before m o step y item
+    → (y : Item) × Contains (x ∷ rest) y × Before m (course_of m o step) y item
 predecessor m o step x [] item order is = absurd (nothing_in_nil item is)
 predecessor m o step x (z ∷ zs) item order is =
-    ⊎_elim (λ same. (x, first_in x (z ∷ zs), subst (Before m o step x) (sym same) order.0))
+    ⊎_elim (λ same. (x, first_in x (z ∷ zs), subst (Before m (course_of m o step) x) (sym same) order.0))
     (λ further. let found = predecessor m o step z zs item order.1 further in (found.0, later_in x (z ∷ zs) found.0 found.1, found.2))
     (in_cases z zs item is)
 
@@ -117,9 +122,9 @@ module _ {m : DraftMachine} (b : IsBuiltMachine m) where
       let u = under_way m J o p is h in
       inl (λ step item last called.
       let same = one_last_step J o u.step step u.step_is.last last in
-      subst (λ s. HasRun o s item) same
+      subst (λ s. HasRun (course_of m o s) item) same
       (⊎_elim (λ waits. absurd (nothing_in_nil item (subst (λ xs. Contains xs item) none waits))) (λ ran. ran)
-      (u.step_is.called item (subst (λ s. Called m o s item) (sym same) called))))
+      (u.step_is.called item (subst (λ s. Called m (course_of m o s) item) (sym same) called))))
 
   pub step_unfinished : (J : List Entry) (o : ObjectId) (p : Progress) (item : Item) → Contains (waiting p) item → IsProgressOf m J o p → IsStepFinished m J o → ⊥
   step_unfinished J o p item waits h (inl all) =
@@ -145,12 +150,12 @@ module _ {m : DraftMachine} (b : IsBuiltMachine m) where
   called_item_waits J o p item is h c =
       let u = under_way m J o p is h in
       let same = one_last_step J o u.step c.step u.step_is.last c.last in
-      ⊎_elim (λ waits. waits) (λ ran. absurd (c.waiting (subst (λ s. HasRun o s item) same ran)))
-      (u.step_is.called item (subst (λ s. Called m o s item) (sym same) c.called))
+      ⊎_elim (λ waits. waits) (λ ran. absurd (c.waiting (subst (λ s. HasRun (course_of m o s) item) same ran)))
+      (u.step_is.called item (subst (λ s. Called m (course_of m o s) item) (sym same) c.called))
 
   -- the first of what is left comes after nothing that is left
   first_is_clear : (o : ObjectId) (step : StepAt) (p : Progress) (item x : Item) (rest : List Item) → waiting p ≡ item ∷ rest → Contains (waiting p) x
-      → Before m o step x item → ⊥
+      → Before m (course_of m o step) x item → ⊥
   first_is_clear o step Unstarted item x rest e is before = nothing_in_nil x is
   first_is_clear o step Opening item x rest e is before =
       let same : items.Opened top_region Plain ≡ item = cc in
@@ -169,18 +174,18 @@ module _ {m : DraftMachine} (b : IsBuiltMachine m) where
       ⊎_elim (λ k. subst IsExit (is_one (items.Enter v) x is) k.0) (λ k. subst IsEffect (is_one (items.Enter v) x is) k.0) (before_is b o step x item before)
 
   pub order_kept : (J : List Entry) (o : ObjectId) (p : Progress) (item : Item) (rest : List Item) → waiting p ≡ item ∷ rest → IsProgressOf m J o p
-      → (x : Item) (step : StepAt) → IsLastStep J o step → Called m o step x → Before m o step x item → HasRun o step x
+      → (x : Item) (step : StepAt) → IsLastStep J o step → Called m (course_of m o step) x → Before m (course_of m o step) x item → HasRun (course_of m o step) x
   order_kept J o p item rest e h x step last called before =
       let waits : Contains (waiting p) item = subst (λ xs. Contains xs item) (sym e) (first_in item rest) in
       let u = under_way m J o p (started_of_waiting p item waits) h in
       let same = one_last_step J o u.step step u.step_is.last last in
       ⊎_elim (λ left. absurd (first_is_clear o step p item x rest e left before))
-      (λ ran. subst (λ s. HasRun o s x) same ran)
-      (u.step_is.called x (subst (λ s. Called m o s x) (sym same) called))
+      (λ ran. subst (λ s. HasRun (course_of m o s) x) same ran)
+      (u.step_is.called x (subst (λ s. Called m (course_of m o s) x) (sym same) called))
 
   -- an item that is left, and not the first, comes after one that has not run
   pub order_broken : (J : List Entry) (o : ObjectId) (p : Progress) (first item : Item) (rest : List Item) → waiting p ≡ first ∷ rest → Contains rest item
-      → IsProgressOf m J o p → ((x : Item) (step : StepAt) → IsLastStep J o step → Called m o step x → Before m o step x item → HasRun o step x) → ⊥
+      → IsProgressOf m J o p → ((x : Item) (step : StepAt) → IsLastStep J o step → Called m (course_of m o step) x → Before m (course_of m o step) x item → HasRun (course_of m o step) x) → ⊥
   order_broken J o p first item rest e is h kept =
       let waits : Contains (waiting p) item = subst (λ xs. Contains xs item) (sym e) (later_in first rest item is) in
       let u = under_way m J o p (started_of_waiting p item waits) h in
@@ -189,16 +194,16 @@ module _ {m : DraftMachine} (b : IsBuiltMachine m) where
       u.step_is.not_run found.0 left (kept found.0 u.step u.step_is.last (u.step_is.waits found.0 left) found.2)
 
   -- the region opens by the transition out of its initial vertex, and by no other way
-  pub opens_first : (truth : Truth) (J : List Entry) (o : ObjectId) → CanOpen m truth J o top_region Plain (By (single_route (first_transition m)))
-  opens_first truth J o = (initial_vertex m, initial_of_region b, late_route_first b truth)
+  pub opens_first : (truth : Truth) (memory : Memory) → CanOpen m truth memory top_region Plain (By (single_route (first_transition m)))
+  opens_first truth memory = (initial_vertex m, initial_of_region b, late_route_first b truth)
 
-  pub opens_only : (truth : Truth) (J : List Entry) (o : ObjectId) (how : How) → CanOpen m truth J o top_region Plain how → how ≡ By (single_route (first_transition m))
-  opens_only truth J o (By route) h = ap By (late_route_is b truth h.0 route h.2).1
-  opens_only truth J o (Restore s) h = absurd h
-  opens_only truth J o Nothing h = absurd (h (initial_vertex m) (initial_of_region b))
+  pub opens_only : (truth : Truth) (memory : Memory) (how : How) → CanOpen m truth memory top_region Plain how → how ≡ By (single_route (first_transition m))
+  opens_only truth memory (By route) h = ap By (late_route_is b truth h.0 route h.2).1
+  opens_only truth memory (Restore s) h = absurd h
+  opens_only truth memory Nothing h = absurd (h (initial_vertex m) (initial_of_region b))
 
   -- no State has a do step
-  pub no_do_step : (J : List Entry) (o : ObjectId) (s : VertexId) (k : ℕ) → IsNextStep m J o s k → ⊥
+  pub no_do_step : (J : List Entry) (o : ObjectId) (s : VertexId) (k : ℕ) → IsNextStep m (configuration_after m J o) s k → ⊥
   no_do_step J o s k h = no_steps (vertex_at m s) (vertex_steps b s) h.in_range
     where
       no_steps : (there : Option Vertex) → ((x : Vertex) → there ≡ Some x → x.steps ≡ []) → k < option_map_or (λ (x : Vertex). length x.steps) there 0 → ⊥

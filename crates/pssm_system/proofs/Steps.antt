@@ -1,6 +1,5 @@
 -- The last step of a machine of one region, and what one more entry does to what is called in it and to its order.
-use Rattle.std.proofs.Common.{◌≡◌, ◌⊎◌, ◌++◌, List, [], ◌∷◌, Contains, sym, subst, inl, inr, ⊎_elim}
-use Rattle.std.proofs.lemmas.List.Elements.{Contains-append_left, Contains-append_right, Contains-append_cases, Contains-push_cases}
+use Rattle.std.proofs.Common.{◌≡◌, ◌⊎◌, ◌++◌, List, [], ◌∷◌, Contains, Some, None, sym, ap, subst, ◌∙◌, inl, inr, ⊎_elim}
 use Rattle.pssm_model.specs.declared.ids.VertexId.{VertexId}
 use Rattle.pssm_model.specs.declared.ids.RegionId.{RegionId}
 use Rattle.pssm_model.specs.declared.ids.TransId.{TransId}
@@ -10,32 +9,26 @@ use Rattle.pssm_model.specs.declared.steps.Mode.{Mode}
 use Rattle.pssm_model.specs.declared.steps.Mode.TheVariants.{Plain, Shallow, Deep}
 use Rattle.pssm_model.specs.declared.steps.Item.{Item}
 use Rattle.pssm_model.specs.declared.steps.Item.TheVariants as items
-use Rattle.pssm_model.specs.Legs.{On}
+use Rattle.pssm_model.specs.declared.steps.How.{How}
+use Rattle.pssm_model.specs.declared.steps.How.TheVariants.{By, Restore, Nothing}
+use Rattle.pssm_model.specs.Course.{Course, HasRun, Leg, IsLeg}
+use Rattle.pssm_model.specs.Items.{LegEnds, LegOpens, EnterOpens, Called, PathBefore, Before, IsExit, IsEffect, IsEnter}
+use Rattle.pssm_model.specs.Items.Called.{start, run, ends, opens, restored, entered}
+use Rattle.pssm_model.specs.Items.PathBefore.{next, after}
+use Rattle.pssm_model.specs.Items.Before.{inner_exit, outer_enter, exit_effect, path, effect_enter, effect_end, enter_end, later}
 use Rattle.pssm_model.specs.BuiltMachine.{IsBuiltMachine}
 use Rattle.pssm_model.proofs.BuiltElements.{no_shallow_history, no_deep_history, no_choice, no_junction}
 use Rattle.pssm_model.proofs.BuiltForest.{no_nested_region, no_vertex_in_state}
-use Rattle.pssm_model.proofs.BuiltRoutes.{is_one, in_one}
 use Rattle.pssm_model.proofs.BuiltLegs.{no_later_leg, no_local_leg}
 use Rattle.pssm_semantics.specs.declared.entry.ObjectId.{ObjectId}
 use Rattle.pssm_semantics.specs.declared.entry.Entry.{Entry}
 use Rattle.pssm_semantics.specs.declared.entry.Entry.TheVariants.{Post, Start, Take, Done, Exit, Effect, Enter, Opened, Pick, DoStep}
-use Rattle.pssm_semantics.specs.Journal.{StepAt, Heads}
-use Rattle.pssm_semantics.specs.Items.{Runs, LateGoesBy, Leg, IsLeg, LegEnds, LegOpens, EnterOpens, Restores, Called, PathBefore, Before, IsExit, IsEffect, IsEnter}
-use Rattle.pssm_semantics.specs.Items.Called.{start, run, ends, opens, restored, entered}
-use Rattle.pssm_semantics.specs.Items.PathBefore.{next, after}
-use Rattle.pssm_semantics.specs.Items.Before.{inner_exit, outer_enter, exit_effect, path, effect_enter, effect_end, enter_end, later}
-use Rattle.pssm_semantics.proofs.Appending.{more, goes_on, run_kept, run_now, run_cases}
+use Rattle.pssm_semantics.specs.Journal.{object_of, Heads}
+use Rattle.pssm_semantics.specs.Steps.{StepAt, item_of, course_of}
+use Rattle.pssm_semantics.proofs.Appending.{more, goes_on}
+use Rattle.pssm_semantics.proofs.Courses.{Runs, runs_is, runs_own, runs_one, run_kept, run_now, run_cases, leg_kept, leg_cases, restored_kept, restored_cases}
+use Rattle.pssm_semantics.proofs.Members.{later_in, in_cases}
 use Rattle.pssm_system.specs.Standing.{IsOpenStep, IsInOrder}
-
--- the first of a list, and the others
-pub first_in : {X : Type 0} (x : X) (xs : List X) → Contains (x ∷ xs) x
-first_in x xs = Contains-append_left (x ∷ []) xs x (in_one x)
-
-pub later_in : {X : Type 0} (x : X) (xs : List X) (y : X) → Contains xs y → Contains (x ∷ xs) y
-later_in x xs y h = Contains-append_right (x ∷ []) xs y h
-
-pub in_cases : {X : Type 0} (x : X) (xs : List X) (y : X) → Contains (x ∷ xs) y → (y ≡ x) ⊎ Contains xs y
-in_cases x xs y h = ⊎_elim (λ one. inl (is_one x y one)) inr (Contains-append_cases (x ∷ []) xs y h)
 
 -- entries that call nothing and begin no step
 abbrev pub AddsNothing : Entry → Type 0
@@ -44,6 +37,10 @@ AddsNothing (Exit o state outs) = Unit {0}
 AddsNothing (Effect o transition outs) = Unit {0}
 AddsNothing (Enter o state outs) = Unit {0}
 AddsNothing _ = ⊥
+
+-- an item that has no way
+abbrev ran : Item → Item × How
+ran item = (item, Nothing)
 
 pub adds_no_head : (e : Entry) (o : ObjectId) → AddsNothing e → Heads e o → ⊥
 adds_no_head (Post p signal args) o q h = cc
@@ -57,47 +54,33 @@ adds_no_head (Opened p region mode how) o q h = q
 adds_no_head (Pick p choice route) o q h = q
 adds_no_head (DoStep p state step outs) o q h = q
 
-pub adds_no_route : (e : Entry) (o : ObjectId) (route : Route) → AddsNothing e → LateGoesBy e o route → ⊥
-adds_no_route (Post p signal args) o route q h = h
-adds_no_route (Exit p state outs) o route q h = h
-adds_no_route (Effect p transition outs) o route q h = h
-adds_no_route (Enter p state outs) o route q h = h
-adds_no_route (Start p) o route q h = q
-adds_no_route (Take p number firing) o route q h = q
-adds_no_route (Done p state firing) o route q h = q
-adds_no_route (Opened p region mode how) o route q h = q
-adds_no_route (Pick p choice way) o route q h = q
-adds_no_route (DoStep p state step outs) o route q h = q
+-- nothing goes by a route or restores a State where the entry adds nothing
+quiet_way : (e : Entry) (x : Item × How) → AddsNothing e → item_of e ≡ Some x → x.1 ≡ Nothing
+quiet_way (Exit p state outs) x q is = let same : Some x ≡ Some (ran (items.Exit state)) = sym is in let run : x ≡ ran (items.Exit state) = cc in ap (λ y. y.1) run
+quiet_way (Effect p t outs) x q is = let same : Some x ≡ Some (ran (items.Effect t)) = sym is in let run : x ≡ ran (items.Effect t) = cc in ap (λ y. y.1) run
+quiet_way (Enter p state outs) x q is = let same : Some x ≡ Some (ran (items.Enter state)) = sym is in let run : x ≡ ran (items.Enter state) = cc in ap (λ y. y.1) run
+quiet_way (Post p signal args) x q is = absurd (let none : None ≡ Some x = is in cc)
+quiet_way (Start p) x q is = absurd q
+quiet_way (Take p number firing) x q is = absurd q
+quiet_way (Done p state firing) x q is = absurd q
+quiet_way (Opened p region mode how) x q is = absurd q
+quiet_way (Pick p choice route) x q is = absurd q
+quiet_way (DoStep p state step outs) x q is = absurd q
 
-pub adds_no_restore : (e : Entry) (o : ObjectId) (r : RegionId) (mode : Mode) (s : VertexId) → AddsNothing e → Restores e o r mode s → ⊥
-adds_no_restore (Post p signal args) o r mode s q h = h
-adds_no_restore (Exit p state outs) o r mode s q h = h
-adds_no_restore (Effect p transition outs) o r mode s q h = h
-adds_no_restore (Enter p state outs) o r mode s q h = h
-adds_no_restore (Start p) o r mode s q h = q
-adds_no_restore (Take p number firing) o r mode s q h = q
-adds_no_restore (Done p state firing) o r mode s q h = q
-adds_no_restore (Opened p region was how) o r mode s q h = q
-adds_no_restore (Pick p choice way) o r mode s q h = q
-adds_no_restore (DoStep p state step outs) o r mode s q h = q
+adds_no_route : (e : Entry) (o : ObjectId) (item : Item) (route : Route) → AddsNothing e → Runs o e (item, By route) → ⊥
+adds_no_route e o item route quiet runs =
+    let same : By route ≡ Nothing = quiet_way e (item, By route) quiet (runs_is o e (item, By route) runs).1 in cc
 
--- the legs of a step with one more entry
-pub leg_kept : (o : ObjectId) (step : StepAt) (e : Entry) (leg : Leg) → IsLeg o step leg → IsLeg o (more step e) leg
-leg_kept o step e leg (goes, on) =
-    (⊎_elim (λ head. inl head) (λ late. inr (late.0, Contains-append_left step.after (e ∷ []) late.0 late.1, late.2)) goes, on)
+adds_no_restore : (e : Entry) (o : ObjectId) (item : Item) (s : VertexId) → AddsNothing e → Runs o e (item, Restore s) → ⊥
+adds_no_restore e o item s quiet runs =
+    let same : Restore s ≡ Nothing = quiet_way e (item, Restore s) quiet (runs_is o e (item, Restore s) runs).1 in cc
 
-pub leg_cases : (o : ObjectId) (step : StepAt) (e : Entry) (leg : Leg) → IsLeg o (more step e) leg
-    → IsLeg o step leg ⊎ (LateGoesBy e o leg.route × On leg.route leg.first)
-leg_cases o step e leg (goes, on) =
-    ⊎_elim (λ head. inl (inl head, on))
-    (λ late. ⊎_elim
-    (λ was. inl (inr (late.0, was, late.2), on))
-    (λ same. inr (subst (λ f. LateGoesBy f o leg.route) (sym same) late.2, on))
-    (Contains-push_cases step.after e late.0 late.1))
-    goes
+pub runs_nothing : (e : Entry) (o : ObjectId) (x : Item × How) → item_of e ≡ None → Runs o e x → ⊥
+runs_nothing e o x none runs = let clash : None ≡ Some x = sym none ∙ (runs_is o e x runs).1 in cc
 
-pub leg_back : (o : ObjectId) (step : StepAt) (e : Entry) (leg : Leg) → AddsNothing e → IsLeg o (more step e) leg → IsLeg o step leg
-leg_back o step e leg quiet h = ⊎_elim (λ was. was) (λ new. absurd (adds_no_route e o leg.route quiet new.0)) (leg_cases o step e leg h)
+leg_back : (m : DraftMachine) (o : ObjectId) (step : StepAt) (e : Entry) (leg : Leg) → AddsNothing e → IsLeg (course_of m o (more step e)) leg
+    → IsLeg (course_of m o step) leg
+leg_back m o step e leg quiet h = ⊎_elim (λ was. was) (λ new. absurd (adds_no_route e o new.0 leg.route quiet new.1)) (leg_cases m o step e leg h)
 
 module _ {m : DraftMachine} (b : IsBuiltMachine m) where
   -- nothing ends on a history vertex or a choice, nothing is local, and no State has regions
@@ -119,47 +102,46 @@ module _ {m : DraftMachine} (b : IsBuiltMachine m) where
   no_leg_opens route t (items.Effect u) h = h
   no_leg_opens route t (items.Enter s) h = h
 
-  pub no_enter_opens : (o : ObjectId) (step : StepAt) (s : VertexId) (item : Item) → EnterOpens m o step s item → ⊥
-  no_enter_opens o step s (items.Opened r mode) h = no_nested_region b r s h.0
-  no_enter_opens o step s (items.Pick c) h = h
-  no_enter_opens o step s (items.Exit q) h = h
-  no_enter_opens o step s (items.Effect u) h = h
-  no_enter_opens o step s (items.Enter q) h = h
+  pub no_enter_opens : (course : Course) (s : VertexId) (item : Item) → EnterOpens m course s item → ⊥
+  no_enter_opens course s (items.Opened r mode) h = no_nested_region b r s h.0
+  no_enter_opens course s (items.Pick c) h = h
+  no_enter_opens course s (items.Exit q) h = h
+  no_enter_opens course s (items.Effect u) h = h
+  no_enter_opens course s (items.Enter q) h = h
 
   pub no_path : (route : Route) (t u : TransId) → PathBefore m route t u → ⊥
   no_path route t u (next p q v junction e l) = no_junction b v junction
   no_path route t u (after {u = w} first rest) = no_path route t w first
 
   -- what is called stays called, and an entry that adds nothing calls nothing
-  pub called_kept : (o : ObjectId) (step : StepAt) (e : Entry) (item : Item) → Called m o step item → Called m o (more step e) item
+  pub called_kept : (o : ObjectId) (step : StepAt) (e : Entry) (item : Item) → Called m (course_of m o step) item → Called m (course_of m o (more step e)) item
   called_kept o step e item (start h) = start h
-  called_kept o step e item (run leg is h) = run leg (leg_kept o step e leg is) h
-  called_kept o step e item (ends leg is h) = absurd (no_leg_ends leg.route leg.first item h)
-  called_kept o step e item (opens leg is h) = absurd (no_leg_opens leg.route leg.first item h)
-  called_kept o step e item (restored f r mode s is h same) = restored f r mode s (Contains-append_left step.after (e ∷ []) f is) h same
-  called_kept o step e item (entered f s is runs h) = absurd (no_enter_opens o step s item h)
+  called_kept o step e item (run leg is h) = run leg (leg_kept m o step e leg is) h
+  called_kept o step e item (ends leg is h) = absurd (no_leg_ends leg.route leg.by item h)
+  called_kept o step e item (opens leg is h) = absurd (no_leg_opens leg.route leg.by item h)
+  called_kept o step e item (restored mode s h same) = restored mode s (restored_kept m o step e mode s h) same
+  called_kept o step e item (entered s is h) = absurd (no_enter_opens (course_of m o step) s item h)
 
-  pub called_back : (o : ObjectId) (step : StepAt) (e : Entry) (item : Item) → AddsNothing e → Called m o (more step e) item → Called m o step item
+  pub called_back : (o : ObjectId) (step : StepAt) (e : Entry) (item : Item) → AddsNothing e → Called m (course_of m o (more step e)) item → Called m (course_of m o step) item
   called_back o step e item quiet (start h) = start h
-  called_back o step e item quiet (run leg is h) = run leg (leg_back o step e leg quiet is) h
-  called_back o step e item quiet (ends leg is h) = absurd (no_leg_ends leg.route leg.first item h)
-  called_back o step e item quiet (opens leg is h) = absurd (no_leg_opens leg.route leg.first item h)
-  called_back o step e item quiet (restored f r mode s is h same) =
-      ⊎_elim (λ was. restored f r mode s was h same)
-      (λ new. absurd (adds_no_restore e o r mode s quiet (subst (λ g. Restores g o r mode s) (sym new) h)))
-      (Contains-push_cases step.after e f is)
-  called_back o step e item quiet (entered f s is runs h) = absurd (no_enter_opens o (more step e) s item h)
+  called_back o step e item quiet (run leg is h) = run leg (leg_back m o step e leg quiet is) h
+  called_back o step e item quiet (ends leg is h) = absurd (no_leg_ends leg.route leg.by item h)
+  called_back o step e item quiet (opens leg is h) = absurd (no_leg_opens leg.route leg.by item h)
+  called_back o step e item quiet (restored mode s h same) =
+      ⊎_elim (λ was. restored mode s was same) (λ new. absurd (adds_no_restore e o (items.Opened new.0 mode) s quiet new.1))
+      (restored_cases m o step e mode s h)
+  called_back o step e item quiet (entered s is h) = absurd (no_enter_opens (course_of m o (more step e)) s item h)
 
   -- the order of the items of a step
-  pub before_kept : (o : ObjectId) (step : StepAt) (e : Entry) (x y : Item) → Before m o step x y → Before m o (more step e) x y
+  pub before_kept : (o : ObjectId) (step : StepAt) (e : Entry) (x y : Item) → Before m (course_of m o step) x y → Before m (course_of m o (more step e)) x y
   before_kept o step e x y (inner_exit h) = inner_exit h
   before_kept o step e x y (outer_enter h) = outer_enter h
-  before_kept o step e x y (exit_effect leg is k l h g) = exit_effect leg (leg_kept o step e leg is) k l h g
-  before_kept o step e x y (path leg is h g) = path leg (leg_kept o step e leg is) h g
-  before_kept o step e x y (effect_enter leg is k l h g) = effect_enter leg (leg_kept o step e leg is) k l h g
-  before_kept o step e x y (effect_end leg is k h g) = effect_end leg (leg_kept o step e leg is) k h g
-  before_kept o step e x y (enter_end leg is k h g) = enter_end leg (leg_kept o step e leg is) k h g
-  before_kept o step e x y (later leg u is l h g) = later leg u (leg_kept o step e leg is) l h g
+  before_kept o step e x y (exit_effect leg is k l h g) = exit_effect leg (leg_kept m o step e leg is) k l h g
+  before_kept o step e x y (path leg is h g) = path leg (leg_kept m o step e leg is) h g
+  before_kept o step e x y (effect_enter leg is k l h g) = effect_enter leg (leg_kept m o step e leg is) k l h g
+  before_kept o step e x y (effect_end leg is k h g) = effect_end leg (leg_kept m o step e leg is) k h g
+  before_kept o step e x y (enter_end leg is k h g) = enter_end leg (leg_kept m o step e leg is) k h g
+  before_kept o step e x y (later leg u is l h g) = later leg u (leg_kept m o step e leg is) l h g
 
   pub in_order_kept : (o : ObjectId) (step : StepAt) (e : Entry) (left : List Item) → IsInOrder m o step left → IsInOrder m o (more step e) left
   in_order_kept o step e [] h = tt
@@ -167,42 +149,46 @@ module _ {m : DraftMachine} (b : IsBuiltMachine m) where
   in_order_kept o step e (x ∷ y ∷ rest) h = (before_kept o step e x y h.0, in_order_kept o step e (y ∷ rest) h.1)
 
   -- exits come before effects, and effects before entries
-  pub before_is : (o : ObjectId) (step : StepAt) (x y : Item) → Before m o step x y → (IsExit x × IsEffect y) ⊎ (IsEffect x × IsEnter y)
+  pub before_is : (o : ObjectId) (step : StepAt) (x y : Item) → Before m (course_of m o step) x y → (IsExit x × IsEffect y) ⊎ (IsEffect x × IsEnter y)
   before_is o step x y (inner_exit {s} {q} h) = absurd (no_vertex_in_state b s q h)
   before_is o step x y (outer_enter {s} {q} h) = absurd (no_vertex_in_state b q s h)
   before_is o step x y (exit_effect leg is k l h g) = inl (k, l)
   before_is o step x y (path {t} {u} leg is h g) = absurd (no_path leg.route t u g)
   before_is o step x y (effect_enter leg is k l h g) = inr (k, l)
-  before_is o step x y (effect_end leg is k h g) = absurd (⊎_elim (no_leg_ends leg.route leg.first y) (no_leg_opens leg.route leg.first y) g)
-  before_is o step x y (enter_end leg is k h g) = absurd (no_leg_ends leg.route leg.first y g)
-  before_is o step x y (later leg u is l h g) = absurd (no_later_leg b leg.route leg.first u l)
+  before_is o step x y (effect_end leg is k h g) = absurd (⊎_elim (no_leg_ends leg.route leg.by y) (no_leg_opens leg.route leg.by y) g)
+  before_is o step x y (enter_end leg is k h g) = absurd (no_leg_ends leg.route leg.by y g)
+  before_is o step x y (later leg u is l h g) = absurd (no_later_leg b leg.route leg.by u l)
 
   -- an entry that runs nothing and adds nothing leaves the step as it is
   pub step_kept : (J : List Entry) (o : ObjectId) (left : List Item) (step : StepAt) (e : Entry) → AddsNothing e
-      → ((item : Item) → Runs e o item → ⊥) → IsOpenStep m J o left step → IsOpenStep m (J ++ e ∷ []) o left (more step e)
+      → item_of e ≡ None → IsOpenStep m J o left step → IsOpenStep m (J ++ e ∷ []) o left (more step e)
   step_kept J o left step e quiet nothing h = record {
     last = goes_on J o step e (adds_no_head e o quiet) h.last;
     waits = λ item is. called_kept o step e item (h.waits item is);
-    called = λ item is. ⊎_elim inl (λ ran. inr (run_kept o step e item ran)) (h.called item (called_back o step e item quiet is));
-    not_run = λ item is ran. ⊎_elim (h.not_run item is) (nothing item) (run_cases o step e item ran);
+    called = λ item is. ⊎_elim inl (λ ran. inr (run_kept m o step e item ran)) (h.called item (called_back o step e item quiet is));
+    not_run = λ item is ran. ⊎_elim (h.not_run item is) (λ now. runs_nothing e o (item, now.0) nothing now.1) (run_cases m o step e item ran);
     in_order = in_order_kept o step e left h.in_order;
   }
 
   -- an entry that runs the first of what is left, and adds nothing, leaves the rest
   pub step_ran : (J : List Entry) (o : ObjectId) (x : Item) (left : List Item) (step : StepAt) (e : Entry) → AddsNothing e
-      → ((item : Item) → Runs e o item → item ≡ x) → Runs e o x → (Contains left x → ⊥)
+      → object_of e ≡ o → item_of e ≡ Some (ran x) → (Contains left x → ⊥)
       → IsOpenStep m J o (x ∷ left) step → IsInOrder m o step left → IsOpenStep m (J ++ e ∷ []) o left (more step e)
-  step_ran J o x left step e quiet only runs apart h order = record {
-    last = goes_on J o step e (adds_no_head e o quiet) h.last;
-    waits = λ item is. called_kept o step e item (h.waits item (later_in x left item is));
-    called = λ item is.
-        ⊎_elim
-        (λ waits. ⊎_elim (λ same. inr (run_now o step e item (subst (Runs e o) (sym same) runs))) inl (in_cases x left item waits))
-        (λ ran. inr (run_kept o step e item ran))
-        (h.called item (called_back o step e item quiet is));
-    not_run = λ item is ran.
-        ⊎_elim (h.not_run item (later_in x left item is))
-        (λ now. apart (subst (Contains left) (only item now) is))
-        (run_cases o step e item ran);
-    in_order = in_order_kept o step e left order;
-  }
+  step_ran J o x left step e quiet own runs apart h order =
+      let now : Runs o e (ran x) = subst (λ q. Runs q e (ran x)) own (runs_own e (ran x) runs) in
+      let only : (item : Item) (how : How) → Runs o e (item, how) → item ≡ x = λ item how other. ap (λ y. y.0) (runs_one o e (ran x) (item, how) runs other) in
+      record {
+        last = goes_on J o step e (adds_no_head e o quiet) h.last;
+        waits = λ item is. called_kept o step e item (h.waits item (later_in x left item is));
+        called = λ item is.
+            ⊎_elim
+            (λ waits. ⊎_elim (λ same. inr (subst (HasRun (course_of m o (more step e))) (sym same) (run_now m o step e x Nothing now))) inl
+            (in_cases x left item waits))
+            (λ before. inr (run_kept m o step e item before))
+            (h.called item (called_back o step e item quiet is));
+        not_run = λ item is before.
+            ⊎_elim (h.not_run item (later_in x left item is))
+            (λ other. apart (subst (Contains left) (only item other.0 other.1) is))
+            (run_cases m o step e item before);
+        in_order = in_order_kept o step e left order;
+      }

@@ -11,11 +11,13 @@ use Rattle.pssm_model.specs.declared.steps.Mode.TheVariants.{Plain}
 use Rattle.pssm_model.specs.declared.steps.Item.{Item}
 use Rattle.pssm_model.specs.declared.steps.Item.TheVariants as items
 use Rattle.pssm_model.specs.Forest.{HasKind}
+use Rattle.pssm_model.specs.Course.{FiresBy, HasRun}
+use Rattle.pssm_model.specs.Items.{Called, Before}
 use Rattle.pssm_model.specs.OneRegion.{top_region}
 use Rattle.pssm_semantics.specs.declared.entry.ObjectId.{ObjectId}
 use Rattle.pssm_semantics.specs.declared.entry.Entry.{Entry}
-use Rattle.pssm_semantics.specs.Journal.{StepAt, IsLastStep, IsActive, IsPost, IsStart}
-use Rattle.pssm_semantics.specs.Items.{Called, Before, HasRun, HeadGoesBy}
+use Rattle.pssm_semantics.specs.Journal.{IsActive, IsPost, IsStart}
+use Rattle.pssm_semantics.specs.Steps.{StepAt, IsLastStep, head_of, course_of}
 use Rattle.pssm_semantics.specs.Pool.{signals_of, takes}
 use Rattle.pssm_system.specs.declared.progress.Progress.{Progress}
 use Rattle.pssm_system.specs.declared.progress.Progress.TheVariants.{Unstarted, Opening, Resting, Exiting, Acting, Entering}
@@ -67,20 +69,20 @@ IsProgressIn m _ = Unit {0}
 abbrev pub IsInOrder : DraftMachine → ObjectId → StepAt → List Item → Type 0
 IsInOrder m o step [] = Unit {0}
 IsInOrder m o step (x ∷ []) = Unit {0}
-IsInOrder m o step (x ∷ y ∷ rest) = Before m o step x y × IsInOrder m o step (y ∷ rest)
+IsInOrder m o step (x ∷ y ∷ rest) = Before m (course_of m o step) x y × IsInOrder m o step (y ∷ rest)
 
 -- the object's last step, in which these items are called and have not run
 pub record IsOpenStep (m : DraftMachine) (J : List Entry) (o : ObjectId) (left : List Item) (step : StepAt) : Type 0 where
   pub last : IsLastStep J o step
-  pub waits : (item : Item) → Contains left item → Called m o step item
-  pub called : (item : Item) → Called m o step item → Contains left item ⊎ HasRun o step item
-  pub not_run : (item : Item) → Contains left item → HasRun o step item → ⊥
+  pub waits : (item : Item) → Contains left item → Called m (course_of m o step) item
+  pub called : (item : Item) → Called m (course_of m o step) item → Contains left item ⊎ HasRun (course_of m o step) item
+  pub not_run : (item : Item) → Contains left item → HasRun (course_of m o step) item → ⊥
   pub in_order : IsInOrder m o step left
 
 -- a step in which nothing has run and whose head fires no route
-pub record IsFresh (o : ObjectId) (step : StepAt) : Type 0 where
-  pub no_route : (route : Route) → HeadGoesBy step.head route → ⊥
-  pub nothing_run : (item : Item) → HasRun o step item → ⊥
+pub record IsFresh (m : DraftMachine) (o : ObjectId) (step : StepAt) : Type 0 where
+  pub no_route : (route : Route) → FiresBy (head_of step.head) route → ⊥
+  pub nothing_run : (item : Item) → HasRun (course_of m o step) item → ⊥
 
 -- the object has started, and its last step is as the progress says
 pub record IsUnderWay (m : DraftMachine) (J : List Entry) (o : ObjectId) (progress : Progress) : Type 0 where
@@ -88,7 +90,7 @@ pub record IsUnderWay (m : DraftMachine) (J : List Entry) (o : ObjectId) (progre
   pub start : Entry
   pub started : Contains J start × IsStart start o
   pub step_is : IsOpenStep m J o (waiting progress) step
-  pub fresh : progress ≡ Opening → IsFresh o step
+  pub fresh : progress ≡ Opening → IsFresh m o step
 
 -- the progress is that of the journal
 abbrev pub IsProgressOf : DraftMachine → List Entry → ObjectId → Progress → Type 0
