@@ -6,7 +6,6 @@ pub mod Courses
 pub mod Members
 pub mod Latest
 pub mod Memories
-pub mod Former
 pub mod Waiting
 pub mod Views
 pub mod Admissible

@@ -10,14 +10,14 @@ use crate::tree::{Expr, Stmt};
 use crate::value::{truth, value};
 use std::alloc::{AllocError as NoMemory, Global};
 
-/// A run so far: the values of the variables, and the outputs in the order made.
+/// An execution so far: the values of the variables, and the outputs in the order made.
 #[derive(Drop)]
-pub(crate) struct Course {
+pub(crate) struct Execution {
     pub(crate) store: Vec<i64>,
     pub(crate) outs: Vec<Out>,
 }
 
-impl Course {
+impl Execution {
     /// Gives a variable a value.
     fn assign(&mut self, variable: u16, value: i64)
         ensures store { self.new.store.items ≡ slice_set self.old.store.items variable value }
@@ -48,18 +48,18 @@ fn run_stmt(
     own: ObjectId,
     stmt: &Stmt,
     params: &Args,
-    course: &mut Course,
+    execution: &mut Execution,
 ) -> Result<(), NoMemory>
     requires { StmtArgsFit stmt.now }
-    ensures { IfOk result (λ _. so_far course.new.store.items course.new.outs.items ≡ after_stmt stmt.now own params.now (so_far course.old.store.items course.old.outs.items)) }
+    ensures { IfOk result (λ _. so_far execution.new.store.items execution.new.outs.items ≡ after_stmt stmt.now own params.now (so_far execution.old.store.items execution.old.outs.items)) }
 {
     match stmt {
         Stmt::Assign {
             variable,
             value: expr,
         } => {
-            let number = value(expr, course.store.as_slice(), params);
-            course.assign(*variable, number);
+            let number = value(expr, execution.store.as_slice(), params);
+            execution.assign(*variable, number);
             Ok(())
         }
         Stmt::Choose {
@@ -67,11 +67,11 @@ fn run_stmt(
             body,
             otherwise,
         } => {
-            if truth(condition, course.store.as_slice(), params) {
-                return run_block(alloc, own, body.as_slice(), params, course);
+            if truth(condition, execution.store.as_slice(), params) {
+                return run_block(alloc, own, body.as_slice(), params, execution);
             }
             match otherwise {
-                Some(rest) => run_block(alloc, own, rest.as_slice(), params, course),
+                Some(rest) => run_block(alloc, own, rest.as_slice(), params, execution),
                 None => Ok(()),
             }
         }
@@ -80,8 +80,8 @@ fn run_stmt(
             signal,
             args,
         } => {
-            let args = values(alloc, args.as_slice(), course.store.as_slice(), params)?;
-            course.outs.push(Out::Send {
+            let args = values(alloc, args.as_slice(), execution.store.as_slice(), params)?;
+            execution.outs.push(Out::Send {
                 object: object.unwrap_or(own),
                 signal: *signal,
                 args,
@@ -89,8 +89,8 @@ fn run_stmt(
             Ok(())
         }
         Stmt::Mark { mark, args } => {
-            let args = values(alloc, args.as_slice(), course.store.as_slice(), params)?;
-            course.outs.push(Out::Mark { mark: *mark, args })?;
+            let args = values(alloc, args.as_slice(), execution.store.as_slice(), params)?;
+            execution.outs.push(Out::Mark { mark: *mark, args })?;
             Ok(())
         }
     }
@@ -103,13 +103,13 @@ pub(crate) fn run_block(
     own: ObjectId,
     stmts: &[Stmt],
     params: &Args,
-    course: &mut Course,
+    execution: &mut Execution,
 ) -> Result<(), NoMemory>
     requires { All StmtArgsFit stmts.now }
-    ensures { IfOk result (λ _. so_far course.new.store.items course.new.outs.items ≡ after_stmts stmts.now own params.now (so_far course.old.store.items course.old.outs.items)) }
+    ensures { IfOk result (λ _. so_far execution.new.store.items execution.new.outs.items ≡ after_stmts stmts.now own params.now (so_far execution.old.store.items execution.old.outs.items)) }
 {
     for stmt in stmts {
-        run_stmt(alloc, own, stmt, params, course)?;
+        run_stmt(alloc, own, stmt, params, execution)?;
     }
     Ok(())
 }

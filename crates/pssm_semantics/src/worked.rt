@@ -6,7 +6,7 @@ ghost use Rattle.pssm_semantics.specs.Work.{outcome_from};
 
 use crate::args::Args;
 use crate::entry::ObjectId;
-use crate::running::{Course, run_block};
+use crate::running::{Execution, run_block};
 use crate::setting::Outcome;
 use crate::tree::Act;
 use pssm_model::Row;
@@ -97,12 +97,12 @@ pub fn run(
     ensures store { IfOk result (λ w. w.store ≡ store.now) }
     ensures params { IfOk result (λ w. w.params ≡ params.now) }
 {
-    let mut course = Course {
+    let mut execution = Execution {
         store: store.to_vec(alloc)?,
         outs: Vec::new(alloc),
     };
-    run_block(alloc, own, act.stmts.as_slice(), params, &mut course)?;
-    let Course { store: after, outs } = course;
+    run_block(alloc, own, act.stmts.as_slice(), params, &mut execution)?;
+    let Execution { store: after, outs } = execution;
     Ok(Worked {
         own,
         act: act.copy(alloc)?,

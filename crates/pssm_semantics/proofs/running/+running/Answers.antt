@@ -24,7 +24,7 @@ run_stmt-run_block-requires t c =
 
 pub run_stmt-returns-then-truth : goal.run_stmt-returns-then-truth
 run_stmt-returns-then-truth t c =
-    let store : c.as_slice-in-Choose.result.now ≡ c.args.course.now.store.items = c.as_slice-in-Choose.ensures.value in
+    let store : c.as_slice-in-Choose.result.now ≡ c.args.execution.now.store.items = c.as_slice-in-Choose.ensures.value in
     let holds = ap (λ xs. truth_of c.in-Choose.condition xs c.args.params.now) (sym store) ∙ sym c.truth.ensures ∙ c.if-truth.true in
     IfOk-equal c.run_block.result _ _ _ c.run_block.ensures
     (runs_first c.args.stmt.now _ _ c.as_slice-then-truth.result.now _ c.args.own c.args.params.now _ c.in-Choose.is c.as_slice-then-truth.ensures holds)
@@ -37,7 +37,7 @@ run_stmt-run_block-requires-in-Some t c =
 
 pub run_stmt-returns-in-Some : goal.run_stmt-returns-in-Some
 run_stmt-returns-in-Some t c =
-    let store : c.as_slice-in-Choose.result.now ≡ c.args.course.now.store.items = c.as_slice-in-Choose.ensures.value in
+    let store : c.as_slice-in-Choose.result.now ≡ c.args.execution.now.store.items = c.as_slice-in-Choose.ensures.value in
     let fails = ap (λ xs. truth_of c.in-Choose.condition xs c.args.params.now) (sym store) ∙ sym c.truth.ensures ∙ c.if-truth.false in
     IfOk-equal c.run_block-in-Some.result _ _ _ c.run_block-in-Some.ensures
     (runs_other c.args.stmt.now _ _ _ c.as_slice-in-Some.result.now _ c.args.own c.args.params.now _ c.in-Choose.is c.in-Some.is c.as_slice-in-Some.ensures fails)

@@ -14,5 +14,5 @@ decreases-run_block l = 2 * stmts_count l.stmts.now + 1
 -- the outcome so far is that of the first statements
 abbrev pub invariant-run_block-loop-stmt : goal.invariant-run_block-loop-stmt
 invariant-run_block-loop-stmt l =
-    so_far l.course.store.items l.course.outs.items
-    ≡ after_stmts (take l.stmt-index l.stmts) l.own l.params (so_far l.initial.course.store.items l.initial.course.outs.items)
+    so_far l.execution.store.items l.execution.outs.items
+    ≡ after_stmts (take l.stmt-index l.stmts) l.own l.params (so_far l.initial.execution.store.items l.initial.execution.outs.items)
