@@ -13,3 +13,4 @@ pub mod NameLaws
 pub mod NamedLines
 pub mod BuiltNames
 pub mod Spellings
+pub mod OneText

@@ -30,6 +30,7 @@ built_setting s machine = record {
   object_name = s.object_name;
   object_class = s.object_class;
   triggers = s.triggers;
+  defers = s.defers;
 }
 
 -- so is one whose machine has its shape, keeps the rules of models and has no element that is not built

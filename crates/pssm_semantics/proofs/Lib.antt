@@ -18,3 +18,4 @@ pub mod Meaning
 pub mod Blocks
 pub mod ArgumentLaws
 pub mod BuiltSettings
+pub mod ProperSettings

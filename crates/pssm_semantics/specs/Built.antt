@@ -87,6 +87,7 @@ pub record IsBuilt (setting : Setting) : Type 0 where
   pub object_name : IsName object.name
   pub object_class : object.class ≡ 0
   pub triggers : AllByRecursion (ListsSignals (length setting.signals)) class.machine.transitions
+  pub defers : AllByRecursion (DefersSignals (length setting.signals)) class.machine.vertices
 
 -- Nothing fires, or one transition does.
 abbrev pub IsPlainFiring : Firing → Type 0

@@ -54,12 +54,12 @@ verdict_once setting bytes a b v w =
 -- ---- what the paths hold
 
 -- what is told of a path
-told_bytes : (o : Option (List ℕ)) → IsSome o → (held : List ℕ) × (o ≡ Some held)
+pub told_bytes : (o : Option (List ℕ)) → IsSome o → (held : List ℕ) × (o ≡ Some held)
 told_bytes None some = absurd cc
 told_bytes (Some held) some = (held, refl)
 
 -- The bytes that were read are what the path holds.
-read_is : (contents : Contents) (path bytes held : List ℕ) → contents path ≡ Some held → ReadsWhole contents path 16777216 bytes → bytes ≡ held
+pub read_is : (contents : Contents) (path bytes held : List ℕ) → contents path ≡ Some held → ReadsWhole contents path 16777216 bytes → bytes ≡ held
 read_is contents path bytes held told read = subst (λ (o : Option (List ℕ)). IfSome o (λ x. bytes ≡ x)) told read.told
 
 -- A path that was read is not too large.
@@ -81,7 +81,7 @@ journal_once contents setting journal held a b told (judged bytes read v) (judge
 -- what is told of the model's path
 module _ (contents : Contents) (model held : List ℕ) (told : contents model ≡ Some held) where
   -- Two readings of a model's path give one setting.
-  model_once : (s t : Setting) → ReadsModel contents model s → ReadsModel contents model t → s ≡ t
+  pub model_once : (s t : Setting) → ReadsModel contents model s → ReadsModel contents model t → s ≡ t
   model_once s t p q =
       one_setting s t p.flat q.flat
       (sym p.spelled ∙ read_is contents model p.bytes held told p.reads ∙ sym (read_is contents model q.bytes held told q.reads) ∙ q.spelled)

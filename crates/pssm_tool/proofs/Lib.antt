@@ -10,3 +10,4 @@ pub mod LoadLaws
 pub mod DueLaws
 pub mod DueOnce
 pub mod ReplyLaws
+pub mod HeadlineLaws

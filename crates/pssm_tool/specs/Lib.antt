@@ -7,3 +7,4 @@ pub mod Verdicts
 pub mod Due
 pub mod Stops
 pub mod Refusals
+pub mod Headline

@@ -13,6 +13,7 @@ ghost use Rattle.pssm_base.specs.Putting.{TookPart};
 ghost use Rattle.pssm_tool.specs.Words.{texts, IsJudge, IsRun};
 ghost use Rattle.pssm_tool.specs.Answers.{reply_text, reply_code, code_of, IsStatus, IsFailure};
 ghost use Rattle.pssm_tool.specs.Due.{IsDue, IsDueRefusal, IsDueText, IsRunDue, IsOwed, IsTold, Gives, IsContinued, IsAcceptedText, ReadFailed};
+ghost use Rattle.pssm_tool.specs.Headline.{AcceptsPrefixes};
 ghost use Rattle.pssm_tool.specs.Stops.{StopsAll, GoesOn};
 
 use crate::answer::Answer;
@@ -54,6 +55,11 @@ pub fn pssm<R, I: Inputs, S: Sink, G: Gate + Sync>(
     // The journal that was accepted is the beginning of a complete run.
     ensures continued { result.code ≡ 0 → (model journal : List ℕ) → IsJudge (texts words.now) model journal
         → IsContinued (I.content inputs.old) model journal }
+
+    // The headline: a journal whose text reads within the limits is accepted exactly where it is a prefix of a complete
+    // run of the model, unless reading, writing or memory failed.
+    ensures headline { IsTold (texts words.now) (I.content inputs.old)
+        → AcceptsPrefixes (texts words.now) (I.content inputs.old) result.code }
 
     // 1: `refuse N An` names the first entry that breaks a rule, and the first rule that it breaks.
     ensures refused { result.code ≡ 1 → (n : ℕ) × (rule : Rule) × Gives (texts words.now) (I.content inputs.old)

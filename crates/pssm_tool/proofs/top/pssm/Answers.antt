@@ -1,6 +1,7 @@
 use Rattle.std.proofs.Common.{◌⊎◌, ◌≡◌, sym, ◌∙◌, inl, inr, arith}
 use Rattle.pssm_tool.specs.Words.{texts}
 use Rattle.pssm_tool.proofs.ReplyLaws.{gives_good, gives_refuse, gives_usage, gives_bad_model, gives_bad_journal, gives_limit, gives_too_large, run_accepted, accepted_goes_on, exactly_due, refusal_due, text_due, runs_due}
+use Rattle.pssm_tool.proofs.HeadlineLaws.{accepts_prefixes}
 use Rattle.pssm_tool.proofs.top.pssm.Goals as goal
 
 pub returns-in-Ok-clause-accepted : goal.returns-in-Ok-clause-accepted
@@ -82,3 +83,11 @@ pub returns-in-Ok-clause-continued : goal.returns-in-Ok-clause-continued
 returns-in-Ok-clause-continued g c zero model journal is =
     let told = c.tell.ensures.told (λ e. omega arith) (λ e. omega arith) in
     accepted_goes_on (texts c.args.words.now) (g.I.Inputs.content c.args.inputs.now) c.in-Ok.reply model journal c.in-Ok.ensures.owed c.in-Ok.ensures.goes_on (sym told.0 ∙ zero) is
+
+-- Accepted, and a prefix of a complete run.
+pub returns-in-Ok-clause-headline : goal.returns-in-Ok-clause-headline
+returns-in-Ok-clause-headline g c known =
+    accepts_prefixes (texts c.args.words.now) (g.I.Inputs.content c.args.inputs.now) c.tell.result.code c.in-Ok.reply known c.in-Ok.ensures.owed c.tell.ensures.told
+    (λ zero model journal is.
+    let told = c.tell.ensures.told (λ e. omega arith) (λ e. omega arith) in
+    accepted_goes_on (texts c.args.words.now) (g.I.Inputs.content c.args.inputs.now) c.in-Ok.reply model journal c.in-Ok.ensures.owed c.in-Ok.ensures.goes_on (sym told.0 ∙ zero) is)
