@@ -14,7 +14,7 @@ use Rattle.pssm_model.specs.BuiltMachine.{IsBuiltMachine, IsPlainKind, IsPlainVe
 use Rattle.pssm_model.specs.OneRegion.{initial_vertex, first_transition}
 use Rattle.pssm_model.proofs.BuiltElements.{same_vertex, same_transition}
 use Rattle.pssm_semantics.specs.declared.setting.Setting.{Setting}
-use Rattle.pssm_semantics.specs.Built.{IsBuilt}
+use Rattle.pssm_semantics.specs.Built.{IsBuilt, DefersSignals}
 use Rattle.pssm_judge.specs.Sample.{sample_vertex, sample_transition, sample_machine, sample_class, sample_setting}
 
 plain_vertex : (kind : VertexKind) → IsPlainKind (sample_vertex kind) → IsPlainVertex (sample_vertex kind)
@@ -67,6 +67,9 @@ machine_is_built = record {
   few_transitions = omega arith;
 }
 
+no_defers : {kind : VertexKind} → DefersSignals 1 (sample_vertex kind)
+no_defers = record { known = tt; ascending = λ i j d lt within. absurd (omega arith) }
+
 pub sample_is_built : IsBuilt sample_setting
 sample_is_built = record {
   class = sample_class;
@@ -92,6 +95,7 @@ sample_is_built = record {
     record { known = tt; ascending = λ i j d lt within. absurd (omega arith) },
     (record { known = (omega arith, tt); ascending = λ i j d lt within. absurd (omega arith) }, tt),
   );
+  defers = (no_defers, (no_defers, (no_defers, tt)));
 }
 
 -- what is this setting, where it was made at all

@@ -49,8 +49,11 @@ impl Machine {
     }
 
     /// How many regions it has, at most 1,024.
+    ///
+    /// A machine has the shape of one, whatever it was made from.
     pub fn regions(&self) -> u16
-        ensures { result ≡ length self.now.regions }
+        ensures count { result ≡ length self.now.regions }
+        ensures shaped { HasShape self.now }
     {
         self.draft.regions.as_slice().len() as u16
     }

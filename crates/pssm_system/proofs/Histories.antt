@@ -32,6 +32,8 @@ use Rattle.pssm_semantics.specs.Laws.{CompletesWithin, KeepsTakes, KeepsRegions}
 use Rattle.pssm_semantics.specs.Built.{IsBuilt, IsPlainClass, IsPlainEntry}
 use Rattle.pssm_semantics.proofs.Appending.{every_push, admissible_push, admissible_none}
 use Rattle.pssm_semantics.proofs.Outputs.{signals_of-within}
+use Rattle.pssm_semantics.specs.Proper.{IsWellFormed}
+use Rattle.pssm_semantics.proofs.ProperSettings.{built_is_well_formed}
 use Rattle.pssm_semantics.proofs.Takes.{admissible-keeps_takes}
 use Rattle.pssm_system.specs.declared.progress.Progress.TheVariants.{Unstarted}
 use Rattle.pssm_system.specs.declared.judging.Standing.{Standing}
@@ -132,6 +134,10 @@ module _ (h : History) (standing : Standing) (rows : List (Vec Bool Global)) (se
   pub completes_seen : CompletesWithin h.setting h.journal 3
   completes_seen =
       seen (λ s js. CompletesWithin s js 3) (completes k.built J standing.progress standing.signals.items standing.taken k.stands k.admissible)
+
+  -- its setting is well formed
+  pub well_formed_seen : IsWellFormed h.setting
+  well_formed_seen = seen (λ s js. IsWellFormed s) (built_is_well_formed setting k.built)
 
   -- the laws of all admissible journals
   pub laws_seen : KeepsTakes h.setting h.journal × KeepsRegions h.setting h.journal

@@ -19,7 +19,7 @@ use Rattle.pssm_semantics.specs.declared.setting.Setting.{Setting}
 use Rattle.pssm_semantics.specs.Settings.{class_of}
 use Rattle.pssm_semantics.specs.Rules.{Holds}
 use Rattle.pssm_system.proofs.Kept.{class_there}
-use Rattle.pssm_semantics.specs.Built.{IsBuilt, ListsSignals}
+use Rattle.pssm_semantics.specs.Built.{IsBuilt, ListsSignals, DefersSignals}
 use Rattle.pssm_system.specs.Sample.{sample_vertex, sample_transition, to_b, sample_machine, sample_class, sample_setting, IsNamed}
 
 plain_vertex : (kind : VertexKind) → IsPlainKind (sample_vertex kind) → IsPlainVertex (sample_vertex kind)
@@ -99,6 +99,9 @@ second_lists : (forked : Bool) → AllByRecursion (ListsSignals 1) (second_of fo
 second_lists true = (to_b_lists, tt)
 second_lists false = tt
 
+no_defers : {kind : VertexKind} → DefersSignals 1 (sample_vertex kind)
+no_defers = record { known = tt; ascending = λ i j d lt within. absurd (omega arith) }
+
 pub sample_is_built : (forked : Bool) → IsBuilt (sample_setting forked)
 sample_is_built forked = record {
   class = sample_class forked;
@@ -121,6 +124,7 @@ sample_is_built forked = record {
   object_name = record { spelled = refl; short = omega arith };
   object_class = refl;
   triggers = (to_b_lists, (record { known = tt; ascending = λ i j d lt within. absurd (omega arith) }, second_lists forked));
+  defers = (no_defers, (no_defers, (no_defers, tt)));
 }
 
 -- an entry that names what the sample has keeps the first rule

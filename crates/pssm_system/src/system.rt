@@ -56,6 +56,7 @@ impl System {
     ghost use Rattle.pssm_semantics.specs.Journal.{IsPost};
     ghost use Rattle.pssm_semantics.specs.Pool.{told_by};
     ghost use Rattle.pssm_semantics.specs.Behaviours.{store_of, params_of};
+    ghost use Rattle.pssm_semantics.specs.Proper.{IsWellFormed};
     ghost use Rattle.pssm_semantics.specs.Rules.{Holds};
     ghost use Rattle.pssm_semantics.specs.Runs.{MayFollow, IsAdmissibleIn, IsQuiet, KeepsJournalLimits};
     ghost use Rattle.pssm_semantics.specs.Laws.{CompletesWithin, KeepsTakes, KeepsRegions};
@@ -93,9 +94,10 @@ impl System {
         })
     }
 
-    /// The setting.
+    /// The setting, which is proper and whose machines break no rule of models.
     pub fn setting(&self) -> &Setting
-        ensures { result.now ≡ self.now.setting }
+        ensures setting { result.now ≡ self.now.setting }
+        ensures well_formed { IsWellFormed self.now.setting }
     {
         &self.setting
     }
@@ -160,7 +162,7 @@ impl System {
 
     /// An entry other than a post that breaks no rule after the journal, or none where there is none.
     ///
-    /// Where a signal enables several transitions the word picks one of them: the one at place word modulo their count.
+    /// Where a signal enables several transitions the word picks one of them; which one is not promised.
     pub fn choose(&self, word: u64) -> Result<Option<Entry>, NoMemory>
         ensures chosen { IfOk result (λ o. IfSome o (λ e. (IsPost e → ⊥) × MayFollow self.now.setting self.now.journal e)) }
         ensures none { IfOk result (λ o. IfNone o (IsQuiet self.now.setting self.now.journal)) }
