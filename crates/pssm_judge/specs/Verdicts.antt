@@ -5,6 +5,7 @@ use Rattle.pssm_base.specs.Reading.{Contents, ReadsWhole, HoldsMore}
 use Rattle.pssm_semantics.specs.declared.entry.Entry.{Entry}
 use Rattle.pssm_semantics.specs.declared.line.Line.{Line}
 use Rattle.pssm_semantics.specs.declared.setting.Setting.{Setting}
+use Rattle.pssm_semantics.specs.Built.{entries_to_complete}
 use Rattle.pssm_semantics.specs.Laws.{CompletesWithin}
 use Rattle.pssm_journal.specs.LineText.{journal_text}
 use Rattle.pssm_journal.specs.Judged.{Judged, Accepted, Refused, Limited, BadText, IsKept, IsJudged}
@@ -24,9 +25,9 @@ pub record IsPrefixText (setting : Setting) (bytes : List ℕ) (entries most : �
   pub entries_are : entries ≡ length journal
   pub completes : CompletesWithin setting journal most
 
--- what the bytes deserve, as a verdict; an accepted journal of the settings that the code runs so far is completed by at most three entries
+-- what the bytes deserve, as a verdict; an accepted journal of the settings that the code runs is completed by at most so many entries as their open steps need
 abbrev pub IsVerdictOn : Setting → List ℕ → Verdict → Type 0
-IsVerdictOn setting bytes (Accept entries) = IsJudged setting bytes (Accepted entries) × IsPrefixText setting bytes entries 3
+IsVerdictOn setting bytes (Accept entries) = IsJudged setting bytes (Accepted entries) × IsPrefixText setting bytes entries entries_to_complete
 IsVerdictOn setting bytes (Refuse entry rule) = IsJudged setting bytes (Refused entry rule)
 
 -- what the bytes deserve where there is no verdict; want of memory says nothing of them

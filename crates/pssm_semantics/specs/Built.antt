@@ -89,6 +89,10 @@ pub record IsBuilt (setting : Setting) : Type 0 where
   pub triggers : AllByRecursion (ListsSignals (length setting.signals)) class.machine.transitions
   pub defers : AllByRecursion (DefersSignals (length setting.signals)) class.machine.vertices
 
+-- how many entries at most the open step of such a setting still needs: an exit or opening, an effect and an entry
+abbrev pub entries_to_complete : ℕ
+entries_to_complete = 3
+
 -- Nothing fires, or one transition does.
 abbrev pub IsPlainFiring : Firing → Type 0
 IsPlainFiring firing = (firing.routes ≡ []) ⊎ ((t : TransId) × (firing.routes ≡ single_route t ∷ []))

@@ -2,7 +2,7 @@
 ghost use Rattle.std.specs.Prelude.{◌≡◌, ◌<◌, ◌↔◌, ◌++◌, ◌∷◌, [], length, IsTrue, IfOk, IfNone, IfSome, OnOk, OnErr, Some};
 ghost use Rattle.std.specs.List.{AllByRecursion};
 ghost use Rattle.pssm_semantics.specs.Values.{no_params};
-ghost use Rattle.pssm_semantics.specs.Built.{IsBuilt, IsPlainEntry};
+ghost use Rattle.pssm_semantics.specs.Built.{IsBuilt, IsPlainEntry, entries_to_complete};
 
 use crate::judging::Standing;
 use crate::progress::Progress;
@@ -111,7 +111,7 @@ impl System {
         ensures admissible { IsAdmissibleIn self.now.setting self.now.journal }
         ensures limits { KeepsJournalLimits self.now.journal }
         ensures plain { AllByRecursion IsPlainEntry self.now.journal }
-        ensures completes { CompletesWithin self.now.setting self.now.journal 3 }
+        ensures completes { CompletesWithin self.now.setting self.now.journal entries_to_complete }
         ensures laws { KeepsTakes self.now.setting self.now.journal × KeepsRegions self.now.setting self.now.journal }
     {
         self.entries.as_slice()

@@ -5,6 +5,7 @@ use Rattle.pssm_base.specs.Faults.{Rose}
 use Rattle.pssm_base.specs.Reading.{Contents, ReadsWhole, HoldsMore}
 use Rattle.pssm_semantics.specs.declared.setting.Setting.{Setting}
 use Rattle.pssm_semantics.specs.declared.stimulus.Stimulus.{Stimulus}
+use Rattle.pssm_semantics.specs.Built.{entries_to_complete}
 use Rattle.pssm_flat.specs.Flat.{IsFlat}
 use Rattle.pssm_flat.specs.Text.{flat_text}
 use Rattle.pssm_flat.specs.declared.fault.FlatFault.{FlatFault}
@@ -134,14 +135,14 @@ pub record Gives (words : List (List ℕ)) (contents : Contents) (before after :
   pub owed : IsOwed words contents reply
   pub written : Appends before after (reply_text reply)
 
--- The journal is a prefix of a complete run of the model, which has at most three further entries.
+-- The journal is a prefix of a complete run of the model, which at most so many further entries reach as an open step needs.
 pub record IsContinued (contents : Contents) (model journal : List ℕ) : Type 0 where
   pub setting : Setting
   pub bytes : List ℕ
   pub entries : ℕ
   pub model_is : ReadsModel contents model setting
   pub journal_is : ReadsWhole contents journal most_bytes bytes
-  pub prefix : IsPrefixText setting bytes entries 3
+  pub prefix : IsPrefixText setting bytes entries entries_to_complete
 
 -- A text was written that the judge accepts as a journal of the model.
 pub record IsAcceptedText (contents : Contents) (model : List ℕ) (before after : Option (List ℕ)) : Type 0 where
