@@ -62,7 +62,7 @@ class Definitions:
         return set(WORD.findall(re.sub(r'--.*', '', text)))
 
     def count(self, name):
-        return sum(b - a for a, b in self.at[name])
+        return sum(not line.startswith('--') for a, b in self.at[name] for line in self.lines[a:b])
 
 
 class House:

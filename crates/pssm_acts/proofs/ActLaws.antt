@@ -1,5 +1,5 @@
 -- Behaviours and steps are read exactly where the text spells them, with all numbers in range.
-use Rattle.std.proofs.Common.{◌≡◌, ◌≤◌, ℕ, [], ◌∷◌, ◌++◌, Bool, true, false, ltb, List, length, All, Result, Ok, Err, Vec, IfOk, refl, subst, if◌then◌else◌}
+use Rattle.std.proofs.Common.{◌≡◌, ◌≤◌, ℕ, [], ◌∷◌, ◌++◌, Bool, true, false, ltb, List, length, All, Result, Ok, Err, Vec, IfOk, subst}
 use Rattle.std.proofs.lemmas.Bool.{ltb-false}
 use Rattle.std.specs.declared.alloc.Global.{Global}
 use Rattle.pssm_acts.specs.declared.act_fault.ActFault.{ActFault}
@@ -8,13 +8,13 @@ use Rattle.pssm_acts.specs.declared.acts_reader.ReadActs.{ReadActs}
 use Rattle.pssm_semantics.specs.declared.setting.Names.{Names}
 use Rattle.pssm_semantics.specs.declared.tree.Act.{Act}
 use Rattle.pssm_acts.specs.ActGrammar.{SpellsBehaviour, SpellsBehaviours, SpellsAct, SpellsSteps}
-use Rattle.pssm_acts.specs.ActReading.{fresh_acts, acts_read, text_acts, acts_reading, act_reading, steps_reading, listed}
-use Rattle.pssm_acts.specs.ExprReading.{and_then}
+use Rattle.pssm_acts.specs.inner.ActReading.{fresh_acts, acts_read, text_acts, acts_reading, act_reading, steps_reading, listed}
 use Rattle.pssm_semantics.specs.Fits.{ActFits}
-use Rattle.pssm_acts.specs.PhraseReading.{AnswersWith}
+use Rattle.pssm_acts.specs.inner.PhraseReading.{AnswersWith}
 use Rattle.pssm_acts.specs.Tokens.{tokens_of}
 use Rattle.pssm_acts.specs.Vocabularies.{vocabulary}
 use Rattle.pssm_acts.proofs.ActRead.{act_read, steps_read}
+use Rattle.pssm_acts.proofs.AnswerLaws.{read_same, passed, not_past}
 use Rattle.pssm_acts.proofs.ActTextLaws.{fault_alone, fault_with}
 use Rattle.pssm_acts.proofs.ActsHeld.{spelled_behaviour, spelled_behaviours}
 use Rattle.pssm_acts.proofs.FitLaws.{spelled_act_fits, spelled_acts_fit}
@@ -23,35 +23,26 @@ use Rattle.pssm_acts.proofs.FitLaws.{spelled_act_fits, spelled_acts_fit}
 text_read : (names : Names) (stepped : Bool) (marks : List (List ℕ)) (text : List ℕ) (read : ReadActs × List (List ℕ)) → acts_reading names stepped marks text ≡ Ok read
     → (length text ≤ 4096) × (acts_read names stepped (length text) marks fresh_acts (tokens_of text) ≡ Ok read)
 unfolding acts_reading
-text_read names stepped marks text read is = go (ltb 4096 (length text)) refl is where
-  go : (b : Bool) → ltb 4096 (length text) ≡ b → (if b then Err (TooLong 0) else text_acts names stepped marks text) ≡ Ok read
-      → (length text ≤ 4096) × (acts_read names stepped (length text) marks fresh_acts (tokens_of text) ≡ Ok read)
-  go true e is = absurd cc
-  go false e is = (ltb-false 4096 (length text) e, is)
+text_read names stepped marks text read is =
+    let it = not_past (ltb 4096 (length text)) (text_acts names stepped marks text) (TooLong 0) read is in
+    (ltb-false 4096 (length text) it.0, it.1)
 
 pub act_held : (names : Names) (marks : List (List ℕ)) (text : List ℕ) (read : Act × List (List ℕ)) → act_reading names marks text ≡ Ok read → SpellsAct names marks text read.0 read.1
 unfolding act_reading
-act_held names marks text read is = go (acts_reading names false marks text) refl is where
-  go : (r : Result (ReadActs × List (List ℕ)) ActFault) → acts_reading names false marks text ≡ r → and_then r (λ x. Ok (x.0.last, x.1)) ≡ Ok read → SpellsAct names marks text read.0 read.1
-  go (Ok x) e is =
-      let due : Act × List (List ℕ) = (x.0.last, x.1) in
-      let same : due ≡ read = cc in
-      let known = text_read names false marks text x e in
-      let spelled = spelled_behaviour names (length text) marks (tokens_of text) x.0 x.1 known.1 in
-      record { short = known.0; spelled = subst (λ p. SpellsBehaviour names marks (tokens_of text) p.0 p.1) same spelled }
-  go (Err fault) e is = absurd cc
+act_held names marks text read is =
+    let it = passed (acts_reading names false marks text) (λ x. Ok (x.0.last, x.1)) read is in
+    let same = read_same {A = Act × List (List ℕ)} (it.0.0.last, it.0.1) read it.2 in
+    let known = text_read names false marks text it.0 it.1 in
+    record { short = known.0; spelled = subst (λ p. SpellsBehaviour names marks (tokens_of text) p.0 p.1) same (spelled_behaviour names (length text) marks (tokens_of text) it.0.0 it.0.1 known.1) }
 
 pub steps_held : (names : Names) (marks : List (List ℕ)) (text : List ℕ) (read : List Act × List (List ℕ)) → steps_reading names marks text ≡ Ok read → SpellsSteps names marks text read.0 read.1
 unfolding steps_reading
-steps_held names marks text read is = go (acts_reading names true marks text) refl is where
-  go : (r : Result (ReadActs × List (List ℕ)) ActFault) → acts_reading names true marks text ≡ r → and_then r (λ x. Ok (x.0.earlier ++ x.0.last ∷ [], x.1)) ≡ Ok read → SpellsSteps names marks text read.0 read.1
-  go (Ok x) e is =
-      let due : List Act × List (List ℕ) = (x.0.earlier ++ x.0.last ∷ [], x.1) in
-      let same : due ≡ read = cc in
-      let known = text_read names true marks text x e in
-      let spelled = spelled_behaviours names (length text) marks (tokens_of text) x.0 x.1 known.1 in
-      record { short = known.0; spelled = subst (λ p. SpellsBehaviours names marks (tokens_of text) p.0 p.1) same spelled.0; few = subst (λ p. length p.0 ≤ 64) same spelled.1 }
-  go (Err fault) e is = absurd cc
+steps_held names marks text read is =
+    let it = passed (acts_reading names true marks text) (λ x. Ok (x.0.earlier ++ x.0.last ∷ [], x.1)) read is in
+    let same = read_same {A = List Act × List (List ℕ)} (it.0.0.earlier ++ it.0.0.last ∷ [], it.0.1) read it.2 in
+    let known = text_read names true marks text it.0 it.1 in
+    let spelled = spelled_behaviours names (length text) marks (tokens_of text) it.0.0 it.0.1 known.1 in
+    record { short = known.0; spelled = subst (λ p. SpellsBehaviours names marks (tokens_of text) p.0 p.1) same spelled.0; few = subst (λ p. length p.0 ≤ 64) same spelled.1 }
 
 -- The clauses of `read_act` that say what an answer is.
 pub act_answers_spelled : (names : Names) (marks : List (List ℕ)) (text : List ℕ) (r : Result Act ActFault) (left : List (List ℕ)) → AnswersWith (act_reading names marks text) r left

@@ -12,11 +12,12 @@ use Rattle.pssm_acts.specs.declared.token.Kind.TheVariants as kinds
 use Rattle.pssm_semantics.specs.declared.tree.Act.{Act}
 use Rattle.pssm_semantics.specs.declared.tree.Stmt.{Stmt}
 use Rattle.pssm_acts.specs.Tokens.{Token, tokens_of}
-use Rattle.pssm_acts.specs.ExprReading.{and_then}
-use Rattle.pssm_acts.specs.PhraseReading.{beside}
-use Rattle.pssm_acts.specs.ActReading.{fresh_acts, fresh_blocks, at_turn, with_act, next_act, begun_at, step_taken, acts_step, whole_acts, acts_value, acts_read, acts_reading, act_reading, steps_reading}
+use Rattle.pssm_acts.specs.inner.ExprReading.{and_then}
+use Rattle.pssm_acts.specs.inner.PhraseReading.{beside}
+use Rattle.pssm_acts.specs.inner.ActReading.{fresh_acts, fresh_blocks, at_turn, with_act, next_act, begun_at, step_taken, acts_step, whole_acts, acts_value, acts_worth, acts_read, acts_reading, act_reading, steps_reading}
 use Rattle.pssm_acts.specs.ActGrammar.{SpellsBehaviour, SpellsBehaviours, first, step, SpellsAct, SpellsSteps}
-use Rattle.pssm_acts.proofs.ActRun.{Runs, next, onward, whole}
+use Rattle.pssm_acts.proofs.ActRun.{Runs}
+use Rattle.pssm_acts.proofs.Readers.{next, onward, through}
 use Rattle.pssm_acts.proofs.PhraseRead.{Standing, begins, chosen, taken}
 use Rattle.pssm_acts.proofs.BlockRead.{blocks_at, ReadsBlock, reads_block}
 
@@ -47,7 +48,7 @@ pub behaviour_read : (names : Names) (stepped : Bool) (end : ℕ) (marks : List 
     → acts_read names stepped end marks fresh_acts ts ≡ Ok (record { earlier = []; last = act }, noted)
 behaviour_read names stepped end marks ts act noted spells =
     let r : ReadsBlock names stepped [] [] 0 marks ts act.stmts noted = reads_block stepped [] [] 0 (omega arith) (omega (arith, spells.few)) spells.spelled in
-    whole end r.run ∙ ap (λ x. beside noted x) (whole_value r.reader [] act.stmts r.total end r.stands)
+    through (acts_worth end) r.run ∙ ap (λ x. beside noted x) (whole_value r.reader [] act.stmts r.total end r.stands)
 
 -- what the tokens of behaviours do to a reader that has read nothing
 record ReadsActs (names : Names) (marks : List (List ℕ)) (ts : List Token) (acts : List Act) (noted : List (List ℕ)) : Type 0 where
@@ -94,7 +95,7 @@ behaviours_read names end marks ts acts noted spells few =
     let r : ReadsActs names marks ts acts noted = reads_acts few spells in
     record {
       read = record { earlier = r.earlier; last = record { stmts = r.block } };
-      gives = whole end r.run ∙ ap (λ x. beside noted x) (whole_value r.reader r.earlier r.block r.total end r.stands);
+      gives = through (acts_worth end) r.run ∙ ap (λ x. beside noted x) (whole_value r.reader r.earlier r.block r.total end r.stands);
       worth = r.worth;
     }
 

@@ -1,5 +1,6 @@
--- How the text of behaviours is read token after token: what a blank and a token do to what is left, to the marks and to the `!` that wait.
-use Rattle.std.proofs.Common.{◌≡◌, ◌≤◌, ◌+◌, ◌-◌, ◌⊎◌, inl, inr, ℕ, suc, zero, Bool, true, false, ltb, List, [], ◌∷◌, ◌++◌, length, take, drop, Option, Some, None, Ok, Err, Result, refl, sym, ap, ◌∙◌, subst, arith, get_or, length-drop, length-append, if◌then◌else◌, position, bytes_eq}
+-- How the text of behaviours is read token after token: what each does to what is left, to the marks and to the `!` that wait.
+use Rattle.std.proofs.Common.{◌≡◌, ◌≤◌, ◌+◌, ◌-◌, ◌⊎◌, inl, inr, ℕ, Bool, true, false, ltb, List, [], ◌∷◌, ◌++◌, length, take, drop, Option, Some, None, Ok, Err, Result, refl, sym, ap, ◌∙◌, subst, arith, length-append, position, bytes_eq}
+use Rattle.std.specs.Prelude.{IsErrAnd}
 use Rattle.std.proofs.Math.Nat.{min-le_right}
 use Rattle.std.proofs.Math.Seq.{take-length}
 use Rattle.std.proofs.lemmas.List.{take-append-le, take-append-drop, length-take}
@@ -23,15 +24,18 @@ use Rattle.pssm_acts.specs.declared.token.Kind.{Kind}
 use Rattle.pssm_acts.specs.declared.token.Kind.TheVariants as kinds
 use Rattle.pssm_semantics.specs.declared.tree.Cond.{Cond}
 use Rattle.pssm_semantics.specs.declared.tree.Stmt.{Stmt}
-use Rattle.pssm_acts.specs.Tokens.{Token, is_blank, front, cut, ends_operand}
-use Rattle.pssm_acts.specs.ExprReading.{Answers, and_then}
-use Rattle.pssm_acts.specs.GuardReading.{fresh_guard, guard_step, guard_value, nots_waiting}
+use Rattle.pssm_acts.specs.declared.tokens.Tokens.{Tokens}
+use Rattle.pssm_acts.specs.inner.TextLeft.{IsShort, left}
+use Rattle.pssm_acts.specs.Tokens.{Token, tokens_of}
+use Rattle.pssm_acts.specs.inner.ExprReading.{Answers, and_then}
+use Rattle.pssm_acts.specs.inner.GuardReading.{fresh_guard, guard_step, guard_value, nots_waiting}
 use Rattle.pssm_acts.specs.Marks.{KeepsMarks, with_mark, grown, mark_of}
-use Rattle.pssm_acts.specs.PhraseReading.{AnswersWith, beside, mark_read, phrase_begun, phrase_step}
-use Rattle.pssm_acts.specs.ActReading.{acts_read, acts_step, acts_value, after_choice, at_turn, begun_at, block_closed, block_closed_in, block_opened, condition_read, else_opened, fresh_acts, fresh_blocks, if_closed, next_act, next_act_in, phrase_read, phrased, statement_counted, step_taken, text_acts, turn_nots, with_act, without_else}
-use Rattle.pssm_acts.proofs.AnswerLaws.{never_read, read_same}
+use Rattle.pssm_acts.specs.inner.PhraseReading.{AnswersWith, beside, mark_read, phrase_begun, phrase_step}
+use Rattle.pssm_acts.specs.inner.ActReading.{ActsState, acts_read, acts_step, acts_steps_in, acts_worth, after_choice, at_turn, begun_at, block_closed, block_closed_in, block_opened, condition_read, else_opened, fresh_acts, fresh_blocks, if_closed, next_act, next_act_in, phrase_read, phrased, statement_counted, step_taken, text_acts, turn_nots, with_act, without_else}
+use Rattle.pssm_acts.proofs.AnswerLaws.{read, never_read, read_same, passed, room_for}
 use Rattle.pssm_acts.proofs.NotsLaws.{nots_more}
-use Rattle.pssm_acts.proofs.TextLaws.{failed, cut_blank, cut_token, piece_at}
+use Rattle.pssm_acts.proofs.CutLaws.{left_few}
+use Rattle.pssm_acts.proofs.Readers.{taken}
 
 abbrev token_as : ℕ → Kind → List ℕ → Token
 token_as at kind word = record { at = at; kind = kind; word = word }
@@ -86,14 +90,10 @@ pub record IsPhrased (names : Names) (marks : List (List ℕ)) (blocks : Blocks)
 
 pub phrase_apart : (names : Names) (marks : List (List ℕ)) (blocks : Blocks) (phrase : Phrase) (t : Token) (n : ActsReader) (m : List (List ℕ)) → phrase_read names marks blocks phrase t ≡ Ok (n, m) → IsPhrased names marks blocks phrase t n m
 unfolding phrase_read
-phrase_apart names marks blocks phrase t n m is = go (phrase_step names (16 - length blocks.outer) marks phrase t) refl is where
-  go : (r : Result (Phrased × List (List ℕ)) ActFault) → phrase_step names (16 - length blocks.outer) marks phrase t ≡ r → and_then {B = ActsReader × List (List ℕ)} r (λ next. Ok (phrased blocks next.0, next.1)) ≡ Ok (n, m) → IsPhrased names marks blocks phrase t n m
-  go (Ok next) e is =
-      let was : ActsReader × List (List ℕ) = (phrased blocks next.0, next.1) in
-      let now : ActsReader × List (List ℕ) = (n, m) in
-      let same = read_same was now is in
-      record { made = next.0; step = subst (λ x. phrase_step names (16 - length blocks.outer) marks phrase t ≡ Ok (next.0, x)) (ap (λ y. y.1) same) e; reader = ap (λ y. y.0) same }
-  go (Err fault) e is = absurd (never_read _ _ is)
+phrase_apart names marks blocks phrase t n m is =
+    let it = passed (phrase_step names (16 - length blocks.outer) marks phrase t) (λ next. Ok (phrased blocks next.0, next.1)) (n, m) is in
+    let same = read_same {A = ActsState} (phrased blocks it.0.0, it.0.1) (n, m) it.2 in
+    record { made = it.0.0; step = subst (λ x. phrase_step names (16 - length blocks.outer) marks phrase t ≡ Ok (it.0.0, x)) (ap (λ y. y.1) same) it.1; reader = ap (λ y. y.0) same }
 
 step_noted : (names : Names) (stepped : Bool) (marks : List (List ℕ)) (turn : Turn) (blocks : Blocks) (t : Token) (n : ActsReader) (m : List (List ℕ)) → acts_step names stepped marks (at_turn blocks turn) t ≡ Ok (n, m) → AreNoted marks m
 unfolding acts_step
@@ -107,6 +107,10 @@ step_noted names stepped marks turns.Step blocks t n m is = beside_noted marks _
 
 -- ---- the `!` behind a step
 
+-- A reader that has been read as one where no `!` waits.
+no_nots : (m n : ActsReader) → turn_nots m.turn ≡ 0 → read m ≡ read n → turn_nots n.turn ≡ 0
+no_nots m n none step = subst (λ x. turn_nots x.turn ≡ 0) (read_same m n step) none
+
 if_nots : (body : Option (List Stmt)) (under : Blocks) (c : Cond) (block : List Stmt) (n : ActsReader) → if_closed body under c block ≡ n → turn_nots n.turn ≡ 0
 if_nots None under c block n e = subst (λ x. turn_nots x.turn ≡ 0) e refl
 if_nots (Some body) under c block n e = subst (λ x. turn_nots x.turn ≡ 0) e refl
@@ -117,44 +121,34 @@ closed_nots (first ∷ outer) blocks at n is = if_nots first.body (record { earl
 
 opened_nots : (blocks : Blocks) (c : Cond) (body : Option (List Stmt)) (at : ℕ) (n : ActsReader) → block_opened blocks c body at ≡ Ok n → turn_nots n.turn ≡ 0
 unfolding block_opened
-opened_nots blocks c body at n is = go (ltb (length blocks.outer) 16) is where
-  inner : Blocks
-  inner = record { earlier = blocks.earlier; outer = record { before = blocks.stmts; condition = c; body = body } ∷ blocks.outer; stmts = []; begun = blocks.begun }
-
-  go : (b : Bool) → (if b then Ok (at_turn inner Begins) else Err (TooLong at)) ≡ Ok n → turn_nots n.turn ≡ 0
-  go true e = let same = read_same (at_turn inner Begins) n e in subst (λ x. turn_nots x.turn ≡ 0) same refl
-  go false e = absurd (never_read _ _ e)
+opened_nots blocks c body at n is =
+    let inner : Blocks = record { earlier = blocks.earlier; outer = record { before = blocks.stmts; condition = c; body = body } ∷ blocks.outer; stmts = []; begun = blocks.begun } in
+    let it = room_for (ltb (length blocks.outer) 16) (Ok (at_turn inner Begins)) (TooLong at) n is in
+    no_nots (at_turn inner Begins) n refl it.1
 
 next_nots : (stepped : Bool) (outer : List OpenIf) (blocks : Blocks) (at : ℕ) (n : ActsReader) → next_act_in stepped outer blocks at ≡ Ok n → turn_nots n.turn ≡ 0
-next_nots true [] blocks at n is = go (ltb (length blocks.earlier + 1) 64) is where
-  after : ActsReader
-  after = at_turn (fresh_blocks (with_act blocks.earlier blocks.stmts)) turns.Step
-
-  go : (b : Bool) → (if b then Ok after else Err (TooLong at)) ≡ Ok n → turn_nots n.turn ≡ 0
-  go true e = let same = read_same after n e in subst (λ x. turn_nots x.turn ≡ 0) same refl
-  go false e = absurd (never_read _ _ e)
+next_nots true [] blocks at n is =
+    let after : ActsReader = at_turn (fresh_blocks (with_act blocks.earlier blocks.stmts)) turns.Step in
+    let it = room_for (ltb (length blocks.earlier + 1) 64) (Ok after) (TooLong at) n is in
+    no_nots after n refl it.1
 next_nots true (first ∷ outer) blocks at n is = absurd (never_read _ _ is)
 next_nots false outer blocks at n is = absurd (never_read _ _ is)
 
 counted_nots : (blocks : Blocks) (turn : Turn) (at : ℕ) (n : ActsReader) → turn_nots turn ≡ 0 → and_then (statement_counted blocks at) (λ more. Ok (at_turn more turn)) ≡ Ok n → turn_nots n.turn ≡ 0
-counted_nots blocks turn at n none is = go (statement_counted blocks at) is where
-  go : (r : Result Blocks ActFault) → and_then r (λ more. Ok (at_turn more turn)) ≡ Ok n → turn_nots n.turn ≡ 0
-  go (Ok more) e = let same = read_same (at_turn more turn) n e in subst (λ x. turn_nots x.turn ≡ 0) same none
-  go (Err fault) e = absurd (never_read _ _ e)
+counted_nots blocks turn at n none is = let it = passed (statement_counted blocks at) (λ more. Ok (at_turn more turn)) n is in no_nots (at_turn it.0 turn) n none it.2
 
 begun_nots : (names : Names) (stepped : Bool) (blocks : Blocks) (n : ActsReader) (kind : Kind) (at : ℕ) (word : List ℕ) → begun_at names stepped blocks (token_as at kind word) ≡ Ok n → turn_nots n.turn ≡ 0
 unfolding begun_at block_closed next_act
 begun_nots names stepped blocks n kinds.CloseBrace at word is = closed_nots blocks.outer blocks at n is
 begun_nots names stepped blocks n kinds.Step at word is = next_nots stepped blocks.outer blocks at n is
 begun_nots names stepped blocks n kinds.If at word is = counted_nots blocks (Condition fresh_guard) at n refl is
-begun_nots names stepped blocks n kind at word is = go (phrase_begun names (token_as at kind word)) is where
-  go : (r : Result Phrase ActFault) → and_then r (λ phrase. and_then (statement_counted blocks at) (λ more. Ok (at_turn more (Within phrase)))) ≡ Ok n → turn_nots n.turn ≡ 0
-  go (Ok phrase) e = counted_nots blocks (Within phrase) at n refl e
-  go (Err fault) e = absurd (never_read _ _ e)
+begun_nots names stepped blocks n kind at word is =
+    let it = passed (phrase_begun names (token_as at kind word)) (λ phrase. and_then (statement_counted blocks at) (λ more. Ok (at_turn more (Within phrase)))) n is in
+    counted_nots blocks (Within it.0) at n refl it.2
 
 chosen_nots : (names : Names) (stepped : Bool) (blocks : Blocks) (c : Cond) (body : List Stmt) (n : ActsReader) (kind : Kind) (at : ℕ) (word : List ℕ) → after_choice names stepped blocks c body (token_as at kind word) ≡ Ok n → turn_nots n.turn ≡ 0
 unfolding after_choice
-chosen_nots names stepped blocks c body n kinds.Else at word is = let same = read_same (at_turn blocks (Else c body)) n is in subst (λ x. turn_nots x.turn ≡ 0) same refl
+chosen_nots names stepped blocks c body n kinds.Else at word is = no_nots (at_turn blocks (Else c body)) n refl is
 chosen_nots names stepped blocks c body n kind at word is = begun_nots names stepped (without_else blocks c body) n kind at word is
 
 else_nots : (blocks : Blocks) (c : Cond) (body : List Stmt) (n : ActsReader) (kind : Kind) (at : ℕ) (word : List ℕ) → else_opened blocks c body (token_as at kind word) ≡ Ok n → turn_nots n.turn ≡ 0
@@ -164,20 +158,16 @@ else_nots blocks c body n kind at word is = absurd (never_read _ _ is)
 
 condition_nots : (names : Names) (blocks : Blocks) (guard : GuardReader) (n : ActsReader) (kind : Kind) (at : ℕ) (word : List ℕ) → condition_read names blocks guard (token_as at kind word) ≡ Ok n → turn_nots n.turn ≤ nots_waiting guard + 1
 unfolding condition_read
-condition_nots names blocks guard n kinds.OpenBrace at word is = go (guard_value guard at) is where
-  go : (r : Result Cond ActFault) → and_then r (λ c. block_opened blocks c None at) ≡ Ok n → turn_nots n.turn ≤ nots_waiting guard + 1
-  go (Ok c) e = let none = opened_nots blocks c None at n e in omega (arith, none)
-  go (Err fault) e = absurd (never_read _ _ e)
-condition_nots names blocks guard n kind at word is = go (guard_step names (16 - length blocks.outer) guard (token_as at kind word)) refl is where
-  go : (r : Result GuardReader ActFault) → guard_step names (16 - length blocks.outer) guard (token_as at kind word) ≡ r → and_then r (λ more. Ok (at_turn blocks (Condition more))) ≡ Ok n → turn_nots n.turn ≤ nots_waiting guard + 1
-  go (Ok more) step e =
-      let same = read_same (at_turn blocks (Condition more)) n e in
-      subst (λ x. turn_nots x.turn ≤ nots_waiting guard + 1) same (nots_more names (16 - length blocks.outer) guard more (token_as at kind word) step)
-  go (Err fault) step e = absurd (never_read _ _ e)
+condition_nots names blocks guard n kinds.OpenBrace at word is =
+    let it = passed (guard_value guard at) (λ c. block_opened blocks c None at) n is in
+    let none = opened_nots blocks it.0 None at n it.2 in omega (arith, none)
+condition_nots names blocks guard n kind at word is =
+    let it = passed (guard_step names (16 - length blocks.outer) guard (token_as at kind word)) (λ more. Ok (at_turn blocks (Condition more))) n is in
+    subst (λ x. turn_nots x.turn ≤ nots_waiting guard + 1) (read_same (at_turn blocks (Condition it.0)) n it.2) (nots_more names (16 - length blocks.outer) guard it.0 (token_as at kind word) it.1)
 
 taken_nots : (blocks : Blocks) (n : ActsReader) (kind : Kind) (at : ℕ) (word : List ℕ) → step_taken blocks (token_as at kind word) ≡ Ok n → turn_nots n.turn ≡ 0
 unfolding step_taken
-taken_nots blocks n kinds.Semicolon at word is = let same = read_same (at_turn blocks Begins) n is in subst (λ x. turn_nots x.turn ≡ 0) same refl
+taken_nots blocks n kinds.Semicolon at word is = no_nots (at_turn blocks Begins) n refl is
 taken_nots blocks n kind at word is = absurd (never_read _ _ is)
 
 phrased_nots : (blocks : Blocks) (made : Phrased) (n : ActsReader) → phrased blocks made ≡ n → turn_nots n.turn ≡ 0
@@ -196,47 +186,25 @@ nots_by names stepped marks turns.Step blocks t n m is = let e = taken_nots bloc
 
 -- ---- the text
 
--- The reader has read a text up to what is left, and has noted these marks.
-pub record IsActsReadTo (names : Names) (stepped : Bool) (text : List ℕ) (first marks : List (List ℕ)) (reader : ActsReader) (after_operand : Bool) (rest : List ℕ) : Type 0 where
-  pub same : acts_read names stepped (length text) marks reader (cut (length text) after_operand 0 rest) ≡ text_acts names stepped first text
-  pub nots : turn_nots reader.turn + length rest ≤ length text
+-- The reader has come so far and has noted these marks: what it makes of the tokens that are left is what the text is read as.
+pub record IsActsReadTo (names : Names) (stepped : Bool) (text : List ℕ) (first marks : List (List ℕ)) (reader : ActsReader) (tokens : Tokens) : Type 0 where
+  pub same : acts_read names stepped (length text) marks reader (left tokens) ≡ text_acts names stepped first text
+  pub nots : turn_nots reader.turn + length (left tokens) ≤ 4096
   pub kept : take (length first) marks ≡ first
-  pub few : length marks + length rest ≤ length first + length text
+  pub few : length marks + length (left tokens) ≤ length first + 4096
+  pub short : IsShort tokens
 
-pub start : (names : Names) (stepped : Bool) (text : List ℕ) (marks : List (List ℕ)) → IsActsReadTo names stepped text marks marks fresh_acts false text
-start names stepped text marks = record { same = refl; nots = omega arith; kept = take-length marks; few = omega arith }
-
-blank_more : (names : Names) (stepped : Bool) (text : List ℕ) (first marks : List (List ℕ)) (reader : ActsReader) (a : Bool) (c : ℕ) (cs : List ℕ) → IsActsReadTo names stepped text first marks reader a (c ∷ cs) → is_blank c ≡ true → IsActsReadTo names stepped text first marks reader a cs
-blank_more names stepped text first marks reader a c cs was blank = record {
-  same = ap (λ ts. acts_read names stepped (length text) marks reader ts) (sym (cut_blank (length text) a c cs blank)) ∙ was.same;
-  nots = omega (arith, was.nots);
-  kept = was.kept;
-  few = omega (arith, was.few);
-}
-
--- A blank at the front of what is left is passed over.
-pub blank_passed : (names : Names) (stepped : Bool) (text : List ℕ) (first marks : List (List ℕ)) (reader : ActsReader) (a : Bool) (bytes later : List ℕ) → IsActsReadTo names stepped text first marks reader a bytes → 1 ≤ length bytes → is_blank (get_or bytes 0 0) ≡ true → later ≡ drop 1 bytes
-    → IsActsReadTo names stepped text first marks reader a later
-blank_passed names stepped text first marks reader a [] later was some blank is = absurd (omega arith)
-blank_passed names stepped text first marks reader a (c ∷ cs) later was some blank is =
-    subst (λ x. IsActsReadTo names stepped text first marks reader a x) (sym is) (blank_more names stepped text first marks reader a c cs was blank)
-
-token_read : (names : Names) (stepped : Bool) (text : List ℕ) (first marks : List (List ℕ)) (reader : ActsReader) (a : Bool) (c : ℕ) (cs : List ℕ) (kind : Kind) (n : ℕ) → is_blank c ≡ false → front a (c ∷ cs) ≡ (kind, suc n)
-    → IsActsReadTo names stepped text first marks reader a (c ∷ cs)
-    → and_then (acts_step names stepped marks reader (piece_at (length text) kind (suc n) (c ∷ cs))) (λ next. acts_read names stepped (length text) next.1 next.0 (cut (length text) (ends_operand kind) 0 (drop n cs))) ≡ text_acts names stepped first text
-unfolding acts_read
-token_read names stepped text first marks reader a c cs kind n solid is was =
-    sym (ap (λ ts. acts_read names stepped (length text) marks reader ts) (cut_token (length text) a c cs kind n solid is)) ∙ was.same
-
--- what the token at the front of what is left makes of the reader
-step_read : (names : Names) (stepped : Bool) (text : List ℕ) (first marks : List (List ℕ)) (reader : ActsReader) (a : Bool) (bytes later : List ℕ) (kind : Kind) (n : ℕ) → is_blank (get_or bytes 0 0) ≡ false → front a bytes ≡ (kind, n) → 1 ≤ n → n ≤ length bytes → later ≡ drop n bytes
-    → IsActsReadTo names stepped text first marks reader a bytes
-    → and_then (acts_step names stepped marks reader (piece_at (length text) kind n bytes)) (λ next. acts_read names stepped (length text) next.1 next.0 (cut (length text) (ends_operand kind) 0 later)) ≡ text_acts names stepped first text
-step_read names stepped text first marks reader a [] later kind n solid is some within rest was = absurd (omega arith)
-step_read names stepped text first marks reader a (c ∷ cs) later kind zero solid is some within rest was = absurd (omega arith)
-step_read names stepped text first marks reader a (c ∷ cs) later kind (suc n) solid is some within rest was =
-    ap (λ x. and_then (acts_step names stepped marks reader (piece_at (length text) kind (suc n) (c ∷ cs))) (λ next. acts_read names stepped (length text) next.1 next.0 (cut (length text) (ends_operand kind) 0 x))) rest
-    ∙ token_read names stepped text first marks reader a c cs kind n solid is was
+pub start : (names : Names) (stepped : Bool) (text : List ℕ) (marks : List (List ℕ)) (reader : ActsReader) (tokens : Tokens) → reader ≡ fresh_acts → left tokens ≡ tokens_of text → IsShort tokens
+    → IsActsReadTo names stepped text marks marks reader tokens
+start names stepped text marks reader tokens fresh all short =
+    let no_more = left_few tokens short in
+    record {
+      same = ap (λ r. acts_read names stepped (length text) marks r (left tokens)) fresh ∙ ap (λ ts. acts_read names stepped (length text) marks fresh_acts ts) all;
+      nots = let none = ap (λ r. turn_nots r.turn) fresh in omega (arith, none, no_more);
+      kept = take-length marks;
+      few = omega (arith, no_more);
+      short = short;
+    }
 
 take_within : (first marks : List (List ℕ)) → take (length first) marks ≡ first → length first ≤ length marks
 take_within first marks kept = let e = ap length kept in let f = length-take (length first) marks in let g = min-le_right (length first) (length marks) in omega (arith, e, f, g)
@@ -251,30 +219,19 @@ noted_few : (marks more : List (List ℕ)) → AreNoted marks more → length mo
 noted_few marks more (inl same) = let e = ap length same in omega (arith, e)
 noted_few marks more (inr (name, same)) = let e = ap length same ∙ length-append marks (name ∷ []) in omega (arith, e)
 
-pub token_passed : (names : Names) (stepped : Bool) (text : List ℕ) (first marks more : List (List ℕ)) (reader next : ActsReader) (a : Bool) (bytes later : List ℕ) (kind : Kind) (n : ℕ) → is_blank (get_or bytes 0 0) ≡ false → front a bytes ≡ (kind, n) → 1 ≤ n → n ≤ length bytes → later ≡ drop n bytes
-    → IsActsReadTo names stepped text first marks reader a bytes → acts_step names stepped marks reader (piece_at (length text) kind n bytes) ≡ Ok (next, more) → IsActsReadTo names stepped text first more next (ends_operand kind) later
-token_passed names stepped text first marks more reader next a bytes later kind n solid is some within rest was step =
-    let noted : AreNoted marks more = step_noted names stepped marks reader.turn reader.blocks (piece_at (length text) kind n bytes) next more step in
-    let left : length later ≡ length bytes - n = ap length rest ∙ length-drop n bytes in
+-- one token more
+pub token_passed : (names : Names) (stepped : Bool) (text : List ℕ) (first marks noted : List (List ℕ)) (reader next : ActsReader) (tokens more : Tokens) (t : Token) → left tokens ≡ t ∷ left more → IsShort more
+    → IsActsReadTo names stepped text first marks reader tokens → acts_step names stepped marks reader t ≡ Ok (next, noted) → IsActsReadTo names stepped text first noted next more
+token_passed names stepped text first marks noted reader next tokens more t front short was step =
+    let known : AreNoted marks noted = step_noted names stepped marks reader.turn reader.blocks t next noted step in
+    let count = ap length front in
     record {
-      same = sym (ap (λ x. and_then x (λ m. acts_read names stepped (length text) m.1 m.0 (cut (length text) (ends_operand kind) 0 later))) step) ∙ step_read names stepped text first marks reader a bytes later kind n solid is some within rest was;
-      nots =
-          let one = nots_by names stepped marks reader.turn reader.blocks (piece_at (length text) kind n bytes) next more step in
-          omega (arith, was.nots);
-      kept = noted_kept first marks more noted was.kept;
-      few = let one = noted_few marks more noted in omega (arith, was.few);
+      same = taken (acts_steps_in names stepped) (acts_worth (length text)) (text_acts names stepped first text) (reader, marks) (next, noted) t (left more) (left tokens) front was.same step;
+      nots = let one = nots_by names stepped marks reader.turn reader.blocks t next noted step in omega (arith, was.nots, one, count);
+      kept = noted_kept first marks noted known was.kept;
+      few = let one = noted_few marks noted known in omega (arith, was.few, one, count);
+      short = short;
     }
-
-token_failed : (names : Names) (stepped : Bool) (text : List ℕ) (first marks : List (List ℕ)) (reader : ActsReader) (a : Bool) (bytes later : List ℕ) (kind : Kind) (n : ℕ) (fault : ActFault) → is_blank (get_or bytes 0 0) ≡ false → front a bytes ≡ (kind, n) → 1 ≤ n → n ≤ length bytes → later ≡ drop n bytes
-    → IsActsReadTo names stepped text first marks reader a bytes → Answers (acts_step names stepped marks reader (piece_at (length text) kind n bytes)) (Err fault) → Answers (text_acts names stepped first text) (Err fault)
-token_failed names stepped text first marks reader a bytes later kind n fault solid is some within rest was step =
-    failed (acts_step names stepped marks reader (piece_at (length text) kind n bytes)) (λ m. acts_read names stepped (length text) m.1 m.0 (cut (length text) (ends_operand kind) 0 later)) (text_acts names stepped first text) fault step
-    (step_read names stepped text first marks reader a bytes later kind n solid is some within rest was)
-
--- the end of the text
-pub end_read : (names : Names) (stepped : Bool) (text : List ℕ) (first marks : List (List ℕ)) (reader : ActsReader) (a : Bool) (bytes : List ℕ) → IsActsReadTo names stepped text first marks reader a bytes → bytes ≡ [] → beside marks (acts_value reader (length text)) ≡ text_acts names stepped first text
-unfolding acts_read cut
-end_read names stepped text first marks reader a bytes was none = subst (λ x. acts_read names stepped (length text) marks reader (cut (length text) a 0 x) ≡ text_acts names stepped first text) none was.same
 
 -- What the marks that are left are to those that were there first.
 pub kept_on : (first marks more : List (List ℕ)) → KeepsMarks first marks → KeepsMarks marks more → KeepsMarks first more
@@ -300,8 +257,7 @@ fault_with due (WideNumber at) left h = h
 fault_with due (Arity at) left h = h
 fault_with due (TooLong at) left h = h
 
-pub token_refused : (names : Names) (stepped : Bool) (text : List ℕ) (first marks left : List (List ℕ)) (reader : ActsReader) (a : Bool) (bytes later : List ℕ) (kind : Kind) (n : ℕ) (fault : ActFault) → is_blank (get_or bytes 0 0) ≡ false → front a bytes ≡ (kind, n) → 1 ≤ n → n ≤ length bytes → later ≡ drop n bytes
-    → IsActsReadTo names stepped text first marks reader a bytes → AnswersWith (acts_step names stepped marks reader (piece_at (length text) kind n bytes)) (Err fault) left → AnswersWith (text_acts names stepped first text) (Err fault) left
-token_refused names stepped text first marks left reader a bytes later kind n fault solid is some within rest was step =
-    fault_with (text_acts names stepped first text) fault left
-    (token_failed names stepped text first marks reader a bytes later kind n fault solid is some within rest was (fault_alone (acts_step names stepped marks reader (piece_at (length text) kind n bytes)) fault left step))
+-- A fault that `?` hands on stays the fault that is due.
+pub handed_on : {A M : Type 0} (due : Result (A × M) ActFault) (r : Result A ActFault) (fault : ActFault) (left : M) → IsErrAnd r (λ f. f ≡ fault) → Answers due (Err fault) → AnswersWith due r left
+handed_on due (Ok x) fault left is h = absurd is
+handed_on due (Err f) fault left is h = fault_with due f left (subst (λ x. Answers due (Err x)) (sym is) h)

@@ -1,5 +1,5 @@
 -- What is read as behaviours is spelled so.
-use Rattle.std.proofs.Common.{◌≡◌, ◌+◌, ◌-◌, ◌<◌, ◌≤◌, ℕ, suc, Bool, true, false, ltb, List, [], ◌∷◌, ◌++◌, length, Option, Some, None, Result, Ok, Err, refl, sym, ap, ◌∙◌, subst, append_assoc, arith, length-append, if◌then◌else◌}
+use Rattle.std.proofs.Common.{◌≡◌, ◌+◌, ◌-◌, ◌<◌, ◌≤◌, ℕ, suc, Bool, true, false, ltb, List, [], ◌∷◌, ◌++◌, length, Option, Some, None, Result, Ok, Err, refl, sym, ap, ◌∙◌, subst, arith, length-append, if◌then◌else◌}
 use Rattle.std.proofs.lemmas.List.{append-nil}
 use Rattle.std.proofs.lemmas.Bool.{ltb-true}
 use Rattle.pssm_acts.specs.declared.act_fault.ActFault.{ActFault}
@@ -23,20 +23,21 @@ use Rattle.pssm_semantics.specs.declared.tree.Cond.{Cond}
 use Rattle.pssm_semantics.specs.declared.tree.Stmt.{Stmt}
 use Rattle.pssm_semantics.specs.declared.tree.Stmt.TheViews as stmts
 use Rattle.pssm_acts.specs.ActGrammar.{SpellsPhrase, assignment, sending, bare_mark, marking, SpellsBehaviour, SpellsBehaviours}
-use Rattle.pssm_acts.specs.ActReading.{fresh_acts, without_else, at_turn, block_opened, begun_at, after_choice, else_opened, condition_read, phrased, phrase_read, step_taken, acts_step, whole_acts_in, whole_acts, acts_value, acts_read}
-use Rattle.pssm_acts.specs.ExprReading.{and_then}
+use Rattle.pssm_acts.specs.inner.ActReading.{fresh_acts, without_else, at_turn, block_opened, begun_at, after_choice, else_opened, condition_read, phrased, phrase_read, step_taken, acts_step, whole_acts_in, whole_acts, acts_value, ActsState, acts_steps_in, acts_worth, acts_read}
+use Rattle.pssm_acts.specs.inner.ExprReading.{and_then}
 use Rattle.pssm_semantics.specs.Fits.{stmt_count}
 use Rattle.pssm_acts.specs.Grammar.{Either, SpellsGuard}
-use Rattle.pssm_acts.specs.GuardReading.{guard_step, guard_value}
-use Rattle.pssm_acts.specs.PhraseReading.{beside, phrase_step}
+use Rattle.pssm_acts.specs.inner.GuardReading.{guard_step, guard_value}
+use Rattle.pssm_acts.specs.inner.PhraseReading.{beside, phrase_step}
 use Rattle.pssm_acts.specs.Tokens.{Token}
-use Rattle.pssm_acts.proofs.AnswerLaws.{never_read, read_same}
+use Rattle.pssm_acts.proofs.AnswerLaws.{never_read, read_same, passed}
 use Rattle.pssm_acts.proofs.ExprHeld.{token_as}
 use Rattle.pssm_acts.proofs.GuardHeld.{held_more, held_whole}
 use Rattle.pssm_acts.proofs.PhraseTokens.{PhrasedHeld}
 use Rattle.pssm_acts.proofs.PhraseHeld.{phrase_held}
 use Rattle.pssm_acts.proofs.BlockHeld.{HeadHeld, IfHeld, BlocksHeld, phrase_added, chosen_added, opened_held, blocks_start}
 use Rattle.pssm_acts.proofs.BlockCounts.{choice_count, body_count, turn_count, IsLone, turn_counted, ends_counted, opens_counted}
+use Rattle.pssm_acts.proofs.Readers.{kept, to_the_end}
 use Rattle.pssm_acts.proofs.StepsHeld.{EarlierHeld, step_joined, ConditionHeld, TurnHeld, BehaviourHeld, StepHeld, StateHeld, ReaderHeld, blocks_at, statement_goes, statement_ends, at_beginning}
 use Rattle.pssm_acts.proofs.BeginHeld.{act_spelled, begun_held}
 
@@ -59,14 +60,12 @@ module _ (names : Names) (stepped : Bool) (start : List (List ℕ)) where
   within_held : (blocks : Blocks) (phrase : Phrase) (n : ActsReader × List (List ℕ)) (ts : List Token) (t : Token) (marks : List (List ℕ)) → phrase_read names marks blocks phrase t ≡ Ok n → BehaviourHeld names stepped start blocks (Within phrase) ts marks
       → ReaderHeld names stepped start n.0 (ts ++ t ∷ []) n.1
   unfolding phrase_read
-  within_held blocks phrase n ts t marks step h = go (phrase_step names (16 - length blocks.outer) marks phrase t) refl step where
-    go : (r : Result (Phrased × List (List ℕ)) ActFault) → phrase_step names (16 - length blocks.outer) marks phrase t ≡ r → and_then r (λ next. Ok (phrased blocks next.0, next.1)) ≡ Ok n → ReaderHeld names stepped start n.0 (ts ++ t ∷ []) n.1
-    go (Ok next) e is =
-        let due : ActsReader × List (List ℕ) = (phrased blocks next.0, next.1) in
-        let same = read_same due n is in
-        let held = phrase_held names h.noted (16 - length blocks.outer) marks phrase next h.vs t e h.here in
-        subst (λ r. ReaderHeld names stepped start r.0 (ts ++ t ∷ []) r.1) same (phrased_held blocks phrase next.0 ts t marks next.1 h held)
-    go (Err fault) e is = absurd (never_read _ _ is)
+  within_held blocks phrase n ts t marks step h =
+      let it = passed (phrase_step names (16 - length blocks.outer) marks phrase t) (λ next. Ok (phrased blocks next.0, next.1)) n step in
+      let due : ActsReader × List (List ℕ) = (phrased blocks it.0.0, it.0.1) in
+      let same = read_same due n it.2 in
+      let held = phrase_held names h.noted (16 - length blocks.outer) marks phrase it.0 h.vs t it.1 h.here in
+      subst (λ r. ReaderHeld names stepped start r.0 (ts ++ t ∷ []) r.1) same (phrased_held blocks phrase it.0.0 ts t marks it.0.1 h held)
 
   -- a brace opens a block
   opens_held : (blocks : Blocks) (turn : Turn) (c : Cond) (body : Option (List Stmt)) (n : ActsReader) (ts : List Token) (t : Token) (marks : List (List ℕ)) (h : BehaviourHeld names stepped start blocks turn ts marks)
@@ -237,20 +236,6 @@ module _ (names : Names) (stepped : Bool) (start : List (List ℕ)) where
       subst (λ p. ActsHeld names stepped start p.0 ts p.1) same (held x refl)
   end_held (Err fault) n ts marks is held = absurd (never_read _ _ is)
 
--- the end of the text
-read_held : (names : Names) (stepped : Bool) (start : List (List ℕ)) (end : ℕ) (marks : List (List ℕ)) (reader : ActsReader) (us ts : List Token) (n : ReadActs × List (List ℕ)) → acts_read names stepped end marks reader ts ≡ Ok n
-    → ReaderHeld names stepped start reader us marks → ActsHeld names stepped start n.0 (us ++ ts) n.1
-unfolding acts_read
-read_held names stepped start end marks reader us [] n is h =
-    let all = end_held names stepped start (acts_value reader end) n us marks is (λ x e. value_held names stepped start reader.blocks reader.turn x end us marks e h) in
-    subst (λ xs. ActsHeld names stepped start n.0 xs n.1) (sym (append-nil us)) all
-read_held names stepped start end marks reader us (t ∷ ts) n is h = go (λ next rest held. read_held names stepped start end next.1 next.0 (us ++ t ∷ []) ts n rest held) (acts_step names stepped marks reader t) refl is where
-  go : ((next : ActsReader × List (List ℕ)) → acts_read names stepped end next.1 next.0 ts ≡ Ok n → ReaderHeld names stepped start next.0 (us ++ t ∷ []) next.1 → ActsHeld names stepped start n.0 ((us ++ t ∷ []) ++ ts) n.1)
-      → (x : Result (ActsReader × List (List ℕ)) ActFault) → acts_step names stepped marks reader t ≡ x → and_then x (λ next. acts_read names stepped end next.1 next.0 ts) ≡ Ok n → ActsHeld names stepped start n.0 (us ++ (t ∷ ts)) n.1
-  go more (Ok next) e is =
-      subst (λ xs. ActsHeld names stepped start n.0 xs n.1) (append_assoc us (t ∷ []) ts) (more next is (turn_held names stepped start reader.blocks reader.turn next us t marks e h))
-  go more (Err fault) e is = absurd (never_read _ _ is)
-
 pub start_held : (names : Names) (stepped : Bool) (start : List (List ℕ)) → IsLone stepped [] → ReaderHeld names stepped start fresh_acts [] start
 start_held names stepped start lone = record {
   steps = [];
@@ -265,10 +250,18 @@ start_held names stepped start lone = record {
   whole = refl;
 }
 
+-- the end of the text
+read_held : (names : Names) (stepped : Bool) (end : ℕ) (marks : List (List ℕ)) (ts : List Token) (n : ReadActs × List (List ℕ)) → IsLone stepped [] → acts_read names stepped end marks fresh_acts ts ≡ Ok n → ActsHeld names stepped marks n.0 ts n.1
+read_held names stepped end marks ts n lone is =
+    let all = to_the_end (acts_steps_in names stepped) (acts_worth end) (fresh_acts, marks) ts n is in
+    let held : ReaderHeld names stepped marks all.0.0 ts all.0.1 =
+    kept (λ (s : ActsState) us. ReaderHeld names stepped marks s.0 us s.1) (λ s m us t step h. turn_held names stepped marks s.0.blocks s.0.turn m us t s.1 step h) [] all.1 (start_held names stepped marks lone) in
+    end_held names stepped marks (acts_value all.0.0 end) n ts all.0.1 all.2 (λ x e. value_held names stepped marks all.0.0.blocks all.0.0.turn x end ts all.0.1 e held)
+
 -- What is read as one behaviour is spelled so.
 pub spelled_behaviour : (names : Names) (end : ℕ) (marks : List (List ℕ)) (ts : List Token) (r : ReadActs) (noted : List (List ℕ)) → acts_read names false end marks fresh_acts ts ≡ Ok (r, noted) → SpellsBehaviour names marks ts r.last noted
 spelled_behaviour names end marks ts r noted is =
-    let h = read_held names false marks end marks fresh_acts [] ts (r, noted) is (start_held names false marks refl) in
+    let h = read_held names false end marks ts (r, noted) refl is in
     let alone : EarlierHeld names marks [] h.steps h.began = subst (λ x. EarlierHeld names marks x h.steps h.began) h.lone h.done in
     let tokens : ts ≡ h.us = h.whole ∙ ap (λ x. x ++ h.us) alone.0 in
     subst (λ x. SpellsBehaviour names marks x r.last noted) (sym tokens) (subst (λ m. SpellsBehaviour names m h.us r.last noted) alone.1 h.spelled)
@@ -277,6 +270,6 @@ spelled_behaviour names end marks ts r noted is =
 pub spelled_behaviours : (names : Names) (end : ℕ) (marks : List (List ℕ)) (ts : List Token) (r : ReadActs) (noted : List (List ℕ)) → acts_read names true end marks fresh_acts ts ≡ Ok (r, noted)
     → SpellsBehaviours names marks ts (r.earlier ++ r.last ∷ []) noted × (length (r.earlier ++ r.last ∷ []) ≤ 64)
 spelled_behaviours names end marks ts r noted is =
-    let h = read_held names true marks end marks fresh_acts [] ts (r, noted) is (start_held names true marks tt) in
+    let h = read_held names true end marks ts (r, noted) tt is in
     let joined = step_joined names marks h.began noted r.earlier r.last h.steps h.us h.done h.spelled in
     (subst (λ x. SpellsBehaviours names marks x (r.earlier ++ r.last ∷ []) noted) (sym h.whole) joined, omega (arith, length-append r.earlier (r.last ∷ []), h.few))

@@ -1,11 +1,11 @@
 -- An answer that is due stays due where the marks are carried along.
-use Rattle.std.proofs.Common.{◌≡◌, ℕ, List, [], ◌∷◌, Option, Some, None, position, bytes_eq, Result, Ok, Err, sym, ap, ◌∙◌, subst}
+use Rattle.std.proofs.Common.{◌≡◌, ℕ, Bool, true, false, if◌then◌else◌, List, [], ◌∷◌, Option, Some, None, position, bytes_eq, Result, Ok, Err, refl, sym, ap, ◌∙◌, subst}
 use Rattle.std.proofs.Math.Seq.{take-length, take-append_seam}
 use Rattle.pssm_acts.specs.declared.act_fault.ActFault.{ActFault}
 use Rattle.pssm_acts.specs.declared.act_fault.ActFault.TheVariants.{Syntax, UnknownName, WideNumber, Arity, TooLong, NoMemory}
-use Rattle.pssm_acts.specs.ExprReading.{Answers}
+use Rattle.pssm_acts.specs.inner.ExprReading.{Answers, and_then}
 use Rattle.pssm_acts.specs.Marks.{KeepsMarks, grown, with_mark}
-use Rattle.pssm_acts.specs.PhraseReading.{AnswersWith, beside}
+use Rattle.pssm_acts.specs.inner.PhraseReading.{AnswersWith, beside}
 
 -- A fault is no value that is read, and what is read is one value.
 pub never_read : {A : Type 0} (fault : ActFault) (x : A) → Err fault ≡ Ok x → ⊥
@@ -19,6 +19,20 @@ read x = Ok x
 
 pub read_same : {A : Type 0} (x y : A) → read x ≡ read y → x ≡ y
 read_same x y is = cc
+
+-- What a step behind a first one gives, the first one gave something for.
+pub passed : {A B : Type 0} (x : Result A ActFault) (f : A → Result B ActFault) (b : B) → and_then x f ≡ Ok b → (a : A) × (x ≡ Ok a) × (f a ≡ Ok b)
+passed (Ok a) f b e = (a, refl, e)
+passed (Err fault) f b e = absurd cc
+
+-- What is given only where something holds, or does not hold.
+pub room_for : {A : Type 0} (b : Bool) (r : Result A ActFault) (fault : ActFault) (x : A) → (if b then r else Err fault) ≡ Ok x → (b ≡ true) × (r ≡ Ok x)
+room_for true r fault x is = (refl, is)
+room_for false r fault x is = absurd cc
+
+pub not_past : {A : Type 0} (b : Bool) (r : Result A ActFault) (fault : ActFault) (x : A) → (if b then Err fault else r) ≡ Ok x → (b ≡ false) × (r ≡ Ok x)
+not_past true r fault x is = absurd cc
+not_past false r fault x is = (refl, is)
 
 pub beside_answers : {A M : Type 0} (due r : Result A ActFault) (marks left : M) → Answers due r → left ≡ marks → AnswersWith (beside marks due) r left
 beside_answers due (Ok x) marks left h same = ap (λ d. beside marks d) h ∙ ap (λ m. Ok (x, m)) (sym same)

@@ -1,5 +1,5 @@
 -- How many arguments a send or a mark takes: what the reader takes has the right number, and what it refuses for that has not.
-use Rattle.std.proofs.Common.{◌≡◌, ◌≤◌, ◌+◌, ◌-◌, ◌<◌, ℕ, suc, Bool, true, false, ltb, eqb, List, [], ◌∷◌, ◌++◌, length, Option, Some, Result, Ok, Err, refl, sym, ap, ◌∙◌, subst, append_assoc, arith, position, bytes_eq, length-append, if◌then◌else◌}
+use Rattle.std.proofs.Common.{◌≡◌, ◌≤◌, ◌-◌, ◌<◌, ℕ, suc, Bool, true, false, ltb, eqb, List, [], ◌∷◌, ◌++◌, length, Option, Some, Result, Ok, Err, refl, sym, ap, ◌∙◌, subst, append_assoc, arith, position, bytes_eq, length-append, if◌then◌else◌}
 use Rattle.std.proofs.lemmas.Bool.{ltb-true, ltb-false, eqb-true, eq-eqb}
 use Rattle.pssm_model.specs.declared.ids.SignalId.{SignalId}
 use Rattle.pssm_acts.specs.declared.act_fault.ActFault.{ActFault}
@@ -24,15 +24,16 @@ use Rattle.pssm_acts.specs.declared.token.Kind.TheVariants as kinds
 use Rattle.pssm_semantics.specs.declared.tree.Expr.{Expr}
 use Rattle.pssm_semantics.specs.declared.tree.Stmt.{Stmt, Send, Mark}
 use Rattle.pssm_acts.specs.ActGrammar.{SpellsList, one, further, SpellsArguments, none, some}
-use Rattle.pssm_acts.specs.ActReading.{acts_step}
-use Rattle.pssm_acts.specs.ArgumentReading.{arguments_step}
-use Rattle.pssm_acts.specs.ExprReading.{sum_of, fresh_expr}
+use Rattle.pssm_acts.specs.inner.ActReading.{ActsState, acts_steps_in, acts_step}
+use Rattle.pssm_acts.specs.inner.ArgumentReading.{arguments_step}
+use Rattle.pssm_acts.specs.inner.ExprReading.{sum_of, fresh_expr}
 use Rattle.pssm_acts.specs.Marks.{mark_of, with_mark}
-use Rattle.pssm_acts.specs.PhraseReading.{signal_count, call_made}
+use Rattle.pssm_acts.specs.inner.PhraseReading.{signal_count, call_made}
 use Rattle.pssm_acts.specs.TextFaults.{Signal, Breaks, sent, marked}
 use Rattle.pssm_acts.specs.TextFaults as places
 use Rattle.pssm_acts.specs.Tokens.{Token}
-use Rattle.pssm_acts.proofs.ActRun.{Runs, done, next}
+use Rattle.pssm_acts.proofs.ActRun.{Runs}
+use Rattle.pssm_acts.proofs.Readers.{Leads, first_of}
 use Rattle.pssm_acts.proofs.ExprRead.{reader_at}
 use Rattle.pssm_acts.proofs.ArgumentRead.{behind_comma, behind_last, behind_none, within, room_in, takes_goes, takes_ends, takes_open}
 use Rattle.pssm_acts.proofs.ArgumentHeld.{ArguedHeld, arguments_held}
@@ -40,7 +41,7 @@ use Rattle.pssm_acts.proofs.PhraseTokens.{CallHeld, CalledHeld}
 use Rattle.pssm_acts.proofs.PhraseRead.{behind_dot, behind_mark}
 use Rattle.pssm_acts.proofs.FareLaws.{fares_whole}
 use Rattle.pssm_acts.proofs.Fares.{Fares, arrives, goes, stops, fares_on, fares_as}
-use Rattle.pssm_acts.proofs.ArgumentFares.{ActsState, acts_steps_in, list_at, first_fares, further_fares, end_refuses, open_refuses, made_refuses}
+use Rattle.pssm_acts.proofs.ArgumentFares.{list_at, first_fares, further_fares, end_refuses, open_refuses, made_refuses}
 use Rattle.pssm_acts.proofs.ShapeLaws.{expr_shape}
 use Rattle.pssm_acts.proofs.StepsHeld.{ReaderHeld}
 use Rattle.pssm_acts.proofs.ActsTold.{turn_place, MiscountsAt}
@@ -112,28 +113,6 @@ made_marked name marks k m = go (ltb 8 (length m.args)) refl m.made where
 
 -- ---- runs
 
--- a run in two parts
-pub record Parted (names : Names) (stepped : Bool) (marks : List (List ℕ)) (r : ActsReader) (ts us : List Token) (noted : List (List ℕ)) (n : ActsReader) : Type 0 where
-  pub reader : ActsReader
-  pub between : List (List ℕ)
-  pub front : Runs names stepped marks r ts between reader
-  pub back : Runs names stepped between reader us noted n
-
-onto : {names : Names} {stepped : Bool} {marks noted more : List (List ℕ)} {r m n : ActsReader} {t : Token} {ts us : List Token} → acts_step names stepped marks r t ≡ Ok (m, noted) → Parted names stepped noted m ts us more n → Parted names stepped marks r (t ∷ ts) us more n
-onto step p = record { reader = p.reader; between = p.between; front = next step p.front; back = p.back }
-
-pub tail_of : {names : Names} {stepped : Bool} {marks more : List (List ℕ)} {r n : ActsReader} (t : Token) (ts xs : List Token) → xs ≡ t ∷ ts → Runs names stepped marks r xs more n
-    → (m : ActsReader) × (noted : List (List ℕ)) × (acts_step names stepped marks r t ≡ Ok (m, noted)) × Runs names stepped noted m ts more n
-tail_of t ts xs same done = absurd cc
-tail_of {names = names} {stepped = stepped} t ts xs same (next {marks = marks} {noted = noted} {more = more} {r = r} {m = m} {n = n} {t = u} {ts = us} step rest) =
-    let head : u ≡ t = cc in
-    let tail : us ≡ ts = cc in
-    (m, noted, subst (λ x. acts_step names stepped marks r x ≡ Ok (m, noted)) head step, subst (λ x. Runs names stepped noted m x more n) tail rest)
-
-pub parted : {names : Names} {stepped : Bool} {more : List (List ℕ)} {n : ActsReader} (ts us : List Token) {marks : List (List ℕ)} {r : ActsReader} → Runs names stepped marks r (ts ++ us) more n → Parted names stepped marks r ts us more n
-parted [] us {marks} {r} run = record { reader = r; between = marks; front = done; back = run }
-parted (t ∷ ts) us run = let it = tail_of t (ts ++ us) (t ∷ (ts ++ us)) refl run in onto it.2 (parted ts us it.3)
-
 same_ok : {A : Type 0} {x y : A} (r : Result A ActFault) → r ≡ Ok x → r ≡ Ok y → x ≡ y
 same_ok r e e' = cc
 
@@ -171,35 +150,29 @@ at_mark (Else c body) is = absurd cc
 at_mark turns.Step is = absurd cc
 
 -- Behind a dot, a signal and its arguments a send has been made, where all are taken.
-pub sent_taken : {names : Names} {stepped : Bool} {marks more : List (List ℕ)} {r n : ActsReader} {others : Names} {l s : ℕ} {us : List Token} {args : List Expr} (name : Token) → turn_place r.turn ≡ Signal → Runs names stepped marks r (name ∷ us) more n
+pub sent_taken : (names : Names) (stepped : Bool) {marks more : List (List ℕ)} {r n : ActsReader} {others : Names} {l s : ℕ} {us : List Token} {args : List Expr} (name : Token) → turn_place r.turn ≡ Signal → Runs names stepped marks r (name ∷ us) more n
     → name.kind ≡ kinds.Name → position (λ d. bytes_eq d.name name.word) names.signals ≡ Some s → SpellsArguments others l us args → length args ≡ signal_count names.signals s
-sent_taken {names} {stepped} {marks} {more} {r} {n} {others} {l} {s} {us} {args} name at run names' found spelled =
+sent_taken names stepped {marks} {more} {r} {n} {others} {l} {s} {us} {args} name at run names' found spelled =
     let turn = at_signal r.turn at in
     let signal : SignalId = record { 0 = s } in
     let call : Call = calls.Send turn.0 signal (signal_count names.signals s) in
-    let it = tail_of name us (name ∷ us) refl run in
+    let it = first_of name us refl run in
     let here : acts_step names stepped marks r name ≡ Ok (within r.blocks (Named call), marks) =
     ap (λ x. acts_step names stepped marks (record { blocks = r.blocks; turn = x }) name) turn.1 ∙ behind_dot names stepped marks r.blocks name turn.0 signal names' found in
-    let same = same_ok (acts_step names stepped marks r name) it.2 here in
-    let reader : it.0 ≡ within r.blocks (Named call) = ap (λ p. p.0) same in
-    let noted : it.1 ≡ marks = ap (λ p. p.1) same in
-    let rest : Runs names stepped marks (within r.blocks (Named call)) us more n = subst (λ m. Runs names stepped m (within r.blocks (Named call)) us more n) noted (subst (λ x. Runs names stepped it.1 x us more n) reader it.3) in
+    let rest : Runs names stepped marks (within r.blocks (Named call)) us more n = subst (λ s. Leads (acts_steps_in names stepped) s us (n, more)) (same_ok (acts_step names stepped marks r name) it.1 here) it.2 in
     made_sent turn.0 signal (signal_count names.signals s) (length args) (fares_whole (MadeOf names stepped marks r.blocks call (length args)) rest (arguments_count names stepped marks r.blocks call spelled))
 
 -- The same of `mark`, a name and arguments.
-pub marked_taken : {names : Names} {stepped : Bool} {marks more : List (List ℕ)} {r n : ActsReader} {others : Names} {l : ℕ} {us : List Token} {args : List Expr} (name : Token) → turn_place r.turn ≡ places.Mark → Runs names stepped marks r (name ∷ us) more n
+pub marked_taken : (names : Names) (stepped : Bool) {marks more : List (List ℕ)} {r n : ActsReader} {others : Names} {l : ℕ} {us : List Token} {args : List Expr} (name : Token) → turn_place r.turn ≡ places.Mark → Runs names stepped marks r (name ∷ us) more n
     → name.kind ≡ kinds.Name → SpellsArguments others l us args → length args ≤ 8
-marked_taken {names} {stepped} {marks} {more} {r} {n} {others} {l} {us} {args} name at run names' spelled =
+marked_taken names stepped {marks} {more} {r} {n} {others} {l} {us} {args} name at run names' spelled =
     let turn = at_mark r.turn at in
     let call : Call = calls.Mark (mark_of marks name.word) in
     let noted = with_mark marks name.word in
-    let it = tail_of name us (name ∷ us) refl run in
+    let it = first_of name us refl run in
     let here : acts_step names stepped marks r name ≡ Ok (within r.blocks (Named call), noted) =
     ap (λ x. acts_step names stepped marks (record { blocks = r.blocks; turn = x }) name) turn ∙ behind_mark names stepped marks r.blocks name names' in
-    let both = same_ok (acts_step names stepped marks r name) it.2 here in
-    let reader : it.0 ≡ within r.blocks (Named call) = ap (λ p. p.0) both in
-    let same : it.1 ≡ noted = ap (λ p. p.1) both in
-    let rest : Runs names stepped noted (within r.blocks (Named call)) us more n = subst (λ m. Runs names stepped m (within r.blocks (Named call)) us more n) same (subst (λ x. Runs names stepped it.1 x us more n) reader it.3) in
+    let rest : Runs names stepped noted (within r.blocks (Named call)) us more n = subst (λ s. Leads (acts_steps_in names stepped) s us (n, more)) (same_ok (acts_step names stepped marks r name) it.1 here) it.2 in
     made_marked name.word marks (length args) (fares_whole (MadeOf names stepped noted r.blocks call (length args)) rest (arguments_count names stepped noted r.blocks call spelled))
 
 -- ---- what is refused

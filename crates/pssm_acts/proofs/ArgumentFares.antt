@@ -3,7 +3,6 @@ use Rattle.std.proofs.Common.{◌≡◌, ◌-◌, ℕ, Bool, true, false, ltb, e
 use Rattle.std.proofs.lemmas.Bool.{ltb-true}
 use Rattle.pssm_acts.specs.declared.act_fault.ActFault.{ActFault}
 use Rattle.pssm_acts.specs.declared.act_fault.ActFault.TheVariants.{Syntax, Arity, TooLong}
-use Rattle.pssm_acts.specs.declared.acts_reader.ActsReader.{ActsReader}
 use Rattle.pssm_acts.specs.declared.read_blocks.Blocks.{Blocks}
 use Rattle.pssm_acts.specs.declared.argument_reader.Arguments.{Arguments}
 use Rattle.pssm_acts.specs.declared.argument_reader.Arguments.TheVariants.{Opened, Listed}
@@ -23,10 +22,10 @@ use Rattle.pssm_acts.specs.declared.token.Kind.TheVariants as kinds
 use Rattle.pssm_semantics.specs.declared.tree.Expr.{Expr}
 use Rattle.pssm_semantics.specs.declared.tree.Stmt.{Stmt, Send, Mark}
 use Rattle.pssm_acts.specs.Tokens.{Token}
-use Rattle.pssm_acts.specs.ExprReading.{and_then, sum_of, closed, at_atom, atom_of, after_atom, expr_step, fresh_expr}
-use Rattle.pssm_acts.specs.ArgumentReading.{argument_more, argument_closed, listed_step, arguments_step}
-use Rattle.pssm_acts.specs.PhraseReading.{beside, argued, argument_read, call_made, named, phrase_step}
-use Rattle.pssm_acts.specs.ActReading.{phrased, phrase_read, acts_step}
+use Rattle.pssm_acts.specs.inner.ExprReading.{and_then, sum_of, closed, at_atom, atom_of, after_atom, expr_step, fresh_expr}
+use Rattle.pssm_acts.specs.inner.ArgumentReading.{argument_more, argument_closed, listed_step, arguments_step}
+use Rattle.pssm_acts.specs.inner.PhraseReading.{beside, argued, argument_read, call_made, named, phrase_step}
+use Rattle.pssm_acts.specs.inner.ActReading.{ActsState, acts_steps_in, phrased, phrase_read, acts_step}
 use Rattle.pssm_acts.specs.Grammar.{Sum}
 use Rattle.pssm_acts.specs.Shapes.{ExprShape, ListShape, one, further, ArgumentsShape, none, some}
 use Rattle.pssm_acts.proofs.ExprRead.{reader_at}
@@ -67,13 +66,6 @@ made_refuses (calls.Mark mark) args at fault is = go (ltb 8 (length args)) is wh
   go false is = absurd cc
 
 -- ---- the same in the whole
-
--- a reader of behaviours, with the marks that it has noted
-abbrev pub ActsState : Type 0
-ActsState = ActsReader × List (List ℕ)
-
-abbrev pub acts_steps_in : Names → Bool → ActsState → Token → Result ActsState ActFault
-acts_steps_in names stepped s t = acts_step names stepped s.1 s.0 t
 
 module _ (names : Names) (stepped : Bool) (marks : List (List ℕ)) (blocks : Blocks) (call : Call) where
   pub call_refuses : (args : Arguments) (t : Token) (fault : ActFault) → arguments_step names (room_in blocks) args t ≡ Err fault → acts_step names stepped marks (within blocks (Called call args)) t ≡ Err fault

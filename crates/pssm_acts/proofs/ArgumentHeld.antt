@@ -13,10 +13,11 @@ use Rattle.pssm_acts.specs.declared.token.Kind.{Kind}
 use Rattle.pssm_acts.specs.declared.token.Kind.TheVariants as kinds
 use Rattle.pssm_semantics.specs.declared.tree.Expr.{Expr}
 use Rattle.pssm_acts.specs.ActGrammar.{SpellsList, one, further, SpellsArguments, none, some}
-use Rattle.pssm_acts.specs.ArgumentReading.{argument_ended, argument_more, argument_closed_in, argument_closed, listed_step, opened_step_by, arguments_step}
-use Rattle.pssm_acts.specs.ExprReading.{and_then, expr_step, expr_value, fresh_expr}
+use Rattle.pssm_acts.specs.inner.ArgumentReading.{argument_ended, argument_more, argument_closed_in, argument_closed, listed_step, opened_step_by, arguments_step}
+use Rattle.pssm_acts.specs.inner.ExprReading.{and_then, expr_step, expr_value, fresh_expr}
 use Rattle.pssm_acts.specs.Grammar.{Sum, SpellsExpr}
 use Rattle.pssm_acts.specs.Tokens.{Token}
+use Rattle.pssm_acts.proofs.AnswerLaws.{read_same, passed}
 use Rattle.pssm_acts.proofs.ExprHeld.{ExprHeld, token_as, expr_more, expr_whole, expr_start}
 
 -- the tokens of arguments with the comma behind them
@@ -96,19 +97,17 @@ ended_held names l args last n ts at word step h = go (expr_value last at) refl 
 more_held : (names : Names) (l : ℕ) (args : List Expr) (last : ExprReader) (n : Argued) (ts : List Token) (t : Token)
     → argument_more names l args last t ≡ Ok n → ListHeld names l args last ts → ArguedHeld names l n (ts ++ t ∷ [])
 unfolding argument_more
-more_held names l args last n ts t step h = go (expr_step names l last t) refl step where
-  go : (r : Result ExprReader ActFault) → expr_step names l last t ≡ r → and_then r (λ more. Ok (Goes (Listed args more))) ≡ Ok n → ArguedHeld names l n (ts ++ t ∷ [])
-  go (Ok more) e is =
-      let same : Goes (Listed args more) ≡ n = cc in
-      let held : ListHeld names l args more (ts ++ t ∷ []) = record {
-        us = h.us;
-        vs = h.vs ++ t ∷ [];
-        before = h.before;
-        here = expr_more names l last.outer last.left last.place more h.vs t.kind t.at t.word e h.here;
-        whole = ap (λ x. x ++ t ∷ []) h.whole ∙ append_assoc h.us h.vs (t ∷ []);
-      } in
-      subst (λ x. ArguedHeld names l x (ts ++ t ∷ [])) same held
-  go (Err fault) e is = absurd cc
+more_held names l args last n ts t step h =
+    let it = passed (expr_step names l last t) (λ more. Ok (Goes (Listed args more))) n step in
+    let same = read_same (Goes (Listed args it.0)) n it.2 in
+    let held : ListHeld names l args it.0 (ts ++ t ∷ []) = record {
+      us = h.us;
+      vs = h.vs ++ t ∷ [];
+      before = h.before;
+      here = expr_more names l last.outer last.left last.place it.0 h.vs t.kind t.at t.word it.1 h.here;
+      whole = ap (λ x. x ++ t ∷ []) h.whole ∙ append_assoc h.us h.vs (t ∷ []);
+    } in
+    subst (λ x. ArguedHeld names l x (ts ++ t ∷ [])) same held
 
 closed_held : (names : Names) (l : ℕ) (args : List Expr) (last : ExprReader) (n : Argued) (ts : List Token) (at : ℕ) (word : List ℕ)
     → argument_closed names l args last (token_as at kinds.Close word) ≡ Ok n → ListHeld names l args last ts → ArguedHeld names l n (ts ++ token_as at kinds.Close word ∷ [])

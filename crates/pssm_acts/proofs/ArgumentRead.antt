@@ -22,14 +22,15 @@ use Rattle.pssm_acts.specs.declared.token.Kind.TheVariants as kinds
 use Rattle.pssm_semantics.specs.declared.tree.Expr.{Expr}
 use Rattle.pssm_semantics.specs.declared.tree.Stmt.{Stmt}
 use Rattle.pssm_acts.specs.Tokens.{Token}
-use Rattle.pssm_acts.specs.ExprReading.{and_then, sum_of, closed, at_atom, atom_of, after_atom, expr_step, expr_value, fresh_expr}
-use Rattle.pssm_acts.specs.ArgumentReading.{argument_ended, argument_more, argument_closed, listed_step, arguments_step}
-use Rattle.pssm_acts.specs.PhraseReading.{beside, argued, argument_read, call_made, named, phrase_step}
-use Rattle.pssm_acts.specs.ActReading.{at_turn, phrased, phrase_read, acts_step}
+use Rattle.pssm_acts.specs.inner.ExprReading.{and_then, sum_of, closed, at_atom, atom_of, after_atom, expr_step, expr_value, fresh_expr}
+use Rattle.pssm_acts.specs.inner.ArgumentReading.{argument_ended, argument_more, argument_closed, listed_step, arguments_step}
+use Rattle.pssm_acts.specs.inner.PhraseReading.{beside, argued, argument_read, call_made, named, phrase_step}
+use Rattle.pssm_acts.specs.inner.ActReading.{at_turn, phrased, phrase_read, acts_step}
 use Rattle.pssm_acts.specs.ActGrammar.{SpellsList, one, further, SpellsArguments, none, some}
-use Rattle.pssm_acts.proofs.ExprRead.{expr_run, reader_at, ReadsSum, reads}
-use Rattle.pssm_acts.proofs.ActRun.{Runs, next, onward, ExprSteps, expr_steps, all_of_expr}
-use Rattle.pssm_acts.proofs.ActRun as runs
+use Rattle.pssm_acts.proofs.ExprRead.{expr_steps_in, reader_at, ReadsSum, reads}
+use Rattle.pssm_acts.proofs.ActRun.{Runs}
+use Rattle.pssm_acts.proofs.Readers.{Leads, next, onward}
+use Rattle.pssm_acts.proofs.Readers as runs
 
 -- ---- one token in arguments
 
@@ -97,23 +98,19 @@ module _ (names : Names) (stepped : Bool) (marks : List (List ℕ)) (blocks : Bl
   unfolding acts_step phrase_read phrase_step named
   takes_open t is deep = simp (is, lt-ltb 0 (16 - length blocks.outer) deep) refl
 
-  further_run : (args : List Expr) (r n : ExprReader) (ts : List Token) → expr_run names (room_in blocks) r ts ≡ Ok n
-      → Runs names stepped marks (within blocks (Called call (Listed args r))) ts marks (within blocks (Called call (Listed args n)))
-  further_run args r n ts run =
-      all_of_expr names stepped marks (room_in blocks) (λ m. within blocks (Called call (Listed args m)))
-      (λ r n t step. takes_goes (Listed args r) (Listed args n) t (argument_goes names (room_in blocks) args r.outer r.left r.place n t.kind t.at t.word step)) r n ts run
+  further_run : (args : List Expr) (n : ExprReader) (ts : List Token) → Leads (expr_steps_in names (room_in blocks)) fresh_expr ts n
+      → Runs names stepped marks (within blocks (Called call (Listed args fresh_expr))) ts marks (within blocks (Called call (Listed args n)))
+  further_run args n ts run =
+      runs.within (λ m. (within blocks (Called call (Listed args m)), marks))
+      (λ r n t step. takes_goes (Listed args r) (Listed args n) t (argument_goes names (room_in blocks) args r.outer r.left r.place n t.kind t.at t.word step)) run
 
-  first_run : (left : Left) (term : Expr) (ts : List Token) → expr_run names (room_in blocks) fresh_expr ts ≡ Ok (reader_at [] left (Has term))
+  first_run : (left : Left) (term : Expr) (ts : List Token) → Leads (expr_steps_in names (room_in blocks)) fresh_expr ts (reader_at [] left (Has term))
       → Runs names stepped marks (within blocks (Called call Opened)) ts marks (within blocks (Called call (Listed [] (reader_at [] left (Has term)))))
-  unfolding expr_run
-  first_run left term [] run =
-      let same : fresh_expr ≡ reader_at [] left (Has term) = cc in
-      let places : Wants None ≡ Has term = ap (λ r. r.place) same in
-      absurd cc
-  first_run left term (t ∷ ts) run =
-      let steps : ExprSteps names (room_in blocks) fresh_expr (reader_at [] left (Has term)) t ts = expr_steps names (room_in blocks) fresh_expr (reader_at [] left (Has term)) t ts run in
-      next (takes_goes Opened (Listed [] steps.reader) t (argument_begins names (room_in blocks) steps.reader t.kind t.at t.word steps.step))
-      (further_run [] steps.reader (reader_at [] left (Has term)) ts steps.rest)
+  first_run left term ts run =
+      runs.begun (λ m. (within blocks (Called call (Listed [] m)), marks)) (within blocks (Called call Opened), marks)
+      (λ n t step. takes_goes Opened (Listed [] n) t (argument_begins names (room_in blocks) n t.kind t.at t.word step))
+      (λ r n t step. takes_goes (Listed [] r) (Listed [] n) t (argument_goes names (room_in blocks) [] r.outer r.left r.place n t.kind t.at t.word step))
+      (λ same. let places : Wants None ≡ Has term = ap (λ r. r.place) same in cc) run
 
 -- what the tokens of expressions that are separated by commas do to a reader behind an opening parenthesis
 record ReadsList (names : Names) (stepped : Bool) (marks : List (List ℕ)) (blocks : Blocks) (call : Call) (ts : List Token) (es : List Expr) : Type 0 where
@@ -138,7 +135,7 @@ list_further {names} {stepped} {marks} {blocks} {call} {ts} {us} {es} comma befo
       args = es;
       left = r.left;
       term = r.term;
-      run = onward before.run (next (takes_goes names stepped marks blocks call so_far (Listed es fresh_expr) comma behind) (further_run names stepped marks blocks call es fresh_expr (reader_at [] r.left (Has r.term)) us r.run));
+      run = onward before.run (next (takes_goes names stepped marks blocks call so_far (Listed es fresh_expr) comma behind) (further_run names stepped marks blocks call es (reader_at [] r.left (Has r.term)) us r.run));
       worth = ap (λ x. es ++ x ∷ []) r.worth;
     }
 

@@ -1,7 +1,6 @@
 -- A token where a statement may begin keeps what has been read spelled so.
-use Rattle.std.proofs.Common.{◌≡◌, ◌+◌, ◌-◌, ◌<◌, ℕ, Bool, true, false, ltb, List, [], ◌∷◌, ◌++◌, length, Option, Some, None, Result, Ok, Err, refl, sym, ap, ◌∙◌, subst, append_assoc, arith, length-append, if◌then◌else◌}
+use Rattle.std.proofs.Common.{◌≡◌, ◌+◌, ◌-◌, ◌<◌, ℕ, Bool, true, false, ltb, List, [], ◌∷◌, ◌++◌, length, Option, Some, None, Ok, Err, refl, sym, ap, ◌∙◌, subst, append_assoc, arith, length-append, if◌then◌else◌}
 use Rattle.std.proofs.lemmas.Bool.{ltb-true}
-use Rattle.pssm_acts.specs.declared.act_fault.ActFault.{ActFault}
 use Rattle.pssm_acts.specs.declared.act_fault.ActFault.TheVariants.{TooLong}
 use Rattle.pssm_acts.specs.declared.acts_reader.ActsReader.{ActsReader}
 use Rattle.pssm_acts.specs.declared.read_blocks.Blocks.{Blocks}
@@ -9,7 +8,6 @@ use Rattle.pssm_acts.specs.declared.read_blocks.OpenIf.{OpenIf}
 use Rattle.pssm_acts.specs.declared.acts_reader.Turn.{Turn}
 use Rattle.pssm_acts.specs.declared.acts_reader.Turn.TheVariants.{Begins, Within, Condition, Chosen}
 use Rattle.pssm_acts.specs.declared.acts_reader.Turn.TheVariants as turns
-use Rattle.pssm_acts.specs.declared.phrase_reader.Phrase.{Phrase}
 use Rattle.pssm_semantics.specs.declared.setting.Names.{Names}
 use Rattle.pssm_acts.specs.declared.token.Kind.{Kind}
 use Rattle.pssm_acts.specs.declared.token.Kind.TheVariants as kinds
@@ -18,12 +16,12 @@ use Rattle.pssm_semantics.specs.declared.tree.Cond.{Cond}
 use Rattle.pssm_semantics.specs.declared.tree.Stmt.{Stmt}
 use Rattle.pssm_semantics.specs.declared.tree.Stmt.TheViews as stmts
 use Rattle.pssm_acts.specs.ActGrammar.{SpellsBehaviour, SpellsBehaviours}
-use Rattle.pssm_acts.specs.ActReading.{fresh_blocks, at_turn, if_closed, block_closed_in, block_closed, statement_counted, with_act, next_act_in, next_act, begun_at}
-use Rattle.pssm_acts.specs.ExprReading.{and_then}
-use Rattle.pssm_acts.specs.GuardReading.{fresh_guard}
-use Rattle.pssm_acts.specs.PhraseReading.{phrase_begun}
+use Rattle.pssm_acts.specs.inner.ActReading.{fresh_blocks, at_turn, if_closed, block_closed_in, block_closed, statement_counted, with_act, next_act_in, next_act, begun_at}
+use Rattle.pssm_acts.specs.inner.ExprReading.{and_then}
+use Rattle.pssm_acts.specs.inner.GuardReading.{fresh_guard}
+use Rattle.pssm_acts.specs.inner.PhraseReading.{phrase_begun}
 use Rattle.pssm_acts.specs.Tokens.{Token}
-use Rattle.pssm_acts.proofs.AnswerLaws.{never_read, read_same}
+use Rattle.pssm_acts.proofs.AnswerLaws.{never_read, read_same, passed}
 use Rattle.pssm_acts.proofs.ExprHeld.{token_as}
 use Rattle.pssm_acts.proofs.GuardHeld.{held_start}
 use Rattle.pssm_acts.proofs.PhraseHeld.{phrase_start}
@@ -145,8 +143,6 @@ module _ (names : Names) (stepped : Bool) (start : List (List ℕ)) where
       let t = token_as at kinds.If word in
       let here : TurnHeld names blocks.outer marks (Condition fresh_guard) (t ∷ []) marks = (record { if' = t; cs = []; is = refl; held = held_start names (16 - length blocks.outer); whole = refl }, refl) in
       counted_held blocks (Condition fresh_guard) n ts t marks step refl here h (λ b x. x)
-  begun_held blocks n ts kind at word marks step h = go (phrase_begun names (token_as at kind word)) refl step where
-    go : (r : Result Phrase ActFault) → phrase_begun names (token_as at kind word) ≡ r → and_then r (λ phrase. and_then (statement_counted blocks at) (λ more. Ok (at_turn more (Within phrase)))) ≡ Ok n
-        → ReaderHeld names stepped start n (ts ++ token_as at kind word ∷ []) marks
-    go (Ok phrase) e is = counted_held blocks (Within phrase) n ts (token_as at kind word) marks is refl (phrase_start names marks (16 - length blocks.outer) phrase (token_as at kind word) e) h (λ b x. x)
-    go (Err fault) e is = absurd (never_read _ _ is)
+  begun_held blocks n ts kind at word marks step h =
+      let it = passed (phrase_begun names (token_as at kind word)) (λ phrase. and_then (statement_counted blocks at) (λ more. Ok (at_turn more (Within phrase)))) n step in
+      counted_held blocks (Within it.0) n ts (token_as at kind word) marks it.2 refl (phrase_start names marks (16 - length blocks.outer) it.0 (token_as at kind word) it.1) h (λ b x. x)

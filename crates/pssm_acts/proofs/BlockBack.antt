@@ -16,11 +16,11 @@ use Rattle.pssm_acts.specs.Grammar.{Either}
 use Rattle.pssm_acts.specs.ReadBack.{AreNames, cond_levels, stmt_levels, block_levels, otherwise_levels, stmts_levels, StmtIsPlain, BlockIsPlain, CanBeReadBack}
 use Rattle.pssm_acts.specs.Tokens.{Token, cut}
 use Rattle.pssm_acts.specs.Vocabularies.{vocabulary}
-use Rattle.pssm_acts.proofs.ExprBack.{three_cut}
+use Rattle.pssm_acts.proofs.Written.{three_cut}
 use Rattle.pssm_acts.proofs.GuardBack.{BeginsGuard, whole_guard_begins, all_cut}
 use Rattle.pssm_acts.proofs.PhraseBack.{BeginsPhrase, assignment_begins, send_back, mark_back}
 use Rattle.pssm_acts.proofs.SignLaws.{if_begins, else_begins, brace_begins, brace_ends}
-use Rattle.pssm_acts.proofs.TextLaws.{cut_blank}
+use Rattle.pssm_acts.proofs.CutLaws.{cut_blank}
 
 -- The bytes go on with what spells statements behind others, and note no mark.
 pub record BeginsStmts (names : Names) (marks : List (List ℕ)) (l : ℕ) (block : List Stmt) (end : ℕ) (bytes rest : List ℕ) : Type 0 where
@@ -86,14 +86,14 @@ module _ (names : Names) (marks : List (List ℕ)) (end : ℕ) where
       → BeginsStmts names marks (suc l) (views.Choose c body None ∷ []) end ((codes "if " ++ guard_bytes ++ (codes " {" ++ body_bytes ++ codes " }") ++ []) ++ rest) rest
   choice_begins c body l guard_bytes body_bytes rest guard block =
       let if' = if_begins end (guard_bytes ++ (codes " {" ++ (body_bytes ++ (codes " }" ++ rest)))) in
-      let opening = brace_begins end (body_bytes ++ (codes " }" ++ rest)) guard.after in
+      let opening = brace_begins end (body_bytes ++ (codes " }" ++ rest)) guard.0 in
       let closing = brace_ends end rest in
       record {
-        us = if'.token ∷ (guard.ts ++ opening.token ∷ (block.us ++ closing.token ∷ []));
-        spelled = λ ts done before. choice if'.token opening.token closing.token before if'.is guard.spelled opening.is (block.spelled [] [] nothing) closing.is;
+        us = if'.token ∷ (guard.1.ts ++ opening.token ∷ (block.us ++ closing.token ∷ []));
+        spelled = λ ts done before. choice if'.token opening.token closing.token before if'.is guard.1.spelled opening.is (block.spelled [] [] nothing) closing.is;
         same = ap (λ b. cut end false 0 b) (if_parts (codes "if ") guard_bytes (codes " {") body_bytes (codes " }") [] rest) ∙ if'.same
-            ∙ ap (λ x. if'.token ∷ x) (guard.same ∙ ap (λ x. guard.ts ++ x) (opening.same ∙ ap (λ x. opening.token ∷ x) (block.same ∙ ap (λ x. block.us ++ x) closing.same)))
-            ∙ choice_tokens if'.token opening.token closing.token guard.ts block.us (cut end false 0 rest);
+            ∙ ap (λ x. if'.token ∷ x) (guard.1.same ∙ ap (λ x. guard.1.ts ++ x) (opening.same ∙ ap (λ x. opening.token ∷ x) (block.same ∙ ap (λ x. block.us ++ x) closing.same)))
+            ∙ choice_tokens if'.token opening.token closing.token guard.1.ts block.us (cut end false 0 rest);
       }
 
   -- `if x < 1 { x := 1; } else { x := 2; }`
@@ -104,20 +104,20 @@ module _ (names : Names) (marks : List (List ℕ)) (end : ℕ) where
       → BeginsStmts names marks (suc l) (views.Choose c body (Some other) ∷ []) end ((codes "if " ++ guard_bytes ++ (codes " {" ++ body_bytes ++ codes " }") ++ (codes " else {" ++ other_bytes ++ codes " }")) ++ rest) rest
   alternative_begins c body other l guard_bytes body_bytes other_bytes rest later is guard block last =
       let if' = if_begins end (guard_bytes ++ (codes " {" ++ (body_bytes ++ (codes " }" ++ later)))) in
-      let opening = brace_begins end (body_bytes ++ (codes " }" ++ later)) guard.after in
+      let opening = brace_begins end (body_bytes ++ (codes " }" ++ later)) guard.0 in
       let closing = brace_ends end later in
       let else' = else_begins end (other_bytes ++ (codes " }" ++ rest)) in
       let opening' = brace_begins end (other_bytes ++ (codes " }" ++ rest)) false in
       let closing' = brace_ends end rest in
       record {
-        us = if'.token ∷ (guard.ts ++ opening.token ∷ (block.us ++ closing.token ∷ else'.token ∷ opening'.token ∷ (last.us ++ closing'.token ∷ [])));
-        spelled = λ ts done before. alternative if'.token opening.token closing.token else'.token opening'.token closing'.token before if'.is guard.spelled opening.is (block.spelled [] [] nothing) closing.is else'.is opening'.is
+        us = if'.token ∷ (guard.1.ts ++ opening.token ∷ (block.us ++ closing.token ∷ else'.token ∷ opening'.token ∷ (last.us ++ closing'.token ∷ [])));
+        spelled = λ ts done before. alternative if'.token opening.token closing.token else'.token opening'.token closing'.token before if'.is guard.1.spelled opening.is (block.spelled [] [] nothing) closing.is else'.is opening'.is
             (last.spelled [] [] nothing) closing'.is;
         same = ap (λ b. cut end false 0 b) (if_parts (codes "if ") guard_bytes (codes " {") body_bytes (codes " }") (codes " else {" ++ other_bytes ++ codes " }") rest
             ∙ ap (λ t. codes "if " ++ (guard_bytes ++ (codes " {" ++ (body_bytes ++ (codes " }" ++ t))))) (three_cut (codes " else {") other_bytes (codes " }") rest ∙ sym is)) ∙ if'.same
-            ∙ ap (λ x. if'.token ∷ x) (guard.same ∙ ap (λ x. guard.ts ++ x) (opening.same ∙ ap (λ x. opening.token ∷ x) (block.same ∙ ap (λ x. block.us ++ x) (closing.same ∙ ap (λ x. closing.token ∷ x)
+            ∙ ap (λ x. if'.token ∷ x) (guard.1.same ∙ ap (λ x. guard.1.ts ++ x) (opening.same ∙ ap (λ x. opening.token ∷ x) (block.same ∙ ap (λ x. block.us ++ x) (closing.same ∙ ap (λ x. closing.token ∷ x)
             (ap (λ b. cut end false 0 b) is ∙ else'.same ∙ ap (λ x. else'.token ∷ x) (opening'.same ∙ ap (λ x. opening'.token ∷ x) (last.same ∙ ap (λ x. last.us ++ x) closing'.same)))))))
-            ∙ alternative_tokens if'.token opening.token closing.token else'.token opening'.token closing'.token guard.ts block.us last.us (cut end false 0 rest);
+            ∙ alternative_tokens if'.token opening.token closing.token else'.token opening'.token closing'.token guard.1.ts block.us last.us (cut end false 0 rest);
       }
 
 module _ (names : Names) (marks : List (List ℕ)) (end : ℕ) (vars : AreNames names.vars) (objects : AreNames names.objects) (signals : AreNames (map (λ d. d.name) names.signals)) (known : AreNames marks) where

@@ -1,5 +1,5 @@
 -- Whatever has been read of behaviours begins such, also with a token that is refused for another reason than its place.
-use Rattle.std.proofs.Common.{◌≡◌, ◌⊎◌, inl, inr, ◌+◌, ◌-◌, ℕ, suc, Bool, true, false, List, [], ◌∷◌, ◌++◌, length, Option, Some, None, Ok, Err, refl, sym, ap, ◌∙◌, subst, append_assoc, if◌then◌else◌}
+use Rattle.std.proofs.Common.{◌≡◌, ◌⊎◌, inl, inr, ◌-◌, ℕ, suc, Bool, true, false, List, [], ◌∷◌, ◌++◌, length, Option, Some, None, Ok, Err, refl, sym, ap, ◌∙◌, subst, append_assoc}
 use Rattle.std.proofs.lemmas.List.{append-nil}
 use Rattle.pssm_acts.specs.declared.act_fault.ActFault.{ActFault}
 use Rattle.pssm_acts.specs.declared.act_fault.ActFault.TheVariants.{Syntax}
@@ -17,10 +17,10 @@ use Rattle.pssm_semantics.specs.declared.tree.Act.{Act}
 use Rattle.pssm_semantics.specs.declared.tree.Cond.{Cond}
 use Rattle.pssm_semantics.specs.declared.tree.Stmt.{Stmt}
 use Rattle.pssm_acts.specs.Tokens.{Token}
-use Rattle.pssm_acts.specs.ExprReading.{and_then}
-use Rattle.pssm_acts.specs.GuardReading.{guard_step, guard_value}
-use Rattle.pssm_acts.specs.PhraseReading.{phrase_begun, phrase_step}
-use Rattle.pssm_acts.specs.ActReading.{at_turn, without_else, phrased, block_opened, block_closed_in, block_closed, next_act_in, next_act, begun_at, after_choice, else_opened, condition_read, phrase_read, step_taken, acts_step}
+use Rattle.pssm_acts.specs.inner.ExprReading.{and_then}
+use Rattle.pssm_acts.specs.inner.GuardReading.{guard_step, guard_value}
+use Rattle.pssm_acts.specs.inner.PhraseReading.{phrase_begun, phrase_step}
+use Rattle.pssm_acts.specs.inner.ActReading.{at_turn, without_else, phrased, block_opened, block_closed_in, block_closed, next_act_in, next_act, begun_at, after_choice, else_opened, condition_read, phrase_read, step_taken, acts_step}
 use Rattle.pssm_acts.specs.Grammar.{Either}
 use Rattle.pssm_acts.specs.Shapes.{GuardShape, truth, lone_unit, lone_conjunction, PhraseShape, StmtsShape, nothing, phrase, choice, alternative, StepsShape, first, step, Begins}
 use Rattle.pssm_acts.proofs.AnswerLaws.{never_refused}

@@ -1,5 +1,5 @@
 -- Tokens of the shape of behaviours are not refused for their shape.
-use Rattle.std.proofs.Common.{◌≡◌, ◌+◌, ◌-◌, ◌<◌, ℕ, Bool, true, false, ltb, List, [], ◌∷◌, ◌++◌, length, Option, Some, None, Result, Ok, Err, refl, sym, ap, ◌∙◌, subst}
+use Rattle.std.proofs.Common.{◌≡◌, ◌+◌, ◌-◌, ℕ, Bool, true, false, ltb, List, [], ◌∷◌, ◌++◌, length, Option, Some, None, Ok, Err, refl, sym, ap, subst}
 use Rattle.std.proofs.lemmas.Bool.{ltb-true}
 use Rattle.pssm_acts.specs.declared.act_fault.ActFault.{ActFault}
 use Rattle.pssm_acts.specs.declared.act_fault.ActFault.TheVariants.{Syntax, TooLong}
@@ -7,7 +7,6 @@ use Rattle.pssm_acts.specs.declared.acts_reader.ActsReader.{ActsReader}
 use Rattle.pssm_acts.specs.declared.read_blocks.Blocks.{Blocks}
 use Rattle.pssm_acts.specs.declared.read_blocks.OpenIf.{OpenIf}
 use Rattle.pssm_acts.specs.declared.acts_reader.Turn.TheVariants.{Begins, Condition, Chosen, Else}
-use Rattle.pssm_acts.specs.declared.acts_reader.Turn.TheVariants as turns
 use Rattle.pssm_acts.specs.declared.guard_reader.Bracket.{Bracket}
 use Rattle.pssm_acts.specs.declared.guard_reader.Stage.{Stage}
 use Rattle.pssm_acts.specs.declared.guard_reader.GuardReader.{GuardReader}
@@ -19,10 +18,10 @@ use Rattle.pssm_semantics.specs.declared.tree.Cond.{Cond}
 use Rattle.pssm_semantics.specs.declared.tree.Stmt.{Stmt}
 use Rattle.pssm_semantics.specs.declared.tree.Stmt.TheViews as stmts
 use Rattle.pssm_acts.specs.Tokens.{Token}
-use Rattle.pssm_acts.specs.ExprReading.{and_then}
-use Rattle.pssm_acts.specs.GuardReading.{disjunction_of, fresh_guard, guard_step, guard_value}
-use Rattle.pssm_acts.specs.PhraseReading.{beside}
-use Rattle.pssm_acts.specs.ActReading.{at_turn, with_act, fresh_blocks, fresh_acts, block_opened, statement_counted, next_act, begun_at, else_opened, condition_read, acts_step}
+use Rattle.pssm_acts.specs.inner.ExprReading.{and_then}
+use Rattle.pssm_acts.specs.inner.GuardReading.{disjunction_of, fresh_guard, guard_step, guard_value}
+use Rattle.pssm_acts.specs.inner.PhraseReading.{beside}
+use Rattle.pssm_acts.specs.inner.ActReading.{ActsState, acts_steps_in, at_turn, with_act, fresh_blocks, fresh_acts, block_opened, statement_counted, next_act, begun_at, else_opened, condition_read, acts_step}
 use Rattle.pssm_acts.specs.Grammar.{Either}
 use Rattle.pssm_acts.specs.Shapes.{GuardShape, StmtsShape, nothing, phrase, choice, alternative, StepsShape, first, step}
 use Rattle.pssm_acts.proofs.GuardRead.{guard_at, ends_guard}
@@ -31,7 +30,6 @@ use Rattle.pssm_acts.proofs.BlockRead.{blocks_at, opened, guard_stops, condition
 use Rattle.pssm_acts.proofs.ActRead.{step_begins, behind_step}
 use Rattle.pssm_acts.proofs.Fares.{IsOther, Fares, arrives, goes, stops, Among, fares_to, fares_as, fares_part}
 use Rattle.pssm_acts.proofs.GuardFares.{chain_read, guard_fares}
-use Rattle.pssm_acts.proofs.ArgumentFares.{ActsState, acts_steps_in}
 use Rattle.pssm_acts.proofs.PhraseFares.{StmtsRead, stmts_state, untaken, phrase_fares}
 
 -- ---- the condition of an `if`

@@ -24,15 +24,17 @@ use Rattle.pssm_semantics.specs.declared.tree.Stmt.{Stmt}
 use Rattle.pssm_semantics.specs.declared.tree.Stmt.TheViews as stmts
 use Rattle.pssm_acts.specs.Tokens.{Token}
 use Rattle.pssm_semantics.specs.Fits.{stmt_count, stmts_count}
-use Rattle.pssm_acts.specs.ExprReading.{and_then, at_atom, atom_of, after_atom, expr_step}
-use Rattle.pssm_acts.specs.GuardReading.{fresh_guard, side_begun, unit_wanted, in_first, after_unit, in_second, at_stage, guard_step, guard_value}
-use Rattle.pssm_acts.specs.PhraseReading.{beside}
-use Rattle.pssm_acts.specs.ActReading.{at_turn, block_opened, block_closed, statement_counted, begun_at, after_choice, else_opened, condition_read, acts_step}
+use Rattle.pssm_acts.specs.inner.ExprReading.{and_then, at_atom, atom_of, after_atom, expr_step}
+use Rattle.pssm_acts.specs.inner.GuardReading.{fresh_guard, side_begun, unit_wanted, in_first, after_unit, in_second, at_stage, guard_step, guard_value}
+use Rattle.pssm_acts.specs.inner.PhraseReading.{beside}
+use Rattle.pssm_acts.specs.inner.ActReading.{at_turn, block_opened, block_closed, statement_counted, begun_at, after_choice, else_opened, condition_read, acts_step}
 use Rattle.pssm_acts.specs.Grammar.{Either, SpellsGuard}
 use Rattle.pssm_acts.specs.ActGrammar.{SpellsPhrase, assignment, sending, bare_mark, marking, SpellsStmts, nothing, phrase, choice, alternative}
 use Rattle.pssm_acts.proofs.ExprRead.{reader_at}
-use Rattle.pssm_acts.proofs.GuardRead.{guard_at, guard_run, GuardRuns, guard_runs}
-use Rattle.pssm_acts.proofs.ActRun.{Runs, done, next, one, onward, all_of_guard}
+use Rattle.pssm_acts.proofs.GuardRead.{guard_steps_in, guard_at, GuardRuns, guard_runs}
+use Rattle.pssm_acts.proofs.ActRun.{Runs}
+use Rattle.pssm_acts.proofs.Readers.{Leads, done, next, one, onward}
+use Rattle.pssm_acts.proofs.Readers as runs
 use Rattle.pssm_acts.proofs.PhraseRead.{Standing, begins, chosen, taken, counted, reads_phrase}
 use Rattle.pssm_semantics.proofs.Blocks.{block_counts}
 
@@ -84,11 +86,10 @@ condition_goes names stepped marks blocks outer either stage n kinds.OpenBrace a
     absurd cc
 condition_goes names stepped marks blocks outer either stage n kind at word step = ap (λ x. beside marks (and_then x (λ more. Ok (at_turn blocks (Condition more))))) step
 
-condition_run : (names : Names) (stepped : Bool) (marks : List (List ℕ)) (blocks : Blocks) (r n : GuardReader) (ts : List Token) → guard_run names (16 - length blocks.outer) r ts ≡ Ok n
+condition_run : (names : Names) (stepped : Bool) (marks : List (List ℕ)) (blocks : Blocks) (r n : GuardReader) (ts : List Token) → Leads (guard_steps_in names (16 - length blocks.outer)) r ts n
     → Runs names stepped marks (at_turn blocks (Condition r)) ts marks (at_turn blocks (Condition n))
 condition_run names stepped marks blocks r n ts run =
-    all_of_guard names stepped marks (16 - length blocks.outer) (λ m. at_turn blocks (Condition m))
-    (λ r n t step. condition_goes names stepped marks blocks r.outer r.either r.stage n t.kind t.at t.word step) r n ts run
+    runs.within (λ m. (at_turn blocks (Condition m), marks)) (λ r n t step. condition_goes names stepped marks blocks r.outer r.either r.stage n t.kind t.at t.word step) run
 
 -- ---- the tokens round blocks
 

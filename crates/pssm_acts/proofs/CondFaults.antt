@@ -1,6 +1,5 @@
 -- A guard that is refused has the fault that its tokens tell.
 use Rattle.std.proofs.Common.{◌≡◌, ◌≤◌, ◌⊎◌, inl, inr, ℕ, Bool, true, false, ltb, List, [], ◌∷◌, ◌++◌, length, Result, Ok, Err, refl, sym, ap, ◌∙◌, subst, append_assoc, arith, if◌then◌else◌, IfErr}
-use Rattle.std.proofs.lemmas.List.{append-nil}
 use Rattle.std.proofs.lemmas.Bool.{ltb-true, ltb-false}
 use Rattle.pssm_acts.specs.declared.act_fault.ActFault.{ActFault}
 use Rattle.pssm_acts.specs.declared.act_fault.ActFault.TheVariants.{Syntax, UnknownName, WideNumber, Arity, TooLong, NoMemory}
@@ -10,59 +9,42 @@ use Rattle.pssm_acts.specs.declared.token.Kind.{Kind}
 use Rattle.pssm_acts.specs.declared.token.Kind.TheVariants as kinds
 use Rattle.pssm_semantics.specs.declared.tree.Cond.{Cond}
 use Rattle.pssm_acts.specs.Answers.{Answers, Faults}
-use Rattle.pssm_acts.specs.ExprReading.{and_then}
 use Rattle.pssm_acts.specs.Grammar.{Either}
-use Rattle.pssm_acts.specs.GuardReading.{fresh_guard, guard_step, guard_value, guard_read, text_reading, cond_reading}
+use Rattle.pssm_acts.specs.inner.GuardReading.{fresh_guard, guard_step, guard_value, text_reading, cond_reading}
 use Rattle.pssm_acts.specs.Shapes.{GuardShape, Begins}
 use Rattle.pssm_acts.specs.TextFaults.{Place, Statement, Operand, Breaks, unknown, wide, sent, marked, level, Obeys, TextFault, long, early}
 use Rattle.pssm_acts.specs.TextFaults as rules
 use Rattle.pssm_acts.specs.Tokens.{Token, tokens_of}
+use Rattle.pssm_acts.proofs.AnswerLaws.{not_past}
 use Rattle.pssm_acts.proofs.CondLaws.{reading_spelled}
 use Rattle.pssm_acts.proofs.EndLaws.{guard_ends}
 use Rattle.pssm_acts.proofs.ExprTold.{guard_levels, guard_told}
-use Rattle.pssm_acts.proofs.FareLaws.{fares_rest, fares_other, fares_end}
+use Rattle.pssm_acts.proofs.FareLaws.{fares_other, fares_from, fares_whole}
 use Rattle.pssm_acts.proofs.Fares.{IsOther, Fares, Among}
 use Rattle.pssm_acts.proofs.GuardBegins.{guard_begins, guard_other}
-use Rattle.pssm_acts.proofs.GuardFares.{guard_steps_in, guard_fares, chain_read}
+use Rattle.pssm_acts.proofs.GuardFares.{guard_fares, chain_read}
 use Rattle.pssm_acts.proofs.GuardHeld.{Held, held_more, held_start}
-use Rattle.pssm_acts.proofs.GuardRead.{ends_guard}
+use Rattle.pssm_acts.proofs.GuardRead.{guard_steps_in, ends_guard}
+use Rattle.pssm_acts.proofs.Readers.{Leads, done, one, onward, first_of, parted, kept, Outcome, at_token, at_end, outcome, to_the_end}
 use Rattle.pssm_acts.proofs.RuleLaws.{obeys_none, obeys_more, fits_breaks, fault_breaks, Fails, misplaced_there, broken_there, fails_text, same_fault, no_fault}
 use Rattle.pssm_acts.proofs.ShapeLaws.{guard_shape}
-use Rattle.pssm_acts.proofs.Tallies.{Tally, tally, tally_behind, operand, Fits, Taken, taken_fits, Exceeds, IsFaultOf, Told, tally_none, tally_more}
+use Rattle.pssm_acts.proofs.Tallies.{Tally, tally, tally_behind, operand, Fits, Taken, taken_fits, Exceeds, IsFaultOf, KnownSignals, tally_none, tally_more}
 use Rattle.pssm_acts.proofs.Tallies as tallies
 
 -- ---- runs
 
--- The tokens take a reader of guards to another.
-data Leads (names : Names) : GuardReader → List Token → GuardReader → Type 0 where
-  done : {r : GuardReader} → Leads names r [] r
-  next : {r m n : GuardReader} {t : Token} {ts : List Token} → guard_step names 16 r t ≡ Ok m → Leads names m ts n → Leads names r (t ∷ ts) n
-
-onward : {names : Names} {r m n : GuardReader} {ts : List Token} (t : Token) → Leads names r ts m → guard_step names 16 m t ≡ Ok n → Leads names r (ts ++ t ∷ []) n
-onward t done step = next step done
-onward t (next first rest) step = next first (onward t rest step)
-
--- each token is taken
-taken_in : {names : Names} {r n : GuardReader} {xs : List Token} (earlier rest : List Token) (u : Token) → xs ≡ earlier ++ u ∷ rest → Leads names r xs n → (m : GuardReader) × (k : GuardReader) × (guard_step names 16 m u ≡ Ok k)
-taken_in [] rest u same done = absurd cc
-taken_in (e ∷ earlier) rest u same done = absurd cc
-taken_in {names} [] rest u same (next {r = r} {m = m} {t = t} step run) = let head : t ≡ u = cc in (r, m, subst (λ x. guard_step names 16 r x ≡ Ok m) head step)
-taken_in (e ∷ earlier) rest u same (next {ts = ts} step run) = let tail : ts ≡ earlier ++ u ∷ rest = cc in taken_in earlier rest u tail run
-
-fares_behind : {names : Names} {m r : GuardReader} {before : List Token} (Goal : GuardReader → Type 0) (rest : List Token) → Leads names m before r → Fares (guard_steps_in names 16) Goal m (before ++ rest) → Fares (guard_steps_in names 16) Goal r rest
-fares_behind Goal rest done fares = fares
-fares_behind Goal rest (next {m = m} {t = t} {ts = ts} step run) fares = fares_behind Goal rest run (fares_rest t (ts ++ rest) m refl step fares)
+abbrev Run : Names → GuardReader → List Token → GuardReader → Type 0
+Run names r ts n = Leads (guard_steps_in names 16) r ts n
 
 -- A token that is refused for its place goes on with nothing of the shape, and a text that ends too early has not the shape.
-goes_no_further : (names : Names) (before : List Token) (t : Token) (r : GuardReader) (fault : ActFault) → Leads names fresh_guard before r → guard_step names 16 r t ≡ Err fault → Begins (GuardShape Either) (before ++ t ∷ []) → IsOther fault
+goes_no_further : (names : Names) (before : List Token) (t : Token) (r : GuardReader) (fault : ActFault) → Run names fresh_guard before r → guard_step names 16 r t ≡ Err fault → Begins (GuardShape Either) (before ++ t ∷ []) → IsOther fault
 goes_no_further names before t r fault run step b =
     let parted = subst (λ x. Fares (guard_steps_in names 16) (Among (chain_read [])) fresh_guard x) (append_assoc before (t ∷ []) b.more) (guard_fares names 16 [] b.shape) in
-    fares_other t b.more fault refl step (fares_behind (Among (chain_read [])) (t ∷ b.more) run parted)
+    fares_other t b.more fault refl step (fares_from (Among (chain_read [])) (t ∷ b.more) run parted)
 
-ends_early : (names : Names) (end : ℕ) (ts : List Token) (r : GuardReader) (fault : ActFault) → Leads names fresh_guard ts r → guard_value r end ≡ Err fault → GuardShape Either ts → ⊥
+ends_early : (names : Names) (end : ℕ) (ts : List Token) (r : GuardReader) (fault : ActFault) → Run names fresh_guard ts r → guard_value r end ≡ Err fault → GuardShape Either ts → ⊥
 ends_early names end ts r fault run e shape =
-    let all = subst (λ x. Fares (guard_steps_in names 16) (Among (chain_read [])) fresh_guard x) (sym (append-nil ts)) (guard_fares names 16 [] shape) in
-    let last = fares_end refl (fares_behind (Among (chain_read [])) [] run all) in
+    let last = fares_whole (Among (chain_read [])) run (guard_fares names 16 [] shape) in
     let is = ap (λ x. guard_value x end) last.1 ∙ ends_guard end last.0.0 last.0.1.stage last.0.1.cond last.0.1.stands in
     absurd cc
 
@@ -103,29 +85,36 @@ fault_plain names t l p is (Arity k) h = h
 fault_plain names t l p is NoMemory h = h
 
 step_tells : (names : Names) (r : GuardReader) (t : Token)
-    → Told (λ n. Taken t.kind names t.word (guard_levels r 0) (guard_levels n 0)) ⊥ names t (operand (guard_levels r 0) 0 0) (guard_step names 16 r t)
+    → KnownSignals (λ n. Taken t.kind names t.word (guard_levels r 0) (guard_levels n 0)) ⊥ names t (operand (guard_levels r 0) 0 0) (guard_step names 16 r t)
 step_tells names r t = guard_told ⊥ names 16 0 0 0 (omega arith) r t.kind t.at t.word
 
 taken_tells : (names : Names) (r n : GuardReader) (t : Token) → guard_step names 16 r t ≡ Ok n → Taken t.kind names t.word (guard_levels r 0) (guard_levels n 0)
-taken_tells names r n t step = subst (λ x. Told (λ m. Taken t.kind names t.word (guard_levels r 0) (guard_levels m 0)) ⊥ names t (operand (guard_levels r 0) 0 0) x) step (step_tells names r t)
+taken_tells names r n t step = subst (λ x. KnownSignals (λ m. Taken t.kind names t.word (guard_levels r 0) (guard_levels m 0)) ⊥ names t (operand (guard_levels r 0) 0 0) x) step (step_tells names r t)
+
+-- each token is taken
+taken_in : (names : Names) {r n : GuardReader} {xs : List Token} (earlier rest : List Token) (u : Token) → xs ≡ earlier ++ u ∷ rest → Run names r xs n → (m : GuardReader) × (k : GuardReader) × (guard_step names 16 m u ≡ Ok k)
+taken_in names {r} {n} earlier rest u same run =
+    let parts = parted earlier (u ∷ rest) (subst (λ x. Run names r x n) same run) in
+    let it = first_of u rest refl parts.2 in
+    (parts.0, it.0, it.1)
 
 -- No send and no mark stands in a guard.
-counts_none : (names : Names) (ts : List Token) (n : GuardReader) (before : List Token) (t : Token) {fault : ActFault} → before ++ t ∷ [] ≡ ts → Leads names fresh_guard ts n → fault ≡ Arity t.at → Breaks names before t fault → ⊥
+counts_none : (names : Names) (ts : List Token) (n : GuardReader) (before : List Token) (t : Token) {fault : ActFault} → before ++ t ∷ [] ≡ ts → Run names fresh_guard ts n → fault ≡ Arity t.at → Breaks names before t fault → ⊥
 counts_none names ts n before t same run is (unknown name un) = absurd cc
 counts_none names ts n before t same run is (wide digits never) = absurd cc
 counts_none names ts n before t same run is (level opens deep) = absurd cc
 counts_none names ts n before t same run is (rules.statement begins many) = absurd cc
 counts_none names ts n before t same run is (rules.step steps late) = absurd cc
 counts_none names ts n before t same run is (sent earlier us dot name e dots names' found spelled wrong) =
-    let it = taken_in earlier (name ∷ us) dot (sym same ∙ e) run in
+    let it = taken_in names earlier (name ∷ us) dot (sym same ∙ e) run in
     subst (λ k. Taken k names dot.word (guard_levels it.0 0) (guard_levels it.1 0)) dots (taken_tells names it.0 it.1 dot it.2)
 counts_none names ts n before t same run is (marked earlier us mark name e marks names' spelled wrong) =
-    let it = taken_in earlier (name ∷ us) mark (sym same ∙ e) run in
+    let it = taken_in names earlier (name ∷ us) mark (sym same ∙ e) run in
     subst (λ k. Taken k names mark.word (guard_levels it.0 0) (guard_levels it.1 0)) marks (taken_tells names it.0 it.1 mark it.2)
 
 -- The reader has come so far with these tokens.
 record Reached (names : Names) (ts : List Token) (r : GuardReader) : Type 0 where
-  run : Leads names fresh_guard ts r
+  run : Run names fresh_guard ts r
   held : Held names 16 r ts
   at : Place
   told : tally ts ≡ plain at (guard_levels r 0)
@@ -138,7 +127,7 @@ reached_start names = record { run = done; held = held_start names 16; at = Stat
 reached_more : (names : Names) (ts : List Token) (t : Token) (r n : GuardReader) → Reached names ts r → guard_step names 16 r t ≡ Ok n → Reached names (ts ++ t ∷ []) n
 reached_more names ts t r n h step =
     let fits = taken_fits names t.word (guard_levels r 0) (guard_levels n 0) 0 0 t.kind (taken_tells names r n t step) in
-    let run : Leads names fresh_guard (ts ++ t ∷ []) n = onward t h.run step in
+    let run : Run names fresh_guard (ts ++ t ∷ []) n = onward h.run (one step) in
     record {
       run = run;
       held = held_more names 16 r n ts t step h.held;
@@ -156,7 +145,7 @@ token_fails names ts t r fault h step = go fault step told where
   told =
       subst (λ c. IsFaultOf fault ⊥ names t c) (sym h.told)
       (fault_plain names t (guard_levels r 0) h.at h.is fault
-      (subst (λ x. Told (λ m. Taken t.kind names t.word (guard_levels r 0) (guard_levels m 0)) ⊥ names t (operand (guard_levels r 0) 0 0) x) step (step_tells names r t)))
+      (subst (λ x. KnownSignals (λ m. Taken t.kind names t.word (guard_levels r 0) (guard_levels m 0)) ⊥ names t (operand (guard_levels r 0) 0 0) x) step (step_tells names r t)))
 
   other : (f : ActFault) → guard_step names 16 r t ≡ Err f → IsOther f → IsFaultOf f ⊥ names t (tally ts) → Fails (GuardShape Either) names ts t f
   other f is free is' = broken_there (guard_other names 16 r ts t f is free h.held) (fault_breaks ⊥ names ts t f (λ wrong. absurd wrong) is' free)
@@ -172,19 +161,11 @@ token_fails names ts t r fault h step = go fault step told where
 
 -- ---- texts
 
--- How a reading ends: at a token, or at the end of the text.
-data Outcome (names : Names) (end : ℕ) (ts : List Token) (result : Result Cond ActFault) : Type 0 where
-  at_token : (before after : List Token) (t : Token) (fault : ActFault) → ts ≡ before ++ t ∷ after → Obeys names before → Fails (GuardShape Either) names before t fault → result ≡ Err fault → Outcome names end ts result
-  at_end : (r : GuardReader) → Reached names ts r → result ≡ guard_value r end → Outcome names end ts result
+reached : (names : Names) {ts : List Token} {r : GuardReader} → Run names fresh_guard ts r → Reached names ts r
+reached names run = kept (λ r ts. Reached names ts r) (λ s n us t step h. reached_more names us t s n h step) [] run (reached_start names)
 
-outcome : (names : Names) (end : ℕ) (before ts : List Token) (r : GuardReader) → Reached names before r → Outcome names end (before ++ ts) (guard_read names end r ts)
-unfolding guard_read
-outcome names end before [] r h = subst (λ x. Outcome names end x (guard_value r end)) (sym (append-nil before)) (at_end r h refl)
-outcome names end before (t ∷ ts) r h = go (λ n. outcome names end (before ++ t ∷ []) ts n) (guard_step names 16 r t) refl where
-  go : ((n : GuardReader) → Reached names (before ++ t ∷ []) n → Outcome names end ((before ++ t ∷ []) ++ ts) (guard_read names end n ts))
-      → (x : Result GuardReader ActFault) → guard_step names 16 r t ≡ x → Outcome names end (before ++ t ∷ ts) (and_then x (λ n. guard_read names end n ts))
-  go more (Ok n) step = subst (λ x. Outcome names end x (guard_read names end n ts)) (append_assoc before (t ∷ []) ts) (more n (reached_more names before t r n h step))
-  go more (Err fault) step = at_token before ts t fault refl h.obeys (token_fails names before t r fault h step) refl
+text_outcome : (names : Names) (text : List ℕ) → Outcome (guard_steps_in names 16) (λ r. guard_value r (length text)) fresh_guard (tokens_of text) (text_reading names text)
+text_outcome names text = outcome (guard_steps_in names 16) (λ r. guard_value r (length text)) fresh_guard (tokens_of text)
 
 early_end : (r : GuardReader) (end : ℕ) (fault : ActFault) → guard_value r end ≡ Err fault → Syntax end ≡ fault
 early_end r end fault e = go (guard_ends r) where
@@ -196,30 +177,28 @@ early_end r end fault e = go (guard_ends r) where
 pub refused : (names : Names) (text : List ℕ) (fault : ActFault) → cond_reading names text ≡ Err fault → TextFault (GuardShape Either) names text fault
 unfolding cond_reading
 refused names text fault e = go (ltb 4096 (length text)) refl e where
-  from : length text ≤ 4096 → text_reading names text ≡ Err fault → Outcome names (length text) (tokens_of text) (text_reading names text) → TextFault (GuardShape Either) names text fault
-  from within is (at_token before after t f whole obeys fails result) =
+  from : length text ≤ 4096 → text_reading names text ≡ Err fault → Outcome (guard_steps_in names 16) (λ r. guard_value r (length text)) fresh_guard (tokens_of text) (text_reading names text) → TextFault (GuardShape Either) names text fault
+  from within is (at_token before after t r f whole run step result) =
       let same : f ≡ fault = cc in
-      subst (λ x. TextFault (GuardShape Either) names text x) same (fails_text (GuardShape Either) names text before after t within whole obeys fails)
-  from within is (at_end r h result) =
+      let h = reached names run in
+      subst (λ x. TextFault (GuardShape Either) names text x) same (fails_text (GuardShape Either) names text before after t within whole h.obeys (token_fails names before t r f h step))
+  from within is (at_end r run result) =
       let value = sym result ∙ is in
+      let h = reached names run in
       subst (λ x. TextFault (GuardShape Either) names text x) (early_end r (length text) fault value)
-      (early within h.obeys (guard_begins names 16 r (tokens_of text) h.held) (λ shape. ends_early names (length text) (tokens_of text) r fault h.run value shape))
+      (early within h.obeys (guard_begins names 16 r (tokens_of text) h.held) (λ shape. ends_early names (length text) (tokens_of text) r fault run value shape))
 
   go : (b : Bool) → ltb 4096 (length text) ≡ b → (if b then Err (TooLong 0) else text_reading names text) ≡ Err fault → TextFault (GuardShape Either) names text fault
   go true much is = let same : TooLong 0 ≡ fault = cc in subst (λ x. TextFault (GuardShape Either) names text x) same (long (ltb-true 4096 (length text) much))
-  go false few is = from (ltb-false 4096 (length text) few) is (outcome names (length text) [] (tokens_of text) fresh_guard (reached_start names))
+  go false few is = from (ltb-false 4096 (length text) few) is (text_outcome names text)
 
 -- A text that is read breaks no rule.
 pub text_obeys : (names : Names) (text : List ℕ) (c : Cond) → cond_reading names text ≡ Ok c → Obeys names (tokens_of text)
 unfolding cond_reading
-text_obeys names text c e = go (ltb 4096 (length text)) e where
-  from : text_reading names text ≡ Ok c → Outcome names (length text) (tokens_of text) (text_reading names text) → Obeys names (tokens_of text)
-  from is (at_token before after t f whole obeys fails result) = absurd cc
-  from is (at_end r h result) = h.obeys
-
-  go : (b : Bool) → (if b then Err (TooLong 0) else text_reading names text) ≡ Ok c → Obeys names (tokens_of text)
-  go true is = absurd cc
-  go false is = from is (outcome names (length text) [] (tokens_of text) fresh_guard (reached_start names))
+text_obeys names text c e =
+    let it = not_past (ltb 4096 (length text)) (text_reading names text) (TooLong 0) c e in
+    let all = to_the_end (guard_steps_in names 16) (λ r. guard_value r (length text)) fresh_guard (tokens_of text) c it.1 in
+    let h = reached names all.1 in h.obeys
 
 -- The clauses of `read_cond` that say what a refusal is.
 pub answers_fault : (names : Names) (text : List ℕ) (r : Result Cond ActFault) → Answers (cond_reading names text) r → IfErr r (λ fault. Faults (TextFault (GuardShape Either) names text) fault)

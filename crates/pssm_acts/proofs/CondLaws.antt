@@ -1,5 +1,5 @@
 -- A guard is read exactly where the text spells it.
-use Rattle.std.proofs.Common.{◌≡◌, ℕ, Bool, true, false, ltb, List, length, Result, Ok, Err, refl, subst, if◌then◌else◌}
+use Rattle.std.proofs.Common.{◌≡◌, ℕ, ltb, List, length, Result, Ok, Err, subst}
 use Rattle.std.specs.Prelude.{IfOk}
 use Rattle.std.proofs.lemmas.Bool.{le-ltb, ltb-false}
 use Rattle.pssm_acts.specs.declared.act_fault.ActFault.{ActFault}
@@ -7,20 +7,20 @@ use Rattle.pssm_acts.specs.declared.act_fault.ActFault.TheVariants.{TooLong}
 use Rattle.pssm_semantics.specs.declared.setting.Names.{Names}
 use Rattle.pssm_semantics.specs.declared.tree.Cond.{Cond}
 use Rattle.pssm_acts.specs.Tokens.{tokens_of}
-use Rattle.pssm_acts.specs.ExprReading.{Answers}
-use Rattle.pssm_acts.specs.GuardReading.{text_reading, cond_reading}
+use Rattle.pssm_acts.specs.inner.ExprReading.{Answers}
+use Rattle.pssm_acts.specs.inner.GuardReading.{text_reading, cond_reading}
 use Rattle.pssm_semantics.specs.Fits.{CondFits}
 use Rattle.pssm_acts.specs.Grammar.{SpellsCond}
+use Rattle.pssm_acts.proofs.AnswerLaws.{not_past}
 use Rattle.pssm_acts.proofs.TokenLaws.{spelled_fits}
 use Rattle.pssm_acts.proofs.GuardRead.{guard_spelled}
 use Rattle.pssm_acts.proofs.GuardHeld.{spelled_guard}
 
 pub reading_spelled : (names : Names) (text : List ℕ) (c : Cond) → cond_reading names text ≡ Ok c → SpellsCond names text c
 unfolding cond_reading
-reading_spelled names text c is = go (ltb 4096 (length text)) refl is where
-  go : (b : Bool) → ltb 4096 (length text) ≡ b → (if b then Err (TooLong 0) else text_reading names text) ≡ Ok c → SpellsCond names text c
-  go true e is = absurd cc
-  go false e is = record { short = ltb-false 4096 (length text) e; spelled = spelled_guard names (length text) (tokens_of text) c is }
+reading_spelled names text c is =
+    let it = not_past (ltb 4096 (length text)) (text_reading names text) (TooLong 0) c is in
+    record { short = ltb-false 4096 (length text) it.0; spelled = spelled_guard names (length text) (tokens_of text) c it.1 }
 
 pub spelled_reading : (names : Names) (text : List ℕ) (c : Cond) → SpellsCond names text c → cond_reading names text ≡ Ok c
 unfolding cond_reading

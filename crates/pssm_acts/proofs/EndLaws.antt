@@ -13,8 +13,8 @@ use Rattle.pssm_acts.specs.declared.guard_reader.Half.{Half}
 use Rattle.pssm_acts.specs.declared.guard_reader.Stage.{Stage}
 use Rattle.pssm_acts.specs.declared.guard_reader.Stage.TheVariants.{Wants, First, Second, Has}
 use Rattle.pssm_acts.specs.declared.guard_reader.GuardReader.{GuardReader}
-use Rattle.pssm_acts.specs.ExprReading.{and_then, sum_of, expr_value}
-use Rattle.pssm_acts.specs.GuardReading.{disjunction_of, unit_of, compared, whole_guard, guard_value}
+use Rattle.pssm_acts.specs.inner.ExprReading.{and_then, sum_of, expr_value}
+use Rattle.pssm_acts.specs.inner.GuardReading.{disjunction_of, unit_of, compared, whole_guard, guard_value}
 use Rattle.pssm_acts.proofs.ExprRead.{reader_at}
 use Rattle.pssm_acts.proofs.GuardRead.{guard_at}
 

@@ -1,5 +1,5 @@
 -- Whatever spells an expression is read as that expression.
-use Rattle.std.proofs.Common.{◌≡◌, ◌+◌, ◌<◌, ℕ, ℤ, List, [], ◌∷◌, ◌++◌, length, Option, Some, None, Result, Ok, Err, refl, ap, ◌∙◌, arith, position, bytes_eq}
+use Rattle.std.proofs.Common.{◌≡◌, ◌+◌, ◌<◌, ℕ, ℤ, List, ◌∷◌, length, Option, Some, None, Result, Ok, refl, ap, ◌∙◌, arith, position, bytes_eq}
 use Rattle.std.proofs.lemmas.Bool.{lt-ltb}
 use Rattle.pssm_acts.specs.declared.act_fault.ActFault.{ActFault}
 use Rattle.pssm_semantics.specs.declared.setting.Names.{Names}
@@ -12,38 +12,18 @@ use Rattle.pssm_acts.specs.declared.expr_reader.Level.{Level}
 use Rattle.pssm_acts.specs.declared.expr_reader.Place.{Place}
 use Rattle.pssm_acts.specs.declared.expr_reader.Place.TheVariants.{Wants, Has}
 use Rattle.pssm_acts.specs.declared.expr_reader.ExprReader.{ExprReader}
-use Rattle.pssm_acts.specs.NumberReading.{number_read}
+use Rattle.pssm_acts.specs.inner.NumberReading.{number_read}
 use Rattle.pssm_acts.specs.Tokens.{Token}
-use Rattle.pssm_acts.specs.ExprReading.{and_then, product_of, sum_of, atom_of, level_opened, at_atom, closed, after_atom, expr_step}
+use Rattle.pssm_acts.specs.inner.ExprReading.{product_of, sum_of, atom_of, level_opened, at_atom, closed, after_atom, expr_step}
 use Rattle.pssm_acts.specs.Grammar.{Part, Atom, Product, Sum, SpellsExpr, number, variable, parameter, parentheses, atom, times, product, plus, minus}
 use Rattle.pssm_acts.proofs.NumberSpelled.{number_spelled}
+use Rattle.pssm_acts.proofs.Readers.{Leads, next, one, onward}
 
--- the steps of one token after another
-unfoldable pub expr_run : Names → ℕ → ExprReader → List Token → Result ExprReader ActFault
-expr_run names room r [] = Ok r
-expr_run names room r (t ∷ ts) = and_then (expr_step names room r t) (λ next. expr_run names room next ts)
+abbrev pub expr_steps_in : Names → ℕ → ExprReader → Token → Result ExprReader ActFault
+expr_steps_in names room reader t = expr_step names room reader t
 
 abbrev pub reader_at : List Level → Left → Place → ExprReader
 reader_at outer left place = record { outer = outer; left = left; place = place }
-
-pub run_more : (names : Names) (room : ℕ) (r n : ExprReader) (t : Token) (ts : List Token) (res : Result ExprReader ActFault) → expr_step names room r t ≡ Ok n → expr_run names room n ts ≡ res → expr_run names room r (t ∷ ts) ≡ res
-unfolding expr_run
-run_more names room r n t ts res step rest = ap (λ x. and_then x (λ next. expr_run names room next ts)) step ∙ rest
-
-pub run_one : (names : Names) (room : ℕ) (r n : ExprReader) (t : Token) → expr_step names room r t ≡ Ok n → expr_run names room r (t ∷ []) ≡ Ok n
-unfolding expr_run
-run_one names room r n t step = run_more names room r n t [] (Ok n) step refl
-
-run_append : (names : Names) (room : ℕ) (r : ExprReader) (ts us : List Token) → expr_run names room r (ts ++ us) ≡ and_then (expr_run names room r ts) (λ n. expr_run names room n us)
-unfolding expr_run
-run_append names room r [] us = refl
-run_append names room r (t ∷ ts) us = go (λ n. run_append names room n ts us) (expr_step names room r t) where
-  go : ((n : ExprReader) → expr_run names room n (ts ++ us) ≡ and_then (expr_run names room n ts) (λ m. expr_run names room m us)) → (x : Result ExprReader ActFault) → and_then x (λ next. expr_run names room next (ts ++ us)) ≡ and_then (and_then x (λ next. expr_run names room next ts)) (λ n. expr_run names room n us)
-  go more (Ok n) = more n
-  go more (Err fault) = refl
-
-pub chain : (names : Names) (room : ℕ) (r n : ExprReader) (ts us : List Token) (res : Result ExprReader ActFault) → expr_run names room r ts ≡ Ok n → expr_run names room n us ≡ res → expr_run names room r (ts ++ us) ≡ res
-chain names room r n ts us res first second = run_append names room r ts us ∙ ap (λ x. and_then x (λ next. expr_run names room next us)) first ∙ second
 
 module _ (names : Names) (room : ℕ) (outer : List Level) (left : Left) where
   pub step_number : (factor : Option Expr) (t : Token) (n : ℤ) → t.kind ≡ kinds.Number → number_read t.at t.word ≡ Ok n
@@ -87,38 +67,38 @@ module _ (names : Names) (room : ℕ) (outer : List Level) (left : Left) where
 pub record ReadsSum (names : Names) (room : ℕ) (outer : List Level) (ts : List Token) (e : Expr) : Type 0 where
   pub left : Left
   pub term : Expr
-  pub run : expr_run names room (reader_at outer Nothing (Wants None)) ts ≡ Ok (reader_at outer left (Has term))
+  pub run : Leads (expr_steps_in names room) (reader_at outer Nothing (Wants None)) ts (reader_at outer left (Has term))
   pub worth : sum_of left term ≡ e
 
 abbrev pub Reads : Names → ℕ → List Level → Part → List Token → Expr → Type 0
-Reads names room outer Atom ts e = (left : Left) (factor : Option Expr) → expr_run names room (reader_at outer left (Wants factor)) ts ≡ Ok (reader_at outer left (Has (product_of factor e)))
-Reads names room outer Product ts e = (left : Left) → expr_run names room (reader_at outer left (Wants None)) ts ≡ Ok (reader_at outer left (Has e))
+Reads names room outer Atom ts e = (left : Left) (factor : Option Expr) → Leads (expr_steps_in names room) (reader_at outer left (Wants factor)) ts (reader_at outer left (Has (product_of factor e)))
+Reads names room outer Product ts e = (left : Left) → Leads (expr_steps_in names room) (reader_at outer left (Wants None)) ts (reader_at outer left (Has e))
 Reads names room outer Sum ts e = ReadsSum names room outer ts e
 
 pub reads : {names : Names} {part : Part} {l : ℕ} {ts : List Token} {e : Expr} (room : ℕ) (outer : List Level) → length outer + l ≡ room → SpellsExpr names part l ts e → Reads names room outer part ts e
 reads {names} room outer deep (number {l} {t} {n} is spelled) = λ left factor.
-    run_one names room _ _ t (step_number names room outer left factor t n is (number_spelled t.at t.word n spelled))
-reads {names} room outer deep (variable {l} {t} {x} is found) = λ left factor. run_one names room _ _ t (step_name names room outer left factor t x is found)
-reads {names} room outer deep (parameter {l} {t} {k} is) = λ left factor. run_one names room _ _ t (step_parameter names room outer left factor t k is)
+    one (step_number names room outer left factor t n is (number_spelled t.at t.word n spelled))
+reads {names} room outer deep (variable {l} {t} {x} is found) = λ left factor. one (step_name names room outer left factor t x is found)
+reads {names} room outer deep (parameter {l} {t} {k} is) = λ left factor. one (step_parameter names room outer left factor t k is)
 reads {names} room outer deep (parentheses {l} {opening} closing {ts} {e} opens inner closes) = λ left factor.
     let level : Level = record { left = left; factor = factor } in
     let within : length (level ∷ outer) + l ≡ room = omega arith in
     let body : ReadsSum names room (level ∷ outer) ts e = reads room (level ∷ outer) within inner in
-    run_more names room _ _ opening (ts ++ closing ∷ []) _ (step_open names room outer left factor opening opens (omega arith))
-    (chain names room _ _ ts (closing ∷ []) _ body.run
-    (run_one names room _ _ closing (step_close names room outer body.left level body.term closing closes ∙ ap (λ x. Ok (reader_at outer left (Has (product_of factor x)))) body.worth)))
+    next (step_open names room outer left factor opening opens (omega arith))
+    (onward body.run
+    (one (step_close names room outer body.left level body.term closing closes ∙ ap (λ x. Ok (reader_at outer left (Has (product_of factor x)))) body.worth)))
 reads {names} room outer deep (atom a) = λ left. reads room outer deep a left None
 reads {names} room outer deep (times {l} t {ts} {us} {a} {b} front is back) = λ left.
-    chain names room _ _ ts (t ∷ us) _ (reads room outer deep front left)
-    (run_more names room _ _ t us _ (step_times names room outer left a t is) (reads room outer deep back left (Some a)))
+    onward (reads room outer deep front left)
+    (next (step_times names room outer left a t is) (reads room outer deep back left (Some a)))
 reads {names} room outer deep (product p) = record { left = Nothing; term = _; run = reads room outer deep p Nothing; worth = refl }
 reads {names} room outer deep (plus {l} t {ts} {us} {a} {b} front is back) =
     let before : ReadsSum names room outer ts a = reads room outer deep front in
     record {
       left = Plus a;
       term = b;
-      run = chain names room _ _ ts (t ∷ us) _ before.run
-          (run_more names room _ _ t us _ (step_plus names room outer before.left before.term t is ∙ ap (λ x. Ok (reader_at outer (Plus x) (Wants None))) before.worth) (reads room outer deep back (Plus a)));
+      run = onward before.run
+          (next (step_plus names room outer before.left before.term t is ∙ ap (λ x. Ok (reader_at outer (Plus x) (Wants None))) before.worth) (reads room outer deep back (Plus a)));
       worth = refl;
     }
 reads {names} room outer deep (minus {l} t {ts} {us} {a} {b} front is back) =
@@ -126,7 +106,7 @@ reads {names} room outer deep (minus {l} t {ts} {us} {a} {b} front is back) =
     record {
       left = Minus a;
       term = b;
-      run = chain names room _ _ ts (t ∷ us) _ before.run
-          (run_more names room _ _ t us _ (step_minus names room outer before.left before.term t is ∙ ap (λ x. Ok (reader_at outer (Minus x) (Wants None))) before.worth) (reads room outer deep back (Minus a)));
+      run = onward before.run
+          (next (step_minus names room outer before.left before.term t is ∙ ap (λ x. Ok (reader_at outer (Minus x) (Wants None))) before.worth) (reads room outer deep back (Minus a)));
       worth = refl;
     }

@@ -1,13 +1,10 @@
 -- Where tokens fare with a reader, and some of them are taken, the others fare from there on.
-use Rattle.std.proofs.Common.{◌≡◌, Bool, List, [], ◌∷◌, ◌++◌, Result, Ok, Err, refl, sym, subst, ℕ}
+use Rattle.std.proofs.Common.{◌≡◌, List, [], ◌∷◌, ◌++◌, Result, Ok, Err, refl, sym, subst}
 use Rattle.std.proofs.lemmas.List.{append-nil}
 use Rattle.pssm_acts.specs.declared.act_fault.ActFault.{ActFault}
-use Rattle.pssm_acts.specs.declared.acts_reader.ActsReader.{ActsReader}
-use Rattle.pssm_semantics.specs.declared.setting.Names.{Names}
 use Rattle.pssm_acts.specs.Tokens.{Token}
-use Rattle.pssm_acts.proofs.ActRun.{Runs, done, next}
+use Rattle.pssm_acts.proofs.Readers.{Leads, done, next}
 use Rattle.pssm_acts.proofs.Fares.{IsOther, Fares, arrives, goes, stops}
-use Rattle.pssm_acts.proofs.ArgumentFares.{ActsState, acts_steps_in}
 
 -- what fares behind a token that is taken
 pub fares_rest : {S : Type 0} {step : S → Token → Result S ActFault} {Goal : S → Type 0} {s : S} {us : List Token} (t : Token) (rest : List Token) (n : S) → us ≡ t ∷ rest → step s t ≡ Ok n → Fares step Goal s us → Fares step Goal n rest
@@ -42,12 +39,10 @@ fares_end same (goes taken further) = absurd cc
 fares_end same (stops fault refused other) = absurd cc
 
 -- Where the first tokens are taken, the others fare from there on.
-pub fares_from : {names : Names} {stepped : Bool} {marks noted : List (List ℕ)} {m r : ActsReader} {before : List Token} (Goal : ActsState → Type 0) (rest : List Token) → Runs names stepped marks m before noted r
-    → Fares (acts_steps_in names stepped) Goal (m, marks) (before ++ rest) → Fares (acts_steps_in names stepped) Goal (r, noted) rest
+pub fares_from : {S : Type 0} {step : S → Token → Result S ActFault} {s n : S} {before : List Token} (Goal : S → Type 0) (rest : List Token) → Leads step s before n → Fares step Goal s (before ++ rest) → Fares step Goal n rest
 fares_from Goal rest done fares = fares
-fares_from Goal rest (next {marks} {noted} {more} {r} {m} {n} {t} {ts} step run) fares = fares_from Goal rest run (fares_rest t (ts ++ rest) (m, noted) refl step fares)
+fares_from Goal rest (next {m = m} {t = t} {ts = ts} step run) fares = fares_from Goal rest run (fares_rest t (ts ++ rest) m refl step fares)
 
 -- Where all tokens are taken they arrive.
-pub fares_whole : {names : Names} {stepped : Bool} {marks noted : List (List ℕ)} {m r : ActsReader} {ts : List Token} (Goal : ActsState → Type 0) → Runs names stepped marks m ts noted r
-    → Fares (acts_steps_in names stepped) Goal (m, marks) ts → Goal (r, noted)
-fares_whole {names} {stepped} {marks} {m = m} {ts = ts} Goal run fares = fares_end refl (fares_from Goal [] run (subst (λ x. Fares (acts_steps_in names stepped) Goal (m, marks) x) (sym (append-nil ts)) fares))
+pub fares_whole : {S : Type 0} {step : S → Token → Result S ActFault} {s n : S} {ts : List Token} (Goal : S → Type 0) → Leads step s ts n → Fares step Goal s ts → Goal n
+fares_whole {step = step} {s = s} {ts = ts} Goal run fares = fares_end refl (fares_from Goal [] run (subst (λ x. Fares step Goal s x) (sym (append-nil ts)) fares))

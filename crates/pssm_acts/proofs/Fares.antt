@@ -1,5 +1,5 @@
 -- How tokens of a shape fare with a reader: it takes them all, or stops at one with a fault that is no fault of the shape.
-use Rattle.std.proofs.Common.{◌≡◌, ◌+◌, ◌-◌, ℕ, ℤ, Bool, true, false, ltb, List, [], ◌∷◌, ◌++◌, length, Option, Some, None, Result, Ok, Err, refl, sym, ap, ◌∙◌, subst, position, bytes_eq}
+use Rattle.std.proofs.Common.{◌≡◌, ℕ, ℤ, Bool, true, false, ltb, List, [], ◌∷◌, ◌++◌, length, Option, Some, None, Result, Ok, Err, refl, sym, ap, ◌∙◌, subst, position, bytes_eq}
 use Rattle.std.proofs.lemmas.Bool.{ltb-true}
 use Rattle.pssm_acts.specs.declared.act_fault.ActFault.{ActFault}
 use Rattle.pssm_acts.specs.declared.act_fault.ActFault.TheVariants.{Syntax, UnknownName, WideNumber, TooLong}
@@ -13,11 +13,11 @@ use Rattle.pssm_acts.specs.declared.expr_reader.Level.{Level}
 use Rattle.pssm_acts.specs.declared.expr_reader.Place.TheVariants.{Wants, Has}
 use Rattle.pssm_acts.specs.declared.expr_reader.ExprReader.{ExprReader}
 use Rattle.pssm_acts.specs.Tokens.{Token}
-use Rattle.pssm_acts.specs.NumberReading.{number_read}
-use Rattle.pssm_acts.specs.ExprReading.{product_of, sum_of, at_atom, atom_of, level_opened, expr_step}
+use Rattle.pssm_acts.specs.inner.NumberReading.{number_read}
+use Rattle.pssm_acts.specs.inner.ExprReading.{product_of, sum_of, at_atom, atom_of, level_opened, expr_step}
 use Rattle.pssm_acts.specs.Grammar.{Part, Atom, Product, Sum}
 use Rattle.pssm_acts.specs.Shapes.{IsWritten, ExprShape, number, name, parameter, parentheses, atom, times, product, plus, minus}
-use Rattle.pssm_acts.proofs.ExprRead.{reader_at, step_number, step_name, step_parameter, step_open, step_close, step_times, step_plus, step_minus}
+use Rattle.pssm_acts.proofs.ExprRead.{expr_steps_in, reader_at, step_number, step_name, step_parameter, step_open, step_close, step_times, step_plus, step_minus}
 use Rattle.pssm_acts.proofs.NumberFaults.{NumberFault, unwritten, too_wide, number_fault}
 
 -- The fault is no fault of the shape.
@@ -79,9 +79,6 @@ fares_begun f h start begins fails never takes refuses (goes {s} {n} {t} taken r
 fares_begun f h start begins fails never takes refuses (stops {s} {t} fault refused other) = stops fault (fails t fault refused other) other
 
 -- ---- expressions
-
-abbrev pub expr_steps_in : Names → ℕ → ExprReader → Token → Result ExprReader ActFault
-expr_steps_in names room side t = expr_step names room side t
 
 -- an operand has been read
 abbrev pub has_read : List Level → Left → Expr → ExprReader

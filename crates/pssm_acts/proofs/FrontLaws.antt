@@ -14,7 +14,7 @@ use Rattle.pssm_spelling.specs.Spelling.{begins_name, continues_name, IsName, is
 use Rattle.pssm_spelling.specs.SpellingReading.{is_digit, is_plain, starts_name, EndsRun}
 use Rattle.pssm_acts.specs.Tokens.{Token, is_blank, word_kind, sign_front, negative_len, number_len, front, ends_operand, cut}
 use Rattle.pssm_spelling.proofs.SpellingLaws.{front_again, name_goes_on, digits_model}
-use Rattle.pssm_acts.proofs.TextLaws.{cut_token, piece_at}
+use Rattle.pssm_acts.proofs.CutLaws.{cut_token, piece_at}
 
 -- The bytes begin with a token of such a kind and word, and others are left behind it.
 pub record Begins (end : ℕ) (before : Bool) (bytes : List ℕ) (kind : Kind) (word : List ℕ) (after : Bool) (rest : List ℕ) : Type 0 where

@@ -23,16 +23,17 @@ use Rattle.pssm_acts.specs.declared.guard_reader.Stage.{Stage}
 use Rattle.pssm_acts.specs.declared.guard_reader.Stage.TheVariants.{Wants, First, Second, Has}
 use Rattle.pssm_acts.specs.declared.guard_reader.GuardReader.{GuardReader}
 use Rattle.pssm_acts.specs.Tokens.{Token}
-use Rattle.pssm_acts.specs.NumberReading.{number_read}
+use Rattle.pssm_acts.specs.inner.NumberReading.{number_read}
 use Rattle.pssm_semantics.specs.declared.tree.Expr.TheVariants.{Num}
-use Rattle.pssm_acts.specs.ExprReading.{and_then, product_of, at_atom, atom_of, after_atom, closed, expr_step, expr_value, fresh_expr}
-use Rattle.pssm_acts.specs.GuardReading.{unit_of, bracket_opened, bracket_closed, side_begun, unit_wanted, in_first, compared, after_unit, in_second, guard_step}
+use Rattle.pssm_acts.specs.inner.ExprReading.{and_then, product_of, at_atom, atom_of, after_atom, closed, expr_step, expr_value, fresh_expr}
+use Rattle.pssm_acts.specs.inner.GuardReading.{unit_of, bracket_opened, bracket_closed, side_begun, unit_wanted, in_first, compared, after_unit, in_second, guard_step}
 use Rattle.pssm_acts.specs.Grammar.{Atom, Product, Sum, Unit', Both, Either}
 use Rattle.pssm_acts.specs.Shapes.{natural, ExprShape, number, name, parentheses, atom, times, product, plus, minus, GuardShape, truth, negation, brackets, relation, lone_unit, conjoined, lone_conjunction, disjoined, Begins}
 use Rattle.pssm_acts.proofs.AnswerLaws.{never_refused}
 use Rattle.pssm_acts.proofs.ExprRead.{reader_at}
-use Rattle.pssm_acts.proofs.ExprHeld.{LeftHeld, FactorHeld, PlaceHeld, OuterHeld, ExprHeld, token_as}
-use Rattle.pssm_acts.proofs.GuardHeld.{EitherHeld, BothHeld, NotsHeld, BeforeHeld, OutsideHeld, GuardHeld, Held}
+use Rattle.pssm_acts.proofs.ExprHeld.{LeftHeld, FactorHeld, PlaceHeld, expr_nests, OuterHeld, ExprHeld, token_as}
+use Rattle.pssm_acts.proofs.GuardHeld.{EitherHeld, BothHeld, NotsHeld, BeforeHeld, guard_nests, OutsideHeld, GuardHeld, Held}
+use Rattle.pssm_acts.proofs.Nesting.{nothing_before, chain_with, same, closed_up}
 use Rattle.pssm_acts.proofs.GuardRead.{guard_at}
 use Rattle.pssm_acts.proofs.NumberFaults.{NumberFault, unwritten, too_wide, number_fault}
 use Rattle.pssm_acts.proofs.EndLaws.{expr_ends}
@@ -42,27 +43,25 @@ use Rattle.pssm_acts.proofs.ShapeLaws.{expr_shape, guard_shape, begins_shorter, 
 -- ---- expressions
 
 left_shape : (names : Names) (l : ℕ) (us ts : List Token) (left : Left) → LeftHeld names l us left → ExprShape Product ts → ExprShape Sum (us ++ ts)
-left_shape names l us ts Nothing h shape = subst (λ x. ExprShape Sum (x ++ ts)) (sym h) (product shape)
-left_shape names l us ts (Plus a) h shape = subst (λ x. ExprShape Sum x) (sym (ap (λ x. x ++ ts) h.whole ∙ append_assoc h.tokens (h.mark ∷ []) ts)) (plus h.mark (expr_shape h.spelled) h.is shape)
-left_shape names l us ts (Minus a) h shape = subst (λ x. ExprShape Sum x) (sym (ap (λ x. x ++ ts) h.whole ∙ append_assoc h.tokens (h.mark ∷ []) ts)) (minus h.mark (expr_shape h.spelled) h.is shape)
+left_shape names l us ts Nothing h shape = nothing_before (ExprShape Sum) us ts h (product shape)
+left_shape names l us ts (Plus a) h shape = chain_with (ExprShape Sum) ts h (λ xs t front is. plus t (expr_shape front) is shape)
+left_shape names l us ts (Minus a) h shape = chain_with (ExprShape Sum) ts h (λ xs t front is. minus t (expr_shape front) is shape)
 
 factor_shape : (names : Names) (l : ℕ) (vs ts : List Token) (factor : Option Expr) → FactorHeld names l vs factor → ExprShape Atom ts → ExprShape Product (vs ++ ts)
-factor_shape names l vs ts None h shape = subst (λ x. ExprShape Product (x ++ ts)) (sym h) (atom shape)
-factor_shape names l vs ts (Some a) h shape = subst (λ x. ExprShape Product x) (sym (ap (λ x. x ++ ts) h.whole ∙ append_assoc h.tokens (h.mark ∷ []) ts)) (times h.mark (expr_shape h.spelled) h.is shape)
+factor_shape names l vs ts None h shape = nothing_before (ExprShape Product) vs ts h (atom shape)
+factor_shape names l vs ts (Some a) h shape = chain_with (ExprShape Product) ts h (λ xs t front is. times t (expr_shape front) is shape)
 
-closing : Token
+abbrev closing : Token
 closing = token_as 0 kinds.Close []
 
 -- the parentheses that are open are closed
 parentheses_close : (names : Names) (room : ℕ) (outer : List Level) (l : ℕ) (front ts : List Token) → OuterHeld names room outer l front → ExprShape Sum ts → Begins (ExprShape Sum) (front ++ ts)
-unfolding closing
-parentheses_close names room [] l front ts h shape = record { more = []; shape = subst (λ x. ExprShape Sum x) (sym (append-nil (front ++ ts) ∙ ap (λ x. x ++ ts) h.1)) shape }
-parentheses_close names room (level ∷ outer) l front ts h shape =
-    let group = h.3 ∷ (ts ++ closing ∷ []) in
-    let sum = left_shape names (suc l) h.1 (h.2 ++ group) level.left h.5 (factor_shape names (suc l) h.2 group level.factor h.6 (parentheses closing h.7 shape refl)) in
-    let rest : Begins (ExprShape Sum) (h.0 ++ (h.1 ++ (h.2 ++ group))) = parentheses_close names room outer (suc l) h.0 (h.1 ++ (h.2 ++ group)) h.4 sum in
-    let same : (h.0 ++ (h.1 ++ (h.2 ++ group))) ++ rest.more ≡ (front ++ ts) ++ (closing ∷ rest.more) = sym (ap (λ x. (x ++ ts) ++ (closing ∷ rest.more)) h.8 ∙ simp append_assoc) in
-    record { more = closing ∷ rest.more; shape = subst (λ x. ExprShape Sum x) same rest.shape }
+parentheses_close names room outer l front ts h shape =
+    closed_up (expr_nests names) (ExprShape Sum) closing
+    (λ level l us vs ts opening ahead begun is shape.
+    let group = opening ∷ (ts ++ closing ∷ []) in
+    left_shape names l us (vs ++ group) level.left ahead (factor_shape names l vs group level.factor begun (parentheses closing is shape refl)))
+    room outer l front ts h shape
 
 -- an operand at its end
 pub atom_begins : {names : Names} {room : ℕ} (outer : List Level) (left : Left) (factor : Option Expr) (us ts : List Token) → ExprHeld names room (reader_at outer left (places.Wants factor)) us → ExprShape Atom ts → Begins (ExprShape Sum) (us ++ ts)
@@ -79,8 +78,7 @@ expr_begins {names} {room} side us h = go side.place h.here where
   go (places.Has e) here =
       begins_same (sym h.whole) (parentheses_close names room side.outer h.l h.front (h.us ++ h.vs) h.outside (left_shape names h.l h.us h.vs side.left h.before (expr_shape here)))
   go (places.Wants factor) here =
-      begins_shorter us (token_as 0 kinds.Number (48 ∷ []) ∷ [])
-      (atom_begins {room = room} side.outer side.left factor us (token_as 0 kinds.Number (48 ∷ []) ∷ []) (record { l = h.l; front = h.front; us = h.us; vs = h.vs; outside = h.outside; before = h.before; here = here; whole = h.whole }) (zero_shape 0))
+      begins_shorter us (token_as 0 kinds.Number (48 ∷ []) ∷ []) (atom_begins {room = room} side.outer side.left factor us (token_as 0 kinds.Number (48 ∷ []) ∷ []) (same (expr_nests names) room side.outer h here) (zero_shape 0))
 
 -- The token begins an operand.
 pub data BeginsAtom (t : Token) : Type 0 where
@@ -112,7 +110,6 @@ expr_other names room (level ∷ outer) left (places.Has term) kinds.Close at wo
 expr_other names room outer left (places.Has term) kind at word fault e other = absurd (place_no_other at fault e other)
 
 begun_atom : {names : Names} {room : ℕ} (outer : List Level) (left : Left) (factor : Option Expr) (us : List Token) (t : Token) → BeginsAtom t → ExprHeld names room (reader_at outer left (places.Wants factor)) us → Begins (ExprShape Sum) (us ++ t ∷ [])
-unfolding closing
 begun_atom {room = room} outer left factor us t (lone shape) h = atom_begins {room = room} outer left factor us (t ∷ []) h shape
 begun_atom {room = room} outer left factor us t (opening is) h =
     let zero' = token_as 0 kinds.Number (48 ∷ []) in
@@ -134,33 +131,29 @@ nots_shape zero ns ts h shape = subst (λ x. GuardShape Unit' (x ++ ts)) (sym h)
 nots_shape (suc n) ns ts h shape = subst (λ x. GuardShape Unit' (x ++ ts)) (sym h.4) (negation h.2 (nots_shape n h.1 ts h.3 shape))
 
 unit_shape : {names : Names} {l : ℕ} (vs ts : List Token) (before : Before) → BeforeHeld names l vs before → GuardShape Unit' ts → GuardShape Both (vs ++ ts)
-unit_shape {names} {l} vs ts before h shape = go before.both h.both where
+unit_shape {names} {l} vs ts before h shape = subst (GuardShape Both) (sym (ap (λ x. x ++ ts) h.whole ∙ append_assoc h.bs h.ns ts)) (go before.both h.both) where
   unit : GuardShape Unit' (h.ns ++ ts)
   unit = nots_shape before.nots h.ns ts h.nots shape
 
-  apart : vs ++ ts ≡ h.bs ++ (h.ns ++ ts)
-  apart = ap (λ x. x ++ ts) h.whole ∙ append_assoc h.bs h.ns ts
-
-  go : (both : Option Cond) → BothHeld names l h.bs both → GuardShape Both (vs ++ ts)
-  go None b = subst (λ x. GuardShape Both x) (sym (apart ∙ ap (λ x. x ++ (h.ns ++ ts)) b)) (lone_unit unit)
-  go (Some a) b = subst (λ x. GuardShape Both x) (sym (apart ∙ ap (λ x. x ++ (h.ns ++ ts)) b.whole ∙ append_assoc b.tokens (b.mark ∷ []) (h.ns ++ ts))) (conjoined b.mark (guard_shape b.spelled) b.is unit)
+  go : (both : Option Cond) → BothHeld names l h.bs both → GuardShape Both (h.bs ++ (h.ns ++ ts))
+  go None b = nothing_before (GuardShape Both) h.bs (h.ns ++ ts) b (lone_unit unit)
+  go (Some a) b = chain_with (GuardShape Both) (h.ns ++ ts) b (λ xs t front is. conjoined t (guard_shape front) is unit)
 
 either_shape : (names : Names) (l : ℕ) (us ts : List Token) (either : Option Cond) → EitherHeld names l us either → GuardShape Both ts → GuardShape Either (us ++ ts)
-either_shape names l us ts None h shape = subst (λ x. GuardShape Either (x ++ ts)) (sym h) (lone_conjunction shape)
-either_shape names l us ts (Some a) h shape = subst (λ x. GuardShape Either x) (sym (ap (λ x. x ++ ts) h.whole ∙ append_assoc h.tokens (h.mark ∷ []) ts)) (disjoined h.mark (guard_shape h.spelled) h.is shape)
+either_shape names l us ts None h shape = nothing_before (GuardShape Either) us ts h (lone_conjunction shape)
+either_shape names l us ts (Some a) h shape = chain_with (GuardShape Either) ts h (λ xs t front is. disjoined t (guard_shape front) is shape)
 
-bracket : Token
+abbrev bracket : Token
 bracket = token_as 0 kinds.CloseBracket []
 
+-- the brackets that are open are closed
 brackets_close : (names : Names) (room : ℕ) (outer : List Bracket) (l : ℕ) (front ts : List Token) → OutsideHeld names room outer l front → GuardShape Either ts → Begins (GuardShape Either) (front ++ ts)
-unfolding bracket
-brackets_close names room [] l front ts h shape = record { more = []; shape = subst (λ x. GuardShape Either x) (sym (append-nil (front ++ ts) ∙ ap (λ x. x ++ ts) h.1)) shape }
-brackets_close names room (open' ∷ outer) l front ts h shape =
-    let group = h.3 ∷ (ts ++ bracket ∷ []) in
-    let chain = either_shape names (suc l) h.1 (h.2 ++ group) open'.either h.5 (unit_shape h.2 group open'.before h.6 (brackets bracket h.7 shape refl)) in
-    let rest : Begins (GuardShape Either) (h.0 ++ (h.1 ++ (h.2 ++ group))) = brackets_close names room outer (suc l) h.0 (h.1 ++ (h.2 ++ group)) h.4 chain in
-    let same : (h.0 ++ (h.1 ++ (h.2 ++ group))) ++ rest.more ≡ (front ++ ts) ++ (bracket ∷ rest.more) = sym (ap (λ x. (x ++ ts) ++ (bracket ∷ rest.more)) h.8 ∙ simp append_assoc) in
-    record { more = bracket ∷ rest.more; shape = subst (λ x. GuardShape Either x) same rest.shape }
+brackets_close names room outer l front ts h shape =
+    closed_up (guard_nests names) (GuardShape Either) bracket
+    (λ open' l us vs ts opening ahead begun is shape.
+    let group = opening ∷ (ts ++ bracket ∷ []) in
+    either_shape names l us (vs ++ group) open'.either ahead (unit_shape vs group open'.before begun (brackets bracket is shape refl)))
+    room outer l front ts h shape
 
 less : Token
 less = token_as 0 (kinds.Relation Lt) []
@@ -218,7 +211,7 @@ failed_first f (Err other) fault e = let same : other ≡ fault = cc in ap (λ z
 module _ (names others : Names) (held room : ℕ) (outer : List Bracket) (either : Option Cond) (xs : List Token) where
   wants_other : (before : Before) (kind : Kind) (at : ℕ) (word : List ℕ) (fault : ActFault) → unit_wanted others room outer either before (token_as at kind word) ≡ Err fault → IsOther fault
       → GuardHeld names held outer either (Wants before) xs → Begins (GuardShape Either) (xs ++ token_as at kind word ∷ [])
-  unfolding unit_wanted bracket_opened side_begun bracket less nil closing
+  unfolding unit_wanted bracket_opened side_begun less nil
   wants_other before kinds.OpenBracket at word fault e other h =
       let t = token_as at kinds.OpenBracket word in
       let true' = token_as 0 kinds.True [] in

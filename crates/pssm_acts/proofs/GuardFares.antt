@@ -1,5 +1,5 @@
 -- Tokens of the shape of a guard are not refused for their shape.
-use Rattle.std.proofs.Common.{◌≡◌, ◌+◌, ◌-◌, ◌<◌, ℕ, suc, Bool, true, false, ltb, List, [], ◌∷◌, ◌++◌, length, Option, Some, None, Result, Ok, Err, refl, sym, ap, ◌∙◌, subst}
+use Rattle.std.proofs.Common.{◌≡◌, ◌+◌, ◌-◌, ℕ, Bool, true, false, ltb, List, [], ◌∷◌, ◌++◌, length, Option, Some, None, Ok, Err, refl, sym, ap, subst}
 use Rattle.std.proofs.lemmas.Bool.{ltb-true}
 use Rattle.pssm_acts.specs.declared.act_fault.ActFault.{ActFault}
 use Rattle.pssm_acts.specs.declared.act_fault.ActFault.TheVariants.{Syntax, TooLong}
@@ -9,25 +9,24 @@ use Rattle.pssm_acts.specs.declared.token.Kind.TheVariants as kinds
 use Rattle.pssm_semantics.specs.declared.tree.Expr.{Expr}
 use Rattle.pssm_semantics.specs.declared.tree.Rel.{Rel}
 use Rattle.pssm_semantics.specs.declared.tree.Cond.{Cond}
-use Rattle.pssm_semantics.specs.declared.tree.Cond.TheVariants.{True, False, Compare}
+use Rattle.pssm_semantics.specs.declared.tree.Cond.TheVariants.{Compare}
 use Rattle.pssm_acts.specs.declared.expr_reader.Left.{Left}
 use Rattle.pssm_acts.specs.declared.expr_reader.Level.{Level}
 use Rattle.pssm_acts.specs.declared.expr_reader.Place.{Place}
 use Rattle.pssm_acts.specs.declared.expr_reader.Place.TheVariants as places
-use Rattle.pssm_acts.specs.declared.expr_reader.ExprReader.{ExprReader}
 use Rattle.pssm_acts.specs.declared.guard_reader.Before.{Before}
 use Rattle.pssm_acts.specs.declared.guard_reader.Bracket.{Bracket}
 use Rattle.pssm_acts.specs.declared.guard_reader.Stage.{Stage}
-use Rattle.pssm_acts.specs.declared.guard_reader.Stage.TheVariants.{Wants, First, Second, Has}
+use Rattle.pssm_acts.specs.declared.guard_reader.Stage.TheVariants.{Wants, First, Second}
 use Rattle.pssm_acts.specs.declared.guard_reader.GuardReader.{GuardReader}
 use Rattle.pssm_acts.specs.Tokens.{Token}
-use Rattle.pssm_acts.specs.ExprReading.{and_then, sum_of, at_atom, atom_of, after_atom, expr_step, fresh_expr}
-use Rattle.pssm_acts.specs.GuardReading.{nothing_before, unit_of, disjunction_of, bracket_opened, side_begun, unit_wanted, in_first, in_second, at_stage, guard_step}
+use Rattle.pssm_acts.specs.inner.ExprReading.{and_then, sum_of, at_atom, atom_of, after_atom, expr_step, fresh_expr}
+use Rattle.pssm_acts.specs.inner.GuardReading.{nothing_before, unit_of, disjunction_of, bracket_opened, side_begun, unit_wanted, in_first, in_second, at_stage, guard_step}
 use Rattle.pssm_acts.specs.Grammar.{GuardPart, Sum, Unit', Both, Either}
 use Rattle.pssm_acts.specs.Shapes.{ExprShape, GuardShape, truth, falsity, negation, brackets, relation, lone_unit, conjoined, lone_conjunction, disjoined}
 use Rattle.pssm_acts.proofs.ExprRead.{reader_at}
-use Rattle.pssm_acts.proofs.GuardRead.{guard_at, step_first, step_second, step_begun, Stands, has, half, behind_and, behind_or, behind_bracket, begins_bracket, begins_not, begins_true, begins_false, ends_first}
-use Rattle.pssm_acts.proofs.Fares.{IsOther, Fares, arrives, goes, stops, Among, fares_to, fares_as, fares_part, fares_begun, expr_steps_in, sum_read, ExprFares, expr_fares}
+use Rattle.pssm_acts.proofs.GuardRead.{guard_steps_in, guard_at, step_first, step_second, step_begun, Stands, has, half, behind_and, behind_or, behind_bracket, begins_bracket, begins_not, begins_true, begins_false, ends_first}
+use Rattle.pssm_acts.proofs.Fares.{IsOther, Fares, arrives, goes, stops, Among, fares_to, fares_as, fares_part, fares_begun, sum_read, expr_fares}
 
 -- ---- the sides of a comparison
 
@@ -61,9 +60,6 @@ begun_refuses names room outer either before fault kinds.Not at word step other 
 begun_refuses names room outer either before fault kinds.True at word step other = let same : Syntax at ≡ fault = cc in absurd (subst IsOther (sym same) other)
 begun_refuses names room outer either before fault kinds.False at word step other = let same : Syntax at ≡ fault = cc in absurd (subst IsOther (sym same) other)
 begun_refuses names room outer either before fault kind at word step other = ap (λ x. and_then x (λ side. Ok (guard_at outer either (First before side)))) step
-
-abbrev pub guard_steps_in : Names → ℕ → GuardReader → Token → Result GuardReader ActFault
-guard_steps_in names room reader t = guard_step names room reader t
 
 pub fresh_is_none : (p : Left × Expr) → fresh_expr ≡ sum_read [] p → ⊥
 fresh_is_none p same = let place : places.Wants None ≡ places.Has p.1 = ap (λ r. r.place) same in cc

@@ -1,5 +1,5 @@
 -- Whatever spells a guard is read as that guard.
-use Rattle.std.proofs.Common.{◌≡◌, ◌+◌, ◌-◌, ◌<◌, ℕ, suc, zero, List, [], ◌∷◌, ◌++◌, length, Option, Some, None, Result, Ok, Err, refl, ap, ◌∙◌, subst, add-one, arith}
+use Rattle.std.proofs.Common.{◌≡◌, ◌+◌, ◌-◌, ◌<◌, ℕ, suc, zero, List, [], ◌∷◌, length, Option, Some, None, Result, Ok, refl, ap, ◌∙◌, subst, add-one, arith}
 use Rattle.std.proofs.lemmas.Bool.{lt-ltb}
 use Rattle.pssm_acts.specs.declared.act_fault.ActFault.{ActFault}
 use Rattle.pssm_semantics.specs.declared.setting.Names.{Names}
@@ -21,46 +21,17 @@ use Rattle.pssm_acts.specs.declared.guard_reader.Stage.{Stage}
 use Rattle.pssm_acts.specs.declared.guard_reader.Stage.TheVariants.{Wants, First, Second, Has}
 use Rattle.pssm_acts.specs.declared.guard_reader.GuardReader.{GuardReader}
 use Rattle.pssm_acts.specs.Tokens.{Token}
-use Rattle.pssm_acts.specs.ExprReading.{and_then, sum_of, at_atom, atom_of, after_atom, expr_step, expr_value, fresh_expr}
-use Rattle.pssm_acts.specs.GuardReading.{nothing_before, fresh_guard, nots_of, conjunction_of, disjunction_of, unit_of, bracket_opened, side_begun, unit_wanted, in_first, compared, bracket_closed, after_unit, in_second, guard_step, guard_value, guard_read}
+use Rattle.pssm_acts.specs.inner.ExprReading.{and_then, sum_of, at_atom, atom_of, after_atom, expr_step, expr_value, fresh_expr}
+use Rattle.pssm_acts.specs.inner.GuardReading.{nothing_before, fresh_guard, nots_of, conjunction_of, disjunction_of, unit_of, bracket_opened, side_begun, unit_wanted, in_first, compared, bracket_closed, after_unit, in_second, guard_step, guard_value, guard_read}
 use Rattle.pssm_acts.specs.Grammar.{GuardPart, Unit', Both, Either, SpellsGuard, truth, falsity, negation, brackets, relation, lone_unit, conjoined, lone_conjunction, disjoined}
-use Rattle.pssm_acts.proofs.ExprRead.{expr_run, reader_at, ReadsSum, reads}
+use Rattle.pssm_acts.proofs.ExprRead.{expr_steps_in, reader_at, ReadsSum, reads}
+use Rattle.pssm_acts.proofs.Readers.{Leads, next, one, onward, within, begun, through}
 
--- the steps of one token after another
-unfoldable pub guard_run : Names → ℕ → GuardReader → List Token → Result GuardReader ActFault
-guard_run names room r [] = Ok r
-guard_run names room r (t ∷ ts) = and_then (guard_step names room r t) (λ next. guard_run names room next ts)
+abbrev pub guard_steps_in : Names → ℕ → GuardReader → Token → Result GuardReader ActFault
+guard_steps_in names room reader t = guard_step names room reader t
 
 abbrev pub guard_at : List Bracket → Option Cond → Stage → GuardReader
 guard_at outer either stage = record { outer = outer; either = either; stage = stage }
-
-pub guard_more : (names : Names) (room : ℕ) (r n : GuardReader) (t : Token) (ts : List Token) (res : Result GuardReader ActFault) → guard_step names room r t ≡ Ok n → guard_run names room n ts ≡ res → guard_run names room r (t ∷ ts) ≡ res
-unfolding guard_run
-guard_more names room r n t ts res step rest = ap (λ x. and_then x (λ next. guard_run names room next ts)) step ∙ rest
-
-pub guard_one : (names : Names) (room : ℕ) (r n : GuardReader) (t : Token) → guard_step names room r t ≡ Ok n → guard_run names room r (t ∷ []) ≡ Ok n
-unfolding guard_run
-guard_one names room r n t step = guard_more names room r n t [] (Ok n) step refl
-
-pub guard_append : (names : Names) (room : ℕ) (r : GuardReader) (ts us : List Token) → guard_run names room r (ts ++ us) ≡ and_then (guard_run names room r ts) (λ n. guard_run names room n us)
-unfolding guard_run
-guard_append names room r [] us = refl
-guard_append names room r (t ∷ ts) us = go (λ n. guard_append names room n ts us) (guard_step names room r t) where
-  go : ((n : GuardReader) → guard_run names room n (ts ++ us) ≡ and_then (guard_run names room n ts) (λ m. guard_run names room m us)) → (x : Result GuardReader ActFault) → and_then x (λ next. guard_run names room next (ts ++ us)) ≡ and_then (and_then x (λ next. guard_run names room next ts)) (λ n. guard_run names room n us)
-  go more (Ok n) = more n
-  go more (Err fault) = refl
-
-pub guard_chain : (names : Names) (room : ℕ) (r n : GuardReader) (ts us : List Token) (res : Result GuardReader ActFault) → guard_run names room r ts ≡ Ok n → guard_run names room n us ≡ res → guard_run names room r (ts ++ us) ≡ res
-guard_chain names room r n ts us res first second = guard_append names room r ts us ∙ ap (λ x. and_then x (λ next. guard_run names room next us)) first ∙ second
-
--- the whole text
-pub guard_whole : (names : Names) (end : ℕ) (r n : GuardReader) (ts : List Token) → guard_run names 16 r ts ≡ Ok n → guard_read names end r ts ≡ guard_value n end
-unfolding guard_run guard_read
-guard_whole names end r n [] run = ap (λ x. and_then x (λ m. guard_value m end)) run
-guard_whole names end r n (t ∷ ts) run = go (λ m rest. guard_whole names end m n ts rest) (guard_step names 16 r t) run where
-  go : ((m : GuardReader) → guard_run names 16 m ts ≡ Ok n → guard_read names end m ts ≡ guard_value n end) → (x : Result GuardReader ActFault) → and_then x (λ next. guard_run names 16 next ts) ≡ Ok n → and_then x (λ next. guard_read names end next ts) ≡ guard_value n end
-  go more (Ok m) run = more m run
-  go more (Err fault) run = absurd cc
 
 -- ---- the sides of a comparison
 
@@ -97,46 +68,23 @@ step_begun names room outer either before n kinds.True at word step = absurd cc
 step_begun names room outer either before n kinds.False at word step = absurd cc
 step_begun names room outer either before n kind at word step = ap (λ x. and_then x (λ side. Ok (guard_at outer either (First before side)))) step
 
-pub first_run : (names : Names) (room : ℕ) (outer : List Bracket) (either : Option Cond) (before : Before) (side n : ExprReader) (ts : List Token) → expr_run names (room - length outer) side ts ≡ Ok n
-    → guard_run names room (guard_at outer either (First before side)) ts ≡ Ok (guard_at outer either (First before n))
-unfolding expr_run guard_run guard_step
-first_run names room outer either before side n [] run = ap (λ x. and_then x (λ m. Ok (guard_at outer either (First before m)))) run
-first_run names room outer either before side n (t ∷ ts) run = go (λ m rest. first_run names room outer either before m n ts rest) (expr_step names (room - length outer) side t) refl run where
-  go : ((m : ExprReader) → expr_run names (room - length outer) m ts ≡ Ok n → guard_run names room (guard_at outer either (First before m)) ts ≡ Ok (guard_at outer either (First before n))) → (x : Result ExprReader ActFault) → expr_step names (room - length outer) side t ≡ x → and_then x (λ next. expr_run names (room - length outer) next ts) ≡ Ok n
-      → guard_run names room (guard_at outer either (First before side)) (t ∷ ts) ≡ Ok (guard_at outer either (First before n))
-  go more (Ok m) step run =
-      ap (λ x. and_then (and_then x (λ stage. Ok (guard_at outer either stage))) (λ next. guard_run names room next ts)) (step_first names (room - length outer) before side.outer side.left side.place m t.kind t.at t.word step)
-      ∙ more m run
-  go more (Err fault) step run = absurd cc
-
-pub second_run : (names : Names) (room : ℕ) (outer : List Bracket) (either : Option Cond) (before : Before) (rel : Rel) (a : Expr) (side n : ExprReader) (ts : List Token) → expr_run names (room - length outer) side ts ≡ Ok n
-    → guard_run names room (guard_at outer either (Second (record { before = before; rel = rel; left = a; side = side }))) ts ≡ Ok (guard_at outer either (Second (record { before = before; rel = rel; left = a; side = n })))
-unfolding expr_run guard_run guard_step
-second_run names room outer either before rel a side n [] run = ap (λ x. and_then x (λ m. Ok (guard_at outer either (Second (record { before = before; rel = rel; left = a; side = m }))))) run
-second_run names room outer either before rel a side n (t ∷ ts) run = go (λ m rest. second_run names room outer either before rel a m n ts rest) (expr_step names (room - length outer) side t) refl run where
-  go : ((m : ExprReader) → expr_run names (room - length outer) m ts ≡ Ok n
-      → guard_run names room (guard_at outer either (Second (record { before = before; rel = rel; left = a; side = m }))) ts ≡ Ok (guard_at outer either (Second (record { before = before; rel = rel; left = a; side = n })))) → (x : Result ExprReader ActFault) → expr_step names (room - length outer) side t ≡ x → and_then x (λ next. expr_run names (room - length outer) next ts) ≡ Ok n
-      → guard_run names room (guard_at outer either (Second (record { before = before; rel = rel; left = a; side = side }))) (t ∷ ts) ≡ Ok (guard_at outer either (Second (record { before = before; rel = rel; left = a; side = n })))
-  go more (Ok m) step run =
-      ap (λ x. and_then x (λ next. guard_run names room next ts)) (step_second names room outer either before rel a side.outer side.left side.place m t.kind t.at t.word step)
-      ∙ more m run
-  go more (Err fault) step run = absurd cc
-
 -- the left side from its first token on
-begun_run : (names : Names) (room : ℕ) (outer : List Bracket) (either : Option Cond) (before : Before) (left : Left) (term : Expr) (ts : List Token) → expr_run names (room - length outer) fresh_expr ts ≡ Ok (reader_at [] left (places.Has term))
-    → guard_run names room (guard_at outer either (Wants before)) ts ≡ Ok (guard_at outer either (First before (reader_at [] left (places.Has term))))
-unfolding expr_run guard_run guard_step
-begun_run names room outer either before left term [] run =
-    let same : fresh_expr ≡ reader_at [] left (places.Has term) = cc in
-    let places' : places.Wants None ≡ places.Has term = ap (λ r. r.place) same in
-    absurd cc
-begun_run names room outer either before left term (t ∷ ts) run = go (expr_step names (room - length outer) fresh_expr t) refl run where
-  go : (x : Result ExprReader ActFault) → expr_step names (room - length outer) fresh_expr t ≡ x → and_then x (λ next. expr_run names (room - length outer) next ts) ≡ Ok (reader_at [] left (places.Has term))
-      → guard_run names room (guard_at outer either (Wants before)) (t ∷ ts) ≡ Ok (guard_at outer either (First before (reader_at [] left (places.Has term))))
-  go (Ok m) step run =
-      ap (λ x. and_then x (λ next. guard_run names room next ts)) (step_begun names room outer either before m t.kind t.at t.word step)
-      ∙ first_run names room outer either before m (reader_at [] left (places.Has term)) ts run
-  go (Err fault) step run = absurd cc
+first_run : (names : Names) (room : ℕ) (outer : List Bracket) (either : Option Cond) (before : Before) (left : Left) (term : Expr) (ts : List Token) → Leads (expr_steps_in names (room - length outer)) fresh_expr ts (reader_at [] left (places.Has term))
+    → Leads (guard_steps_in names room) (guard_at outer either (Wants before)) ts (guard_at outer either (First before (reader_at [] left (places.Has term))))
+unfolding guard_step
+first_run names room outer either before left term ts run =
+    begun (λ side. guard_at outer either (First before side)) (guard_at outer either (Wants before))
+    (λ n t step. step_begun names room outer either before n t.kind t.at t.word step)
+    (λ s n t step. ap (λ x. and_then x (λ stage. Ok (guard_at outer either stage))) (step_first names (room - length outer) before s.outer s.left s.place n t.kind t.at t.word step))
+    (λ same. let places' : places.Wants None ≡ places.Has term = ap (λ r. r.place) same in cc)
+    run
+
+second_run : (names : Names) (room : ℕ) (outer : List Bracket) (either : Option Cond) (before : Before) (rel : Rel) (a : Expr) (n : ExprReader) (ts : List Token) → Leads (expr_steps_in names (room - length outer)) fresh_expr ts n
+    → Leads (guard_steps_in names room) (guard_at outer either (Second (record { before = before; rel = rel; left = a; side = fresh_expr }))) ts (guard_at outer either (Second (record { before = before; rel = rel; left = a; side = n })))
+unfolding guard_step
+second_run names room outer either before rel a n ts run =
+    within (λ side. guard_at outer either (Second (record { before = before; rel = rel; left = a; side = side })))
+    (λ s n t step. step_second names room outer either before rel a s.outer s.left s.place n t.kind t.at t.word step) run
 
 -- ---- units and chains
 
@@ -192,14 +140,14 @@ nots_more n c = rw add-one (go n) where
 -- what the tokens of a part do to a reader
 record ReadsUnit (names : Names) (room : ℕ) (outer : List Bracket) (either : Option Cond) (before : Before) (ts : List Token) (c : Cond) : Type 0 where
   stage : Stage
-  run : guard_run names room (guard_at outer either (Wants before)) ts ≡ Ok (guard_at outer either stage)
+  run : Leads (guard_steps_in names room) (guard_at outer either (Wants before)) ts (guard_at outer either stage)
   stands : Stands stage c
 
 record ReadsGuard (names : Names) (room : ℕ) (outer : List Bracket) (ts : List Token) (c : Cond) : Type 0 where
   either : Option Cond
   stage : Stage
   conjunction : Cond
-  run : guard_run names room (guard_at outer None (Wants nothing_before)) ts ≡ Ok (guard_at outer either stage)
+  run : Leads (guard_steps_in names room) (guard_at outer None (Wants nothing_before)) ts (guard_at outer either stage)
   stands : Stands stage conjunction
   worth : disjunction_of either conjunction ≡ c
 
@@ -213,22 +161,22 @@ renamed : {names : Names} {room : ℕ} {outer : List Bracket} {either : Option C
 renamed {names} {room} {outer} {either} {before} {ts} c d is r = subst (λ x. ReadsUnit names room outer either before ts x) is r
 
 reads_guard : {names : Names} {part : GuardPart} {l : ℕ} {ts : List Token} {c : Cond} (room : ℕ) (outer : List Bracket) → length outer + l ≡ room → SpellsGuard names part l ts c → ReadsPart names room outer part ts c
-reads_guard {names} room outer deep (truth {l} {t} is) = λ either before. record { stage = _; run = guard_one names room _ _ t (begins_true names room outer either t before is); stands = has }
-reads_guard {names} room outer deep (falsity {l} {t} is) = λ either before. record { stage = _; run = guard_one names room _ _ t (begins_false names room outer either t before is); stands = has }
+reads_guard {names} room outer deep (truth {l} {t} is) = λ either before. record { stage = _; run = one (begins_true names room outer either t before is); stands = has }
+reads_guard {names} room outer deep (falsity {l} {t} is) = λ either before. record { stage = _; run = one (begins_false names room outer either t before is); stands = has }
 reads_guard {names} room outer deep (negation {l} {t} {ts} {c} is inner) = λ either before.
     let after : Before = record { both = before.both; nots = before.nots + 1 } in
     let body : ReadsUnit names room outer either after ts (unit_of after c) = reads_guard room outer deep inner either after in
     renamed _ _ (ap (λ x. conjunction_of before.both x) (nots_more before.nots c))
-    (record { stage = body.stage; run = guard_more names room _ _ t ts _ (begins_not names room outer either t before is) body.run; stands = body.stands })
+    (record { stage = body.stage; run = next (begins_not names room outer either t before is) body.run; stands = body.stands })
 reads_guard {names} room outer deep (brackets {l} {opening} closing {ts} {c} opens inner closes) = λ either before.
     let bracket : Bracket = record { either = either; before = before } in
     let within : length (bracket ∷ outer) + l ≡ room = omega arith in
     let body : ReadsGuard names room (bracket ∷ outer) ts c = reads_guard room (bracket ∷ outer) within inner in
     record {
       stage = Has (unit_of before c);
-      run = guard_more names room _ _ opening (ts ++ closing ∷ []) _ (begins_bracket names room outer either opening before opens (omega arith))
-          (guard_chain names room _ _ ts (closing ∷ []) _ body.run
-          (guard_one names room _ _ closing (behind_bracket names room outer body.either closing bracket body.stage body.conjunction body.stands closes ∙ ap (λ x. Ok (guard_at outer either (Has (unit_of before x)))) body.worth)));
+      run = next (begins_bracket names room outer either opening before opens (omega arith))
+          (onward body.run
+          (one (behind_bracket names room outer body.either closing bracket body.stage body.conjunction body.stands closes ∙ ap (λ x. Ok (guard_at outer either (Has (unit_of before x)))) body.worth)));
       stands = has;
     }
 reads_guard {names} room outer deep (relation {l} t {ts} {us} {rel} {a} {b} left is right) = λ either before.
@@ -238,10 +186,10 @@ reads_guard {names} room outer deep (relation {l} t {ts} {us} {rel} {a} {b} left
     renamed _ _ (ap (λ x. unit_of before (Compare rel a x)) second.worth)
     (record {
       stage = _;
-      run = guard_chain names room _ _ ts (t ∷ us) _ (begun_run names room outer either before first.left first.term ts first.run)
-          (guard_more names room _ _ t us _
+      run = onward (first_run names room outer either before first.left first.term ts first.run)
+          (next
           (ends_first names room outer either t before first.left first.term rel is ∙ ap (λ x. Ok (guard_at outer either (Second (record { before = before; rel = rel; left = x; side = fresh_expr })))) first.worth)
-          (second_run names room outer either before rel a fresh_expr _ us second.run));
+          (second_run names room outer either before rel a _ us second.run));
       stands = half;
     })
 reads_guard {names} room outer deep (lone_unit u) = λ either. reads_guard room outer deep u either nothing_before
@@ -251,7 +199,7 @@ reads_guard {names} room outer deep (conjoined {l} t {ts} {us} {c} {d} front is 
     let second : ReadsUnit names room outer either before us (guards.And c d) = reads_guard room outer deep back either before in
     record {
       stage = second.stage;
-      run = guard_chain names room _ _ ts (t ∷ us) _ first.run (guard_more names room _ _ t us _ (behind_and names room outer either t first.stage c first.stands is) second.run);
+      run = onward first.run (next (behind_and names room outer either t first.stage c first.stands is) second.run);
       stands = second.stands;
     }
 reads_guard {names} room outer deep (lone_conjunction {l} {ts} {c} b) =
@@ -264,8 +212,8 @@ reads_guard {names} room outer deep (disjoined {l} t {ts} {us} {c} {d} front is 
       either = Some c;
       stage = second.stage;
       conjunction = d;
-      run = guard_chain names room _ _ ts (t ∷ us) _ first.run
-          (guard_more names room _ _ t us _ (behind_or names room outer first.either t first.stage first.conjunction first.stands is ∙ ap (λ x. Ok (guard_at outer (Some x) (Wants nothing_before))) first.worth) second.run);
+      run = onward first.run
+          (next (behind_or names room outer first.either t first.stage first.conjunction first.stands is ∙ ap (λ x. Ok (guard_at outer (Some x) (Wants nothing_before))) first.worth) second.run);
       stands = second.stands;
       worth = refl;
     }
@@ -278,7 +226,7 @@ ends_guard end either stage c half = refl
 -- what the tokens of a guard do to a reader that has read nothing; so many levels may be open
 pub record GuardRuns (names : Names) (room : ℕ) (ts : List Token) (c : Cond) : Type 0 where
   pub reader : GuardReader
-  pub run : guard_run names room fresh_guard ts ≡ Ok reader
+  pub run : Leads (guard_steps_in names room) fresh_guard ts reader
   pub ends : (at : ℕ) → guard_value reader at ≡ Ok c
 
 pub guard_runs : {names : Names} {room : ℕ} {ts : List Token} {c : Cond} → SpellsGuard names Either room ts c → GuardRuns names room ts c
@@ -290,4 +238,4 @@ guard_runs {names} {room} {ts} {c} spelled =
 pub guard_spelled : (names : Names) (end : ℕ) (ts : List Token) (c : Cond) → SpellsGuard names Either 16 ts c → guard_read names end fresh_guard ts ≡ Ok c
 guard_spelled names end ts c spelled =
     let r : GuardRuns names 16 ts c = guard_runs spelled in
-    guard_whole names end fresh_guard r.reader ts r.run ∙ r.ends end
+    through (λ n. guard_value n end) r.run ∙ r.ends end

@@ -2,6 +2,8 @@ pub mod ExprText
 pub mod StmtText
 pub mod NumberLaws
 pub mod ReaderLaws
+pub mod Readers
+pub mod CutLaws
 pub mod TextLaws
 pub mod ExprRead
 pub mod NumberSpelled
@@ -11,6 +13,7 @@ pub mod ArgumentRead
 pub mod PhraseRead
 pub mod BlockRead
 pub mod ActRead
+pub mod Nesting
 pub mod ExprHeld
 pub mod GuardHeld
 pub mod ArgumentHeld
@@ -33,6 +36,7 @@ pub mod SendLaws
 pub mod FrontLaws
 pub mod NameLaws
 pub mod SignLaws
+pub mod Written
 pub mod ExprBack
 pub mod GuardBack
 pub mod PhraseBack

@@ -1,5 +1,5 @@
 -- Each token adds at most one `!` to those that wait for a unit.
-use Rattle.std.proofs.Common.{◌≡◌, ◌≤◌, ◌+◌, ◌-◌, ℕ, Bool, true, false, ltb, List, [], ◌∷◌, length, Option, Some, None, Result, Ok, Err, refl, subst, arith, if◌then◌else◌}
+use Rattle.std.proofs.Common.{◌≡◌, ◌≤◌, ◌+◌, ◌-◌, ℕ, ltb, List, [], ◌∷◌, length, Option, Some, None, Result, Ok, Err, refl, subst, arith}
 use Rattle.pssm_acts.specs.declared.act_fault.ActFault.{ActFault}
 use Rattle.pssm_acts.specs.declared.act_fault.ActFault.TheVariants.{Syntax, TooLong}
 use Rattle.pssm_semantics.specs.declared.setting.Names.{Names}
@@ -17,9 +17,9 @@ use Rattle.pssm_acts.specs.declared.guard_reader.Stage.{Stage}
 use Rattle.pssm_acts.specs.declared.guard_reader.Stage.TheVariants.{Wants, First, Second, Has}
 use Rattle.pssm_acts.specs.declared.guard_reader.GuardReader.{GuardReader}
 use Rattle.pssm_acts.specs.Tokens.{Token}
-use Rattle.pssm_acts.specs.ExprReading.{and_then, expr_step, expr_value, fresh_expr}
-use Rattle.pssm_acts.specs.GuardReading.{nothing_before, disjunction_of, unit_of, bracket_opened, side_begun, unit_wanted, in_first, compared, bracket_closed, after_unit, in_second, guard_step, nots_waiting}
-use Rattle.pssm_acts.proofs.AnswerLaws.{read, never_read, read_same}
+use Rattle.pssm_acts.specs.inner.ExprReading.{and_then, expr_step, expr_value, fresh_expr}
+use Rattle.pssm_acts.specs.inner.GuardReading.{nothing_before, disjunction_of, unit_of, bracket_opened, side_begun, unit_wanted, in_first, compared, bracket_closed, after_unit, in_second, guard_step, nots_waiting}
+use Rattle.pssm_acts.proofs.AnswerLaws.{read, never_read, read_same, passed, room_for}
 
 abbrev token_as : ℕ → Kind → List ℕ → Token
 token_as at kind word = record { at = at; kind = kind; word = word }
@@ -40,10 +40,7 @@ after_nots (bracket ∷ outer) waiting c n kinds.CloseBracket at word step = no_
 after_nots outer waiting c n kind at word step = absurd (never_read (Syntax at) n step)
 
 compared_nots : (outer : List Bracket) (waiting : Option Cond) (half : Half) (n : GuardReader) (kind : Kind) (at : ℕ) (word : List ℕ) → and_then (compared half at) (λ c. after_unit outer waiting c (token_as at kind word)) ≡ Ok n → nots_waiting n ≡ 0
-compared_nots outer waiting half n kind at word step = go (compared half at) step where
-  go : (r : Result Cond ActFault) → and_then r (λ c. after_unit outer waiting c (token_as at kind word)) ≡ Ok n → nots_waiting n ≡ 0
-  go (Ok c) is = after_nots outer waiting c n kind at word is
-  go (Err fault) is = absurd (never_read fault n is)
+compared_nots outer waiting half n kind at word step = let it = passed (compared half at) _ n step in after_nots outer waiting it.0 n kind at word it.2
 
 side_nots : (outer : List Bracket) (waiting : Option Cond) (half : Half) (n : GuardReader) (r : Result ExprReader ActFault)
     → and_then r (λ more. Ok (guard_at outer waiting (Second (record { before = half.before; rel = half.rel; left = half.left; side = more })))) ≡ Ok n → nots_waiting n ≡ 0
@@ -75,17 +72,16 @@ first_nots names room outer waiting before side n kind at word step = longer_not
 
 opened_nots : (room : ℕ) (outer : List Bracket) (bracket : Bracket) (n : GuardReader) (at : ℕ) → bracket_opened room outer bracket at ≡ Ok n → nots_waiting n ≡ 0
 unfolding bracket_opened
-opened_nots room outer bracket n at step = go (ltb (length outer) room) step where
-  go : (b : Bool) → (if b then Ok (guard_at (bracket ∷ outer) None (Wants nothing_before)) else Err (TooLong at)) ≡ Ok n → nots_waiting n ≡ 0
-  go true is = no_nots (guard_at (bracket ∷ outer) None (Wants nothing_before)) n refl is
-  go false is = absurd (never_read (TooLong at) n is)
+opened_nots room outer bracket n at step =
+    let opened = guard_at (bracket ∷ outer) None (Wants nothing_before) in
+    let it = room_for (ltb (length outer) room) (Ok opened) (TooLong at) n step in
+    no_nots opened n refl it.1
 
 begun_nots : (names : Names) (room : ℕ) (outer : List Bracket) (waiting : Option Cond) (before : Before) (n : GuardReader) (t : Token) → side_begun names room outer waiting before t ≡ Ok n → nots_waiting n ≡ 0
 unfolding side_begun
-begun_nots names room outer waiting before n t step = go (expr_step names (room - length outer) fresh_expr t) step where
-  go : (r : Result ExprReader ActFault) → and_then r (λ side. Ok (guard_at outer waiting (First before side))) ≡ Ok n → nots_waiting n ≡ 0
-  go (Ok side) is = no_nots (guard_at outer waiting (First before side)) n refl is
-  go (Err fault) is = absurd (never_read fault n is)
+begun_nots names room outer waiting before n t step =
+    let it = passed (expr_step names (room - length outer) fresh_expr t) _ n step in
+    no_nots (guard_at outer waiting (First before it.0)) n refl it.2
 
 none_more : (m k : ℕ) → m ≡ 0 → m ≤ k + 1
 none_more m k is = omega arith

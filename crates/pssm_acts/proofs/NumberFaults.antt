@@ -5,7 +5,7 @@ use Rattle.std.proofs.lemmas.Bool.{eqb-true}
 use Rattle.pssm_acts.specs.declared.act_fault.ActFault.{ActFault}
 use Rattle.pssm_acts.specs.declared.act_fault.ActFault.TheVariants.{Syntax, WideNumber}
 use Rattle.pssm_spelling.specs.Numbers.{is_natural}
-use Rattle.pssm_acts.specs.NumberReading.{natural_read, negative_value, negative_read, number_read}
+use Rattle.pssm_acts.specs.inner.NumberReading.{natural_read, negative_value, negative_read, number_read}
 use Rattle.pssm_acts.specs.Shapes.{IsWritten, natural, negative}
 use Rattle.pssm_acts.proofs.NumberSpelled.{minus_first}
 

@@ -3,7 +3,7 @@ use Rattle.std.proofs.Common.{◌≡◌, ◌≤◌, ℕ, suc, ◌-◌, ◌^◌, 
 use Rattle.std.specs.Str.Parse.{digits_value}
 use Rattle.std.proofs.lemmas.Bool.{lt-ltb}
 use Rattle.pssm_spelling.specs.Numbers.{is_natural}
-use Rattle.pssm_acts.specs.NumberReading.{negative_read}
+use Rattle.pssm_acts.specs.inner.NumberReading.{negative_read}
 
 pub negative_is : (at : ℕ) (ds : List ℕ) (v n : ℕ) (r : ℤ) → is_natural ds ≡ true → v ≡ min (digits_value 10 ds) 18446744073709551615 → (v ≡ 0 → ⊥) → v ≤ 2 ^ 63 → n ≡ v - 1 → r ≡ negsuc n → Ok r ≡ negative_read at ds
 unfolding negative_read

@@ -6,7 +6,7 @@ use Rattle.pssm_spelling.specs.SpellingReading.{is_digit, is_plain}
 use Rattle.std.proofs.lemmas.Bool.{and_parts, lt-ltb, ltb-true, eqb-true}
 use Rattle.pssm_acts.specs.declared.act_fault.ActFault.TheVariants.{Syntax, WideNumber}
 use Rattle.pssm_spelling.specs.Numbers.{is_natural, SpellsNumber, natural, negative}
-use Rattle.pssm_acts.specs.NumberReading.{natural_read, negative_value, negative_read, number_read}
+use Rattle.pssm_acts.specs.inner.NumberReading.{natural_read, negative_value, negative_read, number_read}
 
 -- No digits begin with `-`.
 pub minus_first : (c : ℕ) (cs : List ℕ) → is_natural (c ∷ cs) ≡ true → c ≡ 45 → ⊥

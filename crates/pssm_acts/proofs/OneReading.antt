@@ -1,13 +1,13 @@
 -- Each text is read in one way: what a reading answers for every text, and exactly where the grammar says so, leaves no second answer.
-use Rattle.std.proofs.Common.{◌≡◌, ◌⊎◌, ℕ, inl, inr, [], ◌∷◌, ◌++◌, true, false, List, Result, Ok, Err, refl, ap}
+use Rattle.std.proofs.Common.{◌≡◌, ◌⊎◌, ℕ, inl, inr, [], ◌∷◌, ◌++◌, true, false, List, Result, Ok, Err, refl}
 use Rattle.pssm_acts.specs.declared.act_fault.ActFault.{ActFault}
 use Rattle.pssm_semantics.specs.declared.setting.Names.{Names}
 use Rattle.pssm_semantics.specs.declared.tree.Act.{Act}
 use Rattle.pssm_semantics.specs.declared.tree.Cond.{Cond}
 use Rattle.pssm_acts.specs.ActGrammar.{SpellsAct, SpellsSteps}
-use Rattle.pssm_acts.specs.ActReading.{acts_reading, act_reading, steps_reading}
+use Rattle.pssm_acts.specs.inner.ActReading.{acts_reading, act_reading, steps_reading}
 use Rattle.pssm_acts.specs.Grammar.{Either, SpellsCond}
-use Rattle.pssm_acts.specs.GuardReading.{cond_reading}
+use Rattle.pssm_acts.specs.inner.GuardReading.{cond_reading}
 use Rattle.pssm_acts.specs.OneReading.{HasOneReading}
 use Rattle.pssm_acts.specs.Shapes.{GuardShape, StmtsShape, StepsShape}
 use Rattle.pssm_acts.specs.TextFaults.{TextFault}
@@ -18,7 +18,8 @@ use Rattle.pssm_acts.proofs.CondLaws.{reading_spelled, spelled_reading}
 use Rattle.pssm_acts.proofs.GuardBegins.{failed_first}
 use Rattle.pssm_acts.proofs.RuleLaws.{same_fault, no_fault}
 use Rattle.pssm_acts.proofs.ShapeLaws.{guard_shape, stmts_shape, steps_shape}
-use Rattle.pssm_acts.proofs.TextFaultLaws.{text_fault, text_obeys, passed}
+use Rattle.pssm_acts.proofs.AnswerLaws.{passed}
+use Rattle.pssm_acts.proofs.TextFaultLaws.{text_fault, text_obeys}
 
 -- A reading with one answer, which is what the text spells or the fault that it has.
 one_way : {A : Type 0} (Spells : A → Type 0) (IsFault : ActFault → Type 0) (due : Result A ActFault) → ((a : A) → due ≡ Ok a → Spells a) → ((a : A) → Spells a → due ≡ Ok a)

@@ -22,9 +22,9 @@ use Rattle.pssm_acts.specs.declared.token.Kind.TheVariants as kinds
 use Rattle.pssm_semantics.specs.declared.tree.Expr.{Expr}
 use Rattle.pssm_semantics.specs.declared.tree.Stmt.{Stmt, Assign}
 use Rattle.pssm_acts.specs.Tokens.{Token}
-use Rattle.pssm_acts.specs.ExprReading.{and_then, expr_step, expr_value, fresh_expr}
-use Rattle.pssm_acts.specs.ArgumentReading.{argument_ended, argument_more, argument_closed_in, argument_closed, listed_step, opened_step_by, arguments_step}
-use Rattle.pssm_acts.specs.PhraseReading.{beside, became, value_read, receiver_read, dotted, signal_read, mark_read, named, argued, argument_read, called_ended, phrase_step}
+use Rattle.pssm_acts.specs.inner.ExprReading.{and_then, expr_step, expr_value, fresh_expr}
+use Rattle.pssm_acts.specs.inner.ArgumentReading.{argument_ended, argument_more, argument_closed_in, argument_closed, listed_step, opened_step_by, arguments_step}
+use Rattle.pssm_acts.specs.inner.PhraseReading.{beside, became, value_read, receiver_read, dotted, signal_read, mark_read, named, argued, argument_read, called_ended, phrase_step}
 use Rattle.pssm_acts.specs.ActGrammar.{SpellsArguments}
 use Rattle.pssm_acts.specs.Grammar.{Sum}
 use Rattle.pssm_acts.specs.Shapes.{ExprShape, atom, product, ListShape, one, further, ArgumentsShape, none, some, PhraseShape, assignment, sending, bare_mark, marking, Begins}

@@ -1,5 +1,5 @@
 -- Tokens of the shape of an assignment, a send or a mark are not refused for their shape.
-use Rattle.std.proofs.Common.{◌≡◌, ◌⊎◌, inl, inr, ◌+◌, ◌-◌, ◌<◌, ℕ, Bool, true, false, ltb, List, [], ◌∷◌, ◌++◌, length, Option, Some, None, Result, Ok, Err, refl, sym, ap, ◌∙◌, subst, position, bytes_eq}
+use Rattle.std.proofs.Common.{◌≡◌, ◌⊎◌, inl, inr, ◌+◌, ◌-◌, ◌<◌, ℕ, Bool, true, false, ltb, List, [], ◌∷◌, ◌++◌, length, Option, Some, None, Ok, Err, refl, sym, ap, ◌∙◌, subst, position, bytes_eq}
 use Rattle.std.proofs.lemmas.Bool.{ltb-true}
 use Rattle.pssm_model.specs.declared.ids.SignalId.{SignalId}
 use Rattle.pssm_acts.specs.declared.act_fault.ActFault.{ActFault}
@@ -15,7 +15,6 @@ use Rattle.pssm_acts.specs.declared.expr_reader.Place.{Place}
 use Rattle.pssm_acts.specs.declared.expr_reader.Place.TheVariants.{Wants, Has}
 use Rattle.pssm_acts.specs.declared.phrase_reader.Call.{Call}
 use Rattle.pssm_acts.specs.declared.phrase_reader.Call.TheVariants as calls
-use Rattle.pssm_acts.specs.declared.phrase_reader.Phrase.{Phrase}
 use Rattle.pssm_acts.specs.declared.phrase_reader.Phrase.TheVariants.{Variable, Value, Receiver, Dotted, Named, Whole}
 use Rattle.pssm_acts.specs.declared.phrase_reader.Phrase.TheVariants as phrases
 use Rattle.pssm_acts.specs.declared.phrase_reader.Phrased.TheVariants.{Goes}
@@ -26,9 +25,9 @@ use Rattle.pssm_semantics.specs.declared.tree.Act.{Act}
 use Rattle.pssm_semantics.specs.declared.tree.Stmt.{Stmt, Assign, Mark}
 use Rattle.pssm_acts.specs.Tokens.{Token}
 use Rattle.pssm_acts.specs.Marks.{mark_of, with_mark}
-use Rattle.pssm_acts.specs.ExprReading.{and_then, sum_of, at_atom, atom_of, after_atom, expr_step, fresh_expr}
-use Rattle.pssm_acts.specs.PhraseReading.{beside, signal_count, phrase_begun, value_read, receiver_read, signal_read, phrase_step}
-use Rattle.pssm_acts.specs.ActReading.{at_turn, with_statement, statement_counted, begun_at, phrased, phrase_read, acts_step}
+use Rattle.pssm_acts.specs.inner.ExprReading.{and_then, sum_of, at_atom, atom_of, after_atom, expr_step, fresh_expr}
+use Rattle.pssm_acts.specs.inner.PhraseReading.{beside, signal_count, phrase_begun, value_read, receiver_read, signal_read, phrase_step}
+use Rattle.pssm_acts.specs.inner.ActReading.{ActsState, acts_steps_in, at_turn, statement_counted, begun_at, phrased, phrase_read, acts_step}
 use Rattle.pssm_acts.specs.ActGrammar.{object, running}
 use Rattle.pssm_acts.specs.Grammar.{Sum}
 use Rattle.pssm_acts.specs.Shapes.{ExprShape, ArgumentsShape, PhraseShape, assignment, sending, bare_mark, marking}
@@ -37,7 +36,7 @@ use Rattle.pssm_acts.proofs.ArgumentRead.{within}
 use Rattle.pssm_acts.proofs.PhraseRead.{Standing, begins, IsNoElse, stands_step, taken, counted, assignment_begins, send_begins, mark_begins, value_goes, behind_variable, behind_value, behind_send, behind_receiver, behind_dot, behind_mark, behind_bare, behind_arguments}
 use Rattle.pssm_acts.proofs.BlockRead.{blocks_at}
 use Rattle.pssm_acts.proofs.Fares.{IsOther, Fares, arrives, goes, stops, Among, fares_to, fares_part, sum_read, expr_fares}
-use Rattle.pssm_acts.proofs.ArgumentFares.{ActsState, acts_steps_in, arguments_fares}
+use Rattle.pssm_acts.proofs.ArgumentFares.{arguments_fares}
 
 -- statements have been read, in these blocks and behind these steps
 pub record StmtsRead (earlier : List Act) (outer : List OpenIf) : Type 0 where

@@ -24,12 +24,12 @@ use Rattle.pssm_acts.specs.declared.token.Kind.TheVariants as kinds
 use Rattle.pssm_semantics.specs.declared.tree.Expr.{Expr}
 use Rattle.pssm_semantics.specs.declared.tree.Stmt.{Stmt, Assign, Send, Mark}
 use Rattle.pssm_acts.specs.ActGrammar.{SpellsArguments, NamesReceiver, object, running, SpellsPhrase, assignment, sending, bare_mark, marking}
-use Rattle.pssm_acts.specs.ArgumentReading.{arguments_step}
-use Rattle.pssm_acts.specs.ExprReading.{and_then, expr_step, expr_value, fresh_expr}
+use Rattle.pssm_acts.specs.inner.ArgumentReading.{arguments_step}
+use Rattle.pssm_acts.specs.inner.ExprReading.{expr_step, expr_value, fresh_expr}
 use Rattle.pssm_acts.specs.Marks.{mark_of, with_mark}
-use Rattle.pssm_acts.specs.PhraseReading.{beside, signal_count, signal_found, variable_begun, phrase_begun, became, value_read, object_read, receiver_read, dotted, signal_named, signal_read, mark_read, named, call_made, argued, argument_read, called_ended, phrase_step}
+use Rattle.pssm_acts.specs.inner.PhraseReading.{beside, signal_count, signal_found, variable_begun, phrase_begun, became, value_read, object_read, receiver_read, dotted, signal_named, signal_read, mark_read, named, call_made, argued, argument_read, called_ended, phrase_step}
 use Rattle.pssm_acts.specs.Tokens.{Token}
-use Rattle.pssm_acts.proofs.AnswerLaws.{never_read, read_same}
+use Rattle.pssm_acts.proofs.AnswerLaws.{never_read, read_same, passed}
 use Rattle.pssm_acts.proofs.ExprHeld.{ExprHeld, token_as, expr_more, expr_whole, expr_start}
 use Rattle.pssm_acts.proofs.ArgumentHeld.{ArguedHeld, arguments_held}
 use Rattle.pssm_acts.proofs.PhraseTokens.{VariableHeld, ValueHeld, WordHeld, ReceiverHeld, DottedHeld, SendHeld, MarkHeld, CallHeld, CalledHeld, PhraseHeld, PhrasedHeld}
@@ -67,25 +67,21 @@ module _ (names : Names) (noted : List (List ℕ)) (l : ℕ) where
   value_held : (x : ℕ) (reader : ExprReader) (n : Phrased) (ts : List Token) (kind : Kind) (at : ℕ) (word : List ℕ) → value_read names l x reader (token_as at kind word) ≡ Ok n → ValueHeld names l x reader ts
       → PhrasedHeld names noted l n (ts ++ token_as at kind word ∷ []) noted
   unfolding value_read
-  value_held x reader n ts kinds.Semicolon at word step h = go (expr_value reader at) refl step where
-    go : (r : Result Expr ActFault) → expr_value reader at ≡ r → and_then r (λ e. Ok (Ends (Assign x e))) ≡ Ok n → PhrasedHeld names noted l n (ts ++ token_as at kinds.Semicolon word ∷ []) noted
-    go (Ok e) value is =
-        let t = token_as at kinds.Semicolon word in
-        let same = read_same (Ends (Assign x e)) n is in
-        let spelled : SpellsPhrase names noted l (h.variable ∷ h.becomes ∷ (h.us ++ t ∷ [])) (Assign x e) noted = assignment t h.is h.found h.assigns (expr_whole names l reader at h.us e value h.held) refl in
-        let held : PhrasedHeld names noted l (Ends (Assign x e)) (ts ++ t ∷ []) noted = subst (λ xs. SpellsPhrase names noted l xs (Assign x e) noted) (sym (ap (λ xs. xs ++ t ∷ []) h.whole)) spelled in
-        subst (λ p. PhrasedHeld names noted l p (ts ++ t ∷ []) noted) same held
-    go (Err fault) value is = absurd (never_read _ _ is)
-  value_held x reader n ts kind at word step h = go (expr_step names l reader (token_as at kind word)) refl step where
-    go : (r : Result ExprReader ActFault) → expr_step names l reader (token_as at kind word) ≡ r → and_then r (λ more. Ok (Goes (Value x more))) ≡ Ok n → PhrasedHeld names noted l n (ts ++ token_as at kind word ∷ []) noted
-    go (Ok more) e is =
-        let t = token_as at kind word in
-        let same = read_same (Goes (Value x more)) n is in
-        let read : ExprHeld names l more (h.us ++ t ∷ []) = expr_more names l reader.outer reader.left reader.place more h.us kind at word e h.held in
-        let held : PhrasedHeld names noted l (Goes (Value x more)) (ts ++ t ∷ []) noted =
-        (record { variable = h.variable; becomes = h.becomes; us = h.us ++ t ∷ []; is = h.is; found = h.found; assigns = h.assigns; held = read; whole = ap (λ xs. xs ++ t ∷ []) h.whole }, refl) in
-        subst (λ p. PhrasedHeld names noted l p (ts ++ t ∷ []) noted) same held
-    go (Err fault) e is = absurd (never_read _ _ is)
+  value_held x reader n ts kinds.Semicolon at word step h =
+      let it = passed (expr_value reader at) (λ e. Ok (Ends (Assign x e))) n step in
+      let t = token_as at kinds.Semicolon word in
+      let same = read_same (Ends (Assign x it.0)) n it.2 in
+      let spelled : SpellsPhrase names noted l (h.variable ∷ h.becomes ∷ (h.us ++ t ∷ [])) (Assign x it.0) noted = assignment t h.is h.found h.assigns (expr_whole names l reader at h.us it.0 it.1 h.held) refl in
+      let held : PhrasedHeld names noted l (Ends (Assign x it.0)) (ts ++ t ∷ []) noted = subst (λ xs. SpellsPhrase names noted l xs (Assign x it.0) noted) (sym (ap (λ xs. xs ++ t ∷ []) h.whole)) spelled in
+      subst (λ p. PhrasedHeld names noted l p (ts ++ t ∷ []) noted) same held
+  value_held x reader n ts kind at word step h =
+      let it = passed (expr_step names l reader (token_as at kind word)) (λ more. Ok (Goes (Value x more))) n step in
+      let t = token_as at kind word in
+      let same = read_same (Goes (Value x it.0)) n it.2 in
+      let read : ExprHeld names l it.0 (h.us ++ t ∷ []) = expr_more names l reader.outer reader.left reader.place it.0 h.us kind at word it.1 h.held in
+      let held : PhrasedHeld names noted l (Goes (Value x it.0)) (ts ++ t ∷ []) noted =
+      (record { variable = h.variable; becomes = h.becomes; us = h.us ++ t ∷ []; is = h.is; found = h.found; assigns = h.assigns; held = read; whole = ap (λ xs. xs ++ t ∷ []) h.whole }, refl) in
+      subst (λ p. PhrasedHeld names noted l p (ts ++ t ∷ []) noted) same held
 
   -- the object to which a signal is sent
   received : (to : Option ObjectId) (ts : List Token) (t : Token) → NamesReceiver names t to → WordHeld kinds.Send ts → PhrasedHeld names noted l (Goes (Receiver to)) (ts ++ t ∷ []) noted
@@ -208,25 +204,21 @@ module _ (names : Names) (noted : List (List ℕ)) (l : ℕ) where
       let same = read_same (Goes (Called call args)) n step in
       let all : CalledHeld names noted l call args ts marks = record { front = front; opening = opening; us = us; calls = h; opens = opens; deep = deep; held = held; whole = whole } in
       subst (λ p. PhrasedHeld names noted l p ts marks) same all
-  argued_held call n ts front us marks opening at (arguments.Ends args) step h opens deep whole held = go (call_made call args at) refl step where
-    go : (r : Result Stmt ActFault) → call_made call args at ≡ r → and_then r (λ s. Ok (Goes (Whole s))) ≡ Ok n → PhrasedHeld names noted l n ts marks
-    go (Ok s) e is =
-        let same = read_same (Goes (Whole s)) n is in
-        let level : suc (l - 1) ≡ l = omega arith in
-        let spelled : SpellsArguments names l (opening ∷ us) args = subst (λ x. SpellsArguments names x (opening ∷ us) args) level (held opening opens) in
-        let all : PhrasedHeld names noted l (Goes (Whole s)) (front ++ opening ∷ us) marks = made call args s at front (opening ∷ us) marks e h spelled in
-        subst (λ p. PhrasedHeld names noted l p ts marks) same (subst (λ xs. PhrasedHeld names noted l (Goes (Whole s)) xs marks) (sym whole) all)
-    go (Err fault) e is = absurd (never_read _ _ is)
+  argued_held call n ts front us marks opening at (arguments.Ends args) step h opens deep whole held =
+      let it = passed (call_made call args at) (λ s. Ok (Goes (Whole s))) n step in
+      let same = read_same (Goes (Whole it.0)) n it.2 in
+      let level : suc (l - 1) ≡ l = omega arith in
+      let spelled : SpellsArguments names l (opening ∷ us) args = subst (λ x. SpellsArguments names x (opening ∷ us) args) level (held opening opens) in
+      let all : PhrasedHeld names noted l (Goes (Whole it.0)) (front ++ opening ∷ us) marks = made call args it.0 at front (opening ∷ us) marks it.1 h spelled in
+      subst (λ p. PhrasedHeld names noted l p ts marks) same (subst (λ xs. PhrasedHeld names noted l (Goes (Whole it.0)) xs marks) (sym whole) all)
 
   called_held : (call : Call) (args : Arguments) (n : Phrased) (ts : List Token) (marks : List (List ℕ)) (t : Token) → argument_read names (l - 1) call args t ≡ Ok n → CalledHeld names noted l call args ts marks
       → PhrasedHeld names noted l n (ts ++ t ∷ []) marks
   unfolding argument_read
-  called_held call args n ts marks t step h = go (arguments_step names (l - 1) args t) refl step where
-    go : (r : Result Argued ActFault) → arguments_step names (l - 1) args t ≡ r → and_then r (λ a. argued call a t.at) ≡ Ok n → PhrasedHeld names noted l n (ts ++ t ∷ []) marks
-    go (Ok a) e is =
-        let held : ArguedHeld names (l - 1) a (h.us ++ t ∷ []) = arguments_held names (l - 1) args a h.us t e h.held in
-        argued_held call n (ts ++ t ∷ []) h.front (h.us ++ t ∷ []) marks h.opening t.at a is h.calls h.opens h.deep (ap (λ xs. xs ++ t ∷ []) h.whole ∙ append_assoc h.front (h.opening ∷ h.us) (t ∷ [])) held
-    go (Err fault) e is = absurd (never_read _ _ is)
+  called_held call args n ts marks t step h =
+      let it = passed (arguments_step names (l - 1) args t) (λ a. argued call a t.at) n step in
+      let held : ArguedHeld names (l - 1) it.0 (h.us ++ t ∷ []) = arguments_held names (l - 1) args it.0 h.us t it.1 h.held in
+      argued_held call n (ts ++ t ∷ []) h.front (h.us ++ t ∷ []) marks h.opening t.at it.0 it.2 h.calls h.opens h.deep (ap (λ xs. xs ++ t ∷ []) h.whole ∙ append_assoc h.front (h.opening ∷ h.us) (t ∷ [])) held
 
   ended_held : (s : Stmt) (n : Phrased) (ts : List Token) (marks : List (List ℕ)) (kind : Kind) (at : ℕ) (word : List ℕ) → called_ended s (token_as at kind word) ≡ Ok n → PhraseHeld names noted l (Whole s) ts marks
       → PhrasedHeld names noted l n (ts ++ token_as at kind word ∷ []) marks

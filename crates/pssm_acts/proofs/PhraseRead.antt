@@ -24,12 +24,14 @@ use Rattle.pssm_semantics.specs.declared.tree.Expr.{Expr}
 use Rattle.pssm_semantics.specs.declared.tree.Stmt.{Stmt, Assign, Send, Mark}
 use Rattle.pssm_acts.specs.Tokens.{Token}
 use Rattle.pssm_acts.specs.Marks.{mark_of, with_mark}
-use Rattle.pssm_acts.specs.ExprReading.{and_then, sum_of, at_atom, atom_of, after_atom, expr_step, expr_value, fresh_expr}
-use Rattle.pssm_acts.specs.PhraseReading.{beside, signal_count, phrase_begun, became, value_read, receiver_read, dotted, signal_read, mark_read, named, call_made, called_ended, phrase_step}
-use Rattle.pssm_acts.specs.ActReading.{at_turn, with_statement, without_else, statement_counted, begun_at, after_choice, phrased, phrase_read, acts_step}
+use Rattle.pssm_acts.specs.inner.ExprReading.{and_then, sum_of, at_atom, atom_of, after_atom, expr_step, expr_value, fresh_expr}
+use Rattle.pssm_acts.specs.inner.PhraseReading.{beside, signal_count, phrase_begun, became, value_read, receiver_read, dotted, signal_read, mark_read, named, call_made, called_ended, phrase_step}
+use Rattle.pssm_acts.specs.inner.ActReading.{at_turn, with_statement, without_else, statement_counted, begun_at, after_choice, phrased, phrase_read, acts_step}
 use Rattle.pssm_acts.specs.ActGrammar.{NamesReceiver, object, running, SpellsPhrase, assignment, sending, bare_mark, marking}
 use Rattle.pssm_acts.proofs.ExprRead.{reader_at, ReadsSum, reads}
-use Rattle.pssm_acts.proofs.ActRun.{Runs, next, one, onward, all_of_expr}
+use Rattle.pssm_acts.proofs.ActRun.{Runs}
+use Rattle.pssm_acts.proofs.Readers.{next, one, onward}
+use Rattle.pssm_acts.proofs.Readers as runs
 use Rattle.pssm_acts.proofs.ArgumentRead.{within, reads_arguments}
 
 -- Statements are whole, perhaps with an `if` at their end that `else` may still follow.
@@ -135,8 +137,7 @@ value_run {names} {ts} {e} stepped marks blocks x semicolon r ends =
     let last : ExprReader = reader_at [] r.left (Has r.term) in
     let behind : acts_step names stepped marks (within blocks (Value x last)) semicolon ≡ Ok (at_turn (with_statement blocks (Assign x e)) Begins, marks) =
     behind_value names stepped marks blocks semicolon x r.left r.term ends ∙ ap (λ v. Ok (at_turn (with_statement blocks (Assign x v)) Begins, marks)) r.worth in
-    onward (all_of_expr names stepped marks (16 - length blocks.outer) (λ m. within blocks (Value x m))
-    (λ r n t step. value_goes names stepped marks blocks x r.outer r.left r.place n t.kind t.at t.word step) fresh_expr last ts r.run) (one behind)
+    onward (runs.within (λ m. (within blocks (Value x m), marks)) (λ r n t step. value_goes names stepped marks blocks x r.outer r.left r.place n t.kind t.at t.word step) r.run) (one behind)
 
 -- The tokens of an assignment, a send or a mark, where a statement may begin and there may be one more, make it the last of the statements.
 pub reads_phrase : {names : Names} {marks : List (List ℕ)} {l : ℕ} {ts : List Token} {s : Stmt} {noted : List (List ℕ)} (stepped : Bool) (n : ActsReader) (blocks : Blocks) → Standing n blocks → blocks.begun < 64

@@ -17,7 +17,7 @@ use Rattle.pssm_acts.specs.declared.token.Kind.{Kind}
 use Rattle.pssm_acts.specs.declared.token.Kind.TheVariants as kinds
 use Rattle.pssm_acts.specs.ActGrammar.{NamesReceiver, SpellsPhrase}
 use Rattle.pssm_acts.specs.Marks.{mark_of, with_mark}
-use Rattle.pssm_acts.specs.PhraseReading.{signal_count}
+use Rattle.pssm_acts.specs.inner.PhraseReading.{signal_count}
 use Rattle.pssm_acts.specs.Tokens.{Token}
 use Rattle.pssm_acts.proofs.ExprHeld.{ExprHeld}
 use Rattle.pssm_acts.proofs.ArgumentHeld.{ArgumentsHeld}

@@ -6,8 +6,8 @@ use Rattle.pssm_semantics.specs.declared.entry.ObjectId.{ObjectId}
 use Rattle.pssm_semantics.specs.declared.setting.Names.{Names}
 use Rattle.pssm_acts.specs.declared.token.Kind.TheVariants as kinds
 use Rattle.pssm_acts.specs.Tokens.{Token}
-use Rattle.pssm_acts.specs.ExprReading.{atom_of}
-use Rattle.pssm_acts.specs.PhraseReading.{phrase_begun, receiver_read, signal_found, signal_named, signal_read}
+use Rattle.pssm_acts.specs.inner.ExprReading.{atom_of}
+use Rattle.pssm_acts.specs.inner.PhraseReading.{phrase_begun, receiver_read, signal_found, signal_named, signal_read}
 
 pub atom_unknown : (names : Names) (t : Token) → t.kind ≡ kinds.Name → position (λ n. bytes_eq n t.word) names.vars ≡ None → Err (UnknownName t.at) ≡ atom_of names t
 unfolding atom_of

@@ -1,5 +1,5 @@
 -- What is read with names whose signals have at most eight parameters may be run.
-use Rattle.std.proofs.Common.{◌≡◌, ◌≤◌, ℕ, List, Option, Some, None, All, length, slice_get, subst, sym, refl, arith}
+use Rattle.std.proofs.Common.{◌≡◌, ◌≤◌, ℕ, List, Option, Some, None, All, slice_get, subst, sym, refl, arith}
 use Rattle.std.specs.Option.{option_map_or}
 use Rattle.std.proofs.lemmas.Option.{get_or_from_slice_get, slice_get_within}
 use Rattle.std.proofs.lemmas.List.Elements.{All-get_or}
@@ -8,7 +8,7 @@ use Rattle.pssm_semantics.specs.declared.setting.Names.{Names}
 use Rattle.pssm_semantics.specs.declared.tree.Act.{Act}
 use Rattle.pssm_semantics.specs.Arguments.{ActArgsFit}
 use Rattle.pssm_semantics.specs.Fits.{ActFits}
-use Rattle.pssm_acts.specs.PhraseReading.{signal_count}
+use Rattle.pssm_acts.specs.inner.PhraseReading.{signal_count}
 use Rattle.pssm_acts.specs.Vocabularies.{vocabulary}
 use Rattle.pssm_semantics.proofs.ArgumentLaws.{ActFits-args}
 

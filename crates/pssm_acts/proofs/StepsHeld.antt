@@ -13,7 +13,7 @@ use Rattle.pssm_acts.specs.declared.token.Kind.TheVariants as kinds
 use Rattle.pssm_semantics.specs.declared.tree.Act.{Act}
 use Rattle.pssm_semantics.specs.declared.tree.Stmt.{Stmt}
 use Rattle.pssm_acts.specs.ActGrammar.{SpellsBehaviour, SpellsBehaviours, first, step}
-use Rattle.pssm_acts.specs.ActReading.{fresh_blocks}
+use Rattle.pssm_acts.specs.inner.ActReading.{fresh_blocks}
 use Rattle.pssm_acts.specs.Tokens.{Token}
 use Rattle.pssm_acts.proofs.GuardHeld.{Held}
 use Rattle.pssm_acts.proofs.PhraseTokens.{PhraseHeld}

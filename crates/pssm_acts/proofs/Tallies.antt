@@ -6,9 +6,9 @@ use Rattle.pssm_acts.specs.declared.act_fault.ActFault.TheVariants.{Syntax, Unkn
 use Rattle.pssm_semantics.specs.declared.setting.Names.{Names}
 use Rattle.pssm_acts.specs.declared.token.Kind.{Kind}
 use Rattle.pssm_acts.specs.declared.token.Kind.TheVariants as kinds
-use Rattle.pssm_acts.specs.ExprReading.{and_then}
+use Rattle.pssm_acts.specs.inner.ExprReading.{and_then}
 use Rattle.pssm_spelling.specs.Numbers.{SpellsNumber}
-use Rattle.pssm_acts.specs.TextFaults.{Place, Statement, Mark, Operand, place_behind, place, IsUnknown, IsOpening, levels_behind, open_levels, begun_behind, statements_begun, BeginsStatement, steps_behind, steps_ended}
+use Rattle.pssm_acts.specs.TextFaults.{Place, Statement, Operand, place_behind, place, IsUnknown, IsOpening, levels_behind, open_levels, begun_behind, statements_begun, BeginsStatement, steps_behind, steps_ended}
 use Rattle.pssm_acts.specs.Tokens.{Token}
 
 -- what tokens come to: the place behind them, the levels that are open, the statements that have begun, and the steps that have ended
@@ -131,21 +131,21 @@ IsFaultOf NoMemory Wrong names t c = ⊥
 -- ---- what a step says
 
 -- The step leads to such a state, or its fault is one of the token.
-abbrev pub Told : {A : Type 0} → (A → Type 0) → Type 0 → Names → Token → Tally → Result A ActFault → Type 0
-Told IsNext Wrong names t c (Ok a) = IsNext a
-Told IsNext Wrong names t c (Err fault) = IsFaultOf fault Wrong names t c
+abbrev pub KnownSignals : {A : Type 0} → (A → Type 0) → Type 0 → Names → Token → Tally → Result A ActFault → Type 0
+KnownSignals IsNext Wrong names t c (Ok a) = IsNext a
+KnownSignals IsNext Wrong names t c (Err fault) = IsFaultOf fault Wrong names t c
 
 module _ (Wrong : Type 0) (names : Names) (t : Token) (c : Tally) where
-  pub told_then : {A B : Type 0} (IsNext : A → Type 0) (IsLast : B → Type 0) (x : Result A ActFault) (f : A → Result B ActFault) → Told IsNext Wrong names t c x → ((a : A) → IsNext a → Told IsLast Wrong names t c (f a))
-      → Told IsLast Wrong names t c (and_then x f)
+  pub told_then : {A B : Type 0} (IsNext : A → Type 0) (IsLast : B → Type 0) (x : Result A ActFault) (f : A → Result B ActFault) → KnownSignals IsNext Wrong names t c x → ((a : A) → IsNext a → KnownSignals IsLast Wrong names t c (f a))
+      → KnownSignals IsLast Wrong names t c (and_then x f)
   told_then IsNext IsLast (Ok a) f first after = after a first
   told_then IsNext IsLast (Err fault) f first after = first
 
-  pub told_from : {A B : Type 0} (IsNext : A → Type 0) (IsLast : B → Type 0) (x : Result A ActFault) (f : A → Result B ActFault) → Told IsNext Wrong names t c x → ((a : A) → x ≡ Ok a → IsNext a → Told IsLast Wrong names t c (f a))
-      → Told IsLast Wrong names t c (and_then x f)
+  pub told_from : {A B : Type 0} (IsNext : A → Type 0) (IsLast : B → Type 0) (x : Result A ActFault) (f : A → Result B ActFault) → KnownSignals IsNext Wrong names t c x → ((a : A) → x ≡ Ok a → IsNext a → KnownSignals IsLast Wrong names t c (f a))
+      → KnownSignals IsLast Wrong names t c (and_then x f)
   told_from IsNext IsLast (Ok a) f first after = after a refl first
   told_from IsNext IsLast (Err fault) f first after = first
 
-  pub told_if : {A : Type 0} (IsNext : A → Type 0) (b : Bool) (x y : Result A ActFault) → (b ≡ true → Told IsNext Wrong names t c x) → (b ≡ false → Told IsNext Wrong names t c y) → Told IsNext Wrong names t c (if b then x else y)
+  pub told_if : {A : Type 0} (IsNext : A → Type 0) (b : Bool) (x y : Result A ActFault) → (b ≡ true → KnownSignals IsNext Wrong names t c x) → (b ≡ false → KnownSignals IsNext Wrong names t c y) → KnownSignals IsNext Wrong names t c (if b then x else y)
   told_if IsNext true x y first second = first refl
   told_if IsNext false x y first second = second refl

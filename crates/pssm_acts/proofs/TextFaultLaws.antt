@@ -1,6 +1,5 @@
 -- A text of behaviours that is refused has the fault that its tokens tell.
 use Rattle.std.proofs.Common.{◌≡◌, ◌≤◌, ℕ, Bool, true, false, ltb, List, [], ◌∷◌, ◌++◌, length, Result, Ok, Err, Vec, refl, sym, ap, ◌∙◌, subst, append_assoc, arith, if◌then◌else◌}
-use Rattle.std.proofs.lemmas.List.{append-nil}
 use Rattle.std.proofs.lemmas.Bool.{ltb-true, ltb-false}
 use Rattle.std.specs.declared.alloc.Global.{Global}
 use Rattle.pssm_acts.specs.declared.act_fault.ActFault.{ActFault}
@@ -16,31 +15,30 @@ use Rattle.pssm_acts.specs.declared.token.Kind.{Kind}
 use Rattle.pssm_acts.specs.declared.token.Kind.TheVariants as kinds
 use Rattle.pssm_semantics.specs.declared.tree.Act.{Act}
 use Rattle.pssm_acts.specs.Tokens.{Token, tokens_of}
-use Rattle.pssm_acts.specs.ExprReading.{and_then}
-use Rattle.pssm_acts.specs.PhraseReading.{beside}
-use Rattle.pssm_acts.specs.ActReading.{fresh_acts, acts_step, whole_acts_in, whole_acts, acts_value, acts_read, text_acts, acts_reading, act_reading, steps_reading}
+use Rattle.pssm_acts.specs.inner.ActReading.{ActsState, acts_steps_in, fresh_acts, acts_step, whole_acts_in, whole_acts, acts_value, acts_worth, text_acts, acts_reading, act_reading, steps_reading}
 use Rattle.pssm_acts.specs.Answers.{Answers, AnswersWith, Faults}
 use Rattle.pssm_acts.specs.Shapes.{StmtsShape, StepsShape}
 use Rattle.pssm_acts.specs.Shapes as shapes
 use Rattle.pssm_acts.specs.TextFaults.{place_behind, Breaks, unknown, wide, sent, marked, level, statement, Obeys, TextFault, long, early}
 use Rattle.pssm_acts.specs.TextFaults as rules
-use Rattle.pssm_acts.proofs.ActRun.{Runs, done, next, one, onward}
+use Rattle.pssm_acts.proofs.ActRun.{Runs}
+use Rattle.pssm_acts.proofs.AnswerLaws.{passed, not_past}
+use Rattle.pssm_acts.proofs.Readers.{Leads, done, one, onward, first_of, parted, kept, Outcome, at_token, at_end, outcome, to_the_end}
 use Rattle.pssm_acts.proofs.ActRead.{whole_value}
 use Rattle.pssm_acts.proofs.ActLaws.{act_answers_spelled, steps_answers_spelled}
-use Rattle.pssm_acts.proofs.ArgumentCounts.{tail_of, parted, sent_taken, marked_taken, miscounts_breaks}
+use Rattle.pssm_acts.proofs.ArgumentCounts.{sent_taken, marked_taken, miscounts_breaks}
 use Rattle.pssm_acts.proofs.ActsTold.{turn_place, state_tally, IsProperState, ActsNext, MiscountsAt, acts_told}
 use Rattle.pssm_acts.proofs.BlockCounts.{IsLone}
 use Rattle.pssm_acts.proofs.StepsHeld.{ReaderHeld}
 use Rattle.pssm_acts.proofs.ActsHeld.{turn_held, start_held}
 use Rattle.pssm_acts.proofs.GuardBegins.{failed_first}
 use Rattle.pssm_acts.proofs.Fares.{IsOther, Fares, fares_as}
-use Rattle.pssm_acts.proofs.FareLaws.{fares_other, fares_end, fares_from}
-use Rattle.pssm_acts.proofs.ArgumentFares.{ActsState, acts_steps_in}
+use Rattle.pssm_acts.proofs.FareLaws.{fares_other, fares_from, fares_whole}
 use Rattle.pssm_acts.proofs.BlockFares.{steps_fares, behaviour_fares}
 use Rattle.pssm_acts.proofs.BlockBegins.{reader_begins, reader_other}
 use Rattle.pssm_acts.proofs.RuleLaws.{obeys_none, obeys_more, fits_breaks, fault_breaks, Fails, misplaced_there, broken_there, fails_text, same_fault, no_fault}
 use Rattle.pssm_acts.proofs.ShapeLaws.{ShapeOf, stmts_shape, steps_shape}
-use Rattle.pssm_acts.proofs.Tallies.{tally, tally_behind, Fits, IsFaultOf, Told, tally_none, tally_more}
+use Rattle.pssm_acts.proofs.Tallies.{tally, tally_behind, Fits, IsFaultOf, KnownSignals, tally_none, tally_more}
 
 -- ---- the shape
 
@@ -72,21 +70,16 @@ goes_no_further names stepped start before t r marks fault run step b =
 
 -- A text that ends too early has not the shape.
 ends_early : (names : Names) (stepped : Bool) (start : List (List ℕ)) (end : ℕ) (ts : List Token) (r : ActsReader) (marks : List (List ℕ)) (fault : ActFault) → Runs names stepped start fresh_acts ts marks r → acts_value r end ≡ Err fault → ShapeOf stepped ts → ⊥
-ends_early names stepped start end ts r marks fault run e shape =
-    let all = subst (λ x. Fares (acts_steps_in names stepped) Ended (fresh_acts, start) x) (sym (append-nil ts)) (shape_fares names stepped start ts shape) in
-    let last = fares_end refl (fares_from Ended [] run all) end in
-    let is = last.1 in
-    absurd cc
+ends_early names stepped start end ts r marks fault run e shape = let last = fares_whole Ended run (shape_fares names stepped start ts shape) end in let is = last.1 in absurd cc
 
 -- ---- what a run tells
 
 -- what a step tells that succeeds
 taken_tells : (names : Names) (stepped : Bool) (marks : List (List ℕ)) (r : ActsReader) (t : Token) (n : ActsReader × List (List ℕ)) → IsProperState r → acts_step names stepped marks r t ≡ Ok n → ActsNext t.kind names t.word (state_tally r) n.0
-taken_tells names stepped marks r t n some step = subst (λ x. Told (λ (m : ActsReader × List (List ℕ)). ActsNext t.kind names t.word (state_tally r) m.0) (MiscountsAt r.turn names r.blocks t) names t (state_tally r) x) step (acts_told names stepped marks r t some)
+taken_tells names stepped marks r t n some step = subst (λ x. KnownSignals (λ (m : ActsReader × List (List ℕ)). ActsNext t.kind names t.word (state_tally r) m.0) (MiscountsAt r.turn names r.blocks t) names t (state_tally r) x) step (acts_told names stepped marks r t some)
 
-run_proper : {names : Names} {stepped : Bool} {marks noted : List (List ℕ)} {r n : ActsReader} {ts : List Token} → Runs names stepped marks r ts noted n → IsProperState r → IsProperState n
-run_proper done some = some
-run_proper {names} {stepped} (next {marks} {noted} {more} {r} {m} {n} {t} {ts} step rest) some = let told = taken_tells names stepped marks r t (m, noted) some step in run_proper rest told.2
+run_proper : (names : Names) (stepped : Bool) {marks noted : List (List ℕ)} {r n : ActsReader} {ts : List Token} → Runs names stepped marks r ts noted n → IsProperState r → IsProperState n
+run_proper names stepped run some = kept (λ (s : ActsState) ts. IsProperState s.0) (λ s n us t step some'. let told = taken_tells names stepped s.1 s.0 t n some' step in told.2) [] run some
 
 -- behind a token that is taken a name has the place behind it
 place_taken : (names : Names) (stepped : Bool) (marks noted : List (List ℕ)) (r n : ActsReader) (t : Token) (kind : Kind) → t.kind ≡ kind → IsProperState r → acts_step names stepped marks r t ≡ Ok (n, noted) → turn_place n.turn ≡ place_behind kind
@@ -104,12 +97,12 @@ counts_right names stepped start marks before t n run is (statement begins many)
 counts_right names stepped start marks before t n run is (rules.step steps late) = absurd cc
 counts_right names stepped start marks before t n run is (sent earlier us dot name e dots names' found spelled wrong) =
     let p = parted earlier (dot ∷ name ∷ us) (subst (λ x. Runs names stepped start fresh_acts x marks n) e run) in
-    let it = tail_of dot (name ∷ us) (dot ∷ name ∷ us) refl p.back in
-    wrong (sent_taken name (place_taken names stepped p.between it.1 p.reader it.0 dot kinds.Dot dots (run_proper p.front tt) it.2) it.3 names' found spelled)
+    let it = first_of dot (name ∷ us) refl p.2 in
+    wrong (sent_taken names stepped name (place_taken names stepped p.0.1 it.0.1 p.0.0 it.0.0 dot kinds.Dot dots (run_proper names stepped p.1 tt) it.1) it.2 names' found spelled)
 counts_right names stepped start marks before t n run is (marked earlier us mark name e marks' names' spelled wrong) =
     let p = parted earlier (mark ∷ name ∷ us) (subst (λ x. Runs names stepped start fresh_acts x marks n) e run) in
-    let it = tail_of mark (name ∷ us) (mark ∷ name ∷ us) refl p.back in
-    let few = marked_taken name (place_taken names stepped p.between it.1 p.reader it.0 mark kinds.Mark marks' (run_proper p.front tt) it.2) it.3 names' spelled in
+    let it = first_of mark (name ∷ us) refl p.2 in
+    let few = marked_taken names stepped name (place_taken names stepped p.0.1 it.0.1 p.0.0 it.0.0 mark kinds.Mark marks' (run_proper names stepped p.1 tt) it.1) it.2 names' spelled in
     omega (arith, few, wrong)
 
 -- The reader has come so far with these tokens.
@@ -143,7 +136,7 @@ token_fails : (names : Names) (stepped : Bool) (start marks : List (List ℕ)) (
 token_fails names stepped start marks ts t r fault h step = go fault step told where
   told : IsFaultOf fault (MiscountsAt r.turn names r.blocks t) names t (tally ts)
   told = subst (λ c. IsFaultOf fault (MiscountsAt r.turn names r.blocks t) names t c) (sym h.told)
-      (subst (λ x. Told (λ (m : ActsReader × List (List ℕ)). ActsNext t.kind names t.word (state_tally r) m.0) (MiscountsAt r.turn names r.blocks t) names t (state_tally r) x) step (acts_told names stepped marks r t h.proper))
+      (subst (λ x. KnownSignals (λ (m : ActsReader × List (List ℕ)). ActsNext t.kind names t.word (state_tally r) m.0) (MiscountsAt r.turn names r.blocks t) names t (state_tally r) x) step (acts_told names stepped marks r t h.proper))
 
   other : (f : ActFault) → acts_step names stepped marks r t ≡ Err f → IsOther f → IsFaultOf f (MiscountsAt r.turn names r.blocks t) names t (tally ts) → Fails (ShapeOf stepped) names ts t f
   other f is free is' =
@@ -174,52 +167,39 @@ early_end reader at fault = go reader.turn where
 
 -- ---- texts
 
--- How a reading ends: at a token, or at the end of the text.
-data Outcome (names : Names) (stepped : Bool) (start : List (List ℕ)) (end : ℕ) (ts : List Token) (result : Result (ReadActs × List (List ℕ)) ActFault) : Type 0 where
-  at_token : (before after : List Token) (t : Token) (fault : ActFault) → ts ≡ before ++ t ∷ after → Obeys names before → Fails (ShapeOf stepped) names before t fault → result ≡ Err fault → Outcome names stepped start end ts result
-  at_end : (r : ActsReader) (marks : List (List ℕ)) → Reached names stepped start ts marks r → result ≡ beside marks (acts_value r end) → Outcome names stepped start end ts result
+reached : (names : Names) (stepped : Bool) {start : List (List ℕ)} {ts : List Token} {n : ActsState} → IsLone stepped [] → Leads (acts_steps_in names stepped) (fresh_acts, start) ts n → Reached names stepped start ts n.1 n.0
+reached names stepped {start} lone run =
+    kept (λ (s : ActsState) ts. Reached names stepped start ts s.1 s.0) (λ s n us t step h. reached_more names stepped start s.1 us t s.0 n h step) [] run (reached_start names stepped start lone)
 
-outcome : (names : Names) (stepped : Bool) (start : List (List ℕ)) (end : ℕ) (before ts : List Token) (r : ActsReader) (marks : List (List ℕ)) → Reached names stepped start before marks r
-    → Outcome names stepped start end (before ++ ts) (acts_read names stepped end marks r ts)
-unfolding acts_read
-outcome names stepped start end before [] r marks h = subst (λ x. Outcome names stepped start end x (beside marks (acts_value r end))) (sym (append-nil before)) (at_end r marks h refl)
-outcome names stepped start end before (t ∷ ts) r marks h = go (λ n. outcome names stepped start end (before ++ t ∷ []) ts n.0 n.1) (acts_step names stepped marks r t) refl where
-  go : ((n : ActsReader × List (List ℕ)) → Reached names stepped start (before ++ t ∷ []) n.1 n.0 → Outcome names stepped start end ((before ++ t ∷ []) ++ ts) (acts_read names stepped end n.1 n.0 ts))
-      → (x : Result (ActsReader × List (List ℕ)) ActFault) → acts_step names stepped marks r t ≡ x → Outcome names stepped start end (before ++ t ∷ ts) (and_then x (λ n. acts_read names stepped end n.1 n.0 ts))
-  go more (Ok n) step = subst (λ x. Outcome names stepped start end x (acts_read names stepped end n.1 n.0 ts)) (append_assoc before (t ∷ []) ts) (more n (reached_more names stepped start marks before t r n h step))
-  go more (Err fault) step = at_token before ts t fault refl h.obeys (token_fails names stepped start marks before t r fault h step) refl
-
-read_outcome : (names : Names) (stepped : Bool) (start : List (List ℕ)) (text : List ℕ) → IsLone stepped [] → Outcome names stepped start (length text) (tokens_of text) (text_acts names stepped start text)
-read_outcome names stepped start text lone = outcome names stepped start (length text) [] (tokens_of text) fresh_acts start (reached_start names stepped start lone)
+text_outcome : (names : Names) (stepped : Bool) (start : List (List ℕ)) (text : List ℕ) → Outcome (acts_steps_in names stepped) (acts_worth (length text)) (fresh_acts, start) (tokens_of text) (text_acts names stepped start text)
+text_outcome names stepped start text = outcome (acts_steps_in names stepped) (acts_worth (length text)) (fresh_acts, start) (tokens_of text)
 
 -- A text that is refused has the fault.
 pub text_fault : (names : Names) (stepped : Bool) (start : List (List ℕ)) (text : List ℕ) (fault : ActFault) → IsLone stepped [] → acts_reading names stepped start text ≡ Err fault → TextFault (ShapeOf stepped) names text fault
 unfolding acts_reading
 text_fault names stepped start text fault lone e = go (ltb 4096 (length text)) refl e where
-  from : length text ≤ 4096 → text_acts names stepped start text ≡ Err fault → Outcome names stepped start (length text) (tokens_of text) (text_acts names stepped start text) → TextFault (ShapeOf stepped) names text fault
-  from within is (at_token before after t f whole obeys fails result) =
+  from : length text ≤ 4096 → text_acts names stepped start text ≡ Err fault → Outcome (acts_steps_in names stepped) (acts_worth (length text)) (fresh_acts, start) (tokens_of text) (text_acts names stepped start text) → TextFault (ShapeOf stepped) names text fault
+  from within is (at_token before after t n f whole run step result) =
       let same : f ≡ fault = cc in
-      subst (λ x. TextFault (ShapeOf stepped) names text x) same (fails_text (ShapeOf stepped) names text before after t within whole obeys fails)
-  from within is (at_end r marks h result) =
-      let value = failed_first (λ a. (a, marks)) (acts_value r (length text)) fault (sym result ∙ is) in
-      subst (λ x. TextFault (ShapeOf stepped) names text x) (early_end r (length text) fault value)
-      (early within h.obeys (reader_begins names stepped start r (tokens_of text) marks h.held) (λ shape. ends_early names stepped start (length text) (tokens_of text) r marks fault h.run value shape))
+      let h = reached names stepped lone run in
+      subst (λ x. TextFault (ShapeOf stepped) names text x) same (fails_text (ShapeOf stepped) names text before after t within whole h.obeys (token_fails names stepped start n.1 before t n.0 f h step))
+  from within is (at_end n run result) =
+      let value = failed_first (λ a. (a, n.1)) (acts_value n.0 (length text)) fault (sym result ∙ is) in
+      let h = reached names stepped lone run in
+      subst (λ x. TextFault (ShapeOf stepped) names text x) (early_end n.0 (length text) fault value)
+      (early within h.obeys (reader_begins names stepped start n.0 (tokens_of text) n.1 h.held) (λ shape. ends_early names stepped start (length text) (tokens_of text) n.0 n.1 fault run value shape))
 
   go : (b : Bool) → ltb 4096 (length text) ≡ b → (if b then Err (TooLong 0) else text_acts names stepped start text) ≡ Err fault → TextFault (ShapeOf stepped) names text fault
   go true much is = let same : TooLong 0 ≡ fault = cc in subst (λ x. TextFault (ShapeOf stepped) names text x) same (long (ltb-true 4096 (length text) much))
-  go false few is = from (ltb-false 4096 (length text) few) is (read_outcome names stepped start text lone)
+  go false few is = from (ltb-false 4096 (length text) few) is (text_outcome names stepped start text)
 
 -- A text that is read breaks no rule.
 pub text_obeys : (names : Names) (stepped : Bool) (start : List (List ℕ)) (text : List ℕ) (x : ReadActs × List (List ℕ)) → IsLone stepped [] → acts_reading names stepped start text ≡ Ok x → Obeys names (tokens_of text)
 unfolding acts_reading
-text_obeys names stepped start text x lone e = go (ltb 4096 (length text)) e where
-  from : text_acts names stepped start text ≡ Ok x → Outcome names stepped start (length text) (tokens_of text) (text_acts names stepped start text) → Obeys names (tokens_of text)
-  from is (at_token before after t f whole obeys fails result) = absurd cc
-  from is (at_end r marks h result) = h.obeys
-
-  go : (b : Bool) → (if b then Err (TooLong 0) else text_acts names stepped start text) ≡ Ok x → Obeys names (tokens_of text)
-  go true is = absurd cc
-  go false is = from is (read_outcome names stepped start text lone)
+text_obeys names stepped start text x lone e =
+    let it = not_past (ltb 4096 (length text)) (text_acts names stepped start text) (TooLong 0) x e in
+    let all = to_the_end (acts_steps_in names stepped) (acts_worth (length text)) (fresh_acts, start) (tokens_of text) x it.1 in
+    let h = reached names stepped lone all.1 in h.obeys
 
 -- ---- the clauses
 
@@ -251,10 +231,6 @@ pub act_refused_first : (names : Names) (marks : List (List ℕ)) (text : List �
     → (other : ActFault) → TextFault StmtsShape names text other → Answers {A = Act} (Err other) (Err fault)
 act_refused_first names marks text fault left h other is =
     one_fault Act (TextFault StmtsShape names text) (λ f g a b. same_fault StmtsShape names text a b) fault other (act_answers_fault names marks text fault left h) is
-
-pub passed : {A B : Type 0} (x : Result A ActFault) (f : A → Result B ActFault) (b : B) → and_then x f ≡ Ok b → (a : A) × (x ≡ Ok a)
-passed (Ok a) f b e = (a, refl)
-passed (Err fault) f b e = absurd cc
 
 -- What is read has no fault.
 pub act_read_first : (names : Names) (marks : List (List ℕ)) (text : List ℕ) (act : Act) (left : List (List ℕ)) → act_reading names marks text ≡ Ok (act, left) → (fault : ActFault) → TextFault StmtsShape names text fault → ⊥

@@ -7,13 +7,13 @@ use Rattle.pssm_semantics.specs.declared.tree.Act.{Act}
 use Rattle.pssm_semantics.specs.declared.tree.Cond.{Cond}
 use Rattle.pssm_semantics.specs.declared.tree.Stmt.{Stmt}
 use Rattle.pssm_acts.specs.ActGrammar.{SpellsAct}
-use Rattle.pssm_acts.specs.ActReading.{act_reading}
+use Rattle.pssm_acts.specs.inner.ActReading.{act_reading}
 use Rattle.pssm_acts.specs.ActText.{cond_text, act_text}
 use Rattle.pssm_acts.specs.Canonical.{IsCanonicalCond, IsCanonicalAct}
-use Rattle.pssm_acts.specs.ExprReading.{Answers}
-use Rattle.pssm_acts.specs.GuardReading.{cond_reading}
+use Rattle.pssm_acts.specs.inner.ExprReading.{Answers}
+use Rattle.pssm_acts.specs.inner.GuardReading.{cond_reading}
 use Rattle.pssm_acts.specs.Marks.{KeepsMarks}
-use Rattle.pssm_acts.specs.PhraseReading.{AnswersWith}
+use Rattle.pssm_acts.specs.inner.PhraseReading.{AnswersWith}
 use Rattle.pssm_acts.specs.ReadBack.{CanBeReadBack}
 use Rattle.pssm_acts.proofs.ActLaws.{act_answers_spelled}
 use Rattle.pssm_acts.proofs.ActRead.{act_read}

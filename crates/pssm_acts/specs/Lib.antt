@@ -1,15 +1,8 @@
 pub mod ActText
 pub mod Tokens
-pub mod Stacks
-pub mod NumberReading
 pub mod Answers
-pub mod ExprReading
-pub mod GuardReading
 pub mod Grammar
 pub mod Marks
-pub mod ArgumentReading
-pub mod PhraseReading
-pub mod ActReading
 pub mod ActGrammar
 pub mod Shapes
 pub mod TextFaults
@@ -17,3 +10,4 @@ pub mod Vocabularies
 pub mod ReadBack
 pub mod Canonical
 pub mod OneReading
+pub mod inner

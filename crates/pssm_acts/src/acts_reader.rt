@@ -1,10 +1,11 @@
-//! Reading behaviours token by token: what has been read of them, and what the next token makes of that.
+//! Reading behaviours token by token: what has been read of them, and what the next token makes of
+//! that.
 ghost use Rattle.std.specs.Prelude.{◌≡◌, ◌≤◌, ◌<◌, ◌++◌, ◌∷◌, [], length, IfOk};
-ghost use Rattle.pssm_acts.specs.ExprReading.{Answers, token_of};
+ghost use Rattle.pssm_acts.specs.inner.ExprReading.{Answers, token_of};
 ghost use Rattle.pssm_acts.specs.Marks.{KeepsMarks};
-ghost use Rattle.pssm_acts.specs.PhraseReading.{AnswersWith};
-ghost use Rattle.pssm_acts.specs.ActReading.{acts_step, acts_value, after_choice, begun_at, block_closed, block_opened, condition_read, else_opened, fresh_acts, fresh_blocks, next_act, phrase_counted, phrase_read, statement_counted, step_taken, turn_nots, whole_acts, with_act, with_statement, without_else};
-ghost use Rattle.pssm_acts.specs.GuardReading.{nots_waiting};
+ghost use Rattle.pssm_acts.specs.inner.PhraseReading.{AnswersWith};
+ghost use Rattle.pssm_acts.specs.inner.ActReading.{acts_step, acts_value, after_choice, begun_at, block_closed, block_opened, condition_read, else_opened, fresh_acts, fresh_blocks, next_act, phrase_counted, phrase_read, statement_counted, step_taken, turn_nots, whole_acts, with_act, with_statement, without_else};
+ghost use Rattle.pssm_acts.specs.inner.GuardReading.{nots_waiting};
 
 use crate::act_fault::{ActFault, refused};
 use crate::guard_reader::{GuardReader, guard_end, guard_next, new_guard};
@@ -16,17 +17,18 @@ use pssm_model::{Row, Text};
 use pssm_semantics::{Act, Cond, Names, Stmt};
 use std::alloc::Global;
 
-/// How many levels of parentheses, brackets and blocks may be open at once (this profile's choice).
+// How many levels of parentheses, brackets and blocks may be open at once (this profile's choice).
 pub(crate) const LEVELS: usize = 16;
 
-/// How many steps there may be (this profile's choice).
+// How many steps there may be (this profile's choice).
 const STEPS: usize = 64;
 
 /// What comes next.
 ///
-/// `Begins`: a statement, or the end of the block. `Within`: more of a statement. `Condition`: more of the condition of an `if`.
-/// `Chosen`: the first block of an `if` has ended, and `else` may stand here or what may stand behind the `if`. `Else`: the block
-/// behind `else`. `Step`: the semicolon behind `step`.
+/// `Begins`: a statement, or the end of the block. `Within`: more of a statement. `Condition`: more
+/// of the condition of an `if`. `Chosen`: the first block of an `if` has ended, and `else` may
+/// stand here or what may stand behind the `if`. `Else`: the block behind `else`. `Step`: the
+/// semicolon behind `step`.
 #[derive(Drop)]
 pub enum Turn {
     Begins,
@@ -51,7 +53,7 @@ pub struct ReadActs {
     pub last: Act,
 }
 
-/// The reader of behaviours of which nothing has been read.
+// The reader of behaviours of which nothing has been read.
 pub(crate) fn new_acts(alloc: Global) -> ActsReader
     ensures { result ≡ fresh_acts }
 {
@@ -61,8 +63,9 @@ pub(crate) fn new_acts(alloc: Global) -> ActsReader
     }
 }
 
-/// A brace opens a block of an `if`, where there is room for its level; the first block is given where it is the second that opens.
-#[tactic(auto, unfolding(crate::specs::ActReading::block_opened))]
+// A brace opens a block of an `if`, where there is room for its level; the first block is given
+// where it is the second that opens.
+#[tactic(auto, unfolding(crate::specs::inner::ActReading::block_opened))]
 fn open_block(
     alloc: Global,
     blocks: Blocks,
@@ -98,8 +101,8 @@ fn open_block(
     })
 }
 
-/// A brace closes the innermost block.
-#[tactic(auto, unfolding(crate::specs::ActReading::block_closed))]
+// A brace closes the innermost block.
+#[tactic(auto, unfolding(crate::specs::inner::ActReading::block_closed))]
 fn close_block(blocks: Blocks, at: u32) -> Result<ActsReader, ActFault>
     ensures { Answers (block_closed blocks at) result }
 {
@@ -143,8 +146,8 @@ fn close_block(blocks: Blocks, at: u32) -> Result<ActsReader, ActFault>
     }
 }
 
-/// `step` ends a behaviour and begins the next, outside of blocks, and where there may be one more.
-#[tactic(auto, unfolding(crate::specs::ActReading::next_act))]
+// `step` ends a behaviour and begins the next, outside of blocks, and where there may be one more.
+#[tactic(auto, unfolding(crate::specs::inner::ActReading::next_act))]
 fn next_step(alloc: Global, blocks: Blocks, stepped: bool, at: u32) -> Result<ActsReader, ActFault>
     ensures { Answers (next_act stepped blocks at) result }
 {
@@ -167,7 +170,7 @@ fn next_step(alloc: Global, blocks: Blocks, stepped: bool, at: u32) -> Result<Ac
     })
 }
 
-/// An assignment, a send or a mark has begun, where the behaviour may have one more statement.
+// An assignment, a send or a mark has begun, where the behaviour may have one more statement.
 fn begin_phrase(blocks: Blocks, phrase: Phrase, at: u32) -> Result<ActsReader, ActFault>
     ensures { result ≡ phrase_counted blocks phrase at }
 {
@@ -180,8 +183,8 @@ fn begin_phrase(blocks: Blocks, phrase: Phrase, at: u32) -> Result<ActsReader, A
     }
 }
 
-/// A token where a statement may begin.
-#[tactic(auto, unfolding(crate::specs::ActReading::begun_at))]
+// A token where a statement may begin.
+#[tactic(auto, unfolding(crate::specs::inner::ActReading::begun_at))]
 fn begin(
     alloc: Global,
     blocks: Blocks,
@@ -206,8 +209,8 @@ fn begin(
     }
 }
 
-/// A token behind the first block of an `if`.
-#[tactic(auto, unfolding(crate::specs::ActReading::after_choice))]
+// A token behind the first block of an `if`.
+#[tactic(auto, unfolding(crate::specs::inner::ActReading::after_choice))]
 fn behind_block(
     alloc: Global,
     blocks: Blocks,
@@ -235,8 +238,8 @@ fn behind_block(
     }
 }
 
-/// A token behind `else`.
-#[tactic(auto, unfolding(crate::specs::ActReading::else_opened))]
+// A token behind `else`.
+#[tactic(auto, unfolding(crate::specs::inner::ActReading::else_opened))]
 fn behind_else(
     alloc: Global,
     blocks: Blocks,
@@ -255,8 +258,8 @@ fn behind_else(
     }
 }
 
-/// A token in the condition of an `if`, or the brace behind it.
-#[tactic(auto, unfolding(crate::specs::ActReading::condition_read))]
+// A token in the condition of an `if`, or the brace behind it.
+#[tactic(auto, unfolding(crate::specs::inner::ActReading::condition_read))]
 fn in_condition(
     alloc: Global,
     blocks: Blocks,
@@ -288,8 +291,8 @@ fn in_condition(
     }
 }
 
-/// A token in an assignment, a send or a mark.
-#[tactic(auto, unfolding(crate::specs::ActReading::phrase_read))]
+// A token in an assignment, a send or a mark.
+#[tactic(auto, unfolding(crate::specs::inner::ActReading::phrase_read))]
 fn in_phrase(
     alloc: Global,
     blocks: Blocks,
@@ -302,7 +305,8 @@ fn in_phrase(
     requires objects { length names.now.objects ≤ 256 }
     requires signals { length names.now.signals ≤ 65536 }
     requires marks { length marks.old.items < 65536 }
-    ensures gives { AnswersWith (phrase_read names.now marks.old.items blocks phrase (token_of piece.entry)) result marks.new.items }
+    ensures gives { AnswersWith
+        (phrase_read names.now marks.old.items blocks phrase (token_of piece.entry)) result marks.new.items }
     ensures kept { KeepsMarks marks.old.items marks.new.items }
 {
     let room = LEVELS.saturating_sub(blocks.outer.len());
@@ -319,8 +323,8 @@ fn in_phrase(
     }
 }
 
-/// A token behind `step`: the semicolon.
-#[tactic(auto, unfolding(crate::specs::ActReading::step_taken))]
+// A token behind `step`: the semicolon.
+#[tactic(auto, unfolding(crate::specs::inner::ActReading::step_taken))]
 fn behind_step(blocks: Blocks, piece: Piece<'_>) -> Result<ActsReader, ActFault>
     ensures { Answers (step_taken blocks (token_of piece.entry)) result }
 {
@@ -333,8 +337,8 @@ fn behind_step(blocks: Blocks, piece: Piece<'_>) -> Result<ActsReader, ActFault>
     }
 }
 
-/// The next token of behaviours; there may be several where they are steps.
-#[tactic(auto, using(crate::proofs::AnswerLaws::beside_answers, crate::proofs::AnswerLaws::same_kept), unfolding(crate::specs::ActReading::acts_step))]
+// The next token of behaviours; there may be several where they are steps.
+#[tactic(auto, using(crate::proofs::AnswerLaws::beside_answers, crate::proofs::AnswerLaws::same_kept), unfolding(crate::specs::inner::ActReading::acts_step))]
 pub(crate) fn acts_next(
     alloc: Global,
     reader: ActsReader,
@@ -348,7 +352,8 @@ pub(crate) fn acts_next(
     requires signals { length names.now.signals ≤ 65536 }
     requires marks { length marks.old.items < 65536 }
     requires nots { turn_nots reader.turn < 4294967295 }
-    ensures gives { AnswersWith (acts_step names.now stepped marks.old.items reader (token_of piece.entry)) result marks.new.items }
+    ensures gives { AnswersWith
+        (acts_step names.now stepped marks.old.items reader (token_of piece.entry)) result marks.new.items }
     ensures kept { KeepsMarks marks.old.items marks.new.items }
 {
     let ActsReader { blocks, turn } = reader;
@@ -364,8 +369,8 @@ pub(crate) fn acts_next(
     }
 }
 
-/// The behaviours that have been read, where no block is open.
-#[tactic(auto, unfolding(crate::specs::ActReading::whole_acts))]
+// The behaviours that have been read, where no block is open.
+#[tactic(auto, unfolding(crate::specs::inner::ActReading::whole_acts))]
 fn whole(blocks: Blocks, at: u32) -> Result<ReadActs, ActFault>
     ensures { Answers (whole_acts blocks at) result }
 {
@@ -384,7 +389,7 @@ fn whole(blocks: Blocks, at: u32) -> Result<ReadActs, ActFault>
     })
 }
 
-/// The behaviours that have been read up to the first block of an `if`.
+// The behaviours that have been read up to the first block of an `if`.
 fn whole_with_if(
     blocks: Blocks,
     condition: Cond,
@@ -397,8 +402,9 @@ fn whole_with_if(
     whole(blocks, at)
 }
 
-/// The behaviours that have been read, where they may end at this byte; otherwise the fault of ending there.
-#[tactic(auto, unfolding(crate::specs::ActReading::acts_value))]
+// The behaviours that have been read, where they may end at this byte; otherwise the fault of
+// ending there.
+#[tactic(auto, unfolding(crate::specs::inner::ActReading::acts_value))]
 pub(crate) fn acts_end(reader: ActsReader, at: u32) -> Result<ReadActs, ActFault>
     ensures { Answers (acts_value reader at) result }
 {

@@ -1,7 +1,8 @@
-//! Reading the arguments of a send or a mark token by token, from behind the opening parenthesis on.
+//! Reading the arguments of a send or a mark token by token, from behind the opening parenthesis
+//! on.
 ghost use Rattle.std.specs.Prelude.{◌≡◌, ◌≤◌, ◌++◌, ◌∷◌, [], length, IfOk};
-ghost use Rattle.pssm_acts.specs.ExprReading.{Answers, token_of};
-ghost use Rattle.pssm_acts.specs.ArgumentReading.{argument_closed, argument_ended, argument_more, arguments_step, listed_step};
+ghost use Rattle.pssm_acts.specs.inner.ExprReading.{Answers, token_of};
+ghost use Rattle.pssm_acts.specs.inner.ArgumentReading.{argument_closed, argument_ended, argument_more, arguments_step, listed_step};
 
 use crate::act_fault::ActFault;
 use crate::expr_reader::{ExprReader, expr_end, expr_next, new_reader};
@@ -10,7 +11,8 @@ use pssm_model::Row;
 use pssm_semantics::{Expr, Names};
 use std::alloc::{AllocError as NoMemory, Global};
 
-/// Arguments of which nothing has been read; or those that are whole, and one that has been read in part.
+/// Arguments of which nothing has been read; or those that are whole, and one that has been read in
+/// part.
 #[derive(Drop)]
 pub enum Arguments {
     Opened,
@@ -24,7 +26,7 @@ pub enum Argued {
     Ends(Row<Expr>),
 }
 
-/// One argument more.
+// One argument more.
 fn with_argument(args: Row<Expr>, argument: Expr) -> Result<Row<Expr>, NoMemory>
     ensures { IfOk result (λ more. more ≡ args ++ argument ∷ []) }
 {
@@ -33,8 +35,8 @@ fn with_argument(args: Row<Expr>, argument: Expr) -> Result<Row<Expr>, NoMemory>
     Ok(Row::from_vec(list))
 }
 
-/// The arguments with the last one, where it may end at this byte.
-#[tactic(auto, unfolding(crate::specs::ArgumentReading::argument_ended))]
+// The arguments with the last one, where it may end at this byte.
+#[tactic(auto, unfolding(crate::specs::inner::ArgumentReading::argument_ended))]
 fn ended(alloc: Global, args: Row<Expr>, last: ExprReader, at: u32) -> Result<Row<Expr>, ActFault>
     ensures { Answers (argument_ended args last at) result }
 {
@@ -42,8 +44,8 @@ fn ended(alloc: Global, args: Row<Expr>, last: ExprReader, at: u32) -> Result<Ro
     Ok(with_argument(args, argument)?)
 }
 
-/// A token that belongs to an argument.
-#[tactic(auto, unfolding(crate::specs::ArgumentReading::argument_more))]
+// A token that belongs to an argument.
+#[tactic(auto, unfolding(crate::specs::inner::ArgumentReading::argument_more))]
 fn more(
     alloc: Global,
     args: Row<Expr>,
@@ -59,8 +61,8 @@ fn more(
     Ok(Argued::Goes(Arguments::Listed(args, last)))
 }
 
-/// A closing parenthesis: that of the arguments, where none is open in the last one.
-#[tactic(auto, unfolding(crate::specs::ArgumentReading::argument_closed))]
+// A closing parenthesis: that of the arguments, where none is open in the last one.
+#[tactic(auto, unfolding(crate::specs::inner::ArgumentReading::argument_closed))]
 fn closed(
     alloc: Global,
     args: Row<Expr>,
@@ -78,8 +80,8 @@ fn closed(
     Ok(Argued::Ends(ended(alloc, args, last, piece.at)?))
 }
 
-/// A token behind the first of an argument, or where a further one may begin.
-#[tactic(auto, unfolding(crate::specs::ArgumentReading::listed_step))]
+// A token behind the first of an argument, or where a further one may begin.
+#[tactic(auto, unfolding(crate::specs::inner::ArgumentReading::listed_step))]
 fn listed(
     alloc: Global,
     args: Row<Expr>,
@@ -101,8 +103,8 @@ fn listed(
     }
 }
 
-/// The next token of arguments; so many levels of parentheses may be open in them.
-#[tactic(auto, unfolding(crate::specs::ArgumentReading::arguments_step))]
+// The next token of arguments; so many levels of parentheses may be open in them.
+#[tactic(auto, unfolding(crate::specs::inner::ArgumentReading::arguments_step))]
 pub(crate) fn arguments_next(
     alloc: Global,
     arguments: Arguments,

@@ -1,8 +1,9 @@
-//! Reading an expression token by token: what has been read of it, and what the next token makes of that.
+//! Reading an expression token by token: what has been read of it, and what the next token makes of
+//! that.
 ghost use Rattle.std.specs.Prelude.{◌≡◌, ◌≤◌, ◌<◌, length, position, bytes_eq, IfOk, IfSome};
-ghost use Rattle.pssm_acts.specs.ExprReading.{Answers, after_atom, at_atom, atom_of, behind_product, closed, expr_step, expr_value, fresh_expr, level_opened, product_of, sum_of, token_of};
+ghost use Rattle.pssm_acts.specs.inner.ExprReading.{Answers, after_atom, at_atom, atom_of, behind_product, closed, expr_step, expr_value, fresh_expr, level_opened, product_of, sum_of, token_of};
 
-use crate::act_fault::{ActFault, refused};
+use crate::act_fault::{ActFault, beside, refused};
 use crate::numbers::number_of;
 use crate::stack::Stack;
 use crate::token::{Kind, Piece};
@@ -25,14 +26,16 @@ pub struct Level {
     pub factor: Option<Expr>,
 }
 
-/// What comes next: an atom, perhaps behind factors and a `*`; or what may stand behind a product that has been read.
+/// What comes next: an atom, perhaps behind factors and a `*`; or what may stand behind a product
+/// that has been read.
 #[derive(Drop)]
 pub enum Place {
     Wants(Option<Expr>),
     Has(Expr),
 }
 
-/// An expression that has been read in part: what stands before each open parenthesis, and what behind the last.
+/// An expression that has been read in part: what stands before each open parenthesis, and what
+/// behind the last.
 #[derive(Drop)]
 pub struct ExprReader {
     pub outer: Stack<Level>,
@@ -40,7 +43,7 @@ pub struct ExprReader {
     pub place: Place,
 }
 
-/// The reader of an expression of which nothing has been read.
+// The reader of an expression of which nothing has been read.
 pub(crate) fn new_reader(alloc: Global) -> ExprReader
     ensures { result ≡ fresh_expr }
 {
@@ -51,7 +54,7 @@ pub(crate) fn new_reader(alloc: Global) -> ExprReader
     }
 }
 
-/// Two values, put on the heap.
+// Two values, put on the heap.
 pub(crate) fn boxed_pair<T: Drop>(
     alloc: Global,
     first: T,
@@ -67,7 +70,7 @@ pub(crate) fn boxed_pair<T: Drop>(
     Ok((first, second))
 }
 
-/// The factors and an atom behind them.
+// The factors and an atom behind them.
 fn product(alloc: Global, factor: Option<Expr>, atom: Expr) -> Result<Expr, NoMemory>
     ensures { IfOk result (λ e. e ≡ product_of factor atom) }
 {
@@ -80,7 +83,7 @@ fn product(alloc: Global, factor: Option<Expr>, atom: Expr) -> Result<Expr, NoMe
     }
 }
 
-/// The left side and a product behind it.
+// The left side and a product behind it.
 fn sum(alloc: Global, left: Left, term: Expr) -> Result<Expr, NoMemory>
     ensures { IfOk result (λ e. e ≡ sum_of left term) }
 {
@@ -97,7 +100,7 @@ fn sum(alloc: Global, left: Left, term: Expr) -> Result<Expr, NoMemory>
     }
 }
 
-/// The place of the first of these names that is spelled so.
+// The place of the first of these names that is spelled so.
 pub(crate) fn place_of(names: &[Text], name: &[u8]) -> Option<usize>
     ensures gives { result ≡ position (λ n. bytes_eq n name.now) names.now }
     ensures within { IfSome result (λ k. k < length names.now) }
@@ -105,7 +108,7 @@ pub(crate) fn place_of(names: &[Text], name: &[u8]) -> Option<usize>
     names.iter().position(|n| n.as_slice() == name)
 }
 
-/// The number of a variable.
+// The number of a variable.
 pub(crate) fn variable(vars: &[Text], name: &[u8]) -> Option<u16>
     requires few { length vars.now ≤ 65536 }
     ensures { result ≡ position (λ n. bytes_eq n name.now) vars.now }
@@ -114,8 +117,8 @@ pub(crate) fn variable(vars: &[Text], name: &[u8]) -> Option<u16>
     Some(place as u16)
 }
 
-/// The number, variable or parameter that a token is.
-#[tactic(auto, unfolding(crate::specs::ExprReading::atom_of))]
+// The number, variable or parameter that a token is.
+#[tactic(auto, unfolding(crate::specs::inner::ExprReading::atom_of))]
 fn atom(piece: Piece<'_>, names: &Names) -> Result<Expr, ActFault>
     requires few { length names.now.vars ≤ 65536 }
     ensures { result ≡ atom_of names.now (token_of piece.entry) }
@@ -134,8 +137,8 @@ fn atom(piece: Piece<'_>, names: &Names) -> Result<Expr, ActFault>
     }
 }
 
-/// A parenthesis opens, where as many levels as there is room for may be open.
-#[tactic(auto, unfolding(crate::specs::ExprReading::level_opened))]
+// A parenthesis opens, where as many levels as there is room for may be open.
+#[tactic(auto, unfolding(crate::specs::inner::ExprReading::level_opened))]
 fn opened(
     outer: Stack<Level>,
     level: Level,
@@ -150,7 +153,7 @@ fn opened(
     Ok(outer.with(level)?)
 }
 
-/// The reader of an expression behind these factors and an atom.
+// The reader of an expression behind these factors and an atom.
 fn with_atom(
     alloc: Global,
     outer: Stack<Level>,
@@ -160,18 +163,16 @@ fn with_atom(
 ) -> Result<ExprReader, NoMemory>
     ensures { IfOk result (λ reader. reader ≡ behind_product outer left (product_of factor atom)) }
 {
-    match product(alloc, factor, atom) {
-        Ok(term) => Ok(ExprReader {
-            outer,
-            left,
-            place: Place::Has(term),
-        }),
-        Err(fault) => refused((outer, left), fault),
-    }
+    let ((outer, left), term) = beside((outer, left), product(alloc, factor, atom))?;
+    Ok(ExprReader {
+        outer,
+        left,
+        place: Place::Has(term),
+    })
 }
 
-/// A token where an atom may stand.
-#[tactic(auto, unfolding(crate::specs::ExprReading::at_atom))]
+// A token where an atom may stand.
+#[tactic(auto, unfolding(crate::specs::inner::ExprReading::at_atom))]
 fn wants_atom(
     alloc: Global,
     outer: Stack<Level>,
@@ -200,8 +201,8 @@ fn wants_atom(
     }
 }
 
-/// A closing parenthesis behind a product.
-#[tactic(auto, unfolding(crate::specs::ExprReading::closed))]
+// A closing parenthesis behind a product.
+#[tactic(auto, unfolding(crate::specs::inner::ExprReading::closed))]
 fn close(
     alloc: Global,
     outer: Stack<Level>,
@@ -226,8 +227,8 @@ fn close(
     }
 }
 
-/// A token behind a product.
-#[tactic(auto, unfolding(crate::specs::ExprReading::after_atom))]
+// A token behind a product.
+#[tactic(auto, unfolding(crate::specs::inner::ExprReading::after_atom))]
 fn behind_atom(
     alloc: Global,
     outer: Stack<Level>,
@@ -258,8 +259,8 @@ fn behind_atom(
     }
 }
 
-/// The next token of an expression; so many levels of parentheses may be open.
-#[tactic(auto, unfolding(crate::specs::ExprReading::expr_step))]
+// The next token of an expression; so many levels of parentheses may be open.
+#[tactic(auto, unfolding(crate::specs::inner::ExprReading::expr_step))]
 pub(crate) fn expr_next(
     alloc: Global,
     reader: ExprReader,
@@ -277,8 +278,9 @@ pub(crate) fn expr_next(
     }
 }
 
-/// The expression that has been read, where it may end here; otherwise the fault of what stands at this byte.
-#[tactic(auto, unfolding(crate::specs::ExprReading::expr_value))]
+// The expression that has been read, where it may end here; otherwise the fault of what stands at
+// this byte.
+#[tactic(auto, unfolding(crate::specs::inner::ExprReading::expr_value))]
 pub(crate) fn expr_end(alloc: Global, reader: ExprReader, at: u32) -> Result<Expr, ActFault>
     ensures { Answers (expr_value reader at) result }
 {

@@ -1,9 +1,9 @@
 //! Reading a guard token by token: what has been read of it, and what the next token makes of that.
 ghost use Rattle.std.specs.Prelude.{◌≡◌, ◌≤◌, ◌<◌, ◌^◌, length, IfOk};
-ghost use Rattle.pssm_acts.specs.ExprReading.{Answers, token_of};
-ghost use Rattle.pssm_acts.specs.GuardReading.{after_unit, bracket_closed, bracket_opened, compared, conjunction_of, disjunction_of, fresh_guard, guard_step, guard_value, in_first, in_second, nots_of, nots_waiting, side_begun, unit_of, unit_wanted, whole_guard, with_unit};
+ghost use Rattle.pssm_acts.specs.inner.ExprReading.{Answers, token_of};
+ghost use Rattle.pssm_acts.specs.inner.GuardReading.{after_unit, bracket_closed, bracket_opened, compared, conjunction_of, disjunction_of, fresh_guard, guard_step, guard_value, in_first, in_second, nots_of, nots_waiting, side_begun, unit_of, unit_wanted, whole_guard, with_unit};
 
-use crate::act_fault::{ActFault, refused};
+use crate::act_fault::{ActFault, beside, refused};
 use crate::expr_reader::{ExprReader, boxed_pair, expr_end, expr_next, new_reader};
 use crate::stack::Stack;
 use crate::token::{Kind, Piece};
@@ -18,7 +18,8 @@ pub struct Before {
     pub nots: u32,
 }
 
-/// What stands before an opening bracket: a guard and a `||`, and what stands before the bracket as a unit.
+/// What stands before an opening bracket: a guard and a `||`, and what stands before the bracket as
+/// a unit.
 #[derive(Drop)]
 pub struct Bracket {
     pub either: Option<Cond>,
@@ -34,8 +35,8 @@ pub struct Half {
     pub side: ExprReader,
 }
 
-/// What comes next: a unit; the left or the right side of a comparison, read in part; or what may stand behind units
-/// that are joined by `&&`.
+/// What comes next: a unit; the left or the right side of a comparison, read in part; or what may
+/// stand behind units that are joined by `&&`.
 #[derive(Drop)]
 pub enum Stage {
     Wants(Before),
@@ -44,7 +45,8 @@ pub enum Stage {
     Has(Cond),
 }
 
-/// A guard that has been read in part: what stands before each open bracket, and what behind the last.
+/// A guard that has been read in part: what stands before each open bracket, and what behind the
+/// last.
 #[derive(Drop)]
 pub struct GuardReader {
     pub outer: Stack<Bracket>,
@@ -52,7 +54,7 @@ pub struct GuardReader {
     pub stage: Stage,
 }
 
-/// The reader of a guard of which nothing has been read.
+// The reader of a guard of which nothing has been read.
 pub(crate) fn new_guard(alloc: Global) -> GuardReader
     ensures { result ≡ fresh_guard }
 {
@@ -66,7 +68,7 @@ pub(crate) fn new_guard(alloc: Global) -> GuardReader
     }
 }
 
-/// So many `!` and a guard behind them.
+// So many `!` and a guard behind them.
 fn with_nots(alloc: Global, count: u32, unit: Cond) -> Result<Cond, NoMemory>
     ensures { IfOk result (λ c. c ≡ nots_of count unit) }
 {
@@ -77,7 +79,7 @@ fn with_nots(alloc: Global, count: u32, unit: Cond) -> Result<Cond, NoMemory>
     Ok(cond)
 }
 
-/// A guard and a `&&`, where there is one, and a guard behind it.
+// A guard and a `&&`, where there is one, and a guard behind it.
 fn conjunction(alloc: Global, both: Option<Cond>, cond: Cond) -> Result<Cond, NoMemory>
     ensures { IfOk result (λ c. c ≡ conjunction_of both cond) }
 {
@@ -90,7 +92,7 @@ fn conjunction(alloc: Global, both: Option<Cond>, cond: Cond) -> Result<Cond, No
     }
 }
 
-/// A guard and a `||`, where there is one, and a guard behind it.
+// A guard and a `||`, where there is one, and a guard behind it.
 fn disjunction(alloc: Global, either: Option<Cond>, cond: Cond) -> Result<Cond, NoMemory>
     ensures { IfOk result (λ c. c ≡ disjunction_of either cond) }
 {
@@ -103,7 +105,7 @@ fn disjunction(alloc: Global, either: Option<Cond>, cond: Cond) -> Result<Cond, 
     }
 }
 
-/// A unit with what stands before it.
+// A unit with what stands before it.
 fn unit(alloc: Global, before: Before, cond: Cond) -> Result<Cond, NoMemory>
     ensures { IfOk result (λ c. c ≡ unit_of before cond) }
 {
@@ -114,8 +116,8 @@ fn unit(alloc: Global, before: Before, cond: Cond) -> Result<Cond, NoMemory>
     }
 }
 
-/// A bracket opens, where as many levels as there is room for may be open.
-#[tactic(auto, unfolding(crate::specs::GuardReading::bracket_opened))]
+// A bracket opens, where as many levels as there is room for may be open.
+#[tactic(auto, unfolding(crate::specs::inner::GuardReading::bracket_opened))]
 fn open_bracket(
     outer: Stack<Bracket>,
     bracket: Bracket,
@@ -137,8 +139,8 @@ fn open_bracket(
     })
 }
 
-/// The first token of a comparison.
-#[tactic(auto, unfolding(crate::specs::GuardReading::side_begun))]
+// The first token of a comparison.
+#[tactic(auto, unfolding(crate::specs::inner::GuardReading::side_begun))]
 fn begin_side(
     alloc: Global,
     outer: Stack<Bracket>,
@@ -162,7 +164,7 @@ fn begin_side(
     }
 }
 
-/// The reader of a guard behind a unit and what stands before it.
+// The reader of a guard behind a unit and what stands before it.
 fn has_unit(
     alloc: Global,
     outer: Stack<Bracket>,
@@ -172,18 +174,16 @@ fn has_unit(
 ) -> Result<GuardReader, NoMemory>
     ensures { IfOk result (λ reader. reader ≡ with_unit outer either (unit_of before cond)) }
 {
-    match unit(alloc, before, cond) {
-        Ok(cond) => Ok(GuardReader {
-            outer,
-            either,
-            stage: Stage::Has(cond),
-        }),
-        Err(fault) => refused((outer, either), fault),
-    }
+    let ((outer, either), cond) = beside((outer, either), unit(alloc, before, cond))?;
+    Ok(GuardReader {
+        outer,
+        either,
+        stage: Stage::Has(cond),
+    })
 }
 
-/// A token where a unit may stand.
-#[tactic(auto, unfolding(crate::specs::GuardReading::unit_wanted))]
+// A token where a unit may stand.
+#[tactic(auto, unfolding(crate::specs::inner::GuardReading::unit_wanted))]
 fn wants_unit(
     alloc: Global,
     outer: Stack<Bracket>,
@@ -213,8 +213,8 @@ fn wants_unit(
     }
 }
 
-/// A token in the left side of a comparison.
-#[tactic(auto, unfolding(crate::specs::GuardReading::in_first))]
+// A token in the left side of a comparison.
+#[tactic(auto, unfolding(crate::specs::inner::GuardReading::in_first))]
 fn first_side(
     alloc: Global,
     before: Before,
@@ -243,8 +243,8 @@ fn first_side(
     }
 }
 
-/// A comparison, where its right side may end at this byte.
-#[tactic(auto, unfolding(crate::specs::GuardReading::compared))]
+// A comparison, where its right side may end at this byte.
+#[tactic(auto, unfolding(crate::specs::inner::GuardReading::compared))]
 fn comparison(alloc: Global, half: Half, at: u32) -> Result<Cond, ActFault>
     ensures { Answers (compared half at) result }
 {
@@ -260,8 +260,8 @@ fn comparison(alloc: Global, half: Half, at: u32) -> Result<Cond, ActFault>
     }
 }
 
-/// A closing bracket behind units that are joined by `&&`.
-#[tactic(auto, unfolding(crate::specs::GuardReading::bracket_closed))]
+// A closing bracket behind units that are joined by `&&`.
+#[tactic(auto, unfolding(crate::specs::inner::GuardReading::bracket_closed))]
 fn close_bracket(
     alloc: Global,
     outer: Stack<Bracket>,
@@ -286,8 +286,8 @@ fn close_bracket(
     }
 }
 
-/// A token behind units that are joined by `&&`.
-#[tactic(auto, unfolding(crate::specs::GuardReading::after_unit))]
+// A token behind units that are joined by `&&`.
+#[tactic(auto, unfolding(crate::specs::inner::GuardReading::after_unit))]
 fn behind_unit(
     alloc: Global,
     outer: Stack<Bracket>,
@@ -319,8 +319,8 @@ fn behind_unit(
     }
 }
 
-/// A token in the right side of a comparison.
-#[tactic(auto, unfolding(crate::specs::GuardReading::in_second))]
+// A token in the right side of a comparison.
+#[tactic(auto, unfolding(crate::specs::inner::GuardReading::in_second))]
 fn second_side(
     alloc: Global,
     outer: Stack<Bracket>,
@@ -365,8 +365,8 @@ fn second_side(
     }
 }
 
-/// The next token of a guard; so many levels of brackets and parentheses may be open.
-#[tactic(auto, unfolding(crate::specs::GuardReading::guard_step))]
+// The next token of a guard; so many levels of brackets and parentheses may be open.
+#[tactic(auto, unfolding(crate::specs::inner::GuardReading::guard_step))]
 pub(crate) fn guard_next(
     alloc: Global,
     reader: GuardReader,
@@ -401,7 +401,7 @@ pub(crate) fn guard_next(
     }
 }
 
-/// The guard that units have been read of, where no bracket is open.
+// The guard that units have been read of, where no bracket is open.
 fn whole(
     alloc: Global,
     outer: Stack<Bracket>,
@@ -417,8 +417,8 @@ fn whole(
     Ok(disjunction(alloc, either, cond)?)
 }
 
-/// The guard that has been read, where it may end at this byte; otherwise the fault of ending there.
-#[tactic(auto, unfolding(crate::specs::GuardReading::guard_value))]
+// The guard that has been read, where it may end at this byte; otherwise the fault of ending there.
+#[tactic(auto, unfolding(crate::specs::inner::GuardReading::guard_value))]
 pub(crate) fn guard_end(alloc: Global, reader: GuardReader, at: u32) -> Result<Cond, ActFault>
     ensures { Answers (guard_value reader at) result }
 {

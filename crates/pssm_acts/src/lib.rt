@@ -1,8 +1,9 @@
-//! The texts of behaviours and guards: how they are read, which fault a text has, and how they are written.
+//! The texts of behaviours and guards: how they are read, which fault a text has, and how they are
+//! written.
 //!
-//! What a behaviour is and what it is worth stands in `pssm_semantics`, and how a name or a number is spelled in
-//! `pssm_spelling`. This crate is also the face of the action language: it gives out the types and calls of
-//! `pssm_semantics` that its own calls speak of.
+//! What a behaviour is and what it is worth stands in `pssm_semantics`, and how a name or a number
+//! is spelled in `pssm_spelling`. This crate is also the face of the action language: it gives out
+//! the types and calls of `pssm_semantics` that its own calls speak of.
 #![tactic(auto)]
 
 mod act_fault;
@@ -17,6 +18,7 @@ mod reading;
 mod stack;
 mod terms;
 mod token;
+mod tokens;
 mod writing;
 
 pub use act_fault::ActFault;

@@ -4,15 +4,15 @@ ghost use Rattle.std.specs.List.{list_all};
 ghost use Rattle.std.specs.Str.Parse.{digits_value};
 ghost use Rattle.pssm_spelling.specs.SpellingReading.{is_digit};
 ghost use Rattle.pssm_spelling.specs.Numbers.{is_natural};
-ghost use Rattle.pssm_acts.specs.NumberReading.{natural_read, negative_read, number_read};
+ghost use Rattle.pssm_acts.specs.inner.NumberReading.{natural_read, negative_read, number_read};
 
 use crate::act_fault::ActFault;
 use pssm_spelling::{magnitude, spells_natural};
 
-/// The first number past the greatest of 64 bits with a sign.
+// The first number past the greatest of 64 bits with a sign.
 const LIMIT: u64 = 1 << 63;
 
-#[tactic(auto, unfolding(crate::specs::NumberReading::natural_read))]
+#[tactic(auto, unfolding(crate::specs::inner::NumberReading::natural_read))]
 fn natural(digits: &[u8], at: u32) -> Result<i64, ActFault>
     ensures { result ≡ natural_read at digits.now }
 {
@@ -26,7 +26,7 @@ fn natural(digits: &[u8], at: u32) -> Result<i64, ActFault>
     Ok(value as i64)
 }
 
-/// The number below zero before which so many others stand.
+// The number below zero before which so many others stand.
 fn below_zero(others: u64) -> i64
     requires few { others < 2 ^ 63 }
     ensures { result ≡ negsuc others }
@@ -34,7 +34,7 @@ fn below_zero(others: u64) -> i64
     -1 - others as i64
 }
 
-#[tactic(auto, unfolding(crate::specs::NumberReading::negative_read))]
+#[tactic(auto, unfolding(crate::specs::inner::NumberReading::negative_read))]
 fn negative(digits: &[u8], at: u32) -> Result<i64, ActFault>
     ensures { result ≡ negative_read at digits.now }
 {
@@ -51,8 +51,8 @@ fn negative(digits: &[u8], at: u32) -> Result<i64, ActFault>
     Ok(below_zero(value - 1))
 }
 
-/// The number that a word of digits spells, perhaps with a `-` before them.
-#[tactic(auto, unfolding(crate::specs::NumberReading::number_read))]
+// The number that a word of digits spells, perhaps with a `-` before them.
+#[tactic(auto, unfolding(crate::specs::inner::NumberReading::number_read))]
 pub(crate) fn number_of(word: &[u8], at: u32) -> Result<i64, ActFault>
     ensures { result ≡ number_read at word.now }
 {

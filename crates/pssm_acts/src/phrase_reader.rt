@@ -1,8 +1,9 @@
-//! Reading an assignment, a send or a mark token by token: what has been read of it, and what the next token makes of that.
+//! Reading an assignment, a send or a mark token by token: what has been read of it, and what the
+//! next token makes of that.
 ghost use Rattle.std.specs.Prelude.{◌≡◌, ◌≤◌, ◌<◌, length, position, bytes_eq, IfOk, IfErr, IfSome};
-ghost use Rattle.pssm_acts.specs.ExprReading.{Answers, token_of};
+ghost use Rattle.pssm_acts.specs.inner.ExprReading.{Answers, token_of};
 ghost use Rattle.pssm_acts.specs.Marks.{KeepsMarks, mark_of, with_mark};
-ghost use Rattle.pssm_acts.specs.PhraseReading.{AnswersWith, argument_read, became, call_made, called_ended, dotted, mark_read, named, phrase_begun, phrase_step, receiver_read, signal_found, signal_read, value_read};
+ghost use Rattle.pssm_acts.specs.inner.PhraseReading.{AnswersWith, argument_read, became, call_made, called_ended, dotted, mark_read, named, phrase_begun, phrase_step, receiver_read, signal_found, signal_read, value_read};
 
 use crate::act_fault::{ActFault, refused};
 use crate::argument_reader::{Argued, Arguments, arguments_next};
@@ -12,10 +13,11 @@ use pssm_model::{MarkId, Row, SignalId, Text};
 use pssm_semantics::{Expr, Names, ObjectId, SignalDecl, Stmt};
 use std::alloc::{AllocError as NoMemory, Global};
 
-/// The greatest number of a mark's arguments (this profile's choice).
+// The greatest number of a mark's arguments (this profile's choice).
 const MARK_ARGUMENTS: usize = 8;
 
-/// What arguments belong to: a signal that is sent to an object, or to the running one, and has so many parameters; or a mark.
+/// What arguments belong to: a signal that is sent to an object, or to the running one, and has so
+/// many parameters; or a mark.
 #[derive(Clone, Copy)]
 pub enum Call {
     Send(Option<ObjectId>, SignalId, u8),
@@ -24,8 +26,9 @@ pub enum Call {
 
 /// What has been read of an assignment, a send or a mark.
 ///
-/// `Variable`: `x`. `Value`: `x := ..`. `Send`: `send`. `Receiver`: `send b`. `Dotted`: `send b.`. `Mark`: `mark`.
-/// `Named`: `send b.Go`, or `mark m`. `Called`: the same and `(..`. `Whole`: all but the semicolon.
+/// `Variable`: `x`. `Value`: `x := ..`. `Send`: `send`. `Receiver`: `send b`. `Dotted`: `send b.`.
+/// `Mark`: `mark`. `Named`: `send b.Go`, or `mark m`. `Called`: the same and `(..`. `Whole`: all
+/// but the semicolon.
 #[derive(Drop)]
 pub enum Phrase {
     Variable(u16),
@@ -46,7 +49,7 @@ pub enum Phrased {
     Ends(Stmt),
 }
 
-/// The number of the mark with this name, which is noted where it is new.
+// The number of the mark with this name, which is noted where it is new.
 fn mark_named(alloc: Global, marks: &mut Vec<Text>, name: &[u8]) -> Result<MarkId, NoMemory>
     requires few { length marks.old.items < 65536 }
     ensures number { IfOk result (λ mark. mark ≡ mark_of marks.old.items name.now) }
@@ -63,7 +66,7 @@ fn mark_named(alloc: Global, marks: &mut Vec<Text>, name: &[u8]) -> Result<MarkI
     }
 }
 
-/// The place of the first signal with this name.
+// The place of the first signal with this name.
 fn signal_place(signals: &[SignalDecl], name: &[u8]) -> Option<usize>
     ensures gives { result ≡ position (λ d. bytes_eq d.name name.now) signals.now }
     ensures within { IfSome result (λ k. k < length signals.now) }
@@ -71,7 +74,7 @@ fn signal_place(signals: &[SignalDecl], name: &[u8]) -> Option<usize>
     signals.iter().position(|d| d.name.as_slice() == name)
 }
 
-/// The number of the first signal with this name, and how many parameters it has.
+// The number of the first signal with this name, and how many parameters it has.
 fn signal_named(signals: &[SignalDecl], name: &[u8]) -> Option<(SignalId, u8)>
     requires few { length signals.now ≤ 65536 }
     ensures { result ≡ signal_found signals.now (position (λ d. bytes_eq d.name name.now) signals.now) }
@@ -82,8 +85,8 @@ fn signal_named(signals: &[SignalDecl], name: &[u8]) -> Option<(SignalId, u8)>
     }
 }
 
-/// The first token of an assignment, a send or a mark.
-#[tactic(auto, unfolding(crate::specs::PhraseReading::phrase_begun))]
+// The first token of an assignment, a send or a mark.
+#[tactic(auto, unfolding(crate::specs::inner::PhraseReading::phrase_begun))]
 pub(crate) fn new_phrase(piece: Piece<'_>, names: &Names) -> Result<Phrase, ActFault>
     requires few { length names.now.vars ≤ 65536 }
     ensures { result ≡ phrase_begun names.now (token_of piece.entry) }
@@ -99,8 +102,8 @@ pub(crate) fn new_phrase(piece: Piece<'_>, names: &Names) -> Result<Phrase, ActF
     }
 }
 
-/// A token behind the variable of an assignment: `:=`.
-#[tactic(auto, unfolding(crate::specs::PhraseReading::became))]
+// A token behind the variable of an assignment: `:=`.
+#[tactic(auto, unfolding(crate::specs::inner::PhraseReading::became))]
 fn becomes(alloc: Global, variable: u16, piece: Piece<'_>) -> Result<Phrased, ActFault>
     ensures { result ≡ became variable (token_of piece.entry) }
 {
@@ -110,8 +113,8 @@ fn becomes(alloc: Global, variable: u16, piece: Piece<'_>) -> Result<Phrased, Ac
     }
 }
 
-/// A token in the value of an assignment, or the semicolon behind it.
-#[tactic(auto, unfolding(crate::specs::PhraseReading::value_read))]
+// A token in the value of an assignment, or the semicolon behind it.
+#[tactic(auto, unfolding(crate::specs::inner::PhraseReading::value_read))]
 fn value(
     alloc: Global,
     variable: u16,
@@ -135,8 +138,8 @@ fn value(
     }
 }
 
-/// A token behind `send`: the name of an object, or `self`.
-#[tactic(auto, unfolding(crate::specs::PhraseReading::receiver_read))]
+// A token behind `send`: the name of an object, or `self`.
+#[tactic(auto, unfolding(crate::specs::inner::PhraseReading::receiver_read))]
 fn receiver(piece: Piece<'_>, names: &Names) -> Result<Phrased, ActFault>
     requires objects { length names.now.objects ≤ 256 }
     ensures { result ≡ receiver_read names.now (token_of piece.entry) }
@@ -151,8 +154,8 @@ fn receiver(piece: Piece<'_>, names: &Names) -> Result<Phrased, ActFault>
     }
 }
 
-/// A token behind the object to which a signal is sent: the dot.
-#[tactic(auto, unfolding(crate::specs::PhraseReading::dotted))]
+// A token behind the object to which a signal is sent: the dot.
+#[tactic(auto, unfolding(crate::specs::inner::PhraseReading::dotted))]
 fn dot(object: Option<ObjectId>, piece: Piece<'_>) -> Result<Phrased, ActFault>
     ensures { result ≡ dotted object (token_of piece.entry) }
 {
@@ -162,8 +165,8 @@ fn dot(object: Option<ObjectId>, piece: Piece<'_>) -> Result<Phrased, ActFault>
     }
 }
 
-/// A token behind the dot: the name of a signal.
-#[tactic(auto, unfolding(crate::specs::PhraseReading::signal_read))]
+// A token behind the dot: the name of a signal.
+#[tactic(auto, unfolding(crate::specs::inner::PhraseReading::signal_read))]
 fn signal(object: Option<ObjectId>, piece: Piece<'_>, names: &Names) -> Result<Phrased, ActFault>
     requires signals { length names.now.signals ≤ 65536 }
     ensures { result ≡ signal_read names.now object (token_of piece.entry) }
@@ -180,8 +183,8 @@ fn signal(object: Option<ObjectId>, piece: Piece<'_>, names: &Names) -> Result<P
     }
 }
 
-/// A token behind `mark`: a name, which is noted where it is new.
-#[tactic(auto, using(crate::proofs::AnswerLaws::mark_kept, crate::proofs::AnswerLaws::same_kept), unfolding(crate::specs::PhraseReading::mark_read))]
+// A token behind `mark`: a name, which is noted where it is new.
+#[tactic(auto, using(crate::proofs::AnswerLaws::mark_kept, crate::proofs::AnswerLaws::same_kept), unfolding(crate::specs::inner::PhraseReading::mark_read))]
 fn mark(alloc: Global, piece: Piece<'_>, marks: &mut Vec<Text>) -> Result<Phrased, ActFault>
     requires few { length marks.old.items < 65536 }
     ensures gives { AnswersWith (mark_read marks.old.items (token_of piece.entry)) result marks.new.items }
@@ -196,8 +199,9 @@ fn mark(alloc: Global, piece: Piece<'_>, marks: &mut Vec<Text>) -> Result<Phrase
     }
 }
 
-/// A token behind the name of a signal that is sent or of a mark: a parenthesis, where there is room for its level; behind a mark also the semicolon.
-#[tactic(auto, unfolding(crate::specs::PhraseReading::named))]
+// A token behind the name of a signal that is sent or of a mark: a parenthesis, where there is room
+// for its level; behind a mark also the semicolon.
+#[tactic(auto, unfolding(crate::specs::inner::PhraseReading::named))]
 fn open(alloc: Global, call: Call, piece: Piece<'_>, room: usize) -> Result<Phrased, ActFault>
     ensures { result ≡ named room call (token_of piece.entry) }
 {
@@ -216,8 +220,9 @@ fn open(alloc: Global, call: Call, piece: Piece<'_>, room: usize) -> Result<Phra
     }
 }
 
-/// The send or mark with its arguments, where it may have so many; their closing parenthesis stands at this byte.
-#[tactic(auto, unfolding(crate::specs::PhraseReading::call_made))]
+// The send or mark with its arguments, where it may have so many; their closing parenthesis stands
+// at this byte.
+#[tactic(auto, unfolding(crate::specs::inner::PhraseReading::call_made))]
 fn made(call: Call, args: Row<Expr>, at: u32) -> Result<Stmt, ActFault>
     ensures { result ≡ call_made call args at }
 {
@@ -242,8 +247,8 @@ fn made(call: Call, args: Row<Expr>, at: u32) -> Result<Stmt, ActFault>
     }
 }
 
-/// A token in arguments.
-#[tactic(auto, unfolding(crate::specs::PhraseReading::argument_read))]
+// A token in arguments.
+#[tactic(auto, unfolding(crate::specs::inner::PhraseReading::argument_read))]
 fn argument(
     alloc: Global,
     call: Call,
@@ -261,8 +266,8 @@ fn argument(
     }
 }
 
-/// A token behind a send or mark and its arguments: the semicolon.
-#[tactic(auto, unfolding(crate::specs::PhraseReading::called_ended))]
+// A token behind a send or mark and its arguments: the semicolon.
+#[tactic(auto, unfolding(crate::specs::inner::PhraseReading::called_ended))]
 fn end(stmt: Stmt, piece: Piece<'_>) -> Result<Phrased, ActFault>
     ensures { result ≡ called_ended stmt (token_of piece.entry) }
 {
@@ -272,8 +277,9 @@ fn end(stmt: Stmt, piece: Piece<'_>) -> Result<Phrased, ActFault>
     }
 }
 
-/// The next token of an assignment, a send or a mark; so many levels of parentheses may be open in it.
-#[tactic(auto, using(crate::proofs::AnswerLaws::beside_answers, crate::proofs::AnswerLaws::beside_same, crate::proofs::AnswerLaws::same_kept), unfolding(crate::specs::PhraseReading::phrase_step))]
+// The next token of an assignment, a send or a mark; so many levels of parentheses may be open in
+// it.
+#[tactic(auto, using(crate::proofs::AnswerLaws::beside_answers, crate::proofs::AnswerLaws::beside_same, crate::proofs::AnswerLaws::same_kept), unfolding(crate::specs::inner::PhraseReading::phrase_step))]
 pub(crate) fn phrase_next(
     alloc: Global,
     phrase: Phrase,
@@ -286,7 +292,8 @@ pub(crate) fn phrase_next(
     requires objects { length names.now.objects ≤ 256 }
     requires signals { length names.now.signals ≤ 65536 }
     requires marks { length marks.old.items < 65536 }
-    ensures gives { AnswersWith (phrase_step names.now room marks.old.items phrase (token_of piece.entry)) result marks.new.items }
+    ensures gives { AnswersWith
+        (phrase_step names.now room marks.old.items phrase (token_of piece.entry)) result marks.new.items }
     ensures kept { KeepsMarks marks.old.items marks.new.items }
 {
     match phrase {

@@ -1,6 +1,6 @@
 //! What is whole of behaviours that have been read in part: steps, open blocks and statements.
 ghost use Rattle.std.specs.Prelude.{◌≡◌, ◌++◌, ◌∷◌, [], IfOk};
-ghost use Rattle.pssm_acts.specs.ActReading.{fresh_blocks, statement_counted, with_act, with_statement, without_else};
+ghost use Rattle.pssm_acts.specs.inner.ActReading.{fresh_blocks, statement_counted, with_act, with_statement, without_else};
 
 use crate::act_fault::{ActFault, refused};
 use crate::stack::Stack;
@@ -8,10 +8,11 @@ use pssm_model::Row;
 use pssm_semantics::{Act, Cond, Stmt};
 use std::alloc::{AllocError as NoMemory, Global};
 
-/// How many statements a behaviour may have, those in blocks counted (this profile's choice).
+// How many statements a behaviour may have, those in blocks counted (this profile's choice).
 const STATEMENTS: u32 = 64;
 
-/// An `if` of which a block is open: the statements before it, its condition, and its first block, where the second is the open one.
+/// An `if` of which a block is open: the statements before it, its condition, and its first block,
+/// where the second is the open one.
 #[derive(Drop)]
 pub struct OpenIf {
     pub before: Row<Stmt>,
@@ -19,7 +20,8 @@ pub struct OpenIf {
     pub body: Option<Row<Stmt>>,
 }
 
-/// What is whole: the earlier steps, each `if` that is open, the statements behind the last of these; and how many statements of the behaviour have begun.
+/// What is whole: the earlier steps, each `if` that is open, the statements behind the last of
+/// these; and how many statements of the behaviour have begun.
 #[derive(Drop)]
 pub struct Blocks {
     pub earlier: Row<Act>,
@@ -28,7 +30,7 @@ pub struct Blocks {
     pub begun: u32,
 }
 
-/// Nothing but these steps has been read.
+// Nothing but these steps has been read.
 pub(crate) fn new_blocks(alloc: Global, earlier: Row<Act>) -> Blocks
     ensures { result ≡ fresh_blocks earlier }
 {
@@ -40,7 +42,7 @@ pub(crate) fn new_blocks(alloc: Global, earlier: Row<Act>) -> Blocks
     }
 }
 
-/// One statement more.
+// One statement more.
 fn pushed(stmts: Row<Stmt>, stmt: Stmt) -> Result<Row<Stmt>, NoMemory>
     ensures { IfOk result (λ more. more ≡ stmts ++ stmt ∷ []) }
 {
@@ -49,7 +51,7 @@ fn pushed(stmts: Row<Stmt>, stmt: Stmt) -> Result<Row<Stmt>, NoMemory>
     Ok(Row::from_vec(list))
 }
 
-/// The same blocks with one statement more.
+// The same blocks with one statement more.
 pub(crate) fn with_stmt(blocks: Blocks, stmt: Stmt) -> Result<Blocks, NoMemory>
     ensures { IfOk result (λ more. more ≡ with_statement blocks stmt) }
 {
@@ -68,7 +70,7 @@ pub(crate) fn with_stmt(blocks: Blocks, stmt: Stmt) -> Result<Blocks, NoMemory>
     })
 }
 
-/// The blocks with an `if` that has no `else`.
+// The blocks with an `if` that has no `else`.
 pub(crate) fn with_if(blocks: Blocks, condition: Cond, body: Row<Stmt>) -> Result<Blocks, NoMemory>
     ensures { IfOk result (λ more. more ≡ without_else blocks condition body) }
 {
@@ -82,8 +84,8 @@ pub(crate) fn with_if(blocks: Blocks, condition: Cond, body: Row<Stmt>) -> Resul
     )
 }
 
-/// One statement more has begun, where the behaviour may have it.
-#[tactic(auto, unfolding(crate::specs::ActReading::statement_counted))]
+// One statement more has begun, where the behaviour may have it.
+#[tactic(auto, unfolding(crate::specs::inner::ActReading::statement_counted))]
 pub(crate) fn counted(blocks: Blocks, at: u32) -> Result<Blocks, ActFault>
     ensures { result ≡ statement_counted blocks at }
 {
@@ -95,7 +97,7 @@ pub(crate) fn counted(blocks: Blocks, at: u32) -> Result<Blocks, ActFault>
     Ok(blocks)
 }
 
-/// The steps with one more.
+// The steps with one more.
 pub(crate) fn with_step(earlier: Row<Act>, stmts: Row<Stmt>) -> Result<Row<Act>, NoMemory>
     ensures { IfOk result (λ more. more ≡ with_act earlier stmts) }
 {

@@ -2,11 +2,11 @@
 ghost use Rattle.std.specs.Prelude.{◌≡◌, ◌≤◌, List, ℕ, length, All, IfOk, IfErr, Ok, Err, true, false};
 ghost use Rattle.pssm_acts.specs.declared.act_fault.ActFault.TheVariants.{NoMemory};
 ghost use Rattle.pssm_acts.specs.ActGrammar.{SpellsAct, SpellsSteps};
-ghost use Rattle.pssm_acts.specs.ActReading.{act_reading, acts_reading, steps_reading, text_acts};
+ghost use Rattle.pssm_acts.specs.inner.ActReading.{act_reading, acts_reading, steps_reading, text_acts};
 ghost use Rattle.pssm_acts.specs.ActText.{act_text, cond_text};
 ghost use Rattle.pssm_acts.specs.Answers.{Answers, AnswersWith, Faults, listed};
 ghost use Rattle.pssm_acts.specs.Canonical.{IsCanonicalAct, IsCanonicalCond};
-ghost use Rattle.pssm_acts.specs.GuardReading.{cond_reading, text_reading};
+ghost use Rattle.pssm_acts.specs.inner.GuardReading.{cond_reading, text_reading};
 ghost use Rattle.pssm_semantics.specs.Fits.{ActFits, CondFits};
 ghost use Rattle.pssm_acts.specs.Grammar.{Either, SpellsCond};
 ghost use Rattle.pssm_acts.specs.Marks.{KeepsMarks};
@@ -19,43 +19,30 @@ use crate::act_fault::ActFault;
 use crate::acts_reader::{LEVELS, ReadActs, acts_end, acts_next, new_acts};
 use crate::guard_reader::{guard_end, guard_next, new_guard};
 use crate::read_blocks::with_step;
-use crate::token::{Piece, blank, closes_operand, token_at};
+use crate::tokens::Tokens;
 use pssm_model::{Row, Text};
 use pssm_semantics::{Act, Cond, Names};
 use std::alloc::Global;
 
-/// The greatest length of a text, in bytes (this profile's choice).
+// The greatest length of a text, in bytes (this profile's choice).
 const TEXT_LEN: usize = 4096;
 
-/// The guard that the tokens of a text spell.
+// The guard that the tokens of a text spell.
 fn cond_of(alloc: Global, text: &[u8], names: &Names) -> Result<Cond, ActFault>
     requires few { length names.now.vars ≤ 65536 }
     requires short { length text.now ≤ 4096 }
     ensures { Answers (text_reading names.now text.now) result }
 {
+    let mut tokens = Tokens::of(text);
     let mut reader = new_guard(alloc);
-    let mut after_operand = false;
-    let mut rest = text;
-    while let [first, behind @ ..] = rest {
-        if blank(*first) {
-            rest = behind;
-            continue;
-        }
-        let (kind, len) = token_at(rest, after_operand);
-        let (word, later) = rest.split_at(len);
-        let at = (text.len() - rest.len()) as u32;
-        match guard_next(alloc, reader, Piece { at, kind, word }, names, LEVELS) {
-            Ok(next) => reader = next,
-            Err(fault) => return Err(fault),
-        }
-        after_operand = closes_operand(kind);
-        rest = later;
+    while let Some(piece) = tokens.next() {
+        reader = guard_next(alloc, reader, piece, names, LEVELS)?;
     }
     guard_end(alloc, reader, text.len() as u32)
 }
 
-/// The guard that a text spells.
-#[tactic(auto, unfolding(crate::specs::GuardReading::cond_reading))]
+// The guard that a text spells.
+#[tactic(auto, unfolding(crate::specs::inner::GuardReading::cond_reading))]
 fn guard_of(alloc: Global, text: &[u8], names: &Names) -> Result<Cond, ActFault>
     requires few { length names.now.vars ≤ 65536 }
     ensures { Answers (cond_reading names.now text.now) result }
@@ -72,15 +59,20 @@ pub fn read_cond(alloc: Global, text: &[u8], names: &Names) -> Result<Cond, ActF
     ensures spelled { IfOk result (λ cond. SpellsCond names.now text.now cond) }
     ensures known { (cond : Cond) → SpellsCond names.now text.now cond → Answers (Ok cond) result }
     ensures fits { IfOk result (λ cond. CondFits (length names.now.vars) cond) }
-    ensures fault { IfErr result (λ fault. Faults (TextFault (GuardShape Either) names.now text.now) fault) }
-    ensures first { (fault : ActFault) → TextFault (GuardShape Either) names.now text.now fault → Answers (Err fault) result }
-    ensures canonical { IsCanonicalCond names.now text.now → IfErr result (λ fault. fault ≡ NoMemory) }
-    ensures unchanged { IsCanonicalCond names.now text.now → IfOk result (λ cond. cond_text names.now cond ≡ text.now) }
+    ensures fault { IfErr result
+        (λ fault. Faults (TextFault (GuardShape Either) names.now text.now) fault) }
+    ensures first { (fault : ActFault)
+        → TextFault (GuardShape Either) names.now text.now fault
+        → Answers (Err fault) result }
+    ensures canonical { IsCanonicalCond names.now text.now
+        → IfErr result (λ fault. fault ≡ NoMemory) }
+    ensures unchanged { IsCanonicalCond names.now text.now
+        → IfOk result (λ cond. cond_text names.now cond ≡ text.now) }
 {
     guard_of(alloc, text, names)
 }
 
-/// The behaviours that the tokens of a text spell: one, or several where they are steps.
+// The behaviours that the tokens of a text spell: one, or several where they are steps.
 fn acts_of(
     alloc: Global,
     text: &[u8],
@@ -93,39 +85,20 @@ fn acts_of(
     requires signals { length names.now.signals ≤ 65536 }
     requires marks { length marks.old.items ≤ 32768 }
     requires short { length text.now ≤ 4096 }
-    ensures gives { AnswersWith (text_acts names.now stepped marks.old.items text.now) result marks.new.items }
+    ensures gives { AnswersWith
+        (text_acts names.now stepped marks.old.items text.now) result marks.new.items }
     ensures kept { KeepsMarks marks.old.items marks.new.items }
 {
+    let mut tokens = Tokens::of(text);
     let mut reader = new_acts(alloc);
-    let mut after_operand = false;
-    let mut rest = text;
-    while let [first, behind @ ..] = rest {
-        if blank(*first) {
-            rest = behind;
-            continue;
-        }
-        let (kind, len) = token_at(rest, after_operand);
-        let (word, later) = rest.split_at(len);
-        let at = (text.len() - rest.len()) as u32;
-        match acts_next(
-            alloc,
-            reader,
-            Piece { at, kind, word },
-            names,
-            marks,
-            stepped,
-        ) {
-            Ok(next) => reader = next,
-            Err(fault) => return Err(fault),
-        }
-        after_operand = closes_operand(kind);
-        rest = later;
+    while let Some(piece) = tokens.next() {
+        reader = acts_next(alloc, reader, piece, names, marks, stepped)?;
     }
     acts_end(reader, text.len() as u32)
 }
 
-/// The behaviours that a text of at most 4,096 bytes spells.
-#[tactic(auto, unfolding(crate::specs::ActReading::acts_reading))]
+// The behaviours that a text of at most 4,096 bytes spells.
+#[tactic(auto, unfolding(crate::specs::inner::ActReading::acts_reading))]
 fn acts_in(
     alloc: Global,
     text: &[u8],
@@ -137,7 +110,8 @@ fn acts_in(
     requires objects { length names.now.objects ≤ 256 }
     requires signals { length names.now.signals ≤ 65536 }
     requires marks { length marks.old.items ≤ 32768 }
-    ensures gives { AnswersWith (acts_reading names.now stepped marks.old.items text.now) result marks.new.items }
+    ensures gives { AnswersWith
+        (acts_reading names.now stepped marks.old.items text.now) result marks.new.items }
     ensures kept { KeepsMarks marks.old.items marks.new.items }
 {
     if text.len() > TEXT_LEN {
@@ -146,22 +120,23 @@ fn acts_in(
     acts_of(alloc, text, names, marks, stepped)
 }
 
-/// The behaviour that a text spells.
-#[tactic(auto, unfolding(crate::specs::ActReading::act_reading))]
+// The behaviour that a text spells.
+#[tactic(auto, unfolding(crate::specs::inner::ActReading::act_reading))]
 fn act_in(alloc: Global, text: &[u8], names: &Names, marks: &mut Vec<Text>) -> Result<Act, ActFault>
     requires few { length names.now.vars ≤ 65536 }
     requires objects { length names.now.objects ≤ 256 }
     requires signals { length names.now.signals ≤ 65536 }
     requires marks { length marks.old.items ≤ 32768 }
-    ensures gives { AnswersWith (act_reading names.now marks.old.items text.now) result marks.new.items }
+    ensures gives { AnswersWith
+        (act_reading names.now marks.old.items text.now) result marks.new.items }
     ensures kept { KeepsMarks marks.old.items marks.new.items }
 {
     let ReadActs { earlier: _, last } = acts_in(alloc, text, names, marks, false)?;
     Ok(last)
 }
 
-/// The steps that a text spells.
-#[tactic(auto, unfolding(crate::specs::ActReading::steps_reading))]
+// The steps that a text spells.
+#[tactic(auto, unfolding(crate::specs::inner::ActReading::steps_reading))]
 fn steps_in(
     alloc: Global,
     text: &[u8],
@@ -172,7 +147,8 @@ fn steps_in(
     requires objects { length names.now.objects ≤ 256 }
     requires signals { length names.now.signals ≤ 65536 }
     requires marks { length marks.old.items ≤ 32768 }
-    ensures gives { AnswersWith (steps_reading names.now marks.old.items text.now) result marks.new.items }
+    ensures gives { AnswersWith
+        (steps_reading names.now marks.old.items text.now) result marks.new.items }
     ensures kept { KeepsMarks marks.old.items marks.new.items }
 {
     let ReadActs { earlier, last } = acts_in(alloc, text, names, marks, true)?;
@@ -182,7 +158,8 @@ fn steps_in(
 
 /// The behaviour that a text spells; otherwise the first fault in reading order.
 ///
-/// A mark has the number of its name in `marks`; a name that is new is added behind them. A refusal leaves them as they were.
+/// A mark has the number of its name in `marks`; a name that is new is added behind them. A refusal
+/// leaves them as they were.
 pub fn read_act(
     alloc: Global,
     text: &[u8],
@@ -193,15 +170,22 @@ pub fn read_act(
     requires objects { length names.now.objects ≤ 256 }
     requires signals { length names.now.signals ≤ 65536 }
     requires marks { length marks.old.items ≤ 32768 }
-    ensures spelled { IfOk result (λ act. SpellsAct names.now marks.old.items text.now act marks.new.items) }
-    ensures known { (act : Act) (noted : List (List ℕ)) → SpellsAct names.now marks.old.items text.now act noted → AnswersWith (Ok (act, noted)) result marks.new.items }
+    ensures spelled { IfOk result
+        (λ act. SpellsAct names.now marks.old.items text.now act marks.new.items) }
+    ensures known { (act : Act) (noted : List (List ℕ))
+        → SpellsAct names.now marks.old.items text.now act noted
+        → AnswersWith (Ok (act, noted)) result marks.new.items }
     ensures fits { IfOk result (λ act. ActFits (vocabulary names.now marks.new.items) act) }
-    ensures fault { IfErr result (λ fault. Faults (TextFault StmtsShape names.now text.now) fault) }
-    ensures first { (fault : ActFault) → TextFault StmtsShape names.now text.now fault → Answers (Err fault) result }
+    ensures fault { IfErr result
+        (λ fault. Faults (TextFault StmtsShape names.now text.now) fault) }
+    ensures first { (fault : ActFault)
+        → TextFault StmtsShape names.now text.now fault → Answers (Err fault) result }
     ensures refused { IfErr result (λ _. marks.new.items ≡ marks.old.items) }
     ensures kept { KeepsMarks marks.old.items marks.new.items }
-    ensures canonical { IsCanonicalAct names.now text.now → IfErr result (λ fault. fault ≡ NoMemory) }
-    ensures unchanged { IsCanonicalAct names.now text.now → IfOk result (λ act. act_text names.now marks.new.items act ≡ text.now) }
+    ensures canonical { IsCanonicalAct names.now text.now
+        → IfErr result (λ fault. fault ≡ NoMemory) }
+    ensures unchanged { IsCanonicalAct names.now text.now
+        → IfOk result (λ act. act_text names.now marks.new.items act ≡ text.now) }
 {
     let known = marks.len();
     match act_in(alloc, text, names, marks) {
@@ -215,7 +199,8 @@ pub fn read_act(
 
 /// The steps that a text spells, separated by `step;`; otherwise the first fault in reading order.
 ///
-/// A mark has the number of its name in `marks`; a name that is new is added behind them. A refusal leaves them as they were.
+/// A mark has the number of its name in `marks`; a name that is new is added behind them. A refusal
+/// leaves them as they were.
 pub fn read_steps(
     alloc: Global,
     text: &[u8],
@@ -226,11 +211,17 @@ pub fn read_steps(
     requires objects { length names.now.objects ≤ 256 }
     requires signals { length names.now.signals ≤ 65536 }
     requires marks { length marks.old.items ≤ 32768 }
-    ensures spelled { IfOk result (λ steps. SpellsSteps names.now marks.old.items text.now steps.items marks.new.items) }
-    ensures known { (steps : List Act) (noted : List (List ℕ)) → SpellsSteps names.now marks.old.items text.now steps noted → AnswersWith (Ok (steps, noted)) (listed result) marks.new.items }
-    ensures fits { IfOk result (λ steps. All (ActFits (vocabulary names.now marks.new.items)) steps.items) }
-    ensures fault { IfErr result (λ fault. Faults (TextFault StepsShape names.now text.now) fault) }
-    ensures first { (fault : ActFault) → TextFault StepsShape names.now text.now fault → Answers (Err fault) result }
+    ensures spelled { IfOk result
+        (λ steps. SpellsSteps names.now marks.old.items text.now steps.items marks.new.items) }
+    ensures known { (steps : List Act) (noted : List (List ℕ))
+        → SpellsSteps names.now marks.old.items text.now steps noted
+        → AnswersWith (Ok (steps, noted)) (listed result) marks.new.items }
+    ensures fits { IfOk result
+        (λ steps. All (ActFits (vocabulary names.now marks.new.items)) steps.items) }
+    ensures fault { IfErr result
+        (λ fault. Faults (TextFault StepsShape names.now text.now) fault) }
+    ensures first { (fault : ActFault)
+        → TextFault StepsShape names.now text.now fault → Answers (Err fault) result }
     ensures refused { IfErr result (λ _. marks.new.items ≡ marks.old.items) }
     ensures kept { KeepsMarks marks.old.items marks.new.items }
 {
@@ -244,10 +235,18 @@ pub fn read_steps(
     }
 }
 
-/// Each text spells one guard, one behaviour or one list of steps, with the marks that there are, or it has one fault: always one of them, and
-/// never both.
+/// Each text spells one guard, one behaviour or one list of steps, with the marks that there are,
+/// or it has one fault: always one of them, and never both.
 pub fn one_reading()
-    ensures guard { (names : Names) (text : List ℕ) → HasOneReading (λ (cond : Cond). SpellsCond names text cond) (λ fault. TextFault (GuardShape Either) names text fault) }
-    ensures behaviour { (names : Names) (marks : List (List ℕ)) (text : List ℕ) → HasOneReading (λ (read : Act × List (List ℕ)). SpellsAct names marks text read.0 read.1) (λ fault. TextFault StmtsShape names text fault) }
-    ensures steps { (names : Names) (marks : List (List ℕ)) (text : List ℕ) → HasOneReading (λ (read : List Act × List (List ℕ)). SpellsSteps names marks text read.0 read.1) (λ fault. TextFault StepsShape names text fault) }
+    ensures guard { (names : Names) (text : List ℕ)
+        → HasOneReading (λ (cond : Cond). SpellsCond names text cond)
+        (λ fault. TextFault (GuardShape Either) names text fault) }
+    ensures behaviour { (names : Names) (marks : List (List ℕ)) (text : List ℕ)
+        → HasOneReading
+        (λ (read : Act × List (List ℕ)). SpellsAct names marks text read.0 read.1)
+        (λ fault. TextFault StmtsShape names text fault) }
+    ensures steps { (names : Names) (marks : List (List ℕ)) (text : List ℕ)
+        → HasOneReading
+        (λ (read : List Act × List (List ℕ)). SpellsSteps names marks text read.0 read.1)
+        (λ fault. TextFault StepsShape names text fault) }
 {}

@@ -1,6 +1,6 @@
 //! `Stack`: items of which the last one put there comes first.
 ghost use Rattle.std.specs.Prelude.{◌≡◌, ◌∷◌, [], length, IfOk};
-ghost use Rattle.pssm_acts.specs.Stacks.{split_top};
+ghost use Rattle.pssm_acts.specs.inner.Stacks.{split_top};
 
 use std::alloc::{AllocError as NoMemory, Global};
 use std::marker::Model;

@@ -8,7 +8,7 @@ use pssm_semantics::{Cond, Expr, Names, Rel};
 use pssm_spelling::put_signed;
 use std::alloc::{AllocError as NoMemory, Global};
 
-/// The name with a number, and the empty one where there is none.
+// The name with a number, and the empty one where there is none.
 pub(crate) fn name_of(names: &[Text], number: usize) -> &[u8]
     ensures { result.now ≡ name_at names.now number }
 {
@@ -24,7 +24,7 @@ fn is_compound(expr: &Expr) -> bool
     matches!(expr, Expr::Sum(..) | Expr::Diff(..) | Expr::Prod(..))
 }
 
-/// An expression.
+// An expression.
 #[cycle(exprs)]
 pub(crate) fn put_expr(
     alloc: Global,
@@ -65,7 +65,9 @@ fn put_operation(
     right: &Expr,
     names: &Names,
 ) -> Result<(), NoMemory>
-    ensures { IfOk result (λ _. text.new.items ≡ text.old.items ++ (operand_text names.now left.now ++ sign.now ++ operand_text names.now right.now)) }
+    ensures { IfOk result
+        (λ _. text.new.items ≡ text.old.items
+        ++ (operand_text names.now left.now ++ sign.now ++ operand_text names.now right.now)) }
 {
     put_operand(alloc, text, left, names)?;
     text.extend_from_slice(sign)?;
@@ -110,7 +112,7 @@ fn is_joined(cond: &Cond) -> bool
     matches!(cond, Cond::And(..) | Cond::Or(..))
 }
 
-/// A guard.
+// A guard.
 #[cycle(conds)]
 pub(crate) fn put_cond(
     alloc: Global,
@@ -147,7 +149,9 @@ fn put_comparison(
     right: &Expr,
     names: &Names,
 ) -> Result<(), NoMemory>
-    ensures { IfOk result (λ _. text.new.items ≡ text.old.items ++ (expr_text names.now left.now ++ rel_text rel ++ expr_text names.now right.now)) }
+    ensures { IfOk result
+        (λ _. text.new.items ≡ text.old.items
+        ++ (expr_text names.now left.now ++ rel_text rel ++ expr_text names.now right.now)) }
 {
     put_expr(alloc, text, left, names)?;
     text.extend_from_slice(sign_of(rel))?;
@@ -164,7 +168,9 @@ fn put_chain(
     right: &Cond,
     names: &Names,
 ) -> Result<(), NoMemory>
-    ensures { IfOk result (λ _. text.new.items ≡ text.old.items ++ (unit_text names.now left.now ++ sign.now ++ unit_text names.now right.now)) }
+    ensures { IfOk result
+        (λ _. text.new.items ≡ text.old.items
+        ++ (unit_text names.now left.now ++ sign.now ++ unit_text names.now right.now)) }
 {
     put_unit(alloc, text, left, names)?;
     text.extend_from_slice(sign)?;

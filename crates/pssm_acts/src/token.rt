@@ -5,7 +5,8 @@ ghost use Rattle.pssm_acts.specs.Tokens.{double_sign, ends_operand, front, is_bl
 use pssm_semantics::Rel;
 use pssm_spelling::{NAME_LEN, digits_len, name_len, name_starts};
 
-/// What a token is: a name, a number, a parameter, or a word or sign of the language (this profile's choice).
+/// What a token is: a name, a number, a parameter, or a word or sign of the language (this
+/// profile's choice).
 ///
 /// `Param` has the parameter's number, 1 to 8. `Unknown` stands for bytes that begin no token.
 #[derive(Clone, Copy, PartialEq, Eq, Debug)]
@@ -41,14 +42,14 @@ pub enum Kind {
     Unknown,
 }
 
-/// Whether the byte is a space, a tab, a carriage return or a line feed.
+// Whether the byte is a space, a tab, a carriage return or a line feed.
 pub(crate) fn blank(c: u8) -> bool
     ensures { result ≡ is_blank c }
 {
     matches!(c, b' ' | b'\t' | b'\r' | b'\n')
 }
 
-/// Whether an operand ends with such a token, so that a `-` behind it is a sign of its own.
+// Whether an operand ends with such a token, so that a `-` behind it is a sign of its own.
 pub(crate) fn closes_operand(kind: Kind) -> bool
     ensures { result ≡ ends_operand kind }
 {
@@ -58,7 +59,7 @@ pub(crate) fn closes_operand(kind: Kind) -> bool
     )
 }
 
-/// What a word is that is spelled as a name.
+// What a word is that is spelled as a name.
 fn kind_of_word(word: &[u8]) -> Kind
     ensures { result ≡ word_kind word.now }
 {
@@ -83,7 +84,7 @@ fn kind_of_word(word: &[u8]) -> Kind
     }
 }
 
-/// The sign of two bytes.
+// The sign of two bytes.
 fn double(c: u8, d: u8) -> Option<Kind>
     ensures gives { result ≡ double_sign c d }
     ensures second { IfSome result (λ _. 0 < d) }
@@ -100,7 +101,7 @@ fn double(c: u8, d: u8) -> Option<Kind>
     }
 }
 
-/// The sign of one byte.
+// The sign of one byte.
 fn single(c: u8) -> Kind
     ensures { result ≡ single_sign c }
 {
@@ -124,7 +125,7 @@ fn single(c: u8) -> Kind
     }
 }
 
-/// The sign or parameter that begins with these two bytes, and its length.
+// The sign or parameter that begins with these two bytes, and its length.
 #[tactic(auto, unfolding(crate::specs::Tokens::sign_front))]
 fn sign(c: u8, d: u8) -> (Kind, usize)
     ensures gives { result ≡ sign_front c d }
@@ -141,7 +142,8 @@ fn sign(c: u8, d: u8) -> (Kind, usize)
     }
 }
 
-/// How many bytes of a number there are, where one begins here; a `-` belongs to it where no operand stands before.
+// How many bytes of a number there are, where one begins here; a `-` belongs to it where no operand
+// stands before.
 #[tactic(auto, unfolding(crate::specs::Tokens::number_len))]
 fn number(bytes: &[u8], after_operand: bool) -> usize
     ensures gives { result ≡ number_len after_operand bytes.now }
@@ -160,7 +162,7 @@ fn number(bytes: &[u8], after_operand: bool) -> usize
     }
 }
 
-/// What the bytes begin with, and how long it is.
+// What the bytes begin with, and how long it is.
 #[tactic(auto, unfolding(crate::specs::Tokens::front))]
 pub(crate) fn token_at(bytes: &[u8], after_operand: bool) -> (Kind, usize)
     requires some { 0 < length bytes.now }

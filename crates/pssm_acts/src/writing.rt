@@ -12,8 +12,8 @@ use std::alloc::{AllocError as NoMemory, Global};
 
 /// The spelling of a behaviour.
 ///
-/// Statements are separated by one space, as in `x := (x + 1) * 2; if x < 5 { mark m(x); } else { }`. A variable,
-/// object, signal or mark with a number past the last name has the empty name.
+/// Statements are separated by one space, as in `x := (x + 1) * 2; if x < 5 { mark m(x); } else {
+/// }`. A variable, object, signal or mark with a number past the last name has the empty name.
 pub fn write_act(
     alloc: Global,
     act: &Act,
@@ -21,7 +21,9 @@ pub fn write_act(
     marks: &[Text],
 ) -> Result<Vec<u8>, NoMemory>
     ensures gives { IfOk result (λ text. text.items ≡ act_text names.now marks.now act.now) }
-    ensures read_back { IfOk result (λ text. CanBeReadBack names.now marks.now act.now → SpellsAct names.now marks.now text.items act.now marks.now) }
+    ensures read_back { IfOk result
+        (λ text. CanBeReadBack names.now marks.now act.now
+        → SpellsAct names.now marks.now text.items act.now marks.now) }
 {
     let mut text = Vec::new(alloc);
     if let [first, rest @ ..] = act.stmts.as_slice() {
@@ -36,14 +38,15 @@ pub fn write_act(
 /// A variable with a number past the last name has the empty name.
 pub fn write_cond(alloc: Global, cond: &Cond, names: &Names) -> Result<Vec<u8>, NoMemory>
     ensures gives { IfOk result (λ text. text.items ≡ cond_text names.now cond.now) }
-    ensures read_back { IfOk result (λ text. GuardCanBeReadBack names.now cond.now → SpellsCond names.now text.items cond.now) }
+    ensures read_back { IfOk result
+        (λ text. GuardCanBeReadBack names.now cond.now → SpellsCond names.now text.items cond.now) }
 {
     let mut text = Vec::new(alloc);
     put_cond(alloc, &mut text, cond, names)?;
     Ok(text)
 }
 
-/// Expressions, separated by a comma and a space.
+// Expressions, separated by a comma and a space.
 fn put_args(alloc: Global, text: &mut Vec<u8>, args: &[Expr], names: &Names) -> Result<(), NoMemory>
     ensures { IfOk result (λ _. text.new.items ≡ text.old.items ++ args_text names.now args.now) }
 {
@@ -54,7 +57,7 @@ fn put_args(alloc: Global, text: &mut Vec<u8>, args: &[Expr], names: &Names) -> 
     Ok(())
 }
 
-/// Expressions, each with a comma and a space before it.
+// Expressions, each with a comma and a space before it.
 fn put_further(
     alloc: Global,
     text: &mut Vec<u8>,
@@ -77,7 +80,8 @@ fn put_assignment(
     value: &Expr,
     names: &Names,
 ) -> Result<(), NoMemory>
-    ensures { IfOk result (λ _. text.new.items ≡ text.old.items ++ assignment_text names.now variable value.now) }
+    ensures { IfOk result
+        (λ _. text.new.items ≡ text.old.items ++ assignment_text names.now variable value.now) }
 {
     text.extend_from_slice(name_of(names.vars.as_slice(), usize::from(variable)))?;
     text.extend_from_slice(b" := ")?;
@@ -112,7 +116,8 @@ fn put_send(
     args: &[Expr],
     names: &Names,
 ) -> Result<(), NoMemory>
-    ensures { IfOk result (λ _. text.new.items ≡ text.old.items ++ send_text names.now object signal args.now) }
+    ensures { IfOk result
+        (λ _. text.new.items ≡ text.old.items ++ send_text names.now object signal args.now) }
 {
     text.extend_from_slice(b"send ")?;
     text.extend_from_slice(receiver_of(object, names))?;
@@ -132,7 +137,8 @@ fn put_mark(
     names: &Names,
     marks: &[Text],
 ) -> Result<(), NoMemory>
-    ensures { IfOk result (λ _. text.new.items ≡ text.old.items ++ mark_text names.now marks.now mark args.now) }
+    ensures { IfOk result
+        (λ _. text.new.items ≡ text.old.items ++ mark_text names.now marks.now mark args.now) }
 {
     text.extend_from_slice(b"mark ")?;
     text.extend_from_slice(name_of(marks, usize::from(mark.0)))?;
@@ -142,7 +148,7 @@ fn put_mark(
     Ok(())
 }
 
-/// A statement.
+// A statement.
 #[cycle(stmts)]
 fn put_stmt(
     alloc: Global,
@@ -177,7 +183,7 @@ fn put_stmt(
     }
 }
 
-/// A block: what opens it, its statements, and a brace.
+// A block: what opens it, its statements, and a brace.
 #[cycle(stmts)]
 fn put_block(
     alloc: Global,
@@ -187,7 +193,8 @@ fn put_block(
     names: &Names,
     marks: &[Text],
 ) -> Result<(), NoMemory>
-    ensures { IfOk result (λ _. text.new.items ≡ text.old.items ++ block_text opening.now (stmts_text names.now marks.now stmts.now)) }
+    ensures { IfOk result
+        (λ _. text.new.items ≡ text.old.items ++ block_text opening.now (stmts_text names.now marks.now stmts.now)) }
 {
     text.extend_from_slice(opening)?;
     put_stmts(alloc, text, stmts, names, marks)?;
@@ -195,7 +202,7 @@ fn put_block(
     Ok(())
 }
 
-/// Statements, each with a space before it.
+// Statements, each with a space before it.
 #[cycle(stmts)]
 fn put_stmts(
     alloc: Global,

@@ -124,7 +124,10 @@ fn machine_of(
     vertices: &[u8],
     transitions: &[u8],
 ) -> Result<Machine, Fail> {
-    Ok(Machine::new(alloc, &draft_of(alloc, regions, vertices, transitions)?)?)
+    let draft = draft_of(alloc, regions, vertices, transitions)?;
+    let machine = Machine::new(alloc, &draft);
+    drop(draft);
+    Ok(machine?)
 }
 
 /// The draft of one State in one region.

@@ -1,6 +1,6 @@
 -- Readers that did not fail.
 use Rattle.std.proofs.Common.{◌≡◌, Bool, true, false, cond, Option, Some, None, refl}
-use Rattle.pssm_flat.specs.Lines.{◌>>=◌}
+use Rattle.pssm_flat.specs.inner.Lines.{◌>>=◌}
 
 -- both steps gave a value
 pub bind_some : {A B : Type 0} (r : Option A) (f : A → Option B) (y : B) → (r >>= f) ≡ Some y → (x : A) × (r ≡ Some x) × (f x ≡ Some y)

@@ -16,12 +16,12 @@ use Rattle.pssm_semantics.specs.declared.setting.SignalDecl.{SignalDecl}
 use Rattle.pssm_flat.specs.declared.line.Line.{Line}
 use Rattle.pssm_flat.specs.declared.line.Line.TheVariants as lines
 use Rattle.pssm_flat.specs.declared.block.Block.{Block}
-use Rattle.pssm_flat.specs.declared.draft.Draft.{Draft}
-use Rattle.pssm_flat.specs.declared.draft.Draft.TheVariants as stages
+use Rattle.pssm_flat.specs.declared.outline.Outline.{Outline}
+use Rattle.pssm_flat.specs.declared.outline.Outline.TheVariants as stages
 use Rattle.pssm_flat.specs.Text.{numbered, signal_line, region_lines, region_line, vertex_line, defer_line, transition_line, on_line, signal_name}
 use Rattle.pssm_flat.specs.Flat.{IsRegionOwner, IsVertexOwner}
-use Rattle.pssm_flat.specs.Lines.{line_text}
-use Rattle.pssm_flat.specs.Drafts.{plain_signal, names_region_owner, names_vertex_owner, is_state, plain_vertex, plain_transition, deferring, with_defer, triggered, with_trigger, with_else, after_line, after_bytes, after_lines}
+use Rattle.pssm_flat.specs.inner.Lines.{line_text}
+use Rattle.pssm_flat.specs.inner.Outlines.{plain_signal, names_region_owner, names_vertex_owner, is_state, plain_vertex, plain_transition, deferring, with_defer, triggered, with_trigger, with_else, after_line, after_bytes, after_lines}
 use Rattle.pssm_flat.proofs.Lasts.{last_of-push}
 use Rattle.pssm_flat.proofs.Items.{AllFit}
 use Rattle.pssm_flat.proofs.SignalLaws.{Differ, IsNewSignal, fit_differ}
@@ -31,14 +31,14 @@ use Rattle.pssm_flat.proofs.LineForms.{IsGoodLine, line_again}
 use Rattle.pssm_flat.proofs.Good.{vertex_part, else_part, transition_part, signal_part, class_part, object_part, head_part, elements_part, block_part, draft_lines, IsReadVertex, IsReadTransition, IsReadBlock}
 use Rattle.pssm_flat.proofs.Reach.{plain_line, after_append}
 
-pub next_line : (d e : Draft) (l : Line) → IsGoodLine l → after_line d l ≡ Some e → after_bytes d (line_text l) ≡ Some e
+pub next_line : (d e : Outline) (l : Line) → IsGoodLine l → after_line d l ≡ Some e → after_bytes d (line_text l) ≡ Some e
 unfolding after_bytes
 next_line d e l good eq = rw (line_again l good) eq
 
-one_then : (d e f : Draft) (l : List ℕ) (ls : List (List ℕ)) → after_bytes d l ≡ Some e → after_lines e ls ≡ Some f → after_lines d (l ∷ ls) ≡ Some f
+one_then : (d e f : Outline) (l : List ℕ) (ls : List (List ℕ)) → after_bytes d l ≡ Some e → after_lines e ls ≡ Some f → after_lines d (l ∷ ls) ≡ Some f
 one_then d e f l ls one more = rw one more
 
-pub many_then : (d e f : Draft) (a b : List (List ℕ)) → after_lines d a ≡ Some e → after_lines e b ≡ Some f → after_lines d (a ++ b) ≡ Some f
+pub many_then : (d e f : Outline) (a b : List (List ℕ)) → after_lines d a ≡ Some e → after_lines e b ≡ Some f → after_lines d (a ++ b) ≡ Some f
 many_then d e f a b first more = after_append d a b ∙ rw first more
 
 -- ---- signals
@@ -61,7 +61,7 @@ signals_next seen (x ∷ new) fit few =
 abbrev block_of : List SignalDecl → List ℕ → List ℕ → List Owner → List Vertex → List Transition → Block
 block_of signals class object regions vertices transitions = record { signals = signals; class = class; object = object; regions = regions; vertices = vertices; transitions = transitions }
 
-abbrev at_block : List SignalDecl → List ℕ → List ℕ → List Owner → List Vertex → List Transition → Draft
+abbrev at_block : List SignalDecl → List ℕ → List ℕ → List Owner → List Vertex → List Transition → Outline
 at_block signals class object regions vertices transitions = stages.Block (block_of signals class object regions vertices transitions)
 
 region_small : (o : Owner) → IsRegionOwner o → IsSmallOwner o × (names_region_owner o ≡ true)

@@ -4,7 +4,7 @@ use Rattle.std.specs.List.{AllByRecursion}
 use Rattle.std.proofs.lemmas.List.{append-nil}
 use Rattle.pssm_model.specs.declared.elements.Element.{Element}
 use Rattle.pssm_model.specs.declared.elements.Shape.{Shape}
-use Rattle.pssm_model.specs.Shape.{HasShape, IsShapeFault, IsNamedBy}
+use Rattle.pssm_model.specs.Shapes.{HasShape, IsShapeFault, IsNamedBy}
 use Rattle.pssm_model.proofs.FirstFault.{shape_has_no_fault}
 use Rattle.pssm_semantics.specs.declared.setting.Class.{Class}
 use Rattle.pssm_semantics.specs.declared.setting.Setting.{Setting}
@@ -13,7 +13,7 @@ use Rattle.pssm_flat.specs.declared.fault.FlatFault.TheVariants as faults
 use Rattle.pssm_flat.specs.Text.{text_of, flat_lines, flat_text}
 use Rattle.pssm_flat.specs.Flat.{IsWritten, IsFlat}
 use Rattle.pssm_flat.specs.Faults.{BeginsText, StartsWith, line_of_element, IsBadLine, IsBadShape, IsFlatFault}
-use Rattle.pssm_flat.specs.Drafts.{IsInner}
+use Rattle.pssm_flat.specs.inner.Outlines.{IsInner}
 use Rattle.pssm_flat.proofs.Compare.{GoesOn, second, first, same, compared}
 use Rattle.pssm_flat.proofs.ShapeFaults.{fault_is_one, named_is_one}
 use Rattle.pssm_flat.proofs.Fronts.{begins_inner, begins_shorter, whole_begins, same_written, IsOnly, only_class}

@@ -11,13 +11,13 @@ use Rattle.pssm_semantics.specs.declared.setting.Setting.{Setting}
 use Rattle.pssm_spelling.specs.Spelling.{IsName}
 use Rattle.pssm_flat.specs.declared.line.Line.{Line}
 use Rattle.pssm_flat.specs.declared.block.Block.{Block}
-use Rattle.pssm_flat.specs.declared.draft.Draft.{Draft}
-use Rattle.pssm_flat.specs.declared.draft.Draft.TheVariants as stages
+use Rattle.pssm_flat.specs.declared.outline.Outline.{Outline}
+use Rattle.pssm_flat.specs.declared.outline.Outline.TheVariants as stages
 use Rattle.pssm_flat.specs.Text.{head_lines, machine_lines, flat_lines}
 use Rattle.pssm_flat.specs.Flat.{IsWritten}
 use Rattle.pssm_flat.specs.Faults.{BeginsText, lines_through}
-use Rattle.pssm_flat.specs.Lines.{◌>>=◌, line_taken}
-use Rattle.pssm_flat.specs.Drafts.{IsInner, setting_of, after_line, after_bytes, after_lines}
+use Rattle.pssm_flat.specs.inner.Lines.{◌>>=◌, line_taken}
+use Rattle.pssm_flat.specs.inner.Outlines.{IsInner, setting_of, after_line, after_bytes, after_lines}
 use Rattle.pssm_flat.proofs.Bind.{bind_then, bind_some, some_is}
 use Rattle.pssm_flat.proofs.LineForms.{line_takes, line_inner}
 use Rattle.pssm_flat.proofs.Good.{signal_part, class_part, object_part, head_part, elements_part, block_part, draft_lines, AreSignals, IsReadBlock, IsRead}
@@ -26,13 +26,13 @@ use Rattle.pssm_flat.proofs.Whole.{lines_are, read_written, block_of, block_is, 
 
 -- ---- lines that were read have no line feed
 
-bytes_inner : (d e : Draft) (l : List ℕ) → after_bytes d l ≡ Some e → IsInner l
+bytes_inner : (d e : Outline) (l : List ℕ) → after_bytes d l ≡ Some e → IsInner l
 unfolding after_bytes
 bytes_inner d e l eq = bind_then _ _ _ eq (λ (x : Line) at_x eq. let is = line_takes l x at_x in subst (λ (t : List ℕ). IsInner t) (sym is.0) (line_inner x is.1))
 
-pub after_inner : (d e : Draft) (ls : List (List ℕ)) → after_lines d ls ≡ Some e → AllByRecursion IsInner ls
+pub after_inner : (d e : Outline) (ls : List (List ℕ)) → after_lines d ls ≡ Some e → AllByRecursion IsInner ls
 after_inner d e [] eq = tt
-after_inner d e (l ∷ ls) eq = bind_then (after_bytes d l) (λ x. after_lines x ls) e eq (λ (x : Draft) at_x eq. (bytes_inner d x l at_x, after_inner x e ls eq))
+after_inner d e (l ∷ ls) eq = bind_then (after_bytes d l) (λ x. after_lines x ls) e eq (λ (x : Outline) at_x eq. (bytes_inner d x l at_x, after_inner x e ls eq))
 
 -- ---- nothing follows the end
 
@@ -43,23 +43,23 @@ after_end b l = by_line (line_taken l) where
   by_line None = refl
   by_line (Some x) = refl
 
-pub ended_stays : (b : Block) (ls : List (List ℕ)) (e : Draft) → after_lines (stages.Ended b) ls ≡ Some e → (ls ≡ []) × (stages.Ended b ≡ e)
+pub ended_stays : (b : Block) (ls : List (List ℕ)) (e : Outline) → after_lines (stages.Ended b) ls ≡ Some e → (ls ≡ []) × (stages.Ended b ≡ e)
 ended_stays b [] e eq = (refl, some_is (stages.Ended b) e eq)
 ended_stays b (l ∷ ls) e eq = absurd (let none = after_end b l in let read : after_lines (stages.Ended b) (l ∷ ls) ≡ None = rw none refl in cc)
 
 -- ---- fronts
 
-pub record FrontRead (ls more : List (List ℕ)) (e : Draft) : Type 0 where
-  pub draft : Draft
+pub record FrontRead (ls more : List (List ℕ)) (e : Outline) : Type 0 where
+  pub draft : Outline
   pub front : after_lines stages.Start ls ≡ Some draft
   pub rest : after_lines draft more ≡ Some e
 
-pub front_read : (ls more : List (List ℕ)) (e : Draft) → after_lines stages.Start (ls ++ more) ≡ Some e → FrontRead ls more e
+pub front_read : (ls more : List (List ℕ)) (e : Outline) → after_lines stages.Start (ls ++ more) ≡ Some e → FrontRead ls more e
 front_read ls more e eq =
     let parts = bind_some (after_lines stages.Start ls) (λ x. after_lines x more) e (sym (after_append stages.Start ls more) ∙ eq) in
     record { draft = parts.0; front = parts.1; rest = parts.2 }
 
-pub begins_read : (ls : List (List ℕ)) → BeginsText ls → (d : Draft) × (after_lines stages.Start ls ≡ Some d)
+pub begins_read : (ls : List (List ℕ)) → BeginsText ls → (d : Outline) × (after_lines stages.Start ls ≡ Some d)
 begins_read ls b =
     let f = front_read ls b.more (stages.Ended (block_of b.setting b.written)) (ap (after_lines stages.Start) (sym b.parts) ∙ lines_read b.setting b.written) in
     (f.draft, f.front)
@@ -81,7 +81,7 @@ pub same_written : (a b : Setting) (more : List (List ℕ)) → IsWritten a → 
 same_written a b more v w eq =
     let f = front_read (flat_lines b) more (stages.Ended (block_of a v)) (ap (after_lines stages.Start) (sym eq) ∙ lines_read a v) in
     let same : f.draft ≡ stages.Ended (block_of b w) = some_is f.draft (stages.Ended (block_of b w)) (sym f.front ∙ lines_read b w) in
-    let stays = ended_stays (block_of b w) more (stages.Ended (block_of a v)) (subst (λ (d : Draft). after_lines d more ≡ Some (stages.Ended (block_of a v))) same f.rest) in
+    let stays = ended_stays (block_of b w) more (stages.Ended (block_of a v)) (subst (λ (d : Outline). after_lines d more ≡ Some (stages.Ended (block_of a v))) same f.rest) in
     let blocks : block_of a v ≡ block_of b w = sym (let e = stays.1 in cc) in
     let one = block_is a v in
     let other = block_is b w in
@@ -119,7 +119,7 @@ after_object_part a d e f = simp append_assoc
 end_part : List (List ℕ)
 end_part = codes "end" ∷ []
 
-begins_draft : (d : Draft) → IsRead d → BeginsText (draft_lines d)
+begins_draft : (d : Outline) → IsRead d → BeginsText (draft_lines d)
 begins_draft stages.Start read =
     let b = first_block [] (codes "M") (codes "a") in
     begins_block b [] (draft_lines (stages.Ended b)) (first_read [] (codes "M") (codes "a") no_signals class_name_is object_name_is) (lit≤ tt) refl
@@ -148,7 +148,7 @@ begins_draft (stages.Block b) read = elim (cases_lt 0 (length b.regions)) [
 ]
 begins_draft (stages.Ended b) read = begins_block b (draft_lines (stages.Ended b)) [] read.0 read.1 (sym (append-nil (draft_lines (stages.Ended b))))
 
-pub read_begins : (ls : List (List ℕ)) (d : Draft) → after_lines stages.Start ls ≡ Some d → BeginsText ls
+pub read_begins : (ls : List (List ℕ)) (d : Outline) → after_lines stages.Start ls ≡ Some d → BeginsText ls
 read_begins ls d eq = let r = lines_reach stages.Start ls d tt eq in subst (λ t. BeginsText t) r.0 (begins_draft d r.1)
 
 -- ---- the one class

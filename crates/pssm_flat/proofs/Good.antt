@@ -10,8 +10,8 @@ use Rattle.pssm_model.specs.Silent.{IsSilentVertex, IsSilentTransition}
 use Rattle.pssm_semantics.specs.declared.setting.SignalDecl.{SignalDecl}
 use Rattle.pssm_spelling.specs.Spelling.{IsName}
 use Rattle.pssm_flat.specs.declared.block.Block.{Block}
-use Rattle.pssm_flat.specs.declared.draft.Draft.{Draft}
-use Rattle.pssm_flat.specs.declared.draft.Draft.TheVariants as stages
+use Rattle.pssm_flat.specs.declared.outline.Outline.{Outline}
+use Rattle.pssm_flat.specs.declared.outline.Outline.TheVariants as stages
 use Rattle.pssm_flat.specs.Text.{numbered, signal_line, region_lines, vertex_line, defer_line, transition_line, on_line}
 use Rattle.pssm_flat.specs.Flat.{IsLabel, IsRegionOwner, IsVertexOwner, HasSmallEnds, DefersAsState}
 use Rattle.pssm_flat.proofs.Items.{AllFit}
@@ -50,7 +50,7 @@ abbrev pub block_part : Block → List (List ℕ)
 block_part b = head_part b.signals b.class b.object ++ elements_part b
 
 -- the lines that have been read
-abbrev pub draft_lines : Draft → List (List ℕ)
+abbrev pub draft_lines : Outline → List (List ℕ)
 draft_lines stages.Start = []
 draft_lines (stages.Signals signals) = signal_part signals
 draft_lines (stages.Classed signals class) = class_part signals class
@@ -89,7 +89,7 @@ pub record IsReadBlock (b : Block) : Type 0 where
   -- Before the first region there is no other element.
   pub begun : (0 < length b.regions) ⊎ ((b.vertices ≡ []) × (b.transitions ≡ []))
 
-abbrev pub IsRead : Draft → Type 0
+abbrev pub IsRead : Outline → Type 0
 IsRead stages.Start = Unit {0}
 IsRead (stages.Signals signals) = AreSignals signals
 IsRead (stages.Classed signals class) = AreSignals signals × IsName class

@@ -3,7 +3,7 @@ use Rattle.std.proofs.Common.{◌≡◌, ◌-◌, ◌+◌, List, [], ◌∷◌, 
 use Rattle.std.proofs.lemmas.List.{append-nil, length-append}
 use Rattle.std.specs.Prelude.{slice_get}
 use Rattle.pssm_model.specs.declared.ids.SignalId.{SignalId}
-use Rattle.pssm_flat.specs.Drafts.{next_number}
+use Rattle.pssm_flat.specs.inner.Outlines.{next_number}
 
 -- each fits behind the ones before
 abbrev pub AllFit : {X : Type 0} → (List X → X → Type 0) → List X → List X → Type 0

@@ -1,7 +1,7 @@
 -- The last item of a list.
 use Rattle.std.proofs.Common.{◌≡◌, List, [], ◌∷◌, ◌++◌, Some, None, refl, ap, subst, ◌∙◌, sym}
 use Rattle.pssm_flat.proofs.Bind.{some_is}
-use Rattle.pssm_flat.specs.Drafts.{last_of}
+use Rattle.pssm_flat.specs.inner.Outlines.{last_of}
 
 pub last_of-push : {X : Type 0} (xs : List X) (x : X) → last_of (xs ++ x ∷ []) ≡ Some (xs, x)
 last_of-push [] x = refl

@@ -20,8 +20,8 @@ use Rattle.pssm_flat.specs.declared.line.Line.{Line}
 use Rattle.pssm_flat.specs.declared.line.Line.TheVariants as lines
 use Rattle.pssm_flat.specs.Text.{owner_word, kind_word, transition_word, label_text}
 use Rattle.pssm_flat.specs.Flat.{is_label_byte, IsLabel}
-use Rattle.pssm_flat.specs.Drafts.{is_inner, IsInner}
-use Rattle.pssm_flat.specs.Lines.{line_text, named_taken, owner_taken, whole_line, signal_taken, object_taken, region_line_taken, vertex_line_taken, end_taken, transition_line_taken, vertex_of, transition_with, head_line_taken, block_line_taken, line_taken}
+use Rattle.pssm_flat.specs.inner.Outlines.{is_inner, IsInner}
+use Rattle.pssm_flat.specs.inner.Lines.{line_text, named_taken, owner_taken, whole_line, signal_taken, object_taken, region_line_taken, vertex_line_taken, end_taken, transition_line_taken, vertex_of, transition_with, head_line_taken, block_line_taken, line_taken}
 use Rattle.pssm_flat.proofs.Bind.{bind_then, chosen_some, some_is}
 use Rattle.pssm_flat.proofs.LineLaws.{behind, or_then, mapped, ended_takes, IsSmallOwner, named_takes, name_alone, index_takes, index_again, owner_takes, owner_again, kind_takes, kind_again, kind_is_name, transition_takes, transition_again, label_takes, label_again, label_ends}
 

@@ -22,7 +22,7 @@ use Rattle.pssm_spelling.specs.SpellingReading.{EndsRun, is_digit, stripped, nam
 use Rattle.pssm_spelling.proofs.SpellingLaws.{stripped_takes, stripped_again, name_takes, name_again, number_takes, number_again}
 use Rattle.pssm_flat.specs.Text.{owner_word, kind_word, transition_word, label_text}
 use Rattle.pssm_flat.specs.Flat.{is_label_byte, IsLabel}
-use Rattle.pssm_flat.specs.Lines.{or_else, ended, named_taken, top_taken, region_taken, vertex_taken, owner_taken, kind_among, kind_of, transition_among, transition_of, label_of, label_taken}
+use Rattle.pssm_flat.specs.inner.Lines.{or_else, ended, named_taken, top_taken, region_taken, vertex_taken, owner_taken, kind_among, kind_of, transition_among, transition_of, label_of, label_taken}
 use Rattle.pssm_flat.proofs.Bind.{bind_then, chosen_some, some_is}
 
 -- what stands behind a front that is there on both sides

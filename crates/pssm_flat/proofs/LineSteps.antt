@@ -3,7 +3,7 @@ use Rattle.std.proofs.Common.{◌≡◌, ℕ, List, Some, refl}
 use Rattle.std.specs.Prelude.{codes}
 use Rattle.pssm_model.specs.declared.elements.TransKind.{TransKind}
 use Rattle.pssm_spelling.specs.SpellingReading.{stripped, index_taken}
-use Rattle.pssm_flat.specs.Lines.{end_taken, transition_of, transition_line_taken}
+use Rattle.pssm_flat.specs.inner.Lines.{end_taken, transition_of, transition_line_taken}
 
 pub transition_steps : (bytes a b c d word : List ℕ) (number source target : ℕ) (kind : TransKind)
     → stripped (codes "transition t") bytes ≡ Some a → index_taken a ≡ Some (number, b) → end_taken b ≡ Some (source, c) → end_taken c ≡ Some (target, d) → stripped (codes " ") d ≡ Some word → transition_of word ≡ Some kind

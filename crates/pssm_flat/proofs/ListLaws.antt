@@ -10,7 +10,7 @@ use Rattle.pssm_semantics.specs.declared.setting.SignalDecl.{SignalDecl}
 use Rattle.pssm_spelling.specs.Spelling.{IsName}
 use Rattle.pssm_semantics.specs.Built.{IsPlainSignal}
 use Rattle.pssm_flat.specs.Text.{signal_name}
-use Rattle.pssm_flat.specs.Drafts.{next_number, number_from, with_signal}
+use Rattle.pssm_flat.specs.inner.Outlines.{next_number, number_from, with_signal}
 use Rattle.pssm_flat.proofs.Items.{AllFit, next_number-push}
 use Rattle.pssm_flat.proofs.LineLaws.{mapped}
 use Rattle.pssm_flat.proofs.SignalLaws.{Differ, name_of_place, number_from_takes, number_from_again}

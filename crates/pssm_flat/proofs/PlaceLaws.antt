@@ -13,11 +13,11 @@ use Rattle.pssm_model.specs.declared.elements.Element.{Element}
 use Rattle.pssm_model.specs.declared.elements.Element.TheVariants as elements
 use Rattle.pssm_semantics.specs.declared.setting.SignalDecl.{SignalDecl}
 use Rattle.pssm_flat.specs.declared.block.Block.{Block}
-use Rattle.pssm_flat.specs.declared.draft.Draft.TheVariants as stages
+use Rattle.pssm_flat.specs.declared.outline.Outline.TheVariants as stages
 use Rattle.pssm_flat.specs.Text.{numbered, names_of, signal_line, region_lines, vertex_lines, transition_lines, defer_line, on_line}
 use Rattle.pssm_flat.specs.Faults.{line_of_element}
-use Rattle.pssm_flat.specs.Drafts.{plain_class, machine_of, setting_of}
-use Rattle.pssm_flat.specs.Places.{vertex_size, else_size, transition_size, machine_size, element_line}
+use Rattle.pssm_flat.specs.inner.Outlines.{plain_class, machine_of, setting_of}
+use Rattle.pssm_flat.specs.inner.Places.{vertex_size, else_size, transition_size, machine_size, element_line}
 use Rattle.pssm_flat.proofs.Good.{vertex_part, else_part, transition_part, draft_lines, IsReadVertex, IsReadTransition, IsReadBlock}
 use Rattle.pssm_flat.proofs.Whole.{numbered_same, vertex_same, transition_same}
 

@@ -9,7 +9,7 @@ use Rattle.pssm_model.specs.declared.elements.Element.{Element}
 use Rattle.pssm_model.specs.declared.elements.Element.TheVariants as elements
 use Rattle.pssm_model.specs.declared.elements.Shape.{Shape}
 use Rattle.pssm_model.specs.declared.elements.Shape.TheVariants as shapes
-use Rattle.pssm_model.specs.Shape.{HasBadOwner, HasBadEnd, IsPastLimit, IsEarlier, IsFirstMisshapen, IsWrongBy, IsNamedBy, IsShapeFault}
+use Rattle.pssm_model.specs.Shapes.{HasBadOwner, HasBadEnd, IsPastLimit, IsEarlier, IsFirstMisshapen, IsWrongBy, IsNamedBy, IsShapeFault}
 
 data InOrder (d e : Element) : Type 0 where
   equal : d ≡ e → InOrder d e

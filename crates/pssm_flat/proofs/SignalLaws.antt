@@ -15,7 +15,7 @@ use Rattle.pssm_model.specs.declared.ids.SignalId.{SignalId}
 use Rattle.pssm_semantics.specs.declared.setting.SignalDecl.{SignalDecl}
 use Rattle.pssm_semantics.specs.Built.{IsPlainSignal}
 use Rattle.pssm_flat.specs.Text.{signal_name}
-use Rattle.pssm_flat.specs.Drafts.{has_name, number_from}
+use Rattle.pssm_flat.specs.inner.Outlines.{has_name, number_from}
 use Rattle.pssm_flat.proofs.Items.{AllFit}
 
 -- the signal has no arguments and a name of its own

@@ -20,7 +20,7 @@ use Rattle.pssm_spelling.specs.Spelling.{IsName}
 use Rattle.pssm_flat.specs.declared.block.Block.{Block}
 use Rattle.pssm_flat.specs.Text.{numbered, region_lines, region_line, vertex_line, defer_line, transition_line, on_line, signal_name}
 use Rattle.pssm_flat.specs.Flat.{IsLabel, IsRegionOwner, IsVertexOwner}
-use Rattle.pssm_flat.specs.Drafts.{last_of, is_state, is_always, names_region_owner, names_vertex_owner, with_signal, with_region, plain_vertex, with_vertex, deferring, with_defer, plain_transition, with_transition, triggered, with_trigger, with_else}
+use Rattle.pssm_flat.specs.inner.Outlines.{last_of, is_state, is_always, names_region_owner, names_vertex_owner, with_signal, with_region, plain_vertex, with_vertex, deferring, with_defer, plain_transition, with_transition, triggered, with_trigger, with_else}
 use Rattle.pssm_flat.proofs.Bind.{bind_then, chosen_some, some_is}
 use Rattle.pssm_flat.proofs.Lasts.{last_of-takes}
 use Rattle.pssm_flat.proofs.Items.{AllFit, fit_push}

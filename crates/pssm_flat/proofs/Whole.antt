@@ -15,10 +15,10 @@ use Rattle.pssm_semantics.specs.declared.setting.Setting.{Setting}
 use Rattle.pssm_semantics.specs.declared.tree.Act.{Act}
 use Rattle.pssm_semantics.specs.Built.{IsPlainSignal, ListsSignals, DefersSignals, IsSilentClass}
 use Rattle.pssm_flat.specs.declared.block.Block.{Block}
-use Rattle.pssm_flat.specs.declared.draft.Draft.TheVariants as stages
+use Rattle.pssm_flat.specs.declared.outline.Outline.TheVariants as stages
 use Rattle.pssm_flat.specs.Text.{numbered, names_of, guard_lines, behaviour_lines, vertex_lines, transition_lines, flat_lines}
 use Rattle.pssm_flat.specs.Flat.{IsLabel, HasLabels, IsVertexOwner, HasSmallEnds, DefersAsState, IsWrittenMachine, IsWritten}
-use Rattle.pssm_flat.specs.Drafts.{plain_program, plain_class, machine_of, setting_of, after_lines}
+use Rattle.pssm_flat.specs.inner.Outlines.{plain_program, plain_class, machine_of, setting_of, after_lines}
 use Rattle.pssm_flat.proofs.Items.{AllFit}
 use Rattle.pssm_flat.proofs.SignalLaws.{Differ, fit_plain, signals_fit}
 use Rattle.pssm_flat.proofs.ListLaws.{IsLaterSignal, fit_lists, lists_fit, none_ascend, none_below}

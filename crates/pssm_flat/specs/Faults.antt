@@ -4,7 +4,7 @@ use Rattle.std.specs.List.{flat_map}
 use Rattle.pssm_model.specs.declared.elements.Element.{Element}
 use Rattle.pssm_model.specs.declared.elements.Element.TheVariants as elements
 use Rattle.pssm_model.specs.declared.elements.Shape.{Shape}
-use Rattle.pssm_model.specs.Shape.{HasShape, IsShapeFault, IsNamedBy}
+use Rattle.pssm_model.specs.Shapes.{HasShape, IsShapeFault, IsNamedBy}
 use Rattle.pssm_semantics.specs.declared.setting.Class.{Class}
 use Rattle.pssm_semantics.specs.declared.setting.Setting.{Setting}
 use Rattle.pssm_flat.specs.declared.fault.FlatFault.{FlatFault}

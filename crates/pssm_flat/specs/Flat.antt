@@ -8,7 +8,7 @@ use Rattle.pssm_model.specs.declared.elements.VertexKind.TheVariants as kinds
 use Rattle.pssm_model.specs.declared.elements.Transition.{Transition}
 use Rattle.pssm_model.specs.declared.elements.Owner.{Owner}
 use Rattle.pssm_model.specs.declared.elements.Owner.TheVariants.{Top, Region, State}
-use Rattle.pssm_model.specs.Shape.{HasShape}
+use Rattle.pssm_model.specs.Shapes.{HasShape}
 use Rattle.pssm_semantics.specs.declared.setting.Class.{Class}
 use Rattle.pssm_semantics.specs.declared.setting.Setting.{Setting}
 use Rattle.pssm_semantics.specs.Built.{IsSilent}
@@ -58,7 +58,7 @@ pub record IsWrittenMachine (m : DraftMachine) : Type 0 where
   pub defers : AllByRecursion DefersAsState m.vertices
   pub ends : AllByRecursion HasSmallEnds m.transitions
 
--- a setting of a model's text so far, but for the shape of its machine
+-- a setting that a model's text can hold, of any shape of its machine, under the premise that it is one without behaviours
 pub record IsWritten (s : Setting) : Type 0 where
   pub silent : IsSilent s
   pub labels : AllByRecursion HasLabels s.classes

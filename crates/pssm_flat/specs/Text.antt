@@ -78,9 +78,13 @@ signal_name signals g = option_map_or (λ x. x.name) (slice_get signals g.0) []
 abbrev pub class_name : List Class → ℕ → List ℕ
 class_name classes n = option_map_or (λ x. x.name) (slice_get classes n) []
 
+-- the names of a setting's objects and signals beside these of variables
+abbrev pub names_beside : Setting → List (List ℕ) → Names
+names_beside s vars = record { vars = vars; objects = map (λ (o : ObjectDecl). o.name) s.objects; signals = s.signals }
+
 -- the names that the behaviours of a class may use
 abbrev pub names_of : Setting → Class → Names
-names_of s x = record { vars = map (λ (v : VarDecl). v.name) x.vars; objects = map (λ (o : ObjectDecl). o.name) s.objects; signals = s.signals }
+names_of s x = names_beside s (map (λ (v : VarDecl). v.name) x.vars)
 
 -- ---- the lines at the head
 
@@ -165,13 +169,16 @@ abbrev pub transition_lines : Names → Class → ℕ → Transition → List (L
 transition_lines names x n t =
     transition_line n t ∷ (map (on_line names.signals) t.triggers ++ (guard_lines names x t.guard ++ behaviour_lines (codes "effect") names x t.effect))
 
--- the machine of a class: its variables, and its regions, vertices and transitions, each counted from 0
-abbrev pub machine_lines : Setting → Class → List (List ℕ)
-machine_lines s x =
+-- the machine of a class whose behaviours use these names: its variables, and its regions, vertices and transitions, each
+-- counted from 0
+abbrev pub block_lines : Names → Class → List (List ℕ)
+block_lines names x =
     machine_line x
     ∷ (map var_line x.vars
-    ++ (numbered region_lines 0 x.machine.regions
-    ++ (numbered (vertex_lines (names_of s x) x) 0 x.machine.vertices ++ numbered (transition_lines (names_of s x) x) 0 x.machine.transitions)))
+    ++ (numbered region_lines 0 x.machine.regions ++ (numbered (vertex_lines names x) 0 x.machine.vertices ++ numbered (transition_lines names x) 0 x.machine.transitions)))
+
+abbrev pub machine_lines : Setting → Class → List (List ℕ)
+machine_lines s x = block_lines (names_of s x) x
 
 -- ---- the whole text
 

@@ -1,9 +1,11 @@
 //! The block of a machine, as far as it has been read.
-ghost use Rattle.std.specs.Prelude.{◌≡◌, ◌≤◌, ◌<◌, ◌∷◌, [], ◌++◌, length, IfOk, IfSome, position};
-ghost use Rattle.std.specs.Option.{option_map};
-ghost use Rattle.std.specs.Str.{bytes_eq};
-ghost use Rattle.pssm_flat.specs.Drafts.{last_of, next_number, number_from, with_signal as listed_with, names_region_owner, names_vertex_owner, is_state as is_state_kind, is_always as is_always_guard, plain_vertex, plain_transition, with_region, with_vertex, deferring as deferring_too, with_defer, with_transition, triggered as triggered_too, with_trigger, with_else};
+ghost use Rattle.std.specs.Prelude.{◌≡◌, ◌≤◌, length, IfOk};
+ghost use Rattle.pssm_flat.specs.inner.Outlines.{kept as kept_if, names_region_owner, names_vertex_owner, is_state as is_state_kind, is_always as is_always_guard, plain_vertex, plain_transition, takes_region, takes_vertex, takes_transition, with_region, with_vertex, deferring as deferring_too, with_defer, with_transition, triggered as triggered_too, with_trigger, otherwise as otherwise_guarded, with_else, with_line};
 
+use crate::line::Line;
+use crate::refusal::{kept, nothing};
+use crate::rows::{pop, push};
+use crate::signals::add_signal;
 use pssm_model::{
     ActId, Guard, Owner, Row, SignalId, Text, TransKind, Transition, Vertex, VertexId, VertexKind,
 };
@@ -19,79 +21,6 @@ pub(crate) struct Block {
     pub regions: Row<Owner>,
     pub vertices: Row<Vertex>,
     pub transitions: Row<Transition>,
-}
-
-/// One more item at the end.
-pub(crate) fn pushed<T: Drop>(row: Row<T>, item: T) -> Result<Row<T>, AllocError>
-    ensures { IfOk result (λ r. r ≡ row ++ item ∷ []) }
-{
-    let mut items = row.into_vec();
-    items.push(item)?;
-    Ok(Row::from_vec(items))
-}
-
-/// The items but the last, and the last one.
-fn split_last<T: Drop>(row: Row<T>) -> Option<(Vec<T>, T)>
-    ensures { option_map (λ x. (x.0.items, x.1)) result ≡ last_of row }
-{
-    let mut items = row.into_vec();
-    let last = items.pop()?;
-    Some((items, last))
-}
-
-/// The items with one more behind them.
-fn joined<T: Drop>(mut items: Vec<T>, last: T) -> Result<Row<T>, AllocError>
-    ensures { IfOk result (λ r. r ≡ items.items ++ last ∷ []) }
-{
-    items.push(last)?;
-    Ok(Row::from_vec(items))
-}
-
-/// The place of the first of these signals that has the name.
-fn place_of(signals: &[SignalDecl], name: &[u8]) -> Option<usize>
-    ensures gives { result ≡ position (λ s. bytes_eq s.name name.now) signals.now }
-    ensures within { IfSome result (λ k. k < length signals.now) }
-{
-    signals.iter().position(|s| s.name.as_slice() == name)
-}
-
-/// The first signal from a number on that has the name.
-fn signal_from(signals: &[SignalDecl], from: usize, name: &[u8]) -> Option<usize>
-    ensures gives { result ≡ number_from signals.now from name.now }
-    ensures known { IfSome result (λ g. g < length signals.now) }
-{
-    if from > signals.len() {
-        return None;
-    }
-    let (_, later) = signals.split_at(from);
-    let place = place_of(later, name)?;
-    Some(place + from)
-}
-
-/// The number behind the last of these.
-fn after_last(seen: &[SignalId]) -> usize
-    ensures { result ≡ next_number seen.now }
-{
-    match seen.last() {
-        Some(SignalId(number)) => usize::from(*number) + 1,
-        None => 0,
-    }
-}
-
-/// One more signal, by its name, behind the ones before. None where there is none of the name behind them.
-#[tactic(auto, unfolding(crate::specs::Drafts::with_signal))]
-fn with_name(
-    signals: &[SignalDecl],
-    seen: Row<SignalId>,
-    name: &[u8],
-) -> Result<Option<Row<SignalId>>, AllocError>
-    requires { length signals.now ≤ 256 }
-    ensures { IfOk result (λ r. r ≡ listed_with signals.now seen name.now) }
-{
-    let Some(number) = signal_from(signals, after_last(seen.as_slice()), name) else {
-        return Ok(None);
-    };
-    Ok(Some(pushed(seen, SignalId(number as u16))?))
 }
 
 fn may_own_region(owner: Owner) -> bool
@@ -130,7 +59,7 @@ fn is_always(guard: Guard) -> bool
     }
 }
 
-/// A vertex without behaviours and deferred signals.
+// A vertex without behaviours and deferred signals.
 fn plain(alloc: Global, owner: Owner, kind: VertexKind, label: Text) -> Vertex
     ensures { result ≡ plain_vertex owner kind label }
 {
@@ -145,7 +74,7 @@ fn plain(alloc: Global, owner: Owner, kind: VertexKind, label: Text) -> Vertex
     }
 }
 
-/// A transition without triggers, guard and effect.
+// A transition without triggers, guard and effect.
 fn untriggered(alloc: Global, source: VertexId, target: VertexId, kind: TransKind) -> Transition
     ensures { result ≡ plain_transition source target kind }
 {
@@ -159,197 +88,216 @@ fn untriggered(alloc: Global, source: VertexId, target: VertexId, kind: TransKin
     }
 }
 
-/// The vertex with one more deferred signal, where it is a State (UML 2.5.1, 14.2.3.4, deferred events).
-#[tactic(auto, unfolding(crate::specs::Drafts::deferring))]
+// The vertex with one more deferred signal, where it is a State (UML 2.5.1, 14.2.3.4, deferred events).
+#[tactic(auto, unfolding(crate::specs::inner::Outlines::deferring))]
 fn deferring(
+    alloc: Global,
     signals: &[SignalDecl],
-    vertex: Vertex,
+    mut vertex: Vertex,
     name: &[u8],
 ) -> Result<Option<Vertex>, AllocError>
     requires { length signals.now ≤ 256 }
     ensures { IfOk result (λ r. r ≡ deferring_too signals.now vertex name.now) }
 {
     if !is_state(vertex.kind) {
-        return Ok(None);
+        return Ok(nothing(vertex));
     }
-    let Vertex {
-        owner,
-        kind,
-        label,
-        entry,
-        exit,
-        steps,
-        defers,
-    } = vertex;
-    match with_name(signals, defers, name)? {
-        Some(defers) => Ok(Some(Vertex {
-            owner,
-            kind,
-            label,
-            entry,
-            exit,
-            steps,
-            defers,
-        })),
-        None => Ok(None),
-    }
+    let taken = add_signal(alloc, signals, &mut vertex.defers, name);
+    kept(taken, vertex)
 }
 
-/// The transition with one more trigger, where it has no guard yet.
-#[tactic(auto, unfolding(crate::specs::Drafts::triggered))]
+// The transition with one more trigger, where it has no guard yet.
+#[tactic(auto, unfolding(crate::specs::inner::Outlines::triggered))]
 fn triggered(
+    alloc: Global,
     signals: &[SignalDecl],
-    transition: Transition,
+    mut transition: Transition,
     name: &[u8],
 ) -> Result<Option<Transition>, AllocError>
     requires { length signals.now ≤ 256 }
     ensures { IfOk result (λ r. r ≡ triggered_too signals.now transition name.now) }
 {
     if !is_always(transition.guard) {
-        return Ok(None);
+        return Ok(nothing(transition));
     }
-    let Transition {
-        source,
-        target,
-        kind,
-        triggers,
-        guard,
-        effect,
-    } = transition;
-    match with_name(signals, triggers, name)? {
-        Some(triggers) => Ok(Some(Transition {
-            source,
-            target,
-            kind,
-            triggers,
-            guard,
-            effect,
-        })),
-        None => Ok(None),
+    let taken = add_signal(alloc, signals, &mut transition.triggers, name);
+    kept(taken, transition)
+}
+
+// The transition with `else` as its guard, where it has none yet.
+fn otherwise(mut transition: Transition) -> Option<Transition>
+    ensures { result ≡ otherwise_guarded transition }
+{
+    if !is_always(transition.guard) {
+        return nothing(transition);
     }
+    transition.guard = Guard::Otherwise;
+    Some(transition)
 }
 
 impl Block {
-    /// With one more region, where its line may stand there.
-    pub fn with_region(self, number: u16, owner: Owner) -> Result<Option<Block>, AllocError>
-        ensures { IfOk result (λ r. r ≡ with_region self number owner) }
+    // Whether the line of this region may stand here.
+    fn takes_region(&self, number: u16, owner: Owner) -> bool
+        ensures { result ≡ takes_region self.now number owner }
     {
-        if !self.vertices.as_slice().is_empty()
-            || !self.transitions.as_slice().is_empty()
-            || usize::from(number) != self.regions.as_slice().len()
-            || !may_own_region(owner)
-        {
-            return Ok(None);
-        }
-        Ok(Some(Block {
-            regions: pushed(self.regions, owner)?,
-            ..self
-        }))
+        self.vertices.as_slice().is_empty()
+            && self.transitions.as_slice().is_empty()
+            && usize::from(number) == self.regions.as_slice().len()
+            && may_own_region(owner)
     }
 
-    /// With one more vertex, where its line may stand there.
-    pub fn with_vertex(
-        self,
+    // Whether the line of this vertex may stand here.
+    fn takes_vertex(&self, number: u16, owner: Owner) -> bool
+        ensures { result ≡ takes_vertex self.now number owner }
+    {
+        !self.regions.as_slice().is_empty()
+            && self.transitions.as_slice().is_empty()
+            && usize::from(number) == self.vertices.as_slice().len()
+            && may_own_vertex(owner)
+    }
+
+    // Whether the line of the transition with this number may stand here.
+    fn takes_transition(&self, number: u16) -> bool
+        ensures { result ≡ takes_transition self.now number }
+    {
+        !self.regions.as_slice().is_empty()
+            && usize::from(number) == self.transitions.as_slice().len()
+    }
+
+    // Puts one more region, where its line may stand here.
+    fn add_region(&mut self, alloc: Global, number: u16, owner: Owner) -> Result<bool, AllocError>
+        ensures { IfOk result (λ taken. kept_if taken self.new ≡ with_region self.old number owner) }
+    {
+        if !self.takes_region(number, owner) {
+            return Ok(false);
+        }
+        push(alloc, &mut self.regions, owner)?;
+        Ok(true)
+    }
+
+    // Puts one more vertex, where its line may stand here.
+    fn add_vertex(
+        &mut self,
         alloc: Global,
         number: u16,
         owner: Owner,
         kind: VertexKind,
         label: Text,
-    ) -> Result<Option<Block>, AllocError>
-        ensures { IfOk result (λ r. r ≡ with_vertex self number owner kind label) }
+    ) -> Result<bool, AllocError>
+        ensures { IfOk result (λ taken. kept_if taken self.new ≡ with_vertex self.old number owner kind label) }
     {
-        if self.regions.as_slice().is_empty()
-            || !self.transitions.as_slice().is_empty()
-            || usize::from(number) != self.vertices.as_slice().len()
-            || !may_own_vertex(owner)
-        {
-            return Ok(None);
+        if !self.takes_vertex(number, owner) {
+            return Ok(false);
         }
-        Ok(Some(Block {
-            vertices: pushed(self.vertices, plain(alloc, owner, kind, label))?,
-            ..self
-        }))
+        push(alloc, &mut self.vertices, plain(alloc, owner, kind, label))?;
+        Ok(true)
     }
 
-    /// With one more signal that the last vertex defers, where its line may stand there.
-    #[tactic(auto, unfolding(crate::specs::Drafts::with_defer))]
-    pub fn with_defer(self, signal: Text) -> Result<Option<Block>, AllocError>
-        requires { length self.signals ≤ 256 }
-        ensures { IfOk result (λ r. r ≡ with_defer self signal) }
+    // Lets the last vertex defer one more signal, where its line may stand here.
+    #[tactic(auto, unfolding(crate::specs::inner::Outlines::with_defer))]
+    fn add_defer(&mut self, alloc: Global, signal: &[u8]) -> Result<bool, AllocError>
+        requires { length self.old.signals ≤ 256 }
+        ensures { IfOk result (λ taken. kept_if taken self.new ≡ with_defer self.old signal.now) }
     {
         if !self.transitions.as_slice().is_empty() {
-            return Ok(None);
+            return Ok(false);
         }
-        let Some((others, last)) = split_last(self.vertices) else {
-            return Ok(None);
+        let Some(last) = pop(alloc, &mut self.vertices) else {
+            return Ok(false);
         };
-        let Some(vertex) = deferring(self.signals.as_slice(), last, signal.as_slice())? else {
-            return Ok(None);
-        };
-        Ok(Some(Block {
-            vertices: joined(others, vertex)?,
-            ..self
-        }))
+        match deferring(alloc, self.signals.as_slice(), last, signal)? {
+            Some(vertex) => {
+                push(alloc, &mut self.vertices, vertex)?;
+                Ok(true)
+            }
+            None => Ok(false),
+        }
     }
 
-    /// With one more transition, where its line may stand there.
-    pub fn with_transition(
-        self,
+    // Puts one more transition, where its line may stand here.
+    fn add_transition(
+        &mut self,
         alloc: Global,
         number: u16,
         source: VertexId,
         target: VertexId,
         kind: TransKind,
-    ) -> Result<Option<Block>, AllocError>
-        ensures { IfOk result (λ r. r ≡ with_transition self number source target kind) }
+    ) -> Result<bool, AllocError>
+        ensures { IfOk result
+            (λ taken. kept_if taken self.new ≡ with_transition self.old number source target kind) }
     {
-        if self.regions.as_slice().is_empty()
-            || usize::from(number) != self.transitions.as_slice().len()
-        {
-            return Ok(None);
+        if !self.takes_transition(number) {
+            return Ok(false);
         }
-        Ok(Some(Block {
-            transitions: pushed(self.transitions, untriggered(alloc, source, target, kind))?,
-            ..self
-        }))
+        push(
+            alloc,
+            &mut self.transitions,
+            untriggered(alloc, source, target, kind),
+        )?;
+        Ok(true)
     }
 
-    /// With one more trigger of the last transition, where its line may stand there.
-    #[tactic(auto, unfolding(crate::specs::Drafts::with_trigger))]
-    pub fn with_trigger(self, signal: Text) -> Result<Option<Block>, AllocError>
-        requires { length self.signals ≤ 256 }
-        ensures { IfOk result (λ r. r ≡ with_trigger self signal) }
+    // Gives the last transition one more trigger, where its line may stand here.
+    #[tactic(auto, unfolding(crate::specs::inner::Outlines::with_trigger))]
+    fn add_trigger(&mut self, alloc: Global, signal: &[u8]) -> Result<bool, AllocError>
+        requires { length self.old.signals ≤ 256 }
+        ensures { IfOk result (λ taken. kept_if taken self.new ≡ with_trigger self.old signal.now) }
     {
-        let Some((others, last)) = split_last(self.transitions) else {
-            return Ok(None);
+        let Some(last) = pop(alloc, &mut self.transitions) else {
+            return Ok(false);
         };
-        let Some(transition) = triggered(self.signals.as_slice(), last, signal.as_slice())? else {
-            return Ok(None);
-        };
-        Ok(Some(Block {
-            transitions: joined(others, transition)?,
-            ..self
-        }))
+        match triggered(alloc, self.signals.as_slice(), last, signal)? {
+            Some(transition) => {
+                push(alloc, &mut self.transitions, transition)?;
+                Ok(true)
+            }
+            None => Ok(false),
+        }
     }
 
-    /// With `else` as the guard of the last transition, where its line may stand there.
-    #[tactic(auto, unfolding(crate::specs::Drafts::with_else))]
-    pub fn with_else(self) -> Result<Option<Block>, AllocError>
-        ensures { IfOk result (λ r. r ≡ with_else self) }
+    // Gives the last transition `else` as its guard, where the line may stand here.
+    #[tactic(auto, unfolding(crate::specs::inner::Outlines::with_else))]
+    fn add_else(&mut self, alloc: Global) -> Result<bool, AllocError>
+        ensures { IfOk result (λ taken. kept_if taken self.new ≡ with_else self.old) }
     {
-        let Some((others, last)) = split_last(self.transitions) else {
-            return Ok(None);
+        let Some(last) = pop(alloc, &mut self.transitions) else {
+            return Ok(false);
         };
-        if !is_always(last.guard) {
-            return Ok(None);
+        match otherwise(last) {
+            Some(transition) => {
+                push(alloc, &mut self.transitions, transition)?;
+                Ok(true)
+            }
+            None => Ok(false),
         }
-        let transition = Transition {
-            guard: Guard::Otherwise,
-            ..last
-        };
-        Ok(Some(Block {
-            transitions: joined(others, transition)?,
-            ..self
-        }))
+    }
+
+    /// Takes one more line of the elements. False where it cannot stand here.
+    pub fn take(&mut self, alloc: Global, line: Line) -> Result<bool, AllocError>
+        requires { length self.old.signals ≤ 256 }
+        ensures { IfOk result (λ taken. kept_if taken self.new ≡ with_line self.old line) }
+    {
+        match line {
+            Line::Region { number, owner } => self.add_region(alloc, number, owner),
+            Line::Vertex {
+                number,
+                owner,
+                kind,
+                label,
+            } => self.add_vertex(alloc, number, owner, kind, label),
+            Line::Defer { signal } => self.add_defer(alloc, signal.as_slice()),
+            Line::Transition {
+                number,
+                source,
+                target,
+                kind,
+            } => self.add_transition(alloc, number, source, target, kind),
+            Line::On { signal } => self.add_trigger(alloc, signal.as_slice()),
+            Line::Otherwise => self.add_else(alloc),
+            other => {
+                drop(other);
+                Ok(false)
+            }
+        }
     }
 }

@@ -4,14 +4,20 @@
 //! This crate knows nothing of files, journals or runs.
 #![tactic(auto)]
 
+mod behaviours;
 mod block;
-mod draft;
 mod fault;
 mod line;
+mod outline;
 mod parts;
 mod pieces;
 mod places;
 mod reading;
+mod refusal;
+mod rows;
+mod setting;
+mod signals;
+mod words;
 mod writing;
 
 pub use fault::FlatFault;

@@ -1,9 +1,10 @@
 //! The lines of the flat form, one by one.
 ghost use Rattle.std.specs.Prelude.{◌≡◌, IfOk};
 ghost use Rattle.std.specs.Option.{option_map};
-ghost use Rattle.pssm_flat.specs.Lines.{signal_taken, object_taken, region_line_taken, vertex_line_taken, transition_line_taken, head_line_taken, block_line_taken, line_taken};
+ghost use Rattle.pssm_flat.specs.inner.Lines.{signal_taken, object_taken, region_line_taken, vertex_line_taken, transition_line_taken, head_line_taken, block_line_taken, line_taken};
 
-use crate::parts::{end_at, kind_of, label_at, named, owner_at, transition_of};
+use crate::parts::{end_at, label_at, named, owner_at};
+use crate::words::{kind_of, transition_of};
 use pssm_model::{Owner, Text, TransKind, VertexId, VertexKind};
 use pssm_spelling::{index_at, name_at, strip};
 use std::alloc::{AllocError, Global};
@@ -58,7 +59,7 @@ fn text_of(alloc: Global, bytes: &[u8]) -> Result<Text, AllocError>
 }
 
 /// `signal NAME 0`: the name.
-#[tactic(auto, unfolding(crate::specs::Lines::signal_taken))]
+#[tactic(auto, unfolding(crate::specs::inner::Lines::signal_taken))]
 fn signal_at(bytes: &[u8]) -> Option<&[u8]>
     ensures { option_map (λ x. x.now) result ≡ signal_taken bytes.now }
 {
@@ -72,7 +73,7 @@ fn signal_at(bytes: &[u8]) -> Option<&[u8]>
 }
 
 /// `object NAME CLASS`: both names.
-#[tactic(auto, unfolding(crate::specs::Lines::object_taken))]
+#[tactic(auto, unfolding(crate::specs::inner::Lines::object_taken))]
 fn object_at(bytes: &[u8]) -> Option<(&[u8], &[u8])>
     ensures { option_map (λ x. (x.0.now, x.1.now)) result ≡ object_taken bytes.now }
 {
@@ -83,7 +84,7 @@ fn object_at(bytes: &[u8]) -> Option<(&[u8], &[u8])>
 }
 
 /// `region rI OWNER`.
-#[tactic(auto, unfolding(crate::specs::Lines::region_line_taken))]
+#[tactic(auto, unfolding(crate::specs::inner::Lines::region_line_taken))]
 fn region_at(bytes: &[u8]) -> Option<Line>
     ensures { result ≡ region_line_taken bytes.now }
 {
@@ -99,7 +100,7 @@ fn region_at(bytes: &[u8]) -> Option<Line>
 }
 
 /// `vertex vI OWNER KIND`, or `vertex vI OWNER KIND LABEL`: the four parts.
-#[tactic(auto, unfolding(crate::specs::Lines::vertex_line_taken))]
+#[tactic(auto, unfolding(crate::specs::inner::Lines::vertex_line_taken))]
 fn vertex_at(bytes: &[u8]) -> Option<(u16, Owner, VertexKind, &[u8])>
     ensures { option_map (λ x. (x.0, x.1, x.2, x.3.now)) result ≡ vertex_line_taken bytes.now }
 {
@@ -115,7 +116,7 @@ fn vertex_at(bytes: &[u8]) -> Option<(u16, Owner, VertexKind, &[u8])>
 }
 
 /// `transition tI vS vT KIND`: the four parts.
-#[tactic(auto, unfolding(crate::specs::Lines::transition_line_taken))]
+#[tactic(auto, unfolding(crate::specs::inner::Lines::transition_line_taken))]
 fn transition_at(bytes: &[u8]) -> Option<(u16, u16, u16, TransKind)>
     ensures { result ≡ transition_line_taken bytes.now }
 {
@@ -129,7 +130,7 @@ fn transition_at(bytes: &[u8]) -> Option<(u16, u16, u16, TransKind)>
 }
 
 /// A line of the head: the header, a signal, a class, an object, or the first line of a block.
-#[tactic(auto, unfolding(crate::specs::Lines::head_line_taken))]
+#[tactic(auto, unfolding(crate::specs::inner::Lines::head_line_taken))]
 fn head_line_of(alloc: Global, bytes: &[u8]) -> Result<Option<Line>, AllocError>
     ensures { IfOk result (λ l. l ≡ head_line_taken bytes.now) }
 {
@@ -157,7 +158,7 @@ fn head_line_of(alloc: Global, bytes: &[u8]) -> Result<Option<Line>, AllocError>
 }
 
 /// A line of a block behind its first, or the last line of the text.
-#[tactic(auto, unfolding(crate::specs::Lines::block_line_taken))]
+#[tactic(auto, unfolding(crate::specs::inner::Lines::block_line_taken))]
 fn block_line_of(alloc: Global, bytes: &[u8]) -> Result<Option<Line>, AllocError>
     ensures { IfOk result (λ l. l ≡ block_line_taken bytes.now) }
 {
@@ -199,7 +200,7 @@ fn block_line_of(alloc: Global, bytes: &[u8]) -> Result<Option<Line>, AllocError
 }
 
 /// The line that the bytes spell, which are those of a line without its line feed. None where they spell none.
-#[tactic(auto, unfolding(crate::specs::Lines::line_taken))]
+#[tactic(auto, unfolding(crate::specs::inner::Lines::line_taken))]
 pub(crate) fn line_of(alloc: Global, bytes: &[u8]) -> Result<Option<Line>, AllocError>
     ensures { IfOk result (λ l. l ≡ line_taken bytes.now) }
 {

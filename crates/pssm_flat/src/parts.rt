@@ -6,13 +6,13 @@ ghost use Rattle.std.specs.List.{list_all};
 ghost use Rattle.std.specs.Option.{option_map, option_copied};
 ghost use Rattle.std.specs.Str.{is_utf8};
 ghost use Rattle.pssm_flat.specs.Flat.{is_label_byte};
-ghost use Rattle.pssm_flat.specs.Lines.{named_taken, top_taken, region_taken, vertex_taken, owner_taken, kind_of as kind_named, transition_of as transition_named, label_of as label_word, label_taken, end_taken};
+ghost use Rattle.pssm_flat.specs.inner.Lines.{named_taken, top_taken, region_taken, vertex_taken, owner_taken, label_of as label_word, label_taken, end_taken};
 
-use pssm_model::{Owner, RegionId, TransKind, VertexId, VertexKind};
+use pssm_model::{Owner, RegionId, VertexId};
 use pssm_spelling::{index_at, name_at, strip};
 
 /// A word and a name, and nothing behind it: the name.
-#[tactic(auto, unfolding(crate::specs::Lines::named_taken))]
+#[tactic(auto, unfolding(crate::specs::inner::Lines::named_taken))]
 pub(crate) fn named<'a>(word: &[u8], bytes: &'a [u8]) -> Option<&'a [u8]>
     ensures { option_map (λ x. x.now) result ≡ named_taken word.now bytes.now }
 {
@@ -30,7 +30,7 @@ fn top_at(bytes: &[u8]) -> Option<(Owner, &[u8])>
 }
 
 /// A region by its number, and the bytes behind it.
-#[tactic(auto, unfolding(crate::specs::Lines::region_taken))]
+#[tactic(auto, unfolding(crate::specs::inner::Lines::region_taken))]
 fn region_at(bytes: &[u8]) -> Option<(Owner, &[u8])>
     ensures { option_map (λ x. (x.0, x.1.now)) result ≡ region_taken bytes.now }
 {
@@ -40,7 +40,7 @@ fn region_at(bytes: &[u8]) -> Option<(Owner, &[u8])>
 }
 
 /// A vertex by its number, and the bytes behind it.
-#[tactic(auto, unfolding(crate::specs::Lines::vertex_taken))]
+#[tactic(auto, unfolding(crate::specs::inner::Lines::vertex_taken))]
 fn vertex_at(bytes: &[u8]) -> Option<(Owner, &[u8])>
     ensures { option_map (λ x. (x.0, x.1.now)) result ≡ vertex_taken bytes.now }
 {
@@ -50,7 +50,7 @@ fn vertex_at(bytes: &[u8]) -> Option<(Owner, &[u8])>
 }
 
 /// An owner, and the bytes behind it.
-#[tactic(auto, unfolding(crate::specs::Lines::owner_taken))]
+#[tactic(auto, unfolding(crate::specs::inner::Lines::owner_taken))]
 pub(crate) fn owner_at(bytes: &[u8]) -> Option<(Owner, &[u8])>
     ensures { option_map (λ x. (x.0, x.1.now)) result ≡ owner_taken bytes.now }
 {
@@ -61,54 +61,6 @@ pub(crate) fn owner_at(bytes: &[u8]) -> Option<(Owner, &[u8])>
         return Some(read);
     }
     vertex_at(bytes)
-}
-
-/// The kind of vertex that a word names.
-pub(crate) fn kind_of(word: &[u8]) -> Option<VertexKind>
-    ensures { result ≡ kind_named word.now }
-{
-    if word == b"state".as_slice() {
-        Some(VertexKind::State)
-    } else if word == b"final".as_slice() {
-        Some(VertexKind::Final)
-    } else if word == b"initial".as_slice() {
-        Some(VertexKind::Initial)
-    } else if word == b"deepHistory".as_slice() {
-        Some(VertexKind::DeepHistory)
-    } else if word == b"shallowHistory".as_slice() {
-        Some(VertexKind::ShallowHistory)
-    } else if word == b"join".as_slice() {
-        Some(VertexKind::Join)
-    } else if word == b"fork".as_slice() {
-        Some(VertexKind::Fork)
-    } else if word == b"junction".as_slice() {
-        Some(VertexKind::Junction)
-    } else if word == b"choice".as_slice() {
-        Some(VertexKind::Choice)
-    } else if word == b"entryPoint".as_slice() {
-        Some(VertexKind::EntryPoint)
-    } else if word == b"exitPoint".as_slice() {
-        Some(VertexKind::ExitPoint)
-    } else if word == b"terminate".as_slice() {
-        Some(VertexKind::Terminate)
-    } else {
-        None
-    }
-}
-
-/// The kind of transition that a word names.
-pub(crate) fn transition_of(word: &[u8]) -> Option<TransKind>
-    ensures { result ≡ transition_named word.now }
-{
-    if word == b"external".as_slice() {
-        Some(TransKind::External)
-    } else if word == b"local".as_slice() {
-        Some(TransKind::Local)
-    } else if word == b"internal".as_slice() {
-        Some(TransKind::Internal)
-    } else {
-        None
-    }
 }
 
 /// Whether the byte is no part of a control character (U+0000 to U+001F, and U+007F).
@@ -159,7 +111,7 @@ pub(crate) fn label_at(bytes: &[u8]) -> Option<&[u8]>
 }
 
 /// The number of a vertex at which a transition begins or ends, behind a blank, and the bytes behind it.
-#[tactic(auto, unfolding(crate::specs::Lines::end_taken))]
+#[tactic(auto, unfolding(crate::specs::inner::Lines::end_taken))]
 pub(crate) fn end_at(bytes: &[u8]) -> Option<(u16, &[u8])>
     ensures { option_map (λ x. (x.0, x.1.now)) result ≡ end_taken bytes.now }
 {

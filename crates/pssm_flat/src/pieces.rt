@@ -1,21 +1,41 @@
 //! The pieces of lines, written behind a text.
 ghost use Rattle.std.specs.Prelude.{◌≡◌, ◌++◌, OnOk, codes};
 ghost use Rattle.std.specs.Fmt.{decimal, signed_decimal};
-ghost use Rattle.pssm_flat.specs.Text.{line, owner_word, kind_word, transition_word, label_text, signal_name, class_name, signal_line, object_line, var_line, region_line, vertex_line, transition_line};
+ghost use Rattle.pssm_flat.specs.Text.{line, owner_word, transition_word, label_text, signal_name, class_name, signal_line, object_line, var_line, region_line, vertex_line, transition_line};
 
-use pssm_model::{Owner, SignalId, TransKind, Transition, Vertex, VertexId, VertexKind};
+use crate::words::{name_of_kind, name_of_transition};
+use pssm_model::{Owner, SignalId, TransKind, Transition, Vertex, VertexId};
 use pssm_semantics::{Class, ObjectDecl, SignalDecl, VarDecl};
 use pssm_spelling::{put_number, put_signed};
 use std::alloc::{AllocError, Global};
+
+// Writes two words, one behind the other.
+fn put_pair(text: &mut Vec<u8>, first: &[u8], second: &[u8]) -> Result<(), AllocError>
+    ensures { OnOk result (text.new.items ≡ text.old.items ++ (first.now ++ second.now)) }
+{
+    text.extend_from_slice(first)?;
+    text.extend_from_slice(second)
+}
+
+// Writes a word and a number.
+fn put_numbered(
+    alloc: Global,
+    text: &mut Vec<u8>,
+    word: &[u8],
+    number: u64,
+) -> Result<(), AllocError>
+    ensures { OnOk result (text.new.items ≡ text.old.items ++ (word.now ++ decimal number)) }
+{
+    text.extend_from_slice(word)?;
+    put_number(alloc, text, number)
+}
 
 /// Writes the line of a word and a name.
 pub(crate) fn put_named(text: &mut Vec<u8>, word: &[u8], name: &[u8]) -> Result<(), AllocError>
     ensures { OnOk result (text.new.items ≡ text.old.items ++ line (word.now ++ name.now)) }
 {
-    text.extend_from_slice(word)?;
-    text.extend_from_slice(name)?;
-    text.push(b'\n')?;
-    Ok(())
+    put_pair(text, word, name)?;
+    text.extend_from_slice(b"\n")
 }
 
 /// The name of a signal, empty where there is none with the number.
@@ -42,56 +62,26 @@ fn put_owner(alloc: Global, text: &mut Vec<u8>, owner: Owner) -> Result<(), Allo
 {
     match owner {
         Owner::Top => text.extend_from_slice(b"top"),
-        Owner::Region(r) => {
-            text.push(b'r')?;
-            put_number(alloc, text, u64::from(r.0))
-        }
-        Owner::State(v) => {
-            text.push(b'v')?;
-            put_number(alloc, text, u64::from(v.0))
-        }
+        Owner::Region(r) => put_numbered(alloc, text, b"r", u64::from(r.0)),
+        Owner::State(v) => put_numbered(alloc, text, b"v", u64::from(v.0)),
     }
 }
 
-fn name_of_kind(kind: VertexKind) -> &'static [u8]
-    ensures { result.now ≡ kind_word kind }
+// Writes an owner behind a blank.
+fn put_owner_behind(alloc: Global, text: &mut Vec<u8>, owner: Owner) -> Result<(), AllocError>
+    ensures { OnOk result (text.new.items ≡ text.old.items ++ (codes " " ++ owner_word owner)) }
 {
-    match kind {
-        VertexKind::State => b"state",
-        VertexKind::Final => b"final",
-        VertexKind::Initial => b"initial",
-        VertexKind::DeepHistory => b"deepHistory",
-        VertexKind::ShallowHistory => b"shallowHistory",
-        VertexKind::Join => b"join",
-        VertexKind::Fork => b"fork",
-        VertexKind::Junction => b"junction",
-        VertexKind::Choice => b"choice",
-        VertexKind::EntryPoint => b"entryPoint",
-        VertexKind::ExitPoint => b"exitPoint",
-        VertexKind::Terminate => b"terminate",
-    }
+    text.push(b' ')?;
+    put_owner(alloc, text, owner)
 }
 
-fn name_of_transition(kind: TransKind) -> &'static [u8]
-    ensures { result.now ≡ transition_word kind }
-{
-    match kind {
-        TransKind::External => b"external",
-        TransKind::Local => b"local",
-        TransKind::Internal => b"internal",
-    }
-}
-
-/// Writes a label behind one blank, and nothing for an empty one.
+// Writes a label behind one blank, and nothing for an empty one.
 fn put_label(text: &mut Vec<u8>, label: &[u8]) -> Result<(), AllocError>
     ensures { OnOk result (text.new.items ≡ text.old.items ++ label_text label.now) }
 {
     match label {
         [] => Ok(()),
-        _ => {
-            text.push(b' ')?;
-            text.extend_from_slice(label)
-        }
+        _ => put_pair(text, b" ", label),
     }
 }
 
@@ -103,12 +93,9 @@ pub(crate) fn put_signal(
 ) -> Result<(), AllocError>
     ensures { OnOk result (text.new.items ≡ text.old.items ++ line (signal_line signal.now)) }
 {
-    text.extend_from_slice(b"signal ")?;
-    text.extend_from_slice(signal.name.as_slice())?;
-    text.push(b' ')?;
-    put_number(alloc, text, u64::from(signal.count))?;
-    text.push(b'\n')?;
-    Ok(())
+    put_pair(text, b"signal ", signal.name.as_slice())?;
+    put_numbered(alloc, text, b" ", u64::from(signal.count))?;
+    text.extend_from_slice(b"\n")
 }
 
 /// Writes `object NAME CLASS`.
@@ -119,12 +106,8 @@ pub(crate) fn put_object(
 ) -> Result<(), AllocError>
     ensures { OnOk result (text.new.items ≡ text.old.items ++ line (object_line classes.now object.now)) }
 {
-    text.extend_from_slice(b"object ")?;
-    text.extend_from_slice(object.name.as_slice())?;
-    text.push(b' ')?;
-    text.extend_from_slice(name_of_class(classes, object.class))?;
-    text.push(b'\n')?;
-    Ok(())
+    put_pair(text, b"object ", object.name.as_slice())?;
+    put_named(text, b" ", name_of_class(classes, object.class))
 }
 
 /// Writes `var NAME INT`.
@@ -135,12 +118,10 @@ pub(crate) fn put_var(
 ) -> Result<(), AllocError>
     ensures { OnOk result (text.new.items ≡ text.old.items ++ line (var_line variable.now)) }
 {
-    text.extend_from_slice(b"var ")?;
-    text.extend_from_slice(variable.name.as_slice())?;
+    put_pair(text, b"var ", variable.name.as_slice())?;
     text.push(b' ')?;
     put_signed(alloc, text, variable.first)?;
-    text.push(b'\n')?;
-    Ok(())
+    text.extend_from_slice(b"\n")
 }
 
 /// Writes `region rI OWNER`.
@@ -152,12 +133,9 @@ pub(crate) fn put_region(
 ) -> Result<(), AllocError>
     ensures { OnOk result (text.new.items ≡ text.old.items ++ line (region_line number owner)) }
 {
-    text.extend_from_slice(b"region r")?;
-    put_number(alloc, text, number as u64)?;
-    text.push(b' ')?;
-    put_owner(alloc, text, owner)?;
-    text.push(b'\n')?;
-    Ok(())
+    put_numbered(alloc, text, b"region r", number as u64)?;
+    put_owner_behind(alloc, text, owner)?;
+    text.extend_from_slice(b"\n")
 }
 
 /// Writes `vertex vI OWNER KIND`, with the label behind it.
@@ -169,46 +147,39 @@ pub(crate) fn put_vertex_line(
 ) -> Result<(), AllocError>
     ensures { OnOk result (text.new.items ≡ text.old.items ++ line (vertex_line number vertex.now)) }
 {
-    text.extend_from_slice(b"vertex v")?;
-    put_number(alloc, text, number as u64)?;
-    text.push(b' ')?;
-    put_owner(alloc, text, vertex.owner)?;
-    text.push(b' ')?;
-    text.extend_from_slice(name_of_kind(vertex.kind))?;
+    put_numbered(alloc, text, b"vertex v", number as u64)?;
+    put_owner_behind(alloc, text, vertex.owner)?;
+    put_pair(text, b" ", name_of_kind(vertex.kind))?;
     put_label(text, vertex.label.as_slice())?;
-    text.push(b'\n')?;
-    Ok(())
+    text.extend_from_slice(b"\n")
 }
 
-/// Writes a vertex by its number, behind a blank.
+// Writes a vertex by its number, behind a blank.
 fn put_end(alloc: Global, text: &mut Vec<u8>, vertex: VertexId) -> Result<(), AllocError>
     ensures { OnOk result (text.new.items ≡ text.old.items ++ (codes " v" ++ decimal vertex.0)) }
 {
-    text.extend_from_slice(b" v")?;
-    put_number(alloc, text, u64::from(vertex.0))
+    put_numbered(alloc, text, b" v", u64::from(vertex.0))
 }
 
-/// Writes the ends of a transition.
+// Writes the ends of a transition.
 fn put_ends(
     alloc: Global,
     text: &mut Vec<u8>,
     source: VertexId,
     target: VertexId,
 ) -> Result<(), AllocError>
-    ensures { OnOk result (text.new.items ≡ text.old.items ++ (codes " v" ++ (decimal source.0 ++ (codes " v" ++ decimal target.0)))) }
+    ensures { OnOk result
+        (text.new.items ≡ text.old.items ++ (codes " v" ++ (decimal source.0 ++ (codes " v" ++ decimal target.0)))) }
 {
     put_end(alloc, text, source)?;
     put_end(alloc, text, target)
 }
 
-/// Writes the kind of a transition behind a blank, and the end of the line.
+// Writes the kind of a transition behind a blank, and the end of the line.
 fn put_kind(text: &mut Vec<u8>, kind: TransKind) -> Result<(), AllocError>
     ensures { OnOk result (text.new.items ≡ text.old.items ++ line (codes " " ++ transition_word kind)) }
 {
-    text.push(b' ')?;
-    text.extend_from_slice(name_of_transition(kind))?;
-    text.push(b'\n')?;
-    Ok(())
+    put_named(text, b" ", name_of_transition(kind))
 }
 
 /// Writes `transition tI vS vT KIND`.
@@ -220,8 +191,7 @@ pub(crate) fn put_transition_line(
 ) -> Result<(), AllocError>
     ensures { OnOk result (text.new.items ≡ text.old.items ++ line (transition_line number transition.now)) }
 {
-    text.extend_from_slice(b"transition t")?;
-    put_number(alloc, text, number as u64)?;
+    put_numbered(alloc, text, b"transition t", number as u64)?;
     put_ends(alloc, text, transition.source, transition.target)?;
     put_kind(text, transition.kind)?;
     Ok(())
@@ -235,9 +205,6 @@ pub(crate) fn put_spelled(
 ) -> Result<(), AllocError>
     ensures { OnOk result (text.new.items ≡ text.old.items ++ line (word.now ++ (codes " " ++ spelled.now.items))) }
 {
-    text.extend_from_slice(word)?;
-    text.push(b' ')?;
-    text.extend_from_slice(spelled.as_slice())?;
-    text.push(b'\n')?;
-    Ok(())
+    put_pair(text, word, b" ")?;
+    put_named(text, spelled.as_slice(), b"")
 }

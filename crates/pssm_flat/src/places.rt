@@ -1,6 +1,6 @@
 //! The lines on which the elements of a machine stand.
 ghost use Rattle.std.specs.Prelude.{◌≡◌, ◌<◌, ◌+◌, ◌^◌, take, sum_by};
-ghost use Rattle.pssm_flat.specs.Places.{vertex_size, else_size, transition_size, machine_size, size_before, element_line, fault_of};
+ghost use Rattle.pssm_flat.specs.inner.Places.{vertex_size, else_size, transition_size, machine_size, size_before, element_line, fault_of};
 
 use crate::fault::FlatFault;
 use pssm_model::{DraftMachine, Element, Guard, Shape, Transition, Vertex};

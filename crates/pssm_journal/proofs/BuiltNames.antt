@@ -13,7 +13,7 @@ use Rattle.pssm_semantics.specs.declared.setting.ObjectDecl.{ObjectDecl}
 use Rattle.pssm_semantics.specs.declared.setting.Class.{Class}
 use Rattle.pssm_semantics.specs.declared.setting.Setting.{Setting}
 use Rattle.pssm_spelling.specs.Spelling.{IsName}
-use Rattle.pssm_semantics.specs.Built.{IsBuilt, IsPlainSignal, IsPlainEntry}
+use Rattle.pssm_semantics.specs.Built.{IsBuilt, IsPlainSignal, IsBuiltEntry}
 use Rattle.pssm_journal.specs.Naming.{AreApart, NamesDiffer, HasSpelledNames, HasStart, IsSpelledEntry}
 
 -- values that differ pairwise under a function are apart as its values
@@ -68,7 +68,7 @@ no_more_than : (xs : List Out) → xs ≡ [] → length xs ≤ 64
 no_more_than xs none = let n : length xs ≡ 0 = ap (λ (t : List Out). length t) none in omega (arith, n)
 
 -- the entries of their runs
-pub plain_is_spelled : (e : Entry) → IsPlainEntry e → IsSpelledEntry e
+pub plain_is_spelled : (e : Entry) → IsBuiltEntry e → IsSpelledEntry e
 plain_is_spelled (Post o s args) plain = tt
 plain_is_spelled (Start o) plain = tt
 plain_is_spelled (Take o number firing) plain =

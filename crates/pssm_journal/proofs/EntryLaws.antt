@@ -14,7 +14,7 @@ use Rattle.pssm_semantics.specs.declared.setting.Setting.{Setting}
 use Rattle.pssm_semantics.specs.Settings.{class_of}
 use Rattle.pssm_semantics.specs.Journal.{object_of}
 use Rattle.pssm_semantics.specs.Known.{NamesKnown}
-use Rattle.pssm_journal.specs.LineReading.{◌>>=◌}
+use Rattle.pssm_journal.specs.inner.LineReading.{◌>>=◌}
 use Rattle.pssm_journal.specs.Entries.{out_named, outs_named, KeepsNames, IsEntryOf, BreaksNames}
 
 -- ---- outputs in a loop

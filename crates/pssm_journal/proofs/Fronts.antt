@@ -6,8 +6,8 @@ use Rattle.pssm_semantics.specs.declared.entry.Entry.{Entry}
 use Rattle.pssm_semantics.specs.declared.line.Line.{Line}
 use Rattle.pssm_semantics.specs.declared.setting.Setting.{Setting}
 use Rattle.pssm_journal.specs.LineText.{line_text, text_of}
-use Rattle.pssm_journal.specs.Grammar.{IsLine}
-use Rattle.pssm_journal.specs.LineReading.{line_taken}
+use Rattle.pssm_journal.specs.Grammar.{IsTakenLine}
+use Rattle.pssm_journal.specs.inner.LineReading.{line_taken}
 use Rattle.pssm_journal.specs.Entries.{IsEntryOf, AreEntries}
 use Rattle.pssm_journal.proofs.Feeds.{feed_apart}
 use Rattle.pssm_journal.proofs.LineLaws.{line_again}
@@ -20,7 +20,7 @@ abbrev pub line_and : Line → List ℕ → List ℕ
 line_and l rest = line_text l ++ 10 ∷ rest
 
 -- Two lines of the grammar at the front of one text are one.
-pub lines_apart : (l m : Line) (x y : List ℕ) → IsLine l → IsLine m → line_text l ++ 10 ∷ x ≡ line_text m ++ 10 ∷ y → (l ≡ m) × (x ≡ y)
+pub lines_apart : (l m : Line) (x y : List ℕ) → IsTakenLine l → IsTakenLine m → line_text l ++ 10 ∷ x ≡ line_text m ++ 10 ∷ y → (l ≡ m) × (x ≡ y)
 lines_apart l m x y p q e =
     let both = feed_apart (line_text l) (line_text m) x y (short_line l p).clean (short_line m q).clean e in
     (same_Some l m (sym (line_again l p) ∙ ap line_taken both.0 ∙ line_again m q), both.1)
@@ -38,7 +38,7 @@ compared_more l ls ms x y (longer more e f) = longer more (ap (λ (t : List Line
 pub unfold_line : (l : Line) (ls : List Line) (x : List ℕ) → text_of (l ∷ ls) ++ x ≡ line_text l ++ 10 ∷ (text_of ls ++ x)
 unfold_line l ls x = simp append_assoc
 
-pub compare : (ls ms : List Line) (x y : List ℕ) → AllByRecursion IsLine ls → AllByRecursion IsLine ms → text_of ls ++ x ≡ text_of ms ++ y → Compared ls ms x y
+pub compare : (ls ms : List Line) (x y : List ℕ) → AllByRecursion IsTakenLine ls → AllByRecursion IsTakenLine ms → text_of ls ++ x ≡ text_of ms ++ y → Compared ls ms x y
 compare [] ms x y p q e = shorter ms refl e
 compare (l ∷ ls) [] x y p q e = longer (l ∷ ls) refl (sym e)
 compare (l ∷ ls) (m ∷ ms) x y p q e =

@@ -11,7 +11,7 @@ use Rattle.pssm_semantics.specs.declared.setting.Setting.{Setting}
 use Rattle.pssm_semantics.specs.Rules.{Holds}
 use Rattle.pssm_semantics.specs.Pool.{output_count}
 use Rattle.pssm_journal.specs.LineText.{header_line, text_of, journal_text}
-use Rattle.pssm_journal.specs.Grammar.{IsLine, BeginsNoLine, IsBadText, no_header, no_line}
+use Rattle.pssm_journal.specs.Grammar.{IsTakenLine, BeginsNoLine, IsBadText, no_header, no_line}
 use Rattle.pssm_journal.specs.Entries.{AreEntries}
 use Rattle.pssm_journal.specs.Judged.{Judged, Accepted, Refused, Limited, BadText, PassesLimits, line_output_count, IsKept, BreaksRule, by_entry, by_names, IsAccepted, IsRefusedText, IsOverLimit, IsBadJournal, IsJudged}
 use Rattle.pssm_journal.proofs.OutputCounts.{line_outputs, entry_output_count}
@@ -56,7 +56,7 @@ pub record IsStopped (setting : Setting) (bytes : List ℕ) (position : ℕ) : T
   pub rest : List ℕ
   pub text : bytes ≡ journal_text lines ++ line_and line rest
   pub kept : IsKept setting lines journal
-  pub is_line : IsLine line
+  pub is_line : IsTakenLine line
   pub ends : Ends setting lines line
   pub position_is : position ≡ length journal + 1
 
@@ -101,7 +101,7 @@ whole_text : (ls : List Line) (bytes : List ℕ) → bytes ≡ journal_text ls �
 whole_text ls bytes e = e ∙ sym (append-nil (journal_text ls))
 
 -- the lines after a front are lines
-back_lines : (ls more : List Line) → AllByRecursion IsLine (ls ++ more) → AllByRecursion IsLine more
+back_lines : (ls more : List Line) → AllByRecursion IsTakenLine (ls ++ more) → AllByRecursion IsTakenLine more
 back_lines [] more p = p
 back_lines (l ∷ ls) more p = back_lines ls more p.1
 
@@ -113,18 +113,18 @@ same_journals : (setting : Setting) (ls ms : List Line) (J K : List Entry) → I
 same_journals setting ls ms J K p q e = same_entries setting ms J K (subst (λ (t : List Line). AreEntries setting t J) e p.entries_are) q.entries_are
 
 -- what follows the front of a journal that is kept cannot begin with the line that ends a reading
-ended_within : (setting : Setting) (ls ms more : List Line) (l : Line) (K : List Entry) (x y : List ℕ) → IsKept setting ms K → Ends setting ls l → IsLine l → ms ≡ ls ++ more → line_and l x ≡ text_of more ++ y → (more ≡ []) × (line_and l x ≡ y)
+ended_within : (setting : Setting) (ls ms more : List Line) (l : Line) (K : List Entry) (x y : List ℕ) → IsKept setting ms K → Ends setting ls l → IsTakenLine l → ms ≡ ls ++ more → line_and l x ≡ text_of more ++ y → (more ≡ []) × (line_and l x ≡ y)
 ended_within setting ls ms [] l K x y q ends is_line e f = (refl, f)
 ended_within setting ls ms (n ∷ more) l K x y q ends is_line e f =
-    let lines : AllByRecursion IsLine (n ∷ more) = back_lines ls (n ∷ more) (subst (λ (t : List Line). AllByRecursion IsLine t) e q.lines_are) in
+    let lines : AllByRecursion IsTakenLine (n ∷ more) = back_lines ls (n ∷ more) (subst (λ (t : List Line). AllByRecursion IsTakenLine t) e q.lines_are) in
     let both = lines_apart l n x (text_of more ++ y) is_line lines.0 (f ∙ unfold_line n more y) in
     absurd (ends more K (subst (λ (t : List Line). IsKept setting t K) (e ∙ ap (λ (t : Line). ls ++ t ∷ more) (sym both.0)) q))
 
 -- Where no line begins, a reading cannot go on by one.
-no_line_within : (ms more : List Line) (x rest : List ℕ) → BeginsNoLine rest → AllByRecursion IsLine (ms ++ more) → rest ≡ text_of more ++ x → (more ≡ []) × (rest ≡ x)
+no_line_within : (ms more : List Line) (x rest : List ℕ) → BeginsNoLine rest → AllByRecursion IsTakenLine (ms ++ more) → rest ≡ text_of more ++ x → (more ≡ []) × (rest ≡ x)
 no_line_within ms [] x rest none p e = (refl, e)
 no_line_within ms (n ∷ more) x rest none p e =
-    let lines : AllByRecursion IsLine (n ∷ more) = back_lines ms (n ∷ more) p in
+    let lines : AllByRecursion IsTakenLine (n ∷ more) = back_lines ms (n ∷ more) p in
     absurd (none n (text_of more ++ x) lines.0 (e ∙ unfold_line n more x))
 
 -- the text of a journal has its first line
@@ -153,7 +153,7 @@ accepted_bad setting bytes m p q = by_text q.bad where
   by_text (no_line rest e some lines none) = by_lines (compare p.lines q.lines [] rest p.kept.lines_are lines (after_header p.lines q.lines bytes [] rest (whole_text p.lines bytes p.text) e)) where
     by_lines : Compared p.lines q.lines [] rest → ⊥
     by_lines (shorter more e f) = some (no_lines more rest f).1
-    by_lines (longer more e f) = some (no_line_within q.lines more [] rest none (subst (λ (t : List Line). AllByRecursion IsLine t) e p.kept.lines_are) f).1
+    by_lines (longer more e f) = some (no_line_within q.lines more [] rest none (subst (λ (t : List Line). AllByRecursion IsTakenLine t) e p.kept.lines_are) f).1
 
 stopped_bad : (setting : Setting) (bytes : List ℕ) (n : ℕ) → IsStopped setting bytes n → IsBadJournal setting bytes → ⊥
 stopped_bad setting bytes n p q = by_text q.bad where
@@ -165,7 +165,7 @@ stopped_bad setting bytes n p q = by_text q.bad where
         let ended = ended_within setting p.lines q.lines more p.line q.journal p.rest rest q.kept p.ends p.is_line e f in
         none p.line p.rest p.is_line (sym ended.1)
     by_lines (longer more e f) =
-        let ended = no_line_within q.lines more (line_and p.line p.rest) rest none (subst (λ (t : List Line). AllByRecursion IsLine t) e p.kept.lines_are) f in
+        let ended = no_line_within q.lines more (line_and p.line p.rest) rest none (subst (λ (t : List Line). AllByRecursion IsTakenLine t) e p.kept.lines_are) f in
         none p.line p.rest p.is_line ended.1
 
 -- two readings that stop do so at one line of one journal

@@ -13,4 +13,3 @@ pub mod NameLaws
 pub mod NamedLines
 pub mod BuiltNames
 pub mod Spellings
-pub mod OneText

@@ -16,9 +16,9 @@ use Rattle.pssm_spelling.specs.SpellingReading.{is_digit, EndsRun, stripped, nam
 use Rattle.pssm_spelling.proofs.SpellingLaws.{stripped_takes, stripped_again, name_takes, name_again, number_takes, number_again}
 use Rattle.pssm_journal.specs.LineText.{line_text, firing_text}
 use Rattle.pssm_model.specs.OneRegion.{single_route}
-use Rattle.pssm_semantics.specs.Built.{IsPlainFiring}
-use Rattle.pssm_journal.specs.Grammar.{IsLine, IsSpelledHow, IsSpelledFiring}
-use Rattle.pssm_journal.specs.LineReading.{◌>>=◌, at_end, vertex, region, transition, firing_of, element_taken, place_taken, fires_taken, post_taken, start_taken, take_taken, exit_taken, effect_taken, enter_taken, open_taken, item_taken, line_taken}
+use Rattle.pssm_semantics.specs.Built.{IsBuiltFiring}
+use Rattle.pssm_journal.specs.Grammar.{IsTakenLine, IsSpelledHow, IsSpelledFiring}
+use Rattle.pssm_journal.specs.inner.LineReading.{◌>>=◌, at_end, vertex, region, transition, firing_of, element_taken, place_taken, fires_taken, post_taken, start_taken, take_taken, exit_taken, effect_taken, enter_taken, open_taken, item_taken, line_taken}
 
 -- ---- steps that may fail
 
@@ -122,7 +122,7 @@ fires_again None small = refl
 fires_again (Some t) small =
     bind_at (element_taken (codes " t") (codes " t" ++ (decimal t ++ []))) (λ x. at_end (Some x.0) x.1) (t, []) (element_again (codes " t") t [] small tt)
 
-firing_is_plain : (fires : Option ℕ) → IsPlainFiring (firing_of fires)
+firing_is_plain : (fires : Option ℕ) → IsBuiltFiring (firing_of fires)
 firing_is_plain None = inl refl
 firing_is_plain (Some t) = inr (transition t, refl)
 
@@ -137,7 +137,7 @@ firing_from_routes f g e = ap (λ rs. let x : Firing = record { routes = rs } in
 
 -- the bytes are the text of a line of the grammar
 pub record Spells (bytes : List ℕ) (l : Line) : Type 0 where
-  pub line : IsLine l
+  pub line : IsTakenLine l
   pub text : bytes ≡ line_text l
 
 post_takes : (bytes : List ℕ) (l : Line) → post_taken bytes ≡ Some l → Spells (codes "post " ++ bytes) l
@@ -348,7 +348,7 @@ abbrev IsReadAgain : Line → Type 0
 IsReadAgain l = line_taken (line_text l) ≡ Some l
 
 -- the text of a line of the grammar is read as that line
-pub line_again : (l : Line) → IsLine l → line_taken (line_text l) ≡ Some l
+pub line_again : (l : Line) → IsTakenLine l → line_taken (line_text l) ≡ Some l
 line_again (Post object signal args) h =
     subst (λ x. IsReadAgain (Post object signal x)) (sym h.0) (post_line object signal h.1.0 h.1.1)
 line_again (Start object) h = start_line object h.1
@@ -378,7 +378,7 @@ line_again (Pick object choice route) h = absurd h.0
 line_again (DoStep object state step outs) h = absurd h.0
 
 -- the same of a line that equals what was read
-pub spelled_at : (bytes : List ℕ) (l read : Line) → Some read ≡ line_taken bytes → l ≡ read → IsLine l × (bytes ≡ line_text l)
+pub spelled_at : (bytes : List ℕ) (l read : Line) → Some read ≡ line_taken bytes → l ≡ read → IsTakenLine l × (bytes ≡ line_text l)
 spelled_at bytes l read e same =
     let spelled = line_takes bytes read (sym e) in
-    subst (λ (x : Line). IsLine x × (bytes ≡ line_text x)) (sym same) (spelled.line, spelled.text)
+    subst (λ (x : Line). IsTakenLine x × (bytes ≡ line_text x)) (sym same) (spelled.line, spelled.text)

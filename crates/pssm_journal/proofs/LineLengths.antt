@@ -14,8 +14,8 @@ use Rattle.pssm_spelling.specs.Spelling.{IsName, continues_name}
 use Rattle.pssm_spelling.specs.SpellingReading.{is_digit}
 use Rattle.pssm_spelling.proofs.SpellingLaws.{digits_model, name_goes_on}
 use Rattle.pssm_journal.specs.LineText.{line_text, firing_text, routes_text}
-use Rattle.pssm_semantics.specs.Built.{IsPlainFiring}
-use Rattle.pssm_journal.specs.Grammar.{IsLine, IsSpelledFiring, IsSpelledHow, IsSpelledRoute}
+use Rattle.pssm_semantics.specs.Built.{IsBuiltFiring}
+use Rattle.pssm_journal.specs.Grammar.{IsTakenLine, IsSpelledFiring, IsSpelledHow, IsSpelledRoute}
 use Rattle.pssm_journal.specs.Reading.{is_no_feed, has_no_feed}
 use Rattle.pssm_journal.proofs.Feeds.{no_feed_append}
 
@@ -68,7 +68,7 @@ short_nothing = short_word [] refl refl
 short_last : (n : ℕ) → n < 65536 → IsShort 26 (decimal n ++ [])
 short_last n small = short_append 10 16 (decimal n) [] (short_number n (omega arith)) short_nothing
 
-short_firing : (firing : Firing) → IsPlainFiring firing → IsSpelledFiring firing → IsShort 42 (firing_text firing)
+short_firing : (firing : Firing) → IsBuiltFiring firing → IsSpelledFiring firing → IsShort 42 (firing_text firing)
 short_firing firing (inl none) spelled = subst (λ rs. IsShort 42 (routes_text rs)) (sym none) (short_more 16 42 (codes "-") (omega arith) (short_word (codes "-") refl refl))
 short_firing firing (inr one) spelled =
     let t = one.0 in
@@ -87,7 +87,7 @@ abbrev IsShortLine : Line → Type 0
 IsShortLine l = IsShort 200 (line_text l)
 
 -- each line of the grammar
-pub short_line : (l : Line) → IsLine l → IsShort 200 (line_text l)
+pub short_line : (l : Line) → IsTakenLine l → IsShort 200 (line_text l)
 short_line (Post object signal args) h =
     subst (λ x. IsShortLine (Post object signal x)) (sym h.0)
     (short_more 176 200 (line_text (Post object signal [])) (omega arith)

@@ -22,12 +22,12 @@ use Rattle.pssm_semantics.specs.declared.setting.Setting.{Setting}
 use Rattle.pssm_semantics.specs.Settings.{class_of, HasCount}
 use Rattle.pssm_semantics.specs.Journal.{object_of}
 use Rattle.pssm_semantics.specs.Known.{IsOutOf, NamesKnown}
-use Rattle.pssm_semantics.specs.Built.{IsPlainEntry}
-use Rattle.pssm_journal.specs.LineReading.{◌>>=◌}
-use Rattle.pssm_journal.specs.Grammar.{IsSpelled, IsPlainLine, IsSpelledRoute, IsSpelledOut, AreSpelledOuts}
+use Rattle.pssm_semantics.specs.Built.{IsBuiltEntry}
+use Rattle.pssm_journal.specs.inner.LineReading.{◌>>=◌}
+use Rattle.pssm_journal.specs.Grammar.{IsLine, IsBuiltLine, IsSpelledRoute, IsSpelledOut, AreSpelledOuts}
 use Rattle.pssm_journal.specs.Entries.{object_name, object_named, signal_named, mark_named, out_named, outs_named, entry_at, entry_named, IsEntryOf, KeepsNames}
 use Rattle.pssm_journal.specs.Naming.{AreApart, NamesDiffer, HasSpelledNames, HasStart, IsSpelledEntry}
-use Rattle.pssm_journal.specs.EntryLine.{name_of_object, name_of_signal, name_of_mark, out_line, line_of_entry, RouteFits, OutFits, EntryFits}
+use Rattle.pssm_journal.specs.inner.EntryLine.{name_of_object, name_of_signal, name_of_mark, out_line, line_of_entry, RouteFits, OutFits, EntryFits}
 use Rattle.pssm_spelling.specs.Spelling.{IsName}
 use Rattle.pssm_journal.proofs.NameLaws.{object_named_back, signal_named_back, mark_named_back, each_of}
 
@@ -129,7 +129,7 @@ line_writes setting e differ keeps =
 
 -- ---- the line of a plain entry is plain
 
-pub line_is_plain : (setting : Setting) (e : Entry) → IsPlainEntry e → IsPlainLine (line_of_entry setting e)
+pub line_is_plain : (setting : Setting) (e : Entry) → IsBuiltEntry e → IsBuiltLine (line_of_entry setting e)
 unfolding line_of_entry
 line_is_plain setting (Post o s args) plain = plain
 line_is_plain setting (Start o) plain = tt
@@ -182,7 +182,7 @@ routes_are_spelled [] starts fits = tt
 routes_are_spelled (r ∷ routes) starts fits = ((starts.0, fits.0.0, fits.0.1), routes_are_spelled routes starts.1 fits.1)
 
 spelled_at_class : (setting : Setting) (class : Class) (d : ObjectDecl) (e : Entry) → HasSpelledNames setting → slice_get setting.objects (object_of e).0 ≡ Some d → class_of setting (object_of e) ≡ Some class → NamesKnown setting class e → IsSpelledEntry e → EntryFits e
-    → IsSpelled (line_of_entry setting e)
+    → IsLine (line_of_entry setting e)
 unfolding line_of_entry
 spelled_at_class setting class d (Post o s args) names here at known spelled fits =
     let g = signal_of_count setting s (length args) known in
@@ -209,7 +209,7 @@ spelled_at_class setting class d (Pick o choice route) names here at known spell
 spelled_at_class setting class d (DoStep o state step xs) names here at known spelled fits =
     (object_is_name setting o d names here, fits.0, fits.1, outs_are_spelled setting o class xs names at known.1 fits.2 spelled)
 
-pub line_is_spelled : (setting : Setting) (e : Entry) → KeepsNames setting e → EntryFits e → HasSpelledNames setting → IsSpelledEntry e → IsSpelled (line_of_entry setting e)
+pub line_is_spelled : (setting : Setting) (e : Entry) → KeepsNames setting e → EntryFits e → HasSpelledNames setting → IsSpelledEntry e → IsLine (line_of_entry setting e)
 line_is_spelled setting e keeps fits names spelled =
     let some = keeps [] in
     let declared = declared_of setting (object_of e) some.0 some.1 in

@@ -6,7 +6,7 @@ use Rattle.pssm_semantics.specs.declared.line.Line.{Line}
 use Rattle.pssm_journal.specs.declared.batch.Step.{Step}
 use Rattle.pssm_journal.specs.declared.batch.Step.TheVariants as steps
 use Rattle.pssm_journal.specs.LineText.{line_text, header_text, text_of, journal_text}
-use Rattle.pssm_journal.specs.Grammar.{IsLine, BeginsNoLine, LacksHeader, IsBadText, no_header, no_line}
+use Rattle.pssm_journal.specs.Grammar.{IsTakenLine, BeginsNoLine, LacksHeader, IsBadText, no_header, no_line}
 use Rattle.pssm_journal.specs.Stream.{stream_of, AreSoFar, Advances, Fails}
 use Rattle.pssm_journal.specs.Reading.{has_no_feed, SpellsNoLine, IsStep}
 use Rattle.pssm_journal.proofs.Feeds.{feed_apart, feed_beyond}
@@ -48,17 +48,17 @@ advance_header begun text line after lines so_far is_header = record {
   same = λ before p.
       let none : before ++ lines ≡ [] = so_far.lines_so_far before p in
       ap (λ (ls : List Line). journal_text ls ++ after) none ∙ ap (λ (t : List ℕ). t ++ 10 ∷ after) (sym is_header) ∙ so_far.same before p;
-  lines_so_far = λ before p. subst (λ (ls : List Line). AllByRecursion IsLine ls) (sym (so_far.lines_so_far before p)) tt;
+  lines_so_far = λ before p. subst (λ (ls : List Line). AllByRecursion IsTakenLine ls) (sym (so_far.lines_so_far before p)) tt;
 }
 
-pub advance_line : (begun : Bool) (text line after : List ℕ) (lines : List Line) (l : Line) → Advances begun text true (line ++ 10 ∷ after) lines → IsLine l → line ≡ line_text l → Advances begun text true after (lines ++ l ∷ [])
+pub advance_line : (begun : Bool) (text line after : List ℕ) (lines : List Line) (l : Line) → Advances begun text true (line ++ 10 ∷ after) lines → IsTakenLine l → line ≡ line_text l → Advances begun text true after (lines ++ l ∷ [])
 advance_line begun text line after lines l so_far is_line is_text = record {
   same = λ before p.
       ap (λ (ls : List Line). journal_text ls ++ after) (sym (append_assoc before lines (l ∷ [])))
       ∙ one_more_line (before ++ lines) l after
       ∙ ap (λ (t : List ℕ). journal_text (before ++ lines) ++ (t ++ 10 ∷ after)) (sym is_text)
       ∙ so_far.same before p;
-  lines_so_far = λ before p. subst (λ (ls : List Line). AllByRecursion IsLine ls) (append_assoc before lines (l ∷ [])) (all-append IsLine (before ++ lines) (l ∷ []) (so_far.lines_so_far before p) (is_line, tt));
+  lines_so_far = λ before p. subst (λ (ls : List Line). AllByRecursion IsTakenLine ls) (append_assoc before lines (l ∷ [])) (all-append IsTakenLine (before ++ lines) (l ∷ []) (so_far.lines_so_far before p) (is_line, tt));
 }
 
 -- ---- faults
@@ -143,7 +143,7 @@ header_step begun b text rest line after lines step so_far cut is e =
 -- a line of the grammar
 pub whole_step : (begun b : Bool) (text rest line after : List ℕ) (lines : List Line) (step : Step) (l : Line) → Advances begun text b rest lines → rest ≡ line ++ 10 ∷ after → IsStep b line step → step ≡ steps.Whole l → Advances begun text b after (lines ++ l ∷ [])
 whole_step begun b text rest line after lines step l so_far cut is e =
-    let whole : (b ≡ true) × IsLine l × (line ≡ line_text l) = subst (λ (x : Step). IsStep b line x) e is in
+    let whole : (b ≡ true) × IsTakenLine l × (line ≡ line_text l) = subst (λ (x : Step). IsStep b line x) e is in
     let here = subst (λ (x : Bool). Advances begun text x (line ++ 10 ∷ after) lines) whole.0 (at_front begun b text rest (line ++ 10 ∷ after) lines so_far cut) in
     subst (λ (x : Bool). Advances begun text x after (lines ++ l ∷ [])) (sym whole.0) (advance_line begun text line after lines l here whole.1 whole.2)
 

@@ -17,7 +17,7 @@ use Rattle.pssm_semantics.specs.declared.setting.Class.{Class}
 use Rattle.pssm_semantics.specs.declared.setting.Setting.{Setting}
 use Rattle.pssm_semantics.specs.Settings.{class_of}
 use Rattle.pssm_semantics.specs.Rules.{Holds}
-use Rattle.pssm_journal.specs.LineReading.{◌>>=◌}
+use Rattle.pssm_journal.specs.inner.LineReading.{◌>>=◌}
 
 -- a place, where it is below the limit of its type
 abbrev pub numbered : ℕ → Option ℕ → Option ℕ

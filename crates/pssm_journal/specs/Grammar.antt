@@ -14,7 +14,7 @@ use Rattle.pssm_semantics.specs.declared.line.Line.TheVariants.{Post, Start, Tak
 use Rattle.pssm_semantics.specs.declared.line.LineOut.{LineOut}
 use Rattle.pssm_semantics.specs.declared.line.LineOut.TheVariants.{Mark, Send}
 use Rattle.pssm_spelling.specs.Spelling.{IsName}
-use Rattle.pssm_semantics.specs.Built.{IsPlainFiring}
+use Rattle.pssm_semantics.specs.Built.{IsBuiltFiring}
 use Rattle.pssm_journal.specs.LineText.{line_text, header_line, journal_text}
 
 -- the number of an element or of a do step
@@ -45,43 +45,43 @@ IsSpelledHow (By route) = IsSpelledRoute route
 IsSpelledHow (Restore state) = IsIndex state.0
 IsSpelledHow Nothing = Unit {0}
 
--- Its names are names, and its numbers, lists and outputs are within the limits of a line (this profile's choice).
-abbrev pub IsSpelled : Line → Type 0
-IsSpelled (Post object signal args) = IsName object × IsName signal × AreArgs args
-IsSpelled (Start object) = IsName object
-IsSpelled (Take object number firing) = IsName object × (0 < number) × (number < 4294967296) × IsSpelledFiring firing
-IsSpelled (Done object state firing) = IsName object × IsIndex state.0 × IsSpelledFiring firing
-IsSpelled (Exit object state outs) = IsName object × IsIndex state.0 × AreSpelledOuts outs
-IsSpelled (Effect object transition outs) = IsName object × IsIndex transition.0 × AreSpelledOuts outs
-IsSpelled (Enter object state outs) = IsName object × IsIndex state.0 × AreSpelledOuts outs
-IsSpelled (Opened object region mode how) = IsName object × IsIndex region.0 × IsSpelledHow how
-IsSpelled (Pick object choice route) = IsName object × IsIndex choice.0 × IsSpelledRoute route
-IsSpelled (DoStep object state step outs) = IsName object × IsIndex state.0 × IsIndex step × AreSpelledOuts outs
-
--- the lines that are read so far: no arguments, no outputs, routes of one transition
-abbrev pub IsPlainLine : Line → Type 0
-IsPlainLine (Post object signal args) = args ≡ []
-IsPlainLine (Start object) = Unit {0}
-IsPlainLine (Take object number firing) = IsPlainFiring firing
-IsPlainLine (Exit object state outs) = outs ≡ []
-IsPlainLine (Effect object transition outs) = outs ≡ []
-IsPlainLine (Enter object state outs) = outs ≡ []
-IsPlainLine (Opened object region mode how) = (mode ≡ Plain) × ((t : TransId) × (how ≡ By (single_route t)))
-IsPlainLine _ = ⊥
-
--- a line of the grammar (this profile's choice)
+-- a line of the grammar: its names are names, and its numbers, lists and outputs are within the limits of a line (this profile's choice)
 abbrev pub IsLine : Line → Type 0
-IsLine l = IsPlainLine l × IsSpelled l
+IsLine (Post object signal args) = IsName object × IsName signal × AreArgs args
+IsLine (Start object) = IsName object
+IsLine (Take object number firing) = IsName object × (0 < number) × (number < 4294967296) × IsSpelledFiring firing
+IsLine (Done object state firing) = IsName object × IsIndex state.0 × IsSpelledFiring firing
+IsLine (Exit object state outs) = IsName object × IsIndex state.0 × AreSpelledOuts outs
+IsLine (Effect object transition outs) = IsName object × IsIndex transition.0 × AreSpelledOuts outs
+IsLine (Enter object state outs) = IsName object × IsIndex state.0 × AreSpelledOuts outs
+IsLine (Opened object region mode how) = IsName object × IsIndex region.0 × IsSpelledHow how
+IsLine (Pick object choice route) = IsName object × IsIndex choice.0 × IsSpelledRoute route
+IsLine (DoStep object state step outs) = IsName object × IsIndex state.0 × IsIndex step × AreSpelledOuts outs
 
--- No line of the grammar stands at the front.
+-- the lines whose forms the code takes: no arguments, no outputs, routes of one transition. Later work widens this premise; no definition changes with it.
+abbrev pub IsBuiltLine : Line → Type 0
+IsBuiltLine (Post object signal args) = args ≡ []
+IsBuiltLine (Start object) = Unit {0}
+IsBuiltLine (Take object number firing) = IsBuiltFiring firing
+IsBuiltLine (Exit object state outs) = outs ≡ []
+IsBuiltLine (Effect object transition outs) = outs ≡ []
+IsBuiltLine (Enter object state outs) = outs ≡ []
+IsBuiltLine (Opened object region mode how) = (mode ≡ Plain) × ((t : TransId) × (how ≡ By (single_route t)))
+IsBuiltLine _ = ⊥
+
+-- a line of the grammar, of a form that the code takes
+abbrev pub IsTakenLine : Line → Type 0
+IsTakenLine l = IsBuiltLine l × IsLine l
+
+-- No line that is taken stands at the front.
 abbrev pub BeginsNoLine : List ℕ → Type 0
-BeginsNoLine rest = (l : Line) (more : List ℕ) → IsLine l → rest ≡ line_text l ++ 10 ∷ more → ⊥
+BeginsNoLine rest = (l : Line) (more : List ℕ) → IsTakenLine l → rest ≡ line_text l ++ 10 ∷ more → ⊥
 
 -- Another text than the first line stands at the front.
 abbrev pub LacksHeader : List ℕ → Type 0
 LacksHeader bytes = (more : List ℕ) → bytes ≡ header_line ++ more → ⊥
 
--- The bytes are no text of a journal: the first line is missing, or after these lines comes what is no line.
+-- The bytes are no text of a journal: the first line is missing, or after these lines comes what is no line, or one of a form that is not taken.
 pub data IsBadText (bytes : List ℕ) (lines : List Line) : Type 0 where
   no_header : lines ≡ [] → LacksHeader bytes → IsBadText bytes lines
-  no_line : (rest : List ℕ) → bytes ≡ journal_text lines ++ rest → (rest ≡ [] → ⊥) → AllByRecursion IsLine lines → BeginsNoLine rest → IsBadText bytes lines
+  no_line : (rest : List ℕ) → bytes ≡ journal_text lines ++ rest → (rest ≡ [] → ⊥) → AllByRecursion IsTakenLine lines → BeginsNoLine rest → IsBadText bytes lines

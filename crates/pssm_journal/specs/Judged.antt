@@ -9,10 +9,10 @@ use Rattle.pssm_semantics.specs.declared.line.Line.TheVariants.{Post, Exit, Effe
 use Rattle.pssm_semantics.specs.declared.setting.Setting.{Setting}
 use Rattle.pssm_semantics.specs.Rules.{Holds}
 use Rattle.pssm_semantics.specs.Pool.{output_count}
-use Rattle.pssm_semantics.specs.Runs.{IsAdmissibleIn, KeepsJournalLimits}
+use Rattle.pssm_semantics.specs.Admissible.{IsAdmissibleIn, KeepsJournalLimits}
 use Rattle.pssm_semantics.specs.Verdict.{IsFirstBroken}
 use Rattle.pssm_journal.specs.LineText.{journal_text}
-use Rattle.pssm_journal.specs.Grammar.{IsLine, IsBadText}
+use Rattle.pssm_journal.specs.Grammar.{IsTakenLine, IsBadText}
 use Rattle.pssm_journal.specs.Entries.{IsEntryOf, BreaksNames, AreEntries}
 
 -- accepted with the number of its entries, refused at an entry, from 1, by a rule, over the limits at an entry, or no text of a journal
@@ -37,7 +37,7 @@ PassesLimits J line = (1000000 < length J + 1) ⊎ (2000000 < output_count J + l
 
 -- Lines of the grammar write entries that break no rule, and no more than the limits allow.
 pub record IsKept (setting : Setting) (lines : List Line) (J : List Entry) : Type 0 where
-  pub lines_are : AllByRecursion IsLine lines
+  pub lines_are : AllByRecursion IsTakenLine lines
   pub entries_are : AreEntries setting lines J
   pub admissible : IsAdmissibleIn setting J
   pub limits : KeepsJournalLimits J
@@ -63,7 +63,7 @@ pub record IsRefusedText (setting : Setting) (bytes : List ℕ) (position : ℕ)
   pub rest : List ℕ
   pub text : bytes ≡ journal_text (lines ++ line ∷ []) ++ rest
   pub kept : IsKept setting lines journal
-  pub is_line : IsLine line
+  pub is_line : IsTakenLine line
   pub within : PassesLimits journal line → ⊥
   pub breaks : BreaksRule setting journal line rule
   pub position_is : position ≡ length journal + 1
@@ -76,7 +76,7 @@ pub record IsOverLimit (setting : Setting) (bytes : List ℕ) (position : ℕ) :
   pub rest : List ℕ
   pub text : bytes ≡ journal_text (lines ++ line ∷ []) ++ rest
   pub kept : IsKept setting lines journal
-  pub is_line : IsLine line
+  pub is_line : IsTakenLine line
   pub passes : PassesLimits journal line
   pub position_is : position ≡ length journal + 1
 

@@ -1,9 +1,8 @@
 pub mod LineText
 pub mod Grammar
 pub mod Stream
-pub mod LineReading
 pub mod Reading
 pub mod Entries
 pub mod Naming
-pub mod EntryLine
 pub mod Judged
+pub mod inner

@@ -6,7 +6,7 @@ use Rattle.pssm_journal.specs.declared.fault.LineFault.{LineFault}
 use Rattle.pssm_journal.specs.declared.batch.Step.{Step}
 use Rattle.pssm_journal.specs.declared.batch.Step.TheVariants as steps
 use Rattle.pssm_journal.specs.LineText.{line_text, header_text}
-use Rattle.pssm_journal.specs.Grammar.{IsLine}
+use Rattle.pssm_journal.specs.Grammar.{IsTakenLine}
 use Rattle.pssm_journal.specs.Stream.{Advances, Fails}
 
 -- what a reader keeps: whether the first line was seen, the fault, and the bytes of the line that is not whole
@@ -24,12 +24,12 @@ has_no_feed bytes = list_all is_no_feed bytes
 
 -- The bytes are the text of no line of the grammar.
 abbrev pub SpellsNoLine : List ℕ → Type 0
-SpellsNoLine bytes = (l : Line) → IsLine l → bytes ≢ line_text l
+SpellsNoLine bytes = (l : Line) → IsTakenLine l → bytes ≢ line_text l
 
 -- what a line is where the first one is still to come, and after it
 abbrev pub IsStep : Bool → List ℕ → Step → Type 0
 IsStep begun bytes steps.Header = (begun ≡ false) × (bytes ≡ header_text)
-IsStep begun bytes (steps.Whole l) = (begun ≡ true) × IsLine l × (bytes ≡ line_text l)
+IsStep begun bytes (steps.Whole l) = (begun ≡ true) × IsTakenLine l × (bytes ≡ line_text l)
 IsStep begun bytes steps.Bad = ((begun ≡ false) × (bytes ≢ header_text)) ⊎ ((begun ≡ true) × SpellsNoLine bytes)
 
 -- The bytes that waited and the piece are these lines and the bytes that wait now; with a fault, they are no text of a journal after these lines, however they go on.

@@ -3,7 +3,7 @@ use Rattle.std.specs.Prelude.{◌≡◌, ℕ, Bool, true, false, List, [], ◌++
 use Rattle.std.specs.List.{AllByRecursion}
 use Rattle.pssm_semantics.specs.declared.line.Line.{Line}
 use Rattle.pssm_journal.specs.LineText.{journal_text}
-use Rattle.pssm_journal.specs.Grammar.{IsLine, IsBadText}
+use Rattle.pssm_journal.specs.Grammar.{IsTakenLine, IsBadText}
 
 -- all that came: the first line if it was seen, the lines so far, and the bytes after them
 abbrev pub stream_of : Bool → List Line → List ℕ → List ℕ
@@ -12,7 +12,7 @@ stream_of false lines rest = rest
 
 -- lines that may have come so far: none before the first line of the text
 abbrev pub AreSoFar : Bool → List Line → Type 0
-AreSoFar true lines = AllByRecursion IsLine lines
+AreSoFar true lines = AllByRecursion IsTakenLine lines
 AreSoFar false lines = lines ≡ []
 
 -- From text these lines are read, and rest is left: the bytes that came are the same, whatever came before.

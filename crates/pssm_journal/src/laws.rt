@@ -4,24 +4,24 @@ ghost use Rattle.std.specs.List.{AllByRecursion};
 ghost use Rattle.pssm_semantics.specs.declared.entry.Entry.{Entry};
 ghost use Rattle.pssm_semantics.specs.declared.line.Line.{Line};
 ghost use Rattle.pssm_semantics.specs.declared.setting.Setting.{Setting};
-ghost use Rattle.pssm_semantics.specs.Built.{IsBuilt, IsPlainEntry};
+ghost use Rattle.pssm_semantics.specs.Built.{IsBuilt, IsBuiltEntry};
 ghost use Rattle.pssm_journal.specs.LineText.{line_text, journal_text};
-ghost use Rattle.pssm_journal.specs.Grammar.{IsLine};
+ghost use Rattle.pssm_journal.specs.Grammar.{IsTakenLine};
 ghost use Rattle.pssm_journal.specs.Entries.{IsEntryOf, AreEntries};
 ghost use Rattle.pssm_journal.specs.Naming.{NamesDiffer, HasSpelledNames, IsSpelledEntry};
 
 /// Two lines of the grammar with one text are one line.
 pub fn one_spelling()
-    ensures { (l m : Line) → IsLine l → IsLine m → line_text l ≡ line_text m → l ≡ m }
+    ensures { (l m : Line) → IsTakenLine l → IsTakenLine m → line_text l ≡ line_text m → l ≡ m }
 {}
 
 /// What is read of the text of an entry's line writes this entry, and the entries that are read of the text of a
 /// journal are those that were written.
 pub fn read_again()
-    ensures entry { (setting : Setting) (e : Entry) (line read : Line) → IsLine line → IsEntryOf setting line e
-        → IsLine read → line_text read ≡ line_text line → IsEntryOf setting read e }
+    ensures entry { (setting : Setting) (e : Entry) (line read : Line) → IsTakenLine line → IsEntryOf setting line e
+        → IsTakenLine read → line_text read ≡ line_text line → IsEntryOf setting read e }
     ensures journal { (setting : Setting) (J K : List Entry) (lines read : List Line)
-        → AllByRecursion IsLine lines → AllByRecursion IsLine read → AreEntries setting lines J → AreEntries setting read K
+        → AllByRecursion IsTakenLine lines → AllByRecursion IsTakenLine read → AreEntries setting lines J → AreEntries setting read K
         → journal_text lines ≡ journal_text read → J ≡ K }
 {}
 
@@ -30,5 +30,5 @@ pub fn read_again()
 pub fn built_lines()
     ensures differ { (setting : Setting) → IsBuilt setting → NamesDiffer setting }
     ensures spelled { (setting : Setting) → IsBuilt setting → HasSpelledNames setting }
-    ensures plain { (e : Entry) → IsPlainEntry e → IsSpelledEntry e }
+    ensures plain { (e : Entry) → IsBuiltEntry e → IsSpelledEntry e }
 {}

@@ -9,6 +9,7 @@
 
 mod batch;
 mod entry;
+mod entry_lines;
 mod fault;
 mod judged;
 mod known;
@@ -18,6 +19,8 @@ mod line;
 mod line_tests;
 mod names;
 mod naming;
+#[cfg(test)]
+mod naming_tests;
 mod parts;
 mod ranges;
 mod reader;

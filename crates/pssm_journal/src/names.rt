@@ -4,7 +4,7 @@ ghost use Rattle.std.specs.Option.{option_copied};
 ghost use Rattle.std.specs.Str.{bytes_eq};
 ghost use Rattle.pssm_semantics.specs.Settings.{class_of};
 ghost use Rattle.pssm_journal.specs.Entries.{object_named, signal_named, mark_named};
-ghost use Rattle.pssm_journal.specs.EntryLine.{name_of_object, name_of_signal, name_of_mark};
+ghost use Rattle.pssm_journal.specs.inner.EntryLine.{name_of_object, name_of_signal, name_of_mark};
 
 use pssm_model::{MarkId, SignalId, Text};
 use pssm_semantics::{Class, ObjectDecl, ObjectId, Setting, SignalDecl};

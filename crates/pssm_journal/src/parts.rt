@@ -1,7 +1,7 @@
 //! The parts of a line as they lie in its text. Nothing here takes memory.
 ghost use Rattle.std.specs.Prelude.{◌≡◌, codes};
 ghost use Rattle.std.specs.Option.{option_map};
-ghost use Rattle.pssm_journal.specs.LineReading.{line_of_parts, element_taken, place_taken, fires_taken, post_taken, start_taken, take_taken, exit_taken, effect_taken, enter_taken, open_taken, item_taken, line_taken};
+ghost use Rattle.pssm_journal.specs.inner.LineReading.{line_of_parts, element_taken, place_taken, fires_taken, post_taken, start_taken, take_taken, exit_taken, effect_taken, enter_taken, open_taken, item_taken, line_taken};
 
 use pssm_spelling::{index_at, name_at, number_at, strip};
 
@@ -40,7 +40,7 @@ pub enum LineParts<'a> {
 }
 
 /// The number of an element behind a fixed front.
-#[tactic(auto, unfolding(crate::specs::LineReading::element_taken))]
+#[tactic(auto, unfolding(crate::specs::inner::LineReading::element_taken))]
 fn element_at<'a>(bytes: &'a [u8], front: &[u8]) -> Option<(u16, &'a [u8])>
     ensures { option_map (λ x. (x.0, x.1.now)) result ≡ element_taken front.now bytes.now }
 {
@@ -49,7 +49,7 @@ fn element_at<'a>(bytes: &'a [u8], front: &[u8]) -> Option<(u16, &'a [u8])>
 }
 
 /// An object and an element, and nothing after them.
-#[tactic(auto, unfolding(crate::specs::LineReading::place_taken))]
+#[tactic(auto, unfolding(crate::specs::inner::LineReading::place_taken))]
 fn place_at<'a>(bytes: &'a [u8], front: &[u8]) -> Option<(&'a [u8], u16)>
     ensures { option_map (λ x. (x.0.now, x.1)) result ≡ place_taken front.now bytes.now }
 {
@@ -63,7 +63,7 @@ fn place_at<'a>(bytes: &'a [u8], front: &[u8]) -> Option<(&'a [u8], u16)>
 }
 
 /// What fires, and nothing after it.
-#[tactic(auto, unfolding(crate::specs::LineReading::fires_taken))]
+#[tactic(auto, unfolding(crate::specs::inner::LineReading::fires_taken))]
 fn fires_at(bytes: &[u8]) -> Option<Option<u16>>
     ensures { result ≡ fires_taken bytes.now }
 {
@@ -78,7 +78,7 @@ fn fires_at(bytes: &[u8]) -> Option<Option<u16>>
     }
 }
 
-#[tactic(auto, unfolding(crate::specs::LineReading::post_taken))]
+#[tactic(auto, unfolding(crate::specs::inner::LineReading::post_taken))]
 fn post_at(bytes: &[u8]) -> Option<LineParts<'_>>
     ensures { option_map line_of_parts result ≡ post_taken bytes.now }
 {
@@ -93,7 +93,7 @@ fn post_at(bytes: &[u8]) -> Option<LineParts<'_>>
     }
 }
 
-#[tactic(auto, unfolding(crate::specs::LineReading::start_taken))]
+#[tactic(auto, unfolding(crate::specs::inner::LineReading::start_taken))]
 fn start_at(bytes: &[u8]) -> Option<LineParts<'_>>
     ensures { option_map line_of_parts result ≡ start_taken bytes.now }
 {
@@ -105,7 +105,7 @@ fn start_at(bytes: &[u8]) -> Option<LineParts<'_>>
     }
 }
 
-#[tactic(auto, unfolding(crate::specs::LineReading::take_taken))]
+#[tactic(auto, unfolding(crate::specs::inner::LineReading::take_taken))]
 fn take_at(bytes: &[u8]) -> Option<LineParts<'_>>
     ensures { option_map line_of_parts result ≡ take_taken bytes.now }
 {
@@ -123,7 +123,7 @@ fn take_at(bytes: &[u8]) -> Option<LineParts<'_>>
     })
 }
 
-#[tactic(auto, unfolding(crate::specs::LineReading::exit_taken))]
+#[tactic(auto, unfolding(crate::specs::inner::LineReading::exit_taken))]
 fn exit_at(bytes: &[u8]) -> Option<LineParts<'_>>
     ensures { option_map line_of_parts result ≡ exit_taken bytes.now }
 {
@@ -131,7 +131,7 @@ fn exit_at(bytes: &[u8]) -> Option<LineParts<'_>>
     Some(LineParts::Exit { object, state })
 }
 
-#[tactic(auto, unfolding(crate::specs::LineReading::effect_taken))]
+#[tactic(auto, unfolding(crate::specs::inner::LineReading::effect_taken))]
 fn effect_at(bytes: &[u8]) -> Option<LineParts<'_>>
     ensures { option_map line_of_parts result ≡ effect_taken bytes.now }
 {
@@ -139,7 +139,7 @@ fn effect_at(bytes: &[u8]) -> Option<LineParts<'_>>
     Some(LineParts::Effect { object, transition })
 }
 
-#[tactic(auto, unfolding(crate::specs::LineReading::enter_taken))]
+#[tactic(auto, unfolding(crate::specs::inner::LineReading::enter_taken))]
 fn enter_at(bytes: &[u8]) -> Option<LineParts<'_>>
     ensures { option_map line_of_parts result ≡ enter_taken bytes.now }
 {
@@ -147,7 +147,7 @@ fn enter_at(bytes: &[u8]) -> Option<LineParts<'_>>
     Some(LineParts::Enter { object, state })
 }
 
-#[tactic(auto, unfolding(crate::specs::LineReading::open_taken))]
+#[tactic(auto, unfolding(crate::specs::inner::LineReading::open_taken))]
 fn open_at(bytes: &[u8]) -> Option<LineParts<'_>>
     ensures { option_map line_of_parts result ≡ open_taken bytes.now }
 {
@@ -162,7 +162,7 @@ fn open_at(bytes: &[u8]) -> Option<LineParts<'_>>
 }
 
 /// A line that is an item of a step.
-#[tactic(auto, unfolding(crate::specs::LineReading::item_taken))]
+#[tactic(auto, unfolding(crate::specs::inner::LineReading::item_taken))]
 fn item_at(bytes: &[u8]) -> Option<LineParts<'_>>
     ensures { option_map line_of_parts result ≡ item_taken bytes.now }
 {
@@ -180,7 +180,7 @@ fn item_at(bytes: &[u8]) -> Option<LineParts<'_>>
 }
 
 /// The parts of a line, where the bytes are one.
-#[tactic(auto, unfolding(crate::specs::LineReading::line_taken))]
+#[tactic(auto, unfolding(crate::specs::inner::LineReading::line_taken))]
 pub fn parts_of(bytes: &[u8]) -> Option<LineParts<'_>>
     ensures { option_map line_of_parts result ≡ line_taken bytes.now }
 {

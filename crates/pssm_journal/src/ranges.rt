@@ -4,7 +4,7 @@ ghost use Rattle.std.specs.Prelude.{◌≡◌, IfOk, FitsSigned};
 ghost use Rattle.std.specs.Int.{w64};
 ghost use Rattle.std.specs.List.{AllByRecursion};
 ghost use Rattle.pssm_journal.specs.Grammar.{IsIndex, AreArgs};
-ghost use Rattle.pssm_journal.specs.EntryLine.{RouteFits, FiringFits, HowFits};
+ghost use Rattle.pssm_journal.specs.inner.EntryLine.{RouteFits, FiringFits, HowFits};
 
 use pssm_model::{Firing, How, Route, Row, TransId, VertexId};
 use pssm_semantics::Args;

@@ -7,6 +7,7 @@ ghost use Rattle.pssm_journal.specs.Stream.{stream_of, AreSoFar};
 
 use crate::batch::{Batch, batch_of, line_len};
 use crate::fault::LineFault;
+use pssm_model::Row;
 use pssm_semantics::Line;
 use std::alloc::{AllocError as NoMemory, Global};
 use std::marker::Model;
@@ -17,7 +18,7 @@ const LINE_LEN: usize = 65_536;
 /// What a piece of a journal brought: the lines that it completed before the first fault, and the fault.
 #[derive(Drop)]
 pub struct Fed {
-    pub lines: Vec<Line>,
+    pub lines: Row<Line>,
     pub fault: Option<LineFault>,
 }
 
@@ -35,14 +36,14 @@ pub struct LineReader {
 }
 
 impl Model for LineReader {
-    ghost use Rattle.std.specs.Prelude.{IsTrue};
+    ghost use Rattle.std.specs.Prelude.{◌≤◌, length, IsTrue};
     ghost use Rattle.pssm_journal.specs.Reading.{Reading, has_no_feed};
 
     ghost Value = { Reading };
 
     ghost view = { λ r. record { begun = r.begun; fault = r.fault; pending = r.pending.items } };
 
-    ghost invariant = { λ r. IsTrue (has_no_feed r.pending.items) };
+    ghost invariant = { λ r. IsTrue (has_no_feed r.pending.items) × (length r.pending.items ≤ 65536) };
 }
 
 impl LineReader {
@@ -69,17 +70,17 @@ impl LineReader {
     pub fn feed(&mut self, piece: &[u8]) -> Result<Fed, NoMemory>
         // What waited and the piece are the lines and what waits now, or no text of a journal however it goes on.
         ensures read { self.old.fault ≡ None →
-            IfOk result (λ fed. IsFed self.old self.new piece.now fed.lines.items fed.fault) }
+            IfOk result (λ fed. IsFed self.old self.new piece.now fed.lines fed.fault) }
 
         // After a fault nothing is read.
         ensures failed { IsSome self.old.fault →
-            IfOk result (λ fed. (fed.lines.items ≡ []) × (fed.fault ≡ self.old.fault)) }
+            IfOk result (λ fed. (fed.lines ≡ []) × (fed.fault ≡ self.old.fault)) }
         ensures kept { IfOk result (λ fed. self.new.fault ≡ fed.fault) }
         ensures err { OnErr result (self.new ≡ self.old) }
     {
         if let Some(fault) = self.fault {
             return Ok(Fed {
-                lines: Vec::new(self.alloc),
+                lines: Row::from_vec(Vec::new(self.alloc)),
                 fault: Some(fault),
             });
         }
@@ -94,11 +95,11 @@ impl LineReader {
     fn keep(&mut self, piece: &[u8]) -> Result<Fed, NoMemory>
         requires sound { self.old.fault ≡ None }
         requires within { IsTrue (has_no_feed piece.now) }
-        ensures read { IfOk result (λ fed. IsFed self.old self.new piece.now fed.lines.items fed.fault) }
+        ensures read { IfOk result (λ fed. IsFed self.old self.new piece.now fed.lines fed.fault) }
         ensures kept { IfOk result (λ fed. self.new.fault ≡ fed.fault) }
         ensures err { OnErr result (self.new ≡ self.old) }
     {
-        let lines = Vec::new(self.alloc);
+        let lines = Row::from_vec(Vec::new(self.alloc));
         if piece.len() > LINE_LEN || self.pending.len() > LINE_LEN - piece.len() {
             let fault = LineFault::LongLine { line: self.number };
             self.fault = Some(fault);
@@ -114,7 +115,7 @@ impl LineReader {
     /// Takes a piece that makes a line whole.
     fn cut_lines(&mut self, piece: &[u8]) -> Result<Fed, NoMemory>
         requires sound { self.old.fault ≡ None }
-        ensures read { IfOk result (λ fed. IsFed self.old self.new piece.now fed.lines.items fed.fault) }
+        ensures read { IfOk result (λ fed. IsFed self.old self.new piece.now fed.lines fed.fault) }
         ensures kept { IfOk result (λ fed. self.new.fault ≡ fed.fault) }
         ensures err { OnErr result (self.new ≡ self.old) }
     {
@@ -127,6 +128,7 @@ impl LineReader {
             rest,
             is_bad,
         } = batch_of(self.alloc, self.begun, self.number, text.as_slice())?;
+        let lines = Row::from_vec(lines);
         let fault = fault_at(number, rest, is_bad);
         if fault.is_some() {
             self.fault = fault;

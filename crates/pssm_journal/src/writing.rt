@@ -1,14 +1,16 @@
 //! The text of a line.
 ghost use Rattle.std.specs.Prelude.{◌≡◌, [], ◌∷◌, ◌++◌, IfOk, OnOk, codes};
 ghost use Rattle.std.specs.Fmt.{decimal};
-ghost use Rattle.pssm_journal.specs.LineText.{line_text, mode_text, outs_text};
+ghost use Rattle.pssm_semantics.specs.declared.line.Line.TheVariants as lines;
+ghost use Rattle.pssm_journal.specs.Entries.{HasNoOuts};
+ghost use Rattle.pssm_journal.specs.LineText.{line_text, mode_text};
 
 use crate::spelled::{Spelled, put_call, put_outs};
-use pssm_model::{Mode, Text};
-use pssm_semantics::{Line, LineOut};
+use pssm_model::{How, Mode, RegionId, Text};
+use pssm_semantics::Line;
 use std::alloc::{AllocError as NoMemory, Global};
 
-/// Writes the kind of a line, its object, and a number behind a word.
+// Writes the kind of a line, its object, and a number behind a word.
 fn put_place(
     alloc: Global,
     text: &mut Vec<u8>,
@@ -25,7 +27,7 @@ fn put_place(
     number.put(alloc, text)
 }
 
-/// The name of a mode.
+// The name of a mode.
 fn mode_name(mode: Mode) -> &'static [u8]
     ensures { result.now ≡ mode_text mode }
 {
@@ -36,9 +38,28 @@ fn mode_name(mode: Mode) -> &'static [u8]
     }
 }
 
-/// Writes a line without its line feed.
-fn put_line(alloc: Global, text: &mut Vec<u8>, line: &Line) -> Result<(), NoMemory>
-    ensures { OnOk result (text.new.items ≡ text.old.items ++ line_text line.now) }
+// Writes the line of an opening.
+fn put_opened(
+    alloc: Global,
+    text: &mut Vec<u8>,
+    object: &Text,
+    region: RegionId,
+    mode: Mode,
+    how: &How,
+) -> Result<(), NoMemory>
+    ensures { OnOk result (text.new.items ≡
+        text.old.items ++ line_text (lines.Opened object.now region mode how.now)) }
+{
+    put_place(alloc, text, b"open ", object, b" r", u32::from(region.0))?;
+    text.push(b' ')?;
+    text.extend_from_slice(mode_name(mode))?;
+    text.push(b' ')?;
+    how.put(alloc, text)
+}
+
+// Writes a line without outputs, without its line feed.
+fn put_line_without_outs(alloc: Global, text: &mut Vec<u8>, line: &Line) -> Result<(), NoMemory>
+    ensures { OnOk result (HasNoOuts line.now → text.new.items ≡ text.old.items ++ line_text line.now) }
 {
     match line {
         Line::Post {
@@ -71,6 +92,30 @@ fn put_line(alloc: Global, text: &mut Vec<u8>, line: &Line) -> Result<(), NoMemo
             text.push(b' ')?;
             firing.put(alloc, text)
         }
+        Line::Opened {
+            object,
+            region,
+            mode,
+            how,
+        } => put_opened(alloc, text, object, *region, *mode, how),
+        Line::Pick {
+            object,
+            choice,
+            route,
+        } => {
+            put_place(alloc, text, b"pick ", object, b" v", u32::from(choice.0))?;
+            text.push(b' ')?;
+            route.put(alloc, text)
+        }
+        _ => Ok(()),
+    }
+}
+
+// Writes a line without its line feed.
+fn put_line(alloc: Global, text: &mut Vec<u8>, line: &Line) -> Result<(), NoMemory>
+    ensures { OnOk result (text.new.items ≡ text.old.items ++ line_text line.now) }
+{
+    match line {
         Line::Exit {
             object,
             state,
@@ -102,27 +147,6 @@ fn put_line(alloc: Global, text: &mut Vec<u8>, line: &Line) -> Result<(), NoMemo
             put_place(alloc, text, b"enter ", object, b" v", u32::from(state.0))?;
             put_outs(alloc, text, outs.as_slice())
         }
-        Line::Opened {
-            object,
-            region,
-            mode,
-            how,
-        } => {
-            put_place(alloc, text, b"open ", object, b" r", u32::from(region.0))?;
-            text.push(b' ')?;
-            text.extend_from_slice(mode_name(*mode))?;
-            text.push(b' ')?;
-            how.put(alloc, text)
-        }
-        Line::Pick {
-            object,
-            choice,
-            route,
-        } => {
-            put_place(alloc, text, b"pick ", object, b" v", u32::from(choice.0))?;
-            text.push(b' ')?;
-            route.put(alloc, text)
-        }
         Line::DoStep {
             object,
             state,
@@ -134,6 +158,7 @@ fn put_line(alloc: Global, text: &mut Vec<u8>, line: &Line) -> Result<(), NoMemo
             u32::from(*step).put(alloc, text)?;
             put_outs(alloc, text, outs.as_slice())
         }
+        _ => put_line_without_outs(alloc, text, line),
     }
 }
 

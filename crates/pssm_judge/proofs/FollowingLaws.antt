@@ -5,10 +5,10 @@ use Rattle.pssm_semantics.specs.declared.entry.Entry.{Entry}
 use Rattle.pssm_judge.specs.declared.run.Stop.{Stop}
 use Rattle.pssm_semantics.specs.declared.line.Line.{Line}
 use Rattle.pssm_semantics.specs.declared.setting.Setting.{Setting}
-use Rattle.pssm_semantics.specs.Runs.{IsAdmissibleIn, KeepsJournalLimits}
+use Rattle.pssm_semantics.specs.Admissible.{IsAdmissibleIn, KeepsJournalLimits}
 use Rattle.pssm_journal.specs.Entries.{IsEntryOf, AreEntries}
 use Rattle.pssm_system.specs.History.{History}
-use Rattle.pssm_judge.specs.Following.{Follows, TakesLine, StopsAt, StopsAmong}
+use Rattle.pssm_judge.specs.inner.Following.{Follows, TakesLine, StopsAt, StopsAmong}
 
 -- entries of lines and of further lines
 pub entries_append : (setting : Setting) (ls ks : List Line) (es ds : List Entry) → AreEntries setting ls es → AreEntries setting ks ds → AreEntries setting (ls ++ ks) (es ++ ds)

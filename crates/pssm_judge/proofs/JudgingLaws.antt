@@ -9,11 +9,11 @@ use Rattle.pssm_semantics.specs.declared.line.Line.{Line}
 use Rattle.pssm_semantics.specs.declared.setting.Setting.{Setting}
 use Rattle.pssm_semantics.specs.Rules.{Holds}
 use Rattle.pssm_semantics.specs.Laws.{CompletesWithin}
-use Rattle.pssm_semantics.specs.Runs.{IsAdmissibleIn, KeepsJournalLimits}
+use Rattle.pssm_semantics.specs.Admissible.{IsAdmissibleIn, KeepsJournalLimits}
 use Rattle.pssm_semantics.proofs.Admissible.{IsAdmissible-nil}
 use Rattle.pssm_journal.specs.declared.fault.LineFault.{LineFault}
 use Rattle.pssm_journal.specs.LineText.{line_text, header_line, text_of, journal_text}
-use Rattle.pssm_journal.specs.Grammar.{IsLine, IsBadText, no_header, no_line}
+use Rattle.pssm_journal.specs.Grammar.{IsTakenLine, IsBadText, no_header, no_line}
 use Rattle.pssm_journal.specs.Stream.{stream_of, AreSoFar, Advances, Fails}
 use Rattle.pssm_journal.specs.Entries.{AreEntries}
 use Rattle.pssm_journal.specs.Judged.{IsKept, IsJudged, BadText}
@@ -22,8 +22,8 @@ use Rattle.pssm_judge.specs.declared.run.Stop.{Stop}
 use Rattle.pssm_judge.specs.declared.run.Stop.TheVariants.{Limit, Refuse}
 use Rattle.pssm_judge.specs.declared.verdict.Verdict.TheVariants.{Accept}
 use Rattle.pssm_judge.specs.Verdicts.{said_at, IsVerdictOn}
-use Rattle.pssm_judge.specs.Following.{Follows, StopsAt, StopsAmong}
-use Rattle.pssm_judge.specs.Judging.{IsJudging}
+use Rattle.pssm_judge.specs.inner.Following.{Follows, StopsAt, StopsAmong}
+use Rattle.pssm_judge.specs.inner.Judging.{IsJudging}
 use Rattle.pssm_judge.proofs.FollowingLaws.{entries_append}
 
 -- ---- texts and lists of lines
@@ -120,7 +120,7 @@ judging_more setting bytes piece rest pending left begun then run new ls j a f =
 
 -- what is said where the judging ends behind a journal that is kept
 said_behind : (setting : Setting) (bytes rest : List ℕ) (lines : List Line) (J : List Entry) (line : Line) (stop : Stop) → bytes ≡ journal_text (lines ++ line ∷ []) ++ rest
-    → IsKept setting lines J → IsLine line → StopsAt setting J line stop → IsJudged setting bytes (said_at stop)
+    → IsKept setting lines J → IsTakenLine line → StopsAt setting J line stop → IsJudged setting bytes (said_at stop)
 said_behind setting bytes rest lines J line (Limit entry) text kept is stops = record {
   lines = lines;
   journal = J;
@@ -147,14 +147,14 @@ said_behind setting bytes rest lines J line (Refuse entry rule) text kept is sto
 
 -- Behind all lines read, the judging ends at one among the last.
 stops_among : (setting : Setting) (bytes tail : List ℕ) (run : History) (lines ls : List Line) (stop : Stop) → run.setting ≡ setting → AreEntries setting lines run.journal
-    → AllByRecursion IsLine (lines ++ ls) → bytes ≡ journal_text (lines ++ ls) ++ tail → StopsAmong run ls stop → IsJudged setting bytes (said_at stop)
+    → AllByRecursion IsTakenLine (lines ++ ls) → bytes ≡ journal_text (lines ++ ls) ++ tail → StopsAmong run ls stop → IsJudged setting bytes (said_at stop)
 stops_among setting bytes tail run lines ls stop same entries spelled whole s =
     let all : lines ++ ls ≡ ((lines ++ s.front) ++ s.line ∷ []) ++ s.rest =
     ap (λ (x : List Line). lines ++ x) s.splits ∙ sym (append_assoc lines s.front (s.line ∷ s.rest)) ∙ sym (append_assoc (lines ++ s.front) (s.line ∷ []) s.rest) in
-    let each = subst (λ (x : List Line). AllByRecursion IsLine x) all spelled in
-    let through = all_front IsLine ((lines ++ s.front) ++ s.line ∷ []) s.rest each in
+    let each = subst (λ (x : List Line). AllByRecursion IsTakenLine x) all spelled in
+    let through = all_front IsTakenLine ((lines ++ s.front) ++ s.line ∷ []) s.rest each in
     let kept : IsKept setting (lines ++ s.front) (run.journal ++ s.entries) = record {
-      lines_are = all_front IsLine (lines ++ s.front) (s.line ∷ []) through;
+      lines_are = all_front IsTakenLine (lines ++ s.front) (s.line ∷ []) through;
       entries_are = entries_append setting lines s.front run.journal s.entries entries (subst (λ (x : Setting). AreEntries x s.front s.entries) same s.are);
       admissible = subst (λ (x : Setting). IsAdmissibleIn x (run.journal ++ s.entries)) same s.admissible;
       limits = s.limits;
@@ -162,7 +162,7 @@ stops_among setting bytes tail run lines ls stop same entries spelled whole s =
     let bytes_are : bytes ≡ journal_text ((lines ++ s.front) ++ s.line ∷ []) ++ (text_of s.rest ++ tail) =
     whole ∙ ap (λ (x : List Line). journal_text x ++ tail) all ∙ ap (λ (x : List ℕ). x ++ tail) (journal-append ((lines ++ s.front) ++ s.line ∷ []) s.rest)
     ∙ append_assoc (journal_text ((lines ++ s.front) ++ s.line ∷ [])) (text_of s.rest) tail in
-    said_behind setting bytes (text_of s.rest ++ tail) (lines ++ s.front) (run.journal ++ s.entries) s.line stop bytes_are kept (all_back IsLine (lines ++ s.front) (s.line ∷ []) through).0
+    said_behind setting bytes (text_of s.rest ++ tail) (lines ++ s.front) (run.journal ++ s.entries) s.line stop bytes_are kept (all_back IsTakenLine (lines ++ s.front) (s.line ∷ []) through).0
     (subst (λ (x : Setting). StopsAt x (run.journal ++ s.entries) s.line stop) same s.stops)
 
 -- among the lines so far and those of a piece there is the one at which the judging ends
@@ -175,7 +175,7 @@ judging_stops : (setting : Setting) (bytes piece rest pending left : List ℕ) (
 judging_stops setting bytes piece rest pending left begun then run ls stop j a s =
     let so_far = a.lines_so_far j.lines j.so_far in
     let seen : then ≡ true = begun_by_line then (j.lines ++ ls) so_far (some_stops run j.lines ls stop s) in
-    let spelled : AllByRecursion IsLine (j.lines ++ ls) = subst (λ (b : Bool). AreSoFar b (j.lines ++ ls)) seen so_far in
+    let spelled : AllByRecursion IsTakenLine (j.lines ++ ls) = subst (λ (b : Bool). AreSoFar b (j.lines ++ ls)) seen so_far in
     let stream : stream_of then (j.lines ++ ls) left ≡ journal_text (j.lines ++ ls) ++ left = ap (λ (b : Bool). stream_of b (j.lines ++ ls) left) seen in
     let whole : bytes ≡ journal_text (j.lines ++ ls) ++ (left ++ rest) =
     whole_text setting bytes piece rest pending begun run j ∙ ap (λ (x : List ℕ). x ++ rest) (sym (a.same j.lines j.so_far) ∙ stream)
@@ -211,9 +211,9 @@ stops_fed setting bytes piece rest pending left begun then run ls (Some f) stop 
 -- ---- where the text is bad
 
 -- the lines before a bad text are lines
-bad_spelled : (bytes : List ℕ) (lines : List Line) → IsBadText bytes lines → AllByRecursion IsLine lines
+bad_spelled : (bytes : List ℕ) (lines : List Line) → IsBadText bytes lines → AllByRecursion IsTakenLine lines
 bad_spelled bytes lines bad = elim bad [
-  | no_header none lacks ↦ subst (λ (x : List Line). AllByRecursion IsLine x) (sym none) tt
+  | no_header none lacks ↦ subst (λ (x : List Line). AllByRecursion IsTakenLine x) (sym none) tt
   | no_line tail whole some spelled begins ↦ spelled
 ]
 

@@ -6,13 +6,13 @@ use Rattle.pssm_semantics.specs.declared.entry.Entry.{Entry}
 use Rattle.pssm_semantics.specs.declared.line.Line.{Line}
 use Rattle.pssm_semantics.specs.declared.setting.Setting.{Setting}
 use Rattle.pssm_semantics.specs.Pool.{output_count}
-use Rattle.pssm_semantics.specs.Runs.{MayFollow, IsAdmissibleIn, KeepsJournalLimits}
+use Rattle.pssm_semantics.specs.Admissible.{MayFollow, IsAdmissibleIn, KeepsJournalLimits}
 use Rattle.pssm_semantics.proofs.Appending.{admissible_push}
 use Rattle.pssm_journal.specs.Entries.{IsEntryOf, KeepsNames}
 use Rattle.pssm_journal.specs.Judged.{line_output_count, PassesLimits}
 use Rattle.pssm_journal.proofs.OutputCounts.{entry_output_count, line_outputs}
 use Rattle.pssm_system.specs.History.{History}
-use Rattle.pssm_judge.specs.Following.{TakesLine}
+use Rattle.pssm_judge.specs.inner.Following.{TakesLine}
 
 -- the outputs of a journal with the entry of a line more
 pub outputs_push : (setting : Setting) (J : List Entry) (line : Line) (e : Entry) → IsEntryOf setting line e → output_count (J ++ e ∷ []) ≡ output_count J + line_output_count line

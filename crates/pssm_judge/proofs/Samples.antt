@@ -15,7 +15,7 @@ use Rattle.pssm_model.specs.OneRegion.{initial_vertex, first_transition}
 use Rattle.pssm_model.proofs.BuiltElements.{same_vertex, same_transition}
 use Rattle.pssm_semantics.specs.declared.setting.Setting.{Setting}
 use Rattle.pssm_semantics.specs.Built.{IsBuilt, DefersSignals}
-use Rattle.pssm_judge.specs.Sample.{sample_vertex, sample_transition, sample_machine, sample_class, sample_setting}
+use Rattle.pssm_judge.specs.inner.Sample.{sample_vertex, sample_transition, sample_machine, sample_class, sample_setting}
 
 plain_vertex : (kind : VertexKind) → IsPlainKind (sample_vertex kind) → IsPlainVertex (sample_vertex kind)
 plain_vertex kind is = record { owner = refl; kind_is = is; entry = refl; exit = refl; steps = refl }

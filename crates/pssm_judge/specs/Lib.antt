@@ -1,4 +1,2 @@
 pub mod Verdicts
-pub mod Following
-pub mod Judging
-pub mod Sample
+pub mod inner

@@ -1,9 +1,9 @@
 //! `Run`: the run that a journal has told so far.
 ghost use Rattle.std.specs.Prelude.{◌≡◌, [], length, IfOk, IfNone, IfSome, MatchOption};
 ghost use Rattle.pssm_semantics.specs.Built.{IsBuilt, entries_to_complete};
-ghost use Rattle.pssm_semantics.specs.Runs.{IsAdmissibleIn, KeepsJournalLimits};
+ghost use Rattle.pssm_semantics.specs.Admissible.{IsAdmissibleIn, KeepsJournalLimits};
 ghost use Rattle.pssm_semantics.specs.Laws.{CompletesWithin};
-ghost use Rattle.pssm_judge.specs.Following.{Follows, TakesLine, StopsAt, StopsAmong};
+ghost use Rattle.pssm_judge.specs.inner.Following.{Follows, TakesLine, StopsAt, StopsAmong};
 ghost use Rattle.pssm_judge.specs.Verdicts.{answer_to};
 
 use crate::limits::{output_count, passes_limits};

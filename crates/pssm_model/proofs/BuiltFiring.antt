@@ -16,7 +16,7 @@ use Rattle.pssm_model.specs.Forest.{HasKind}
 use Rattle.pssm_model.specs.Legs.{Leaves}
 use Rattle.pssm_model.specs.Configuration.{Configuration}
 use Rattle.pssm_model.specs.Routes.{Truth, IsSource, Lists, IsEnabled, Conflict, HasPriority}
-use Rattle.pssm_model.specs.Firing.{IsSound, StartsBefore, IsFiring, IsLateOrigin, IsLateRoute}
+use Rattle.pssm_model.specs.FiringSets.{IsSound, StartsBefore, IsFiring, IsLateOrigin, IsLateRoute}
 use Rattle.pssm_model.specs.Paths.{IsInitialOf}
 use Rattle.pssm_model.specs.BuiltMachine.{IsBuiltMachine}
 use Rattle.pssm_model.specs.OneRegion.{top_region, initial_vertex, first_transition, single_route}

@@ -22,7 +22,7 @@ use Rattle.pssm_model.specs.declared.elements.Element.TheVariants as elements
 use Rattle.pssm_model.specs.declared.elements.FaultPlace.TheVariants as places
 use Rattle.pssm_model.specs.Forest.{vertex_at, transition_at, owner_of, HasKind}
 use Rattle.pssm_model.specs.Legs.{Leaves, IsPoint}
-use Rattle.pssm_model.specs.Shape.{OwnsVertex, HasShape}
+use Rattle.pssm_model.specs.Shapes.{OwnsVertex, HasShape}
 use Rattle.pssm_model.specs.Silent.{IsSilentVertex, IsSilentTransition, IsSilentMachine}
 use Rattle.pssm_model.specs.NotBuilt.{IsNotBuilt}
 use Rattle.pssm_model.specs.WellFormed.{IsBadInitial, IsBranch, KeepsModelRules}

@@ -10,7 +10,7 @@ use Rattle.pssm_model.specs.Forest.{transition_at}
 use Rattle.pssm_model.specs.Forest.HasRegionsAbove.{region, machine}
 use Rattle.pssm_model.specs.Legs.{IsPoint}
 use Rattle.pssm_model.specs.Limits.{IsWithinLimits}
-use Rattle.pssm_model.specs.Shape.{IsShallow, OwnsRegion, OwnsVertex, HasShape}
+use Rattle.pssm_model.specs.Shapes.{IsShallow, OwnsRegion, OwnsVertex, HasShape}
 use Rattle.pssm_model.specs.Proper.{IsProperMachine}
 use Rattle.pssm_model.specs.BuiltMachine.{IsBuiltMachine}
 use Rattle.pssm_model.specs.OneRegion.{top_region}

@@ -12,12 +12,12 @@ use Rattle.pssm_model.specs.declared.elements.VertexKind.TheVariants as kinds
 use Rattle.pssm_model.specs.Forest.{transition_at, LiesInRegion}
 use Rattle.pssm_model.specs.Legs.{Leaves, Enters}
 use Rattle.pssm_model.specs.Routes.{guard_of}
-use Rattle.pssm_model.specs.Firing.{IsHistory}
+use Rattle.pssm_model.specs.FiringSets.{IsHistory}
 use Rattle.pssm_model.specs.Paths.{HasIn, LacksOneOut, IsPseudostate, IsPseudostateKind, LeadsOn, ComesAfter}
 use Rattle.pssm_model.specs.Paths.LeadsOn.{next, after}
 use Rattle.pssm_model.specs.Paths.ComesAfter.{end, inner}
 use Rattle.pssm_model.specs.Proper.{IsWellFormedMachine}
-use Rattle.pssm_model.specs.WellFormed.{HasGuard, HasElse, HasTrigger, IsTopWithoutInitial, OwnsTwo, OwnsTwoEntries, IsBadInitial, IsBranch, IsTriggeredWrongly, LeavesRegion, GoesOutside, IsTorn, KeepsModelRules}
+use Rattle.pssm_model.specs.WellFormed.{HasGuard, HasElse, HasTrigger, IsTopWithoutInitial, OwnsTwo, OwnsTwoOfAKind, IsBadInitial, IsBranch, IsTriggeredWrongly, LeavesRegion, GoesOutside, ConnectsBadly, KeepsModelRules}
 use Rattle.pssm_model.specs.WellFormed.Breaks.{E01_top, E01, E02, E03, E04, E05, E06, E07, E08, E09, E10, E11, E12, E13, E14, E15, E16, E17, E18, E19, E20, E21}
 use Rattle.pssm_model.specs.BuiltMachine.{IsBuiltMachine}
 use Rattle.pssm_model.specs.OneRegion.{top_region, initial_vertex, first_transition}
@@ -58,7 +58,7 @@ module _ {m : DraftMachine} (b : IsBuiltMachine m) where
   pub one_initial : (r : RegionId) → OwnsTwo m r kinds.Initial → ⊥
   one_initial r h = h.2 (b.one_initial h.0 h.3 ∙ sym (b.one_initial h.1 h.4))
 
-  pub one_entry : (r : RegionId) → OwnsTwoEntries m r → ⊥
+  pub one_entry : (r : RegionId) → OwnsTwoOfAKind m r → ⊥
   one_entry r h = ⊎_elim (one_initial r) (⊎_elim (λ s. no_shallow_history b s.0 s.3) (λ d. no_deep_history b d.0 d.3)) h
 
   -- one transition leaves the initial vertex
@@ -106,9 +106,9 @@ module _ {m : DraftMachine} (b : IsBuiltMachine m) where
       (λ point. no_entry_point b v point.0) h
 
   -- the ends of every transition lie in the region
-  pub not_torn : (t : TransId) → IsTorn m t → ⊥
-  not_torn t h =
-      ⊎_elim (λ apart. apart top_region (vertex_in_region b h.0 (source_in_range b t h.0 h.2)) (vertex_in_region b h.1 (target_in_range b t h.1 h.3)))
+  pub connects_rightly : (t : TransId) → ConnectsBadly m t → ⊥
+  connects_rightly t h =
+      ⊎_elim (λ apart. apart (top_region, vertex_in_region b h.0 (source_in_range b t h.0 h.2), vertex_in_region b h.1 (target_in_range b t h.1 h.3)))
       (λ join. no_join b h.1 join.0) h.4
 
   -- no rule is broken
@@ -134,7 +134,7 @@ module _ {m : DraftMachine} (b : IsBuiltMachine m) where
   built_keeps_rules _ _ (E18 {v = v} h) = ⊎_elim (no_choice b v) (λ j. no_junction b v j.0) h.1
   built_keeps_rules _ _ (E19 {v = v} h) = nothing_leads_on v v h
   built_keeps_rules _ _ (E20 {v = v} h) = stays_inside v h
-  built_keeps_rules _ _ (E21 {t = t} h) = not_torn t h
+  built_keeps_rules _ _ (E21 {t = t} h) = connects_rightly t h
 
   -- the machine is proper and breaks no rule of models
   pub built_is_well_formed : IsWellFormedMachine m

@@ -10,7 +10,7 @@ use Rattle.pssm_model.specs.declared.depths.Depth.{Depth}
 use Rattle.pssm_model.specs.declared.depths.Depth.TheVariants.{Unknown, Nowhere}
 use Rattle.pssm_model.specs.declared.depths.Depths.{Depths}
 use Rattle.pssm_model.specs.Forest.{owner_of, LiesUnder}
-use Rattle.pssm_model.specs.Depths.{noted, depth_under, IsPlace, HasNote, IsDepthOf, IsRight, Covers, AreDepths, IsClimbed, HasClimbed, Notes, KeepsKnown}
+use Rattle.pssm_model.specs.inner.Depths.{noted, depth_under, IsPlace, HasNote, IsDepthOf, IsRight, Covers, AreDepths, IsClimbed, HasClimbed, Notes, KeepsKnown}
 use Rattle.pssm_model.proofs.OwnerChains.{one_owner, circle_is_endless, path_under, path_push, path_pop, owned_is_place, counted_is_place, depth_follows}
 
 -- a list of notes in which nothing is noted

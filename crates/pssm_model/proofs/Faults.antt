@@ -8,9 +8,9 @@ use Rattle.pssm_model.specs.declared.elements.Shape.TheVariants as shapes
 use Rattle.pssm_model.specs.declared.depths.Depth.{Depth}
 use Rattle.pssm_model.specs.declared.depths.Depth.TheVariants.{Unknown, Within, Beyond, Nowhere}
 use Rattle.pssm_model.specs.Forest.{owner_of, HasRegionsAbove}
-use Rattle.pssm_model.specs.Shape.{place_of, MayHaveOwner, HasBadOwner, IsTooDeep, IsMisshapen}
-use Rattle.pssm_model.specs.Depths.{IsDepthOf}
-use Rattle.pssm_model.specs.Sound.{IsSound, IsFaultOf}
+use Rattle.pssm_model.specs.Shapes.{place_of, MayHaveOwner, HasBadOwner, IsTooDeep, IsMisshapen}
+use Rattle.pssm_model.specs.inner.Depths.{IsDepthOf}
+use Rattle.pssm_model.specs.inner.Faultless.{IsFaultless, IsFaultOf}
 use Rattle.pssm_model.proofs.OwnerChains.{one_owner, one_count, owner_above}
 
 module _ (m : DraftMachine) where
@@ -29,12 +29,12 @@ module _ (m : DraftMachine) where
       (λ never. never n above)
       bad.2
 
-  sound_owner : (e : Element) → IsSound m e → HasBadOwner m e → ⊥
+  sound_owner : (e : Element) → IsFaultless m e → HasBadOwner m e → ⊥
   sound_owner e sound bad =
       let fine = sound.owner bad.0 bad.1 in
       fine_owner e bad.0 fine.1.0 bad.1 fine.0 fine.1.2 bad
 
-  sound_depth : (e : Element) → IsSound m e → IsTooDeep m e → ⊥
+  sound_depth : (e : Element) → IsFaultless m e → IsTooDeep m e → ⊥
   sound_depth e sound deep =
       let owned = owner_above m (place_of e) deep.0 deep.2 in
       let fine = sound.owner owned.0 owned.1 in
@@ -42,7 +42,7 @@ module _ (m : DraftMachine) where
       omega (arith, same, fine.1.1, deep.1)
 
   -- A sound element is not misshapen.
-  pub sound_is_shapely : (e : Element) → IsSound m e → IsMisshapen m e → ⊥
+  pub sound_is_shapely : (e : Element) → IsFaultless m e → IsMisshapen m e → ⊥
   sound_is_shapely e sound wrong =
       ⊎_elim
       (sound_owner e sound)

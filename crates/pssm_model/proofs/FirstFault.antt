@@ -13,9 +13,9 @@ use Rattle.pssm_model.specs.declared.elements.Element.TheVariants as elements
 use Rattle.pssm_model.specs.declared.elements.Shape.{Shape}
 use Rattle.pssm_model.specs.declared.shape.PlaceKind.TheVariants.{Regions, Vertices}
 use Rattle.pssm_model.specs.Forest.{vertex_at, transition_at}
-use Rattle.pssm_model.specs.Shape.{place_of, OwnsVertex, HasShape, HasBadOwner, HasBadEnd, IsTooDeep, IsMisshapen, IsEarlier, IsShapeFault}
-use Rattle.pssm_model.specs.Depths.{IsPlace}
-use Rattle.pssm_model.specs.Sound.{IsSound, place_element, transition_element, AreSound, IsFaultOf, IsFirstFault}
+use Rattle.pssm_model.specs.Shapes.{place_of, OwnsVertex, HasShape, HasBadOwner, HasBadEnd, IsTooDeep, IsMisshapen, IsEarlier, IsShapeFault}
+use Rattle.pssm_model.specs.inner.Depths.{IsPlace}
+use Rattle.pssm_model.specs.inner.Faultless.{IsFaultless, place_element, transition_element, AreFaultless, IsFaultOf, IsFirstFault}
 use Rattle.pssm_model.proofs.BuiltElements.{mapped_at, mapped_some}
 use Rattle.pssm_model.proofs.OwnerChains.{owned_is_place, counted_is_place}
 use Rattle.pssm_model.proofs.Faults.{sound_is_shapely, faulty_is_misshapen}
@@ -28,7 +28,7 @@ module _ (m : DraftMachine) where
   absent_depth : (e : Element) → (IsPlace m (place_of e) → ⊥) → IsTooDeep m e → ⊥
   absent_depth e absent deep = absent (counted_is_place m deep.2)
 
-  region_fine : AreSound m (place_element Regions) (length m.regions) → (r : RegionId) → IsMisshapen m (elements.Region r) → ⊥
+  region_fine : AreFaultless m (place_element Regions) (length m.regions) → (r : RegionId) → IsMisshapen m (elements.Region r) → ⊥
   region_fine sound r wrong =
       ⊎_elim
       (λ lt. sound_is_shapely m (elements.Region r) (sound r.0 lt) wrong)
@@ -40,7 +40,7 @@ module _ (m : DraftMachine) where
       wrong)
       (cases_lt r.0 (length m.regions))
 
-  vertex_fine : AreSound m (place_element Vertices) (length m.vertices) → (v : VertexId) → IsMisshapen m (elements.Vertex v) → ⊥
+  vertex_fine : AreFaultless m (place_element Vertices) (length m.vertices) → (v : VertexId) → IsMisshapen m (elements.Vertex v) → ⊥
   vertex_fine sound v wrong =
       ⊎_elim
       (λ lt. sound_is_shapely m (elements.Vertex v) (sound v.0 lt) wrong)
@@ -63,7 +63,7 @@ module _ (m : DraftMachine) where
       before (elements.Vertex v) lt wrong = lt
       before (elements.Transition t) lt wrong = lt
 
-  pub first_vertex_fault : (fault : Shape) → AreSound m (place_element Regions) (length m.regions)
+  pub first_vertex_fault : (fault : Shape) → AreFaultless m (place_element Regions) (length m.regions)
       → IsFirstFault m (place_element Vertices) fault → IsShapeFault m fault
   first_vertex_fault fault regions h = fault_at (place_element Vertices h.number) fault h.here before
     where
@@ -72,8 +72,8 @@ module _ (m : DraftMachine) where
       before (elements.Vertex v) lt wrong = sound_is_shapely m (elements.Vertex v) (h.before v.0 lt) wrong
       before (elements.Transition t) lt wrong = lt
 
-  pub first_transition_fault : (fault : Shape) → AreSound m (place_element Regions) (length m.regions)
-      → AreSound m (place_element Vertices) (length m.vertices) → IsFirstFault m transition_element fault → IsShapeFault m fault
+  pub first_transition_fault : (fault : Shape) → AreFaultless m (place_element Regions) (length m.regions)
+      → AreFaultless m (place_element Vertices) (length m.vertices) → IsFirstFault m transition_element fault → IsShapeFault m fault
   first_transition_fault fault regions vertices h = fault_at (transition_element h.number) fault h.here before
     where
       before : (d : Element) → IsEarlier d (transition_element h.number) → IsMisshapen m d → ⊥
@@ -85,8 +85,8 @@ module _ (m : DraftMachine) where
   few n limit h = ⊎_elim (λ le. omega arith) (λ lt. absurd (h (omega arith))) (cases_lt n (suc limit))
 
   -- a draft without a fault has the shape of a machine
-  pub sound_has_shape : AreSound m (place_element Regions) (length m.regions) → AreSound m (place_element Vertices) (length m.vertices)
-      → AreSound m transition_element (length m.transitions) → HasShape m
+  pub sound_has_shape : AreFaultless m (place_element Regions) (length m.regions) → AreFaultless m (place_element Vertices) (length m.vertices)
+      → AreFaultless m transition_element (length m.transitions) → HasShape m
   sound_has_shape regions vertices transitions = record {
     regions = λ r p e. (regions r.0 (slice_get_within m.regions r.0 p e)).owner p e;
     vertices = λ v x e.
@@ -107,7 +107,7 @@ module _ (m : DraftMachine) where
       )
 
   -- nothing is wrong with an element of a machine
-  pub shape_is_sound : HasShape m → (e : Element) → IsSound m e
+  pub shape_is_sound : HasShape m → (e : Element) → IsFaultless m e
   shape_is_sound shape (elements.Region r) = record {
     owner = λ p e. shape.regions r p e;
     ends = λ bad. bad;

@@ -14,10 +14,10 @@ use Rattle.pssm_model.specs.declared.elements.Element.{Element}
 use Rattle.pssm_model.specs.declared.elements.Element.TheVariants as elements
 use Rattle.pssm_model.specs.declared.shape.PlaceKind.TheVariants.{Regions, Vertices}
 use Rattle.pssm_model.specs.Forest.{owner_of}
-use Rattle.pssm_model.specs.Shape.{IsEarlier}
-use Rattle.pssm_model.specs.Sound.{place_element, transition_element}
+use Rattle.pssm_model.specs.Shapes.{IsEarlier}
+use Rattle.pssm_model.specs.inner.Faultless.{place_element, transition_element}
 use Rattle.pssm_model.specs.NotBuilt.{IsFurtherVertex, IsFurtherTransition, IsNotBuilt, IsFirstNotBuilt}
-use Rattle.pssm_model.specs.Found.{AreBuiltBelow, IsFirstNumber, HasTopBelow, IsFurtherOwner}
+use Rattle.pssm_model.specs.inner.Found.{AreBuiltBelow, IsFirstNumber, HasTopBelow, IsFurtherOwner}
 
 -- one element more
 pub built_more : (m : DraftMachine) (element_at : ℕ → Element) (n : ℕ) → (IsNotBuilt m (element_at n) → ⊥) → AreBuiltBelow m element_at n

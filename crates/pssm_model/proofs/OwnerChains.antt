@@ -14,7 +14,7 @@ use Rattle.pssm_model.specs.declared.depths.Depth.TheVariants.{Unknown, Within, 
 use Rattle.pssm_model.specs.Forest.{owner_of, vertex_at, LiesUnder, HasRegionsAbove}
 use Rattle.pssm_model.specs.Forest.LiesUnder.{owned, further}
 use Rattle.pssm_model.specs.Forest.HasRegionsAbove.{region, state, machine}
-use Rattle.pssm_model.specs.Depths.{depth_under, one_deeper, IsPlace, IsDepthOf, IsDepthUnder, IsPath}
+use Rattle.pssm_model.specs.inner.Depths.{depth_under, one_deeper, IsPlace, IsDepthOf, IsDepthUnder, IsPath}
 
 -- a place has one owner
 pub one_owner : (m : DraftMachine) (p q s : Owner) → owner_of m p ≡ Some q → owner_of m p ≡ Some s → q ≡ s

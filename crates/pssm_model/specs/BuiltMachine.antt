@@ -1,4 +1,4 @@
--- The machines that the code runs so far: one region, one initial vertex, plain States, and external transitions on signals,
+-- The premise of what is built, the machines that the code runs: one region, one initial vertex, plain States, and external transitions on signals,
 -- in any numbering. Later work widens this premise; no definition changes with it.
 use Rattle.std.specs.Prelude.{◌≡◌, ◌≢◌, ◌⊎◌, ◌≤◌, [], ◌∷◌, length}
 use Rattle.std.specs.List.{AllByRecursion}

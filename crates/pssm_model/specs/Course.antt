@@ -1,4 +1,4 @@
--- A step of an object as far as it has come: how it began, what has run in it, and by which routes and legs it goes.
+-- A step as far as it has come: how it began, what has run in it, and by which routes and legs it goes.
 use Rattle.std.specs.Prelude.{◌≡◌, ◌⊎◌, ◌++◌, List, ◌∷◌, Contains}
 use Rattle.std.specs.List.{AllByRecursion}
 use Rattle.pssm_model.specs.declared.ids.VertexId.{VertexId}
@@ -14,7 +14,7 @@ use Rattle.pssm_model.specs.declared.steps.Item.TheVariants as items
 use Rattle.pssm_model.specs.Configuration.{Configuration, IsDirect}
 use Rattle.pssm_model.specs.Legs.{On}
 
--- how a step begins: with the start of the object, or with routes that fire (UML 2.5.1 14.2.3.9, run to completion; PSSM 1.0 8.5, the initial
+-- how a step begins: with the start of the machine, or with routes that fire (UML 2.5.1 14.2.3.9, run to completion; PSSM 1.0 8.5, the initial
 -- run-to-completion step)
 pub data Head : Type 0 where
   Starts : Head
@@ -47,11 +47,11 @@ HasRestored course mode s = (r : RegionId) × Contains course.ran (items.Opened 
 -- a leg: a route and any one of the leg's transitions (this profile's choice)
 pub record Leg : Type 0 where
   pub route : Route
-  pub by : TransId
+  pub named_by : TransId
 
 -- The leg is one of a route by which the step goes: one that its head fires, or one of a later opening or pick (UML 2.5.1 14.2.3.8, compound transitions).
 abbrev pub IsLeg : Course → Leg → Type 0
-IsLeg course leg = (FiresBy course.head leg.route ⊎ HasGoneBy course leg.route) × On leg.route leg.by
+IsLeg course leg = (FiresBy course.head leg.route ⊎ HasGoneBy course leg.route) × On leg.route leg.named_by
 
 -- The item exits a direct vertex of the region (UML 2.5.1 14.2.3.4, exiting a State).
 abbrev pub ExitsFrom : DraftMachine → Item → RegionId → Type 0
@@ -65,7 +65,7 @@ HasExitedLast m ran r s =
 
 -- the memory of the region within the step: what the step exited last in it, or else what was remembered at the head
 -- (UML 2.5.1 14.2.3.4, State history)
-abbrev pub Remembers : DraftMachine → Course → RegionId → VertexId → Type 0
-Remembers m course r s =
+abbrev pub RemembersSoFar : DraftMachine → Course → RegionId → VertexId → Type 0
+RemembersSoFar m course r s =
     HasExitedLast m course.ran r s
     ⊎ (course.at_head.Remembers r s × AllByRecursion (λ x. ExitsFrom m x.0 r → ⊥) course.ran)

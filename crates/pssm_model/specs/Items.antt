@@ -1,4 +1,4 @@
--- The items of a step: which are called, which come before which, and which are ready.
+-- The items of a step: which are called, which come before which, and which wait or are cleared.
 use Rattle.std.specs.Prelude.{◌≡◌, ◌⊎◌, Some}
 use Rattle.pssm_model.specs.declared.ids.VertexId.{VertexId}
 use Rattle.pssm_model.specs.declared.ids.RegionId.{RegionId}
@@ -26,11 +26,11 @@ IsAimedAt m route t r =
     (u : TransId) × (v : VertexId) × (SameLeg m route t u ⊎ LaterLeg m route t u) × IsLastVertex m route u v × LiesInRegion m v r
 
 -- what a leg calls: its exits, effects and entries (UML 2.5.1 14.2.3.9, transition execution sequence)
-abbrev pub LegRuns : DraftMachine → (VertexId → Type 0) → Route → TransId → Item → Type 0
-LegRuns m Active route t (items.Exit s) = LegExits m Active route t s
-LegRuns m Active route t (items.Effect u) = SameLeg m route t u
-LegRuns m Active route t (items.Enter s) = LegEnters m route t s
-LegRuns m Active route t _ = ⊥
+abbrev pub LegCalls : DraftMachine → (VertexId → Type 0) → Route → TransId → Item → Type 0
+LegCalls m Active route t (items.Exit s) = LegExits m Active route t s
+LegCalls m Active route t (items.Effect u) = SameLeg m route t u
+LegCalls m Active route t (items.Enter s) = LegEnters m route t s
+LegCalls m Active route t _ = ⊥
 
 -- what the leg calls at its end: the pick of a choice, or the opening of the region of a history vertex (UML 2.5.1 14.2.3.7, choice and history)
 abbrev pub LegEnds : DraftMachine → Route → TransId → Item → Type 0
@@ -46,12 +46,12 @@ LegOpens m route t (items.Opened r Plain) =
 LegOpens m route t _ = ⊥
 
 -- The leg calls the exit, effect or entry (UML 2.5.1 14.2.3.9, transition execution sequence).
-abbrev pub RunsInLeg : DraftMachine → Course → Leg → Item → Type 0
-RunsInLeg m course leg item = LegRuns m (CanExit course leg.route) leg.route leg.by item
+abbrev pub IsCalledInLeg : DraftMachine → Course → Leg → Item → Type 0
+IsCalledInLeg m course leg item = LegCalls m (CanExit course leg.route) leg.route leg.named_by item
 
 -- The item is one of the leg: an exit, an effect or an entry of it, or what it calls at its end (UML 2.5.1 14.2.3.9, transition execution sequence).
 abbrev pub IsItemOfLeg : DraftMachine → Course → Leg → Item → Type 0
-IsItemOfLeg m course leg item = RunsInLeg m course leg item ⊎ LegEnds m leg.route leg.by item ⊎ LegOpens m leg.route leg.by item
+IsItemOfLeg m course leg item = IsCalledInLeg m course leg item ⊎ LegEnds m leg.route leg.named_by item ⊎ LegOpens m leg.route leg.named_by item
 
 -- how the regions of a restored State open: by default after a shallow history, deeply after a deep one (UML 2.5.1 14.2.3.4, State history)
 abbrev pub restored_mode : Mode → Mode
@@ -62,7 +62,7 @@ restored_mode Deep = Deep
 -- Once the State is entered by a leg, the region of it opens by default unless the leg or a later one aims at it (UML 2.5.1 14.2.3.4, entering a State).
 abbrev pub OpensByEntering : DraftMachine → Course → VertexId → RegionId → Mode → Type 0
 OpensByEntering m course s r mode =
-    (leg : Leg) × IsLeg course leg × LegEnters m leg.route leg.by s × (mode ≡ Plain) × (IsAimedAt m leg.route leg.by r → ⊥)
+    (leg : Leg) × IsLeg course leg × LegEnters m leg.route leg.named_by s × (mode ≡ Plain) × (IsAimedAt m leg.route leg.named_by r → ⊥)
 
 -- Once a restored State is entered, each region of it opens, by default or deeply (UML 2.5.1 14.2.3.4, State history).
 abbrev pub OpensByRestoring : Course → VertexId → Mode → Type 0
@@ -82,9 +82,9 @@ StartOpens m _ item = ⊥
 -- the items that a step calls (UML 2.5.1 14.2.3.9, transition execution sequence; this profile's choice of items)
 pub data Called (m : DraftMachine) (course : Course) (item : Item) : Type 0 where
   start : StartOpens m course.head item → Called m course item
-  run : (leg : Leg) → IsLeg course leg → RunsInLeg m course leg item → Called m course item
-  ends : (leg : Leg) → IsLeg course leg → LegEnds m leg.route leg.by item → Called m course item
-  opens : (leg : Leg) → IsLeg course leg → LegOpens m leg.route leg.by item → Called m course item
+  run : (leg : Leg) → IsLeg course leg → IsCalledInLeg m course leg item → Called m course item
+  ends : (leg : Leg) → IsLeg course leg → LegEnds m leg.route leg.named_by item → Called m course item
+  opens : (leg : Leg) → IsLeg course leg → LegOpens m leg.route leg.named_by item → Called m course item
   restored : (mode : Mode) (s : VertexId) → HasRestored course mode s → item ≡ items.Enter s → Called m course item
   entered : (s : VertexId) → HasRun course (items.Enter s) → EnterOpens m course s item → Called m course item
 
@@ -113,16 +113,23 @@ pub data PathBefore (m : DraftMachine) (route : Route) : TransId → TransId →
 pub data Before (m : DraftMachine) (course : Course) : Item → Item → Type 0 where
   inner_exit : {s q : VertexId} → LiesInState m s q → Before m course (items.Exit s) (items.Exit q)
   outer_enter : {s q : VertexId} → LiesInState m q s → Before m course (items.Enter s) (items.Enter q)
-  exit_effect : {x y : Item} (leg : Leg) → IsLeg course leg → IsExit x → IsEffect y → RunsInLeg m course leg x → RunsInLeg m course leg y → Before m course x y
-  path : {t u : TransId} (leg : Leg) → IsLeg course leg → SameLeg m leg.route leg.by t → PathBefore m leg.route t u → Before m course (items.Effect t) (items.Effect u)
-  effect_enter : {x y : Item} (leg : Leg) → IsLeg course leg → IsEffect x → IsEnter y → RunsInLeg m course leg x → RunsInLeg m course leg y → Before m course x y
-  effect_end : {x y : Item} (leg : Leg) → IsLeg course leg → IsEffect x → RunsInLeg m course leg x → (LegEnds m leg.route leg.by y ⊎ LegOpens m leg.route leg.by y) → Before m course x y
-  enter_end : {x y : Item} (leg : Leg) → IsLeg course leg → IsEnter x → RunsInLeg m course leg x → LegEnds m leg.route leg.by y → Before m course x y
-  later : {x y : Item} (leg : Leg) (next : TransId) → IsLeg course leg → LaterLeg m leg.route leg.by next → RunsInLeg m course leg x
-      → IsItemOfLeg m course (record leg { by = next }) y → Before m course x y
+  exit_effect : {x y : Item} (leg : Leg) → IsLeg course leg → IsExit x → IsEffect y → IsCalledInLeg m course leg x → IsCalledInLeg m course leg y → Before m course x y
+  path : {t u : TransId} (leg : Leg) → IsLeg course leg → SameLeg m leg.route leg.named_by t → PathBefore m leg.route t u → Before m course (items.Effect t) (items.Effect u)
+  effect_enter : {x y : Item} (leg : Leg) → IsLeg course leg → IsEffect x → IsEnter y → IsCalledInLeg m course leg x → IsCalledInLeg m course leg y → Before m course x y
+  effect_end : {x y : Item} (leg : Leg) → IsLeg course leg → IsEffect x → IsCalledInLeg m course leg x → (LegEnds m leg.route leg.named_by y ⊎ LegOpens m leg.route leg.named_by y) → Before m course x y
+  enter_end : {x y : Item} (leg : Leg) → IsLeg course leg → IsEnter x → IsCalledInLeg m course leg x → LegEnds m leg.route leg.named_by y → Before m course x y
+  later : {x y : Item} (leg : Leg) (next : TransId) → IsLeg course leg → LaterLeg m leg.route leg.named_by next → IsCalledInLeg m course leg x
+      → IsItemOfLeg m course (record leg { named_by = next }) y → Before m course x y
 
--- an item that is called and has not run, where every called item that comes before it has (UML 2.5.1 14.2.3.9, transition execution sequence)
-pub record IsReady (m : DraftMachine) (course : Course) (item : Item) : Type 0 where
+-- a called item that has not run (UML 2.5.1 14.2.3.9, transition execution sequence)
+pub record IsWaiting (m : DraftMachine) (course : Course) (item : Item) : Type 0 where
   pub called : Called m course item
-  pub waiting : HasRun course item → ⊥
-  pub cleared : (x : Item) → Called m course x → Before m course x item → HasRun course x
+  pub not_run : HasRun course item → ⊥
+
+-- Every called item that comes before it has run (UML 2.5.1 14.2.3.9, transition execution sequence).
+abbrev pub IsCleared : DraftMachine → Course → Item → Type 0
+IsCleared m course item = (x : Item) → Called m course x → Before m course x item → HasRun course x
+
+-- Every called item has run (UML 2.5.1 14.2.3.9, run to completion).
+abbrev pub HasRunOut : DraftMachine → Course → Type 0
+HasRunOut m course = (item : Item) → Called m course item → HasRun course item

@@ -1,10 +1,10 @@
 pub mod Forest
 pub mod Limits
-pub mod Shape
+pub mod Shapes
 pub mod Legs
 pub mod Configuration
 pub mod Routes
-pub mod Firing
+pub mod FiringSets
 pub mod Paths
 pub mod Course
 pub mod Items
@@ -13,12 +13,10 @@ pub mod WellFormed
 pub mod BuiltMachine
 pub mod Silent
 pub mod NotBuilt
-pub mod Found
 pub mod OneRegion
 pub mod Proper
 pub mod Equal
 pub mod formers
 pub mod Codes
-pub mod Depths
-pub mod Sound
-pub mod Tables
+pub mod inner
+pub mod later

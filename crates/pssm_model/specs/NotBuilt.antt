@@ -11,7 +11,7 @@ use Rattle.pssm_model.specs.declared.elements.Owner.TheVariants.{Top, Region, St
 use Rattle.pssm_model.specs.declared.elements.Element.{Element}
 use Rattle.pssm_model.specs.declared.elements.Element.TheVariants as elements
 use Rattle.pssm_model.specs.Forest.{vertex_at, transition_at, owner_of, HasKind}
-use Rattle.pssm_model.specs.Shape.{IsEarlier}
+use Rattle.pssm_model.specs.Shapes.{IsEarlier}
 
 -- A State owns the region.
 abbrev pub IsNestedRegion : DraftMachine → RegionId → Type 0

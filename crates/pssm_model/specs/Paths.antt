@@ -9,7 +9,7 @@ use Rattle.pssm_model.specs.declared.elements.VertexKind.TheVariants as kinds
 use Rattle.pssm_model.specs.declared.elements.Owner.TheVariants.{Region, State}
 use Rattle.pssm_model.specs.Forest.{HasKind, owner_of}
 use Rattle.pssm_model.specs.Legs.{Leaves, Enters}
-use Rattle.pssm_model.specs.Firing.{IsHistory}
+use Rattle.pssm_model.specs.FiringSets.{IsHistory}
 
 -- Some transition leaves the vertex (UML 2.5.1 14.2.3.3, outgoing transitions).
 abbrev pub HasOut : DraftMachine → VertexId → Type 0

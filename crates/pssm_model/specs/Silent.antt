@@ -1,4 +1,4 @@
--- Machines without behaviours and guards of their own, as a model's text spells them so far.
+-- The premise of the readers and writers of a model's text: machines without behaviours and guards of their own.
 -- Later work widens this premise; no definition changes with it.
 use Rattle.std.specs.Prelude.{◌≡◌, ◌⊎◌, []}
 use Rattle.std.specs.List.{AllByRecursion}

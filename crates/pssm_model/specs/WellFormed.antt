@@ -15,7 +15,7 @@ use Rattle.pssm_model.specs.declared.elements.Element.TheVariants as elements
 use Rattle.pssm_model.specs.Forest.{vertex_at, transition_at, HasKind, IsStateOrFinal, owner_of, LiesInRegion, LiesInState}
 use Rattle.pssm_model.specs.Legs.{Leaves, Enters, Goes}
 use Rattle.pssm_model.specs.Routes.{guard_of}
-use Rattle.pssm_model.specs.Firing.{IsHistory, IsLateOrigin}
+use Rattle.pssm_model.specs.FiringSets.{IsHistory, IsLateOrigin}
 use Rattle.pssm_model.specs.Paths.{HasOut, HasIn, HasTwoOut, HasTwoIn, LacksOneOut, LacksOneIn, IsPseudostate, IsInitialOf, IsJunctionPath, IsOnPath, ComesAfter, Reaches, LeadsOn}
 
 -- The transition has a guard; `else` is one (UML 2.5.1 14.2.3.8, guards).
@@ -40,11 +40,11 @@ pub record LieApart (m : DraftMachine) (s : VertexId) (ends : Ends) : Type 0 whe
   pub apart : (t u : TransId) (v w : VertexId) (r : RegionId) → t ≢ u → ends t v → ends u w
       → owner_of m (Region r) ≡ Some (State s) → LiesInRegion m v r → LiesInRegion m w r → ⊥
 
--- They do so for no State that the region of the vertex owns (this profile's choice).
-abbrev pub LieApartInNoState : DraftMachine → VertexId → Ends → Type 0
-LieApartInNoState m v ends =
-    (s : VertexId) (r : RegionId) → HasKind m s kinds.State → owner_of m (State s) ≡ Some (Region r) → owner_of m (State v) ≡ Some (Region r)
-    → LieApart m s ends → ⊥
+-- They do so in some State that the region of the vertex owns (this profile's choice).
+abbrev pub LieApartBeside : DraftMachine → VertexId → Ends → Type 0
+LieApartBeside m v ends =
+    (s : VertexId) × (r : RegionId) × HasKind m s kinds.State × (owner_of m (State s) ≡ Some (Region r)) × (owner_of m (State v) ≡ Some (Region r))
+    × LieApart m s ends
 
 -- The machine has no top region (UML 2.5.1 14.2.3.1, StateMachines have at least one region).
 abbrev pub HasNoTopRegion : DraftMachine → Type 0
@@ -61,8 +61,8 @@ OwnsTwo m r kind =
     × (owner_of m (State v) ≡ Some (Region r)) × (owner_of m (State w) ≡ Some (Region r))
 
 -- A region owns two initial, two shallow history or two deep history vertices (UML 2.5.1 14.5.8, initial_vertex, shallow_ and deep_history_vertex).
-abbrev pub OwnsTwoEntries : DraftMachine → RegionId → Type 0
-OwnsTwoEntries m r = OwnsTwo m r kinds.Initial ⊎ OwnsTwo m r kinds.ShallowHistory ⊎ OwnsTwo m r kinds.DeepHistory
+abbrev pub OwnsTwoOfAKind : DraftMachine → RegionId → Type 0
+OwnsTwoOfAKind m r = OwnsTwo m r kinds.Initial ⊎ OwnsTwo m r kinds.ShallowHistory ⊎ OwnsTwo m r kinds.DeepHistory
 
 -- An initial vertex has not exactly one transition out, or has one in (UML 2.5.1 14.5.6, initial_vertex; stricter by this profile's choice).
 abbrev pub IsBadInitial : DraftMachine → VertexId → Type 0
@@ -85,9 +85,9 @@ abbrev pub HasBadSegmentIn : DraftMachine → VertexId → Type 0
 HasBadSegmentIn m v =
     (t : TransId) × Enters m t v × (HasGuard m t ⊎ HasTrigger m t ⊎ ((s : VertexId) → Leaves m t s → HasKind m s kinds.State → ⊥))
 
--- The sources of the join lie in different regions of no State beside it (UML 2.5.1 14.5.6, transitions_incoming).
+-- The sources of the join do not lie in different regions of a State beside it (UML 2.5.1 14.5.6, transitions_incoming).
 abbrev pub HasSourcesTogether : DraftMachine → VertexId → Type 0
-HasSourcesTogether m v = LieApartInNoState m v (λ t s. Enters m t v × Leaves m t s)
+HasSourcesTogether m v = LieApartBeside m v (λ t s. Enters m t v × Leaves m t s) → ⊥
 
 -- a join with one or the other (UML 2.5.1 14.2.3.7, join)
 abbrev pub JoinsBadly : DraftMachine → VertexId → Type 0
@@ -97,9 +97,9 @@ JoinsBadly m v = HasKind m v kinds.Join × (HasBadSegmentIn m v ⊎ HasSourcesTo
 abbrev pub HasBadSegmentOut : DraftMachine → VertexId → Type 0
 HasBadSegmentOut m v = (t : TransId) × Leaves m t v × (HasGuard m t ⊎ ((s : VertexId) → Enters m t s → IsStateOrFinal m s → ⊥))
 
--- The targets of the fork lie in different regions of no State beside it (UML 2.5.1 14.5.6, transitions_outgoing).
+-- The targets of the fork do not lie in different regions of a State beside it (UML 2.5.1 14.5.6, transitions_outgoing).
 abbrev pub HasTargetsTogether : DraftMachine → VertexId → Type 0
-HasTargetsTogether m v = LieApartInNoState m v (λ t s. Leaves m t v × Enters m t s)
+HasTargetsTogether m v = LieApartBeside m v (λ t s. Leaves m t v × Enters m t s) → ⊥
 
 -- a fork with one or the other (UML 2.5.1 14.2.3.7, fork)
 abbrev pub ForksBadly : DraftMachine → VertexId → Type 0
@@ -172,27 +172,36 @@ StaysInside m v = (t : TransId) × (w s : VertexId) × Leaves m t v × Enters m 
 abbrev pub HoldsRestOfPath : DraftMachine → List TransId → VertexId → RegionId → Type 0
 HoldsRestOfPath m path v r = (w : VertexId) → IsOnPath m path w → w ≢ v → LiesInRegion m w r
 
--- The other vertices of some junction path to it do not all lie in one region of its State (UML 2.5.1 14.2.3.7, exitPoint).
-abbrev pub IsComeToFromAfar : DraftMachine → VertexId → Type 0
-IsComeToFromAfar m v =
-    (s : VertexId) × (path : List TransId) × (owner_of m (State v) ≡ Some (State s)) × IsJunctionPath m path v
-    × ((r : RegionId) → owner_of m (Region r) ≡ Some (State s) → HoldsRestOfPath m path v r → ⊥)
+-- They lie in one region of the State (this profile's choice).
+abbrev pub KeepsToOneRegion : DraftMachine → List TransId → VertexId → VertexId → Type 0
+KeepsToOneRegion m path v s = (r : RegionId) × (owner_of m (Region r) ≡ Some (State s)) × HoldsRestOfPath m path v r
+
+-- Some junction path to it does not keep to one region of its State (UML 2.5.1 14.2.3.7, exitPoint).
+abbrev pub HasStrayPathIn : DraftMachine → VertexId → Type 0
+HasStrayPathIn m v =
+    (s : VertexId) × (path : List TransId) × (owner_of m (State v) ≡ Some (State s)) × IsJunctionPath m path v × (KeepsToOneRegion m path v s → ⊥)
 
 -- an exit point with any of these, or with not exactly one transition out (UML 2.5.1 14.2.3.7, exitPoint)
 abbrev pub IsBadExitPoint : DraftMachine → VertexId → Type 0
-IsBadExitPoint m v = HasKind m v kinds.ExitPoint × (LacksOneOut m v ⊎ StaysInside m v ⊎ IsComeToFromAfar m v)
+IsBadExitPoint m v = HasKind m v kinds.ExitPoint × (LacksOneOut m v ⊎ StaysInside m v ⊎ HasStrayPathIn m v)
 
 -- A transition has `else` and leaves no junction or choice, or is not the first such of its source (UML 2.5.1 14.2.3.7, junction and choice).
 abbrev pub IsBadElse : DraftMachine → TransId → Type 0
 IsBadElse m t =
     HasElse m t × ((v : VertexId) × Leaves m t v × ((IsBranch m v → ⊥) ⊎ ((u : TransId) × (u.0 < t.0) × Leaves m u v × HasElse m u)))
 
--- A choice, or a junction to which pseudostates alone lead from an initial, history or choice vertex, has neither `else` nor a branch
--- without guard (UML 2.5.1 14.2.3.7, choice; the junctions are this profile's choice).
-abbrev pub MayFindNone : DraftMachine → VertexId → Type 0
-MayFindNone m v =
-    ((t : TransId) → Leaves m t v → (HasElse m t ⊎ (guard_of m t ≡ Some Always)) → ⊥)
-    × (HasKind m v kinds.Choice ⊎ (HasKind m v kinds.Junction × ((w : VertexId) × IsLateOrigin m w × Reaches m w v)))
+-- Some transition out of it has `else` or no guard, so that there is always a way on (UML 2.5.1 14.2.3.7, choice).
+abbrev pub HasSureBranch : DraftMachine → VertexId → Type 0
+HasSureBranch m v = (t : TransId) × Leaves m t v × (HasElse m t ⊎ (guard_of m t ≡ Some Always))
+
+-- a choice, or a junction to which pseudostates alone lead from an initial, history or choice vertex, so that a step comes to it within itself
+-- (UML 2.5.1 14.2.3.7, choice; the junctions are this profile's choice)
+abbrev pub IsComeToLate : DraftMachine → VertexId → Type 0
+IsComeToLate m v = HasKind m v kinds.Choice ⊎ (HasKind m v kinds.Junction × ((w : VertexId) × IsLateOrigin m w × Reaches m w v))
+
+-- A step may come to it and find no branch that is open (UML 2.5.1 14.2.3.7, choice).
+abbrev pub MayFindNoBranch : DraftMachine → VertexId → Type 0
+MayFindNoBranch m v = (HasSureBranch m v → ⊥) × IsComeToLate m v
 
 -- A pseudostate lies on a cycle of pseudostates (this profile's choice).
 abbrev pub IsOnCycle : DraftMachine → VertexId → Type 0
@@ -211,17 +220,20 @@ GoesOutside m v =
     × ((t : TransId) × (w s : VertexId) × (r : RegionId) × Leaves m t v × Enters m t w × (owner_of m (State v) ≡ Some (State s))
     × (owner_of m (Region r) ≡ Some (State s)) × LiesInRegion m w r × LeavesRegion m t r))
 
--- The ends of a transition lie in no common region, or it ends on a join and leaves no State (UML 2.5.1 14.2.3.8, transitions; this profile's choice).
-abbrev pub IsTorn : DraftMachine → TransId → Type 0
-IsTorn m t =
-    (v w : VertexId) × Leaves m t v × Enters m t w
-    × (((r : RegionId) → LiesInRegion m v r → LiesInRegion m w r → ⊥) ⊎ (HasKind m w kinds.Join × (HasKind m v kinds.State → ⊥)))
+-- Some region has both vertices in it (UML 2.5.1 14.2.3.2, nested regions).
+abbrev pub ShareRegion : DraftMachine → VertexId → VertexId → Type 0
+ShareRegion m v w = (r : RegionId) × LiesInRegion m v r × LiesInRegion m w r
+
+-- The ends of a transition share no region, or it ends on a join and leaves no State (UML 2.5.1 14.2.3.8, transitions; this profile's choice).
+abbrev pub ConnectsBadly : DraftMachine → TransId → Type 0
+ConnectsBadly m t =
+    (v w : VertexId) × Leaves m t v × Enters m t w × ((ShareRegion m v w → ⊥) ⊎ (HasKind m w kinds.Join × (HasKind m v kinds.State → ⊥)))
 
 -- The place breaks the rule with the number (the list of rules is this profile's choice).
 pub data Breaks (m : DraftMachine) : FaultPlace → ℕ → Type 0 where
   E01_top : HasNoTopRegion m → Breaks m places.Top 1
   E01 : {r : RegionId} → IsTopWithoutInitial m r → Breaks m (places.At (elements.Region r)) 1
-  E02 : {r : RegionId} → OwnsTwoEntries m r → Breaks m (places.At (elements.Region r)) 2
+  E02 : {r : RegionId} → OwnsTwoOfAKind m r → Breaks m (places.At (elements.Region r)) 2
   E03 : {v : VertexId} → IsBadInitial m v → Breaks m (places.At (elements.Vertex v)) 3
   E04 : {v : VertexId} → IsBadHistory m v → Breaks m (places.At (elements.Vertex v)) 4
   E05 : {v : VertexId} → IsBadJoin m v → Breaks m (places.At (elements.Vertex v)) 5
@@ -237,10 +249,10 @@ pub data Breaks (m : DraftMachine) : FaultPlace → ℕ → Type 0 where
   E15 : {v : VertexId} → IsBadEntryPoint m v → Breaks m (places.At (elements.Vertex v)) 15
   E16 : {v : VertexId} → IsBadExitPoint m v → Breaks m (places.At (elements.Vertex v)) 16
   E17 : {t : TransId} → IsBadElse m t → Breaks m (places.At (elements.Transition t)) 17
-  E18 : {v : VertexId} → MayFindNone m v → Breaks m (places.At (elements.Vertex v)) 18
+  E18 : {v : VertexId} → MayFindNoBranch m v → Breaks m (places.At (elements.Vertex v)) 18
   E19 : {v : VertexId} → IsOnCycle m v → Breaks m (places.At (elements.Vertex v)) 19
   E20 : {v : VertexId} → GoesOutside m v → Breaks m (places.At (elements.Vertex v)) 20
-  E21 : {t : TransId} → IsTorn m t → Breaks m (places.At (elements.Transition t)) 21
+  E21 : {t : TransId} → ConnectsBadly m t → Breaks m (places.At (elements.Transition t)) 21
 
 -- No rule is broken anywhere (the list of rules is this profile's choice).
 abbrev pub KeepsModelRules : DraftMachine → Type 0

@@ -4,13 +4,13 @@ ghost use Rattle.pssm_model.specs.declared.elements.DraftMachine.{DraftMachine};
 ghost use Rattle.pssm_model.specs.declared.elements.Element.{Element};
 ghost use Rattle.pssm_model.specs.declared.shape.PlaceKind.TheVariants as places;
 ghost use Rattle.pssm_model.specs.Forest.{HasKind};
-ghost use Rattle.pssm_model.specs.Shape.{HasShape};
+ghost use Rattle.pssm_model.specs.Shapes.{HasShape};
 ghost use Rattle.pssm_model.specs.WellFormed.{KeepsModelRules};
 ghost use Rattle.pssm_model.specs.Silent.{IsSilentMachine};
 ghost use Rattle.pssm_model.specs.BuiltMachine.{IsBuiltMachine};
-ghost use Rattle.pssm_model.specs.Sound.{place_element, transition_element};
+ghost use Rattle.pssm_model.specs.inner.Faultless.{place_element, transition_element};
 ghost use Rattle.pssm_model.specs.NotBuilt.{IsAtTop, IsFurtherReaction, IsToJunction, IsFurtherVertex, IsFurtherTransition, IsNotBuilt, IsFirstNotBuilt};
-ghost use Rattle.pssm_model.specs.Found.{AreBuiltBelow, IsFirstNumber, IsFurtherOwner};
+ghost use Rattle.pssm_model.specs.inner.Found.{AreBuiltBelow, IsFirstNumber, IsFurtherOwner};
 
 use crate::elements::{Element, Owner, TransKind, Transition, Vertex, VertexKind};
 use crate::ids::{RegionId, TransId, VertexId};

@@ -1,7 +1,7 @@
 //! How deep each place of a draft lies: found by climbing owner chains, each place once.
 ghost use Rattle.std.specs.Prelude.{◌≡◌, ◌≢◌, ◌↔◌, IsTrue, IfOk, Some, slice_index_or};
 ghost use Rattle.pssm_model.specs.Forest.{owner_of as owner_in};
-ghost use Rattle.pssm_model.specs.Depths.{noted, depth_under as depth_below, one_deeper as one_more, HasNote, IsPlace, IsDepthOf, AreDepths, HasClimbed, KeepsKnown, Notes};
+ghost use Rattle.pssm_model.specs.inner.Depths.{noted, depth_under as depth_below, one_deeper as one_more, HasNote, IsPlace, IsDepthOf, AreDepths, HasClimbed, KeepsKnown, Notes};
 
 use crate::elements::{DraftMachine, Owner};
 use std::alloc::{AllocError as NoMemory, Global};

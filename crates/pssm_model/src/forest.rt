@@ -5,9 +5,9 @@ ghost use Rattle.pssm_model.specs.declared.ids.RegionId.{RegionId};
 ghost use Rattle.pssm_model.specs.declared.ids.VertexId.{VertexId};
 ghost use Rattle.pssm_model.specs.declared.elements.VertexKind.TheVariants as kinds;
 ghost use Rattle.pssm_model.specs.Forest.{owner_of as owner_in, HasKind, IsScope, LiesInRegion, LiesInState};
-ghost use Rattle.pssm_model.specs.Shape.{HasShape, IsShapeFault};
-ghost use Rattle.pssm_model.specs.Sound.{IsShallowBy};
-ghost use Rattle.pssm_model.specs.Tables.{AreTables, AreWithin, IsHome, IsMeet, IsOuter, IsRaised, IsWithin};
+ghost use Rattle.pssm_model.specs.Shapes.{HasShape, IsShapeFault};
+ghost use Rattle.pssm_model.specs.inner.Faultless.{IsShallowBy};
+ghost use Rattle.pssm_model.specs.inner.Tables.{AreTables, AreWithin, IsHome, IsMeet, IsOuter, IsRaised, IsWithin};
 
 use crate::depths::{Depths, owner_of};
 use crate::duplicate::Duplicate;

@@ -4,7 +4,7 @@ ghost use Rattle.pssm_model.specs.declared.ids.RegionId.{RegionId};
 ghost use Rattle.pssm_model.specs.declared.ids.VertexId.{VertexId};
 ghost use Rattle.pssm_model.specs.declared.elements.Owner.{Owner};
 ghost use Rattle.pssm_model.specs.Forest.{HasRegionsAbove, IsScope, LiesInRegion, LiesInState};
-ghost use Rattle.pssm_model.specs.Shape.{HasShape, IsShapeFault};
+ghost use Rattle.pssm_model.specs.Shapes.{HasShape, IsShapeFault};
 
 use crate::duplicate::Duplicate;
 use crate::elements::{DraftMachine, Owner, Shape, Transition, Vertex};
@@ -22,7 +22,7 @@ pub struct Machine {
 
 impl Model for Machine {
     ghost use Rattle.pssm_model.specs.declared.elements.DraftMachine.{DraftMachine};
-    ghost use Rattle.pssm_model.specs.Tables.{AreTables};
+    ghost use Rattle.pssm_model.specs.inner.Tables.{AreTables};
 
     ghost Value = { DraftMachine };
 

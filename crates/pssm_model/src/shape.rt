@@ -3,9 +3,9 @@ ghost use Rattle.std.specs.Prelude.{◌≡◌, ◌⊎◌, ◌↔◌, ◌<◌, le
 ghost use Rattle.pssm_model.specs.declared.elements.VertexKind.TheVariants as kinds;
 ghost use Rattle.pssm_model.specs.Forest.{HasKind, HasRegionsAbove};
 ghost use Rattle.pssm_model.specs.Legs.{IsPoint};
-ghost use Rattle.pssm_model.specs.Shape.{place_of as place_named, OwnsRegion, OwnsVertex, MayHaveOwner};
-ghost use Rattle.pssm_model.specs.Depths.{AreDepths, IsPlace};
-ghost use Rattle.pssm_model.specs.Sound.{place_element, place_count, transition_element, IsSound, IsFaultOf, IsFirstFault, AreSound, AreDepthsOf, IsShallowBy, IsNumberedPast};
+ghost use Rattle.pssm_model.specs.Shapes.{place_of as place_named, OwnsRegion, OwnsVertex, MayHaveOwner};
+ghost use Rattle.pssm_model.specs.inner.Depths.{AreDepths, IsPlace};
+ghost use Rattle.pssm_model.specs.inner.Faultless.{place_element, place_count, transition_element, IsFaultless, IsFaultOf, IsFirstFault, AreFaultless, AreDepthsOf, IsShallowBy, IsNumberedPast};
 
 use crate::depths::{Depth, Depths, owner_of};
 use crate::elements::{DraftMachine, Element, Owner, Shape, Transition, VertexKind};
@@ -123,7 +123,7 @@ fn check_place(
 ) -> Result<u16, Shape>
     requires place { IsPlace draft.now (place_named element) }
     requires depths { AreDepths draft.now depths.old }
-    ensures sound { IfOk result (λ _. IsSound draft.now element) }
+    ensures sound { IfOk result (λ _. IsFaultless draft.now element) }
     ensures depth { IfOk result (IsShallowBy draft.now (place_named element)) }
     ensures kept { OnOk result (AreDepths draft.now depths.new) }
     ensures fault { IfErr result (λ fault. (fault ≡ Shape.NoMemory) ⊎ IsFaultOf draft.now element fault) }
@@ -152,7 +152,7 @@ pub fn check_places(
     kind: PlaceKind,
 ) -> Result<Vec<u16>, Shape>
     requires { AreDepths draft.now depths.old }
-    ensures sound { OnOk result (AreSound draft.now (place_element kind) (place_count draft.now kind)) }
+    ensures sound { OnOk result (AreFaultless draft.now (place_element kind) (place_count draft.now kind)) }
     ensures all { IfOk result (λ found. length found.items ≡ place_count draft.now kind) }
     ensures right { IfOk result (λ found. AreDepthsOf draft.now kind found.items) }
     ensures kept { OnOk result (AreDepths draft.now depths.new) }
@@ -176,7 +176,7 @@ fn has_ends(draft: &DraftMachine, transition: &Transition) -> bool
 
 /// What is wrong with the first transition with which something is.
 pub fn check_transitions(draft: &DraftMachine) -> Result<(), Shape>
-    ensures sound { OnOk result (AreSound draft.now transition_element (length draft.now.transitions)) }
+    ensures sound { OnOk result (AreFaultless draft.now transition_element (length draft.now.transitions)) }
     ensures fault { IfErr result (IsFirstFault draft.now transition_element) }
 {
     for (number, transition) in draft.transitions.as_slice().iter().enumerate() {

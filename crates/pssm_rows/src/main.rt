@@ -1,25 +1,27 @@
-//! Runs the cases that stand in the files `*.rows` of a folder over `pssm`, and says which of them hold. The folder is the
-//! one that its word names, or the one that it runs in.
+//! Runs the cases that stand in the files `*.rows` of a folder over `pssm`, and says which of them hold. The folder
+//! is the one that its word names, or the one that it runs in.
 //!
 //! A file of cases is UTF-8 text of lines. A line that is empty or begins with `#` is for the reader. The others:
 //!
-//! - `file NAME`: a file with the text lines below it. In front of the first case it is there in all cases of this file of
-//!   cases, and behind a `case` in that case alone, where it hides one of the same name.
-//! - `file NAME like OTHER`: a file with the text of OTHER, which was given before. Below it `line K` or `lines K L` says that
-//!   the text lines behind it stand in the place of line K, or of lines K to L, of OTHER. The places come in order.
+//! - `file NAME`: a file with the text lines below it. In front of the first case it is there in all cases of this
+//!   file of cases, and behind a `case` in that case alone, where it hides one of the same name.
+//! - `file NAME like OTHER`: a file with the text of OTHER, which was given before. Below it `line K` or `lines K L`
+//!   says that the text lines behind it stand in the place of line K, or of lines K to L, of OTHER. The places come
+//!   in order.
 //! - `case WORDS`: a case, and what it shows.
 //! - `each N from F`: the case is tried N times; in the words of its runs `\#` stands for F, F+1, and so on.
 //! - `failing reads N ..` and `failing writes N ..`: the calls that fail of a run of the case, counted from 0.
 //! - `pieces R W`: how many bytes a read and a write pass on at most; 65,536 if not said.
-//! - `run WORDS ..`: a run with these words, each behind one blank. A blank in a word is spelled `\x20`, and `\{0}x` is a word
-//!   without a byte.
-//! - `status N`: what the runs are owed that stand above it, up to the next status: this status, and exactly the text lines
-//!   below. In their place, `status N with E entries` owes a journal of E entries, whatever they are, `status N as before` what
-//!   the run before wrote, and `status N unlike before` anything else.
-//! - `judge MODEL`: the run of `judge MODEL written`. The file `written` holds what the run before it in the case wrote, and is
-//!   empty in the first.
-//! - `| TEXT`: a text line, the bytes of TEXT and a line feed. `N | TEXT` is the line N times, and `N from F | TEXT` too, with
-//!   F, F+1, and so on for `\#`. `pssm_cases` has the escapes of TEXT; a backslash at its end leaves the line feed out.
+//! - `run WORDS ..`: a run with these words, each behind one blank. A blank in a word is spelled `\x20`, and `\{0}x`
+//!   is a word without a byte.
+//! - `status N`: what the runs are owed that stand above it, up to the next status: this status, and exactly the text
+//!   lines below. In their place, `status N with E entries` owes a journal of E entries, whatever they are,
+//!   `status N as before` what the run before wrote, and `status N unlike before` anything else.
+//! - `judge MODEL`: the run of `judge MODEL written`. The file `written` holds what the run before it in the case
+//!   wrote, and is empty in the first.
+//! - `| TEXT`: a text line, the bytes of TEXT and a line feed. `N | TEXT` is the line N times, and `N from F | TEXT`
+//!   too, with F, F+1, and so on for `\#`. `pssm_cases` has the escapes of TEXT; a backslash at its end leaves the
+//!   line feed out.
 //! - `+ NAME`: among the text lines, the whole text of a file that was given before.
 //!
 //! The answers that are owed stand in the files, and none in this program.

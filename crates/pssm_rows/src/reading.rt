@@ -69,23 +69,30 @@ pub fn cases_of(alloc: Global, text: &str) -> Result<Result<Cases, usize>, NoMem
         cases: Vec::new(alloc),
         place: Place::Nowhere,
     };
-    for (index, line) in text.split('\n').enumerate() {
-        match reader.read(index, line) {
-            Ok(()) => {}
-            Err(Refusal::BadLine) => return Ok(Err(index.saturating_add(1))),
-            Err(Refusal::NoMemory) => return Err(NoMemory),
-        }
-    }
-    match reader.finish() {
-        Ok(()) => Ok(Ok(Cases {
-            files: reader.files,
-            cases: reader.cases,
-        })),
-        Err(_) => Err(NoMemory),
+    let refused = reader.read_all(text);
+    let Reader { files, cases, .. } = reader;
+    match refused? {
+        Some(line) => Ok(Err(line)),
+        None => Ok(Ok(Cases { files, cases })),
     }
 }
 
 impl Reader {
+    // Takes all lines, up to the first that cannot stand there, and says which that is, counted from 1.
+    fn read_all(&mut self, text: &str) -> Result<Option<usize>, NoMemory> {
+        for (index, line) in text.split('\n').enumerate() {
+            match self.read(index, line) {
+                Ok(()) => {}
+                Err(Refusal::BadLine) => return Ok(Some(index.saturating_add(1))),
+                Err(Refusal::NoMemory) => return Err(NoMemory),
+            }
+        }
+        match self.finish() {
+            Ok(()) => Ok(None),
+            Err(_) => Err(NoMemory),
+        }
+    }
+
     // Takes the line with this number, counted from 0.
     fn read(&mut self, index: usize, line: &str) -> Result<(), Refusal> {
         match line_of(line).ok_or(Refusal::BadLine)? {

@@ -81,11 +81,10 @@ fn failure_in(
         return told(rt.alloc(), "nothing is owed");
     };
     for run in &ask.runs {
-        let Some(words) = words_of(rt.alloc(), run.as_str(), number)? else {
+        let Some(given) = given_by(rt, shared, case, run.as_str(), number, before.as_slice())?
+        else {
             return told(rt.alloc(), "the words of the run spell no text");
         };
-        let files = files_of(rt.alloc(), before.as_slice(), case.files.as_slice(), shared)?;
-        let given = given_of(rt, case, files, words.as_slice())?;
         let failure = failure_on(rt.alloc(), owed, run.as_str(), &given, before.as_slice())?;
         if failure.is_some() {
             return Ok(failure);
@@ -93,6 +92,22 @@ fn failure_in(
         *before = given.text;
     }
     Ok(None)
+}
+
+// What a run gives that is read at this number; nothing where its words spell no text.
+fn given_by(
+    rt: &HostRuntime,
+    shared: &[File],
+    case: &Case,
+    run: &str,
+    number: u32,
+    before: &[u8],
+) -> Result<Option<Given>, NoMemory> {
+    let Some(words) = words_of(rt.alloc(), run, number)? else {
+        return Ok(None);
+    };
+    let files = files_of(rt.alloc(), before, case.files.as_slice(), shared)?;
+    Ok(Some(given_of(rt, case, files, words.as_slice())?))
 }
 
 // The words of a run, read at this number, where each spells a text.
@@ -144,9 +159,11 @@ fn given_of(
     let fails = case.writes.fails.as_slice().to_vec(alloc)?;
     let mut out = MemSink::new(alloc, ROOM, fails, case.writes.most)?;
     let status = pssm(rt, alloc, words, &mut inputs, &mut out, &OpenGate);
+    let text = out.bytes().to_vec(alloc);
+    drop(out);
     Ok(Given {
         code: status.code,
-        text: out.bytes().to_vec(alloc)?,
+        text: text?,
     })
 }
 

@@ -1,14 +1,13 @@
 -- What one more entry at the end of a journal changes: what is active, the last step, and what is admissible.
 use Rattle.std.proofs.Common.{◌≡◌, ◌⊎◌, ◌++◌, List, [], ◌∷◌, refl, sym, ap, subst, ◌∙◌, inl, inr, ⊎_elim, append_assoc}
 use Rattle.std.specs.List.{AllByRecursion}
-use Rattle.std.proofs.lemmas.List.Elements.{Contains-append_left, Contains-push, Contains-push_cases}
 use Rattle.pssm_model.specs.declared.ids.VertexId.{VertexId}
 use Rattle.pssm_semantics.specs.declared.entry.ObjectId.{ObjectId}
 use Rattle.pssm_semantics.specs.declared.entry.Entry.{Entry}
 use Rattle.pssm_semantics.specs.declared.setting.Setting.{Setting}
 use Rattle.pssm_semantics.specs.Journal.{Splits, IsActive, Heads, EntersAt, ExitsAt}
 use Rattle.pssm_semantics.specs.Steps.{StepAt, IsLastStep}
-use Rattle.pssm_semantics.specs.Runs.{MayFollow, IsAdmissibleIn}
+use Rattle.pssm_semantics.specs.Admissible.{MayFollow, IsAdmissibleIn}
 
 -- facts about each element, with one more
 pub every_push : {X : Type 0} (P : X → Type 0) (xs : List X) (x : X) → AllByRecursion P xs → P x → AllByRecursion P (xs ++ x ∷ [])

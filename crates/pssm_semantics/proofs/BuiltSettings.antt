@@ -1,6 +1,6 @@
 -- A setting without behaviours whose machine the code runs is one that the code runs.
 use Rattle.pssm_model.specs.declared.elements.Element.{Element}
-use Rattle.pssm_model.specs.Shape.{HasShape}
+use Rattle.pssm_model.specs.Shapes.{HasShape}
 use Rattle.pssm_model.specs.WellFormed.{KeepsModelRules}
 use Rattle.pssm_model.specs.NotBuilt.{IsNotBuilt}
 use Rattle.pssm_model.specs.BuiltMachine.{IsBuiltMachine}

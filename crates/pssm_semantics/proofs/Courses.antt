@@ -1,6 +1,6 @@
 -- What one more entry does to the course of a step, and what a step remembers.
-use Rattle.std.proofs.Common.{◌≡◌, ◌⊎◌, ◌++◌, ◌==◌, List, [], ◌∷◌, Contains, Bool, true, false, if◌then◌else◌, Option, Some, None, refl, sym, ap, subst, ◌∙◌, inl, inr, ⊎_elim, eq-eqb}
-use Rattle.std.specs.List.{filter_map}
+use Rattle.std.proofs.Common.{◌≡◌, ◌⊎◌, ◌++◌, ◌==◌, [], ◌∷◌, Contains, Bool, true, false, if◌then◌else◌, Option, Some, None, refl, sym, ap, subst, ◌∙◌, inl, inr, ⊎_elim, append-nil, eq-eqb}
+use Rattle.std.specs.List.{filter_map, cons_option}
 use Rattle.std.proofs.lemmas.List.Elements.{filter_map-append, Contains-append_left, Contains-append_right, Contains-push, Contains-append_cases}
 use Rattle.pssm_semantics.proofs.Objects.{same_object}
 use Rattle.pssm_model.specs.declared.elements.DraftMachine.{DraftMachine}
@@ -86,7 +86,7 @@ leg_kept m o step e leg (goes, on) =
     (⊎_elim (λ fires. inl fires) (λ gone. inr (gone.0, ran_kept m o step e (gone.0, By leg.route) gone.1)) goes, on)
 
 pub leg_cases : (m : DraftMachine) (o : ObjectId) (step : StepAt) (e : Entry) (leg : Leg) → IsLeg (course_of m o (more step e)) leg
-    → IsLeg (course_of m o step) leg ⊎ ((item : Item) × Runs o e (item, By leg.route) × On leg.route leg.by)
+    → IsLeg (course_of m o step) leg ⊎ ((item : Item) × Runs o e (item, By leg.route) × On leg.route leg.named_by)
 leg_cases m o step e leg (goes, on) = elim goes [
   | inl fires ↦ inl (inl fires, on)
   | inr gone ↦ elim (ran_cases m o step e (gone.0, By leg.route) gone.1) [
@@ -108,3 +108,14 @@ restored_cases m o step e mode s (r, h) = elim (ran_cases m o step e (items.Open
 -- an entry runs one item
 pub runs_one : (o : ObjectId) (e : Entry) (x y : Item × How) → item_of e ≡ Some x → Runs o e y → y ≡ x
 runs_one o e x y is runs = let own = (runs_is o e y runs).1 in let same : Some y ≡ Some x = sym own ∙ is in cc
+
+-- with one more entry the step has run one item more, or the same
+pub ran_more : (m : DraftMachine) (o : ObjectId) (step : StepAt) (e : Entry) (x : Item × How) → Runs o e x
+    → (course_of m o (more step e)).ran ≡ (course_of m o step).ran ++ x ∷ []
+ran_more m o step e x runs = filter_map-append (item_by o) step.after (e ∷ []) ∙ ap (λ r. filter_map (item_by o) step.after ++ cons_option r []) runs
+
+pub ran_same : (m : DraftMachine) (o : ObjectId) (step : StepAt) (e : Entry) → item_by o e ≡ None
+    → (course_of m o (more step e)).ran ≡ (course_of m o step).ran
+ran_same m o step e none =
+    filter_map-append (item_by o) step.after (e ∷ []) ∙ ap (λ r. filter_map (item_by o) step.after ++ cons_option r []) none
+    ∙ append-nil (filter_map (item_by o) step.after)

@@ -11,7 +11,7 @@ use Rattle.pssm_model.specs.Configuration.{HasActiveFinal}
 use Rattle.pssm_model.specs.Legs.{Enters}
 use Rattle.pssm_semantics.specs.declared.entry.ObjectId.{ObjectId}
 use Rattle.pssm_semantics.specs.declared.entry.Entry.{Entry}
-use Rattle.pssm_semantics.specs.Journal.{EntersAt, ExitsAt, OpensByNone, TouchesRegion, IsLeftEmpty, DoesAt, HasStepped, configuration_after}
+use Rattle.pssm_semantics.specs.Journal.{EntersAt, ExitsAt, OpensByNone, TouchesRegion, IsLeftEmpty, DoesAt, HasDoneStep, configuration_after}
 use Rattle.pssm_semantics.specs.Completion.{EffectsAt, HasTerminated, HasEnded}
 use Rattle.pssm_semantics.proofs.Appended.{LastOf-becomes, LastOf-stays, LastOf-was}
 use Rattle.pssm_semantics.proofs.Active.{IsActive-stays, IsActive-was}
@@ -69,17 +69,17 @@ HasEnded-was m J e o spares h = elim h [
 ]
 
 -- A do step is done by its entry.
-pub HasStepped-becomes : (J : List Entry) (e : Entry) (o : ObjectId) (s : VertexId) (k : ℕ) → DoesAt e o s k → HasStepped (J ++ e ∷ []) o s k
-HasStepped-becomes J e o s k does = LastOf-becomes (λ f. DoesAt f o s k) (λ f. EntersAt f o s → ⊥) J e does
+pub HasDoneStep-becomes : (J : List Entry) (e : Entry) (o : ObjectId) (s : VertexId) (k : ℕ) → DoesAt e o s k → HasDoneStep (J ++ e ∷ []) o s k
+HasDoneStep-becomes J e o s k does = LastOf-becomes (λ f. DoesAt f o s k) (λ f. EntersAt f o s → ⊥) J e does
 
 -- It stays done until the State is entered again.
-pub HasStepped-stays : (J : List Entry) (e : Entry) (o : ObjectId) (s : VertexId) (k : ℕ) → HasStepped J o s k → (EntersAt e o s → ⊥) → HasStepped (J ++ e ∷ []) o s k
-HasStepped-stays J e o s k was enters = LastOf-stays (λ f. DoesAt f o s k) (λ f. EntersAt f o s → ⊥) J e was enters
+pub HasDoneStep-stays : (J : List Entry) (e : Entry) (o : ObjectId) (s : VertexId) (k : ℕ) → HasDoneStep J o s k → (EntersAt e o s → ⊥) → HasDoneStep (J ++ e ∷ []) o s k
+HasDoneStep-stays J e o s k was enters = LastOf-stays (λ f. DoesAt f o s k) (λ f. EntersAt f o s → ⊥) J e was enters
 
 -- One or the other.
-pub HasStepped-was : (J : List Entry) (e : Entry) (o : ObjectId) (s : VertexId) (k : ℕ) → HasStepped (J ++ e ∷ []) o s k
-    → DoesAt e o s k ⊎ (HasStepped J o s k × (EntersAt e o s → ⊥))
-HasStepped-was J e o s k now = LastOf-was (λ f. DoesAt f o s k) (λ f. EntersAt f o s → ⊥) J e now
+pub HasDoneStep-was : (J : List Entry) (e : Entry) (o : ObjectId) (s : VertexId) (k : ℕ) → HasDoneStep (J ++ e ∷ []) o s k
+    → DoesAt e o s k ⊎ (HasDoneStep J o s k × (EntersAt e o s → ⊥))
+HasDoneStep-was J e o s k now = LastOf-was (λ f. DoesAt f o s k) (λ f. EntersAt f o s → ⊥) J e now
 
 -- A region is left empty by an opening by nothing.
 pub IsLeftEmpty-becomes : (m : DraftMachine) (J : List Entry) (e : Entry) (o : ObjectId) (r : RegionId) → OpensByNone e o r → IsLeftEmpty m (J ++ e ∷ []) o r

@@ -1,22 +1,28 @@
 -- What a step remembers is what the journal does.
-use Rattle.std.proofs.Common.{◌≡◌, ◌⊎◌, ◌++◌, List, [], ◌∷◌, Option, Some, None, true, false, refl, sym, ap, subst, ◌∙◌, inl, inr}
-use Rattle.std.specs.List.{AllByRecursion, filter_map}
+use Rattle.std.proofs.Common.{◌≡◌, ◌↔◌, ◌++◌, List, ◌∷◌, Option, Some, None, true, false, refl, sym, ap, subst, ◌∙◌, inl, inr}
+use Rattle.std.specs.List.{filter_map}
 use Rattle.pssm_model.specs.declared.ids.VertexId.{VertexId}
 use Rattle.pssm_model.specs.declared.ids.RegionId.{RegionId}
 use Rattle.pssm_model.specs.declared.elements.DraftMachine.{DraftMachine}
 use Rattle.pssm_model.specs.declared.steps.How.{How}
-use Rattle.pssm_model.specs.declared.steps.How.TheVariants.{By, Nothing}
+use Rattle.pssm_model.specs.declared.steps.How.TheVariants.{By, Restore, Nothing}
 use Rattle.pssm_model.specs.declared.steps.Item.{Item}
 use Rattle.pssm_model.specs.declared.steps.Item.TheVariants as items
 use Rattle.pssm_model.specs.Configuration.{IsDirect}
-use Rattle.pssm_model.specs.Course.{ExitsFrom, HasExitedLast, Remembers}
+use Rattle.pssm_model.specs.declared.elements.VertexKind.{VertexKind}
+use Rattle.pssm_model.specs.declared.elements.VertexKind.TheVariants as kinds
+use Rattle.pssm_model.specs.declared.steps.Mode.TheVariants.{Plain, Shallow, Deep}
+use Rattle.pssm_model.specs.Routes.{Truth}
+use Rattle.pssm_model.specs.Ways.{Memory, IsRemembered, OpensByHistory, IsWay}
+use Rattle.pssm_model.specs.later.Plans.{IsWayNow}
+use Rattle.pssm_model.specs.Course.{ExitsFrom, HasExitedLast, RemembersSoFar}
 use Rattle.pssm_semantics.specs.declared.entry.ObjectId.{ObjectId}
 use Rattle.pssm_semantics.specs.declared.entry.Entry.{Entry}
 use Rattle.pssm_semantics.specs.declared.entry.Entry.TheVariants.{Post, Start, Take, Done, Exit, Effect, Enter, Opened, Pick, DoStep}
 use Rattle.pssm_semantics.specs.Journal.{object_of, Heads, ExitsAt, IsMemory}
 use Rattle.pssm_semantics.specs.Steps.{StepAt, IsLastStep, item_of, item_by, course_of}
-use Rattle.pssm_semantics.proofs.Appended.{LastOf, LastOf-nil}
-use Rattle.pssm_semantics.proofs.Latest.{Reads, All-read, All-of_read, LastOf-read, LastOf-of_read, LastOf-append, LastOf-behind, LastOf-before, LastOf-cons, LastOf-later, LastOf-first}
+use Rattle.pssm_semantics.proofs.Appended.{LastOf}
+use Rattle.pssm_semantics.proofs.Latest.{Reads, All-read, All-of_read, LastOf-read, LastOf-of_read, LastOf-append, LastOf-behind, LastOf-before, LastOf-cons, LastOf-later}
 use Rattle.pssm_semantics.proofs.Courses.{runs_is, runs_own}
 
 -- an entry exits a State exactly where it runs the item
@@ -106,7 +112,7 @@ module _ (m : DraftMachine) (o : ObjectId) (r : RegionId) (s : VertexId) where
   head_exits (Pick p choice route) q heads exits = exits
   head_exits (DoStep p state step outs) q heads exits = exits
 
-  pub memory_remembered : (J : List Entry) (step : StepAt) → IsLastStep J o step → IsMemory m J o r s → Remembers m (course_of m o step) r s
+  pub memory_remembered : (J : List Entry) (step : StepAt) → IsLastStep J o step → IsMemory m J o r s → RemembersSoFar m (course_of m o step) r s
   memory_remembered J step last memory =
       let there : LastOf ExitsIt Spares (step.before ++ step.head ∷ step.after) = subst (LastOf ExitsIt Spares) last.splits (memory_is J memory) in
       elim (LastOf-append ExitsIt Spares step.before (step.head ∷ step.after) there) [
@@ -118,7 +124,7 @@ module _ (m : DraftMachine) (o : ObjectId) (r : RegionId) (s : VertexId) where
             inr (is_memory step.before earlier, All-read (item_by o) ExitsIt Spares RunsIt RunsNone reads step.after none.1)
       ]
 
-  pub remembered_memory : (J : List Entry) (step : StepAt) → IsLastStep J o step → Remembers m (course_of m o step) r s → IsMemory m J o r s
+  pub remembered_memory : (J : List Entry) (step : StepAt) → IsLastStep J o step → RemembersSoFar m (course_of m o step) r s → IsMemory m J o r s
   remembered_memory J step last remembered =
       is_memory J (subst (LastOf ExitsIt Spares) (sym last.splits) (elim remembered [
         | inl within ↦
@@ -129,3 +135,38 @@ module _ (m : DraftMachine) (o : ObjectId) (r : RegionId) (s : VertexId) where
             LastOf-before ExitsIt Spares step.before (step.head ∷ step.after) (memory_is step.before earlier)
             ((λ q direct exits. head_exits step.head q last.heads exits), All-of_read (item_by o) ExitsIt Spares RunsIt RunsNone reads step.after none)
       ]))
+
+-- the ways of an item are the same under memories of which the same is remembered
+abbrev Agree : DraftMachine → Memory → Memory → Type 0
+Agree m a b = (r : RegionId) (s : VertexId) → IsRemembered m a r s ↔ IsRemembered m b r s
+
+opens_same : (m : DraftMachine) (truth : Truth) (a b : Memory) (r : RegionId) (kind : VertexKind) (how : How) → Agree m a b
+    → OpensByHistory m truth a r kind how → OpensByHistory m truth b r kind how
+opens_same m truth a b r kind (Restore s) same h = (same r s).0 h
+opens_same m truth a b r kind (By route) same h = (λ s rem. h.0 s ((same r s).1 rem), h.1)
+opens_same m truth a b r kind Nothing same h = (λ s rem. h.0 s ((same r s).1 rem), h.1)
+
+pub way_same : (m : DraftMachine) (truth : Truth) (a b : Memory) (item : Item) (how : How) → Agree m a b → IsWay m truth a item how → IsWay m truth b item how
+way_same m truth a b (items.Opened r Plain) how same h = h
+way_same m truth a b (items.Opened r Shallow) how same h = opens_same m truth a b r kinds.ShallowHistory how same h
+way_same m truth a b (items.Opened r Deep) how same h = opens_same m truth a b r kinds.DeepHistory how same h
+way_same m truth a b (items.Pick choice) (By route) same h = h
+way_same m truth a b (items.Pick choice) (Restore s) same h = h
+way_same m truth a b (items.Pick choice) Nothing same h = h
+way_same m truth a b (items.Exit s) how same h = h
+way_same m truth a b (items.Effect t) how same h = h
+way_same m truth a b (items.Enter s) how same h = h
+
+-- so the ways that the step shows are those that the journal shows
+module _ (m : DraftMachine) (o : ObjectId) (J : List Entry) (step : StepAt) (last : IsLastStep J o step) where
+  remembered_is : Agree m (IsMemory m J o) (RemembersSoFar m (course_of m o step))
+  remembered_is r s = (
+    λ h. (memory_remembered m o r s J step last h.0, h.1),
+    λ h. (remembered_memory m o r s J step last h.0, h.1),
+  )
+
+  pub way_now : (truth : Truth) (item : Item) (how : How) → IsWayNow m truth (course_of m o step) item how ↔ IsWay m truth (IsMemory m J o) item how
+  way_now truth item how = (
+    way_same m truth (RemembersSoFar m (course_of m o step)) (IsMemory m J o) item how (λ r s. ((remembered_is r s).1, (remembered_is r s).0)),
+    way_same m truth (IsMemory m J o) (RemembersSoFar m (course_of m o step)) item how remembered_is,
+  )

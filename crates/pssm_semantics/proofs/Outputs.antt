@@ -7,7 +7,7 @@ use Rattle.pssm_semantics.specs.declared.entry.Out.TheVariants.{Mark, Send}
 use Rattle.pssm_semantics.specs.declared.entry.Entry.{Entry}
 use Rattle.pssm_semantics.specs.declared.entry.Entry.TheVariants.{Post, Start, Take, Done, Exit, Effect, Enter, Opened, Pick, DoStep}
 use Rattle.pssm_semantics.specs.Pool.{outs_of, signals_of_out, posts_of_entry, signals_of_entry, signals_of, output_count}
-use Rattle.pssm_semantics.specs.Built.{IsPlainEntry}
+use Rattle.pssm_semantics.specs.Built.{IsBuiltEntry}
 
 -- an output sends at most one signal
 outs-signals : (outs : List Out) → length (flat_map signals_of_out outs) ≤ length outs
@@ -38,7 +38,7 @@ none_in : (outs : List Out) → outs ≡ [] → length outs ≤ 1
 none_in outs none = let few = ap length none in omega arith
 
 -- a plain entry has no more than one, and that where it is a post
-pub outputs_in-plain : (e : Entry) → IsPlainEntry e → outputs_in e ≤ 1
+pub outputs_in-plain : (e : Entry) → IsBuiltEntry e → outputs_in e ≤ 1
 outputs_in-plain (Post o g args) is = omega arith
 outputs_in-plain (Start o) is = omega arith
 outputs_in-plain (Take o number firing) is = omega arith
@@ -51,7 +51,7 @@ outputs_in-plain (Pick o v route) is = absurd is
 outputs_in-plain (DoStep o v k outs) is = absurd is
 
 -- so a journal of plain entries has no more than it has entries
-pub output_count-plain : (J : List Entry) → AllByRecursion IsPlainEntry J → output_count J ≤ length J
+pub output_count-plain : (J : List Entry) → AllByRecursion IsBuiltEntry J → output_count J ≤ length J
 output_count-plain [] all = omega arith
 output_count-plain (e ∷ J) all =
     let rest = output_count-plain J all.1 in

@@ -1,30 +1,28 @@
 -- A setting without behaviours whose machine has its shape is proper, and one that the code runs is well formed.
-use Rattle.std.proofs.Common.{◌≡◌, ◌≢◌, ◌⊎◌, ◌<◌, ◌≤◌, ℕ, List, [], ◌∷◌, length, map, Some, slice_get, All, AllPairs, refl, sym, ap, subst, ◌∙◌, inl, inr, ⊎_elim, arith}
+use Rattle.std.proofs.Common.{◌≡◌, ◌≢◌, ◌⊎◌, ◌<◌, ◌≤◌, ℕ, List, [], ◌∷◌, length, map, Some, slice_get, All, AllPairs, refl, sym, ap, subst, ◌∙◌, inl, inr, arith}
 use Rattle.std.specs.List.{AllByRecursion}
 use Rattle.std.proofs.lemmas.List.Elements.{All-from_recursion, All-nil, All-map}
 use Rattle.std.proofs.lemmas.List.{get_or-map, length-map}
-use Rattle.pssm_model.specs.declared.ids.SignalId.{SignalId}
 use Rattle.pssm_model.specs.declared.elements.DraftMachine.{DraftMachine}
 use Rattle.pssm_model.specs.declared.elements.Vertex.{Vertex}
 use Rattle.pssm_model.specs.declared.elements.VertexKind.TheVariants as kinds
 use Rattle.pssm_model.specs.declared.elements.Transition.{Transition}
 use Rattle.pssm_model.specs.declared.elements.Guard.{Guard}
 use Rattle.pssm_model.specs.declared.elements.Guard.TheVariants.{Always, Otherwise}
-use Rattle.pssm_model.specs.Shape.{HasShape}
+use Rattle.pssm_model.specs.Shapes.{HasShape}
 use Rattle.pssm_model.specs.WellFormed.{KeepsModelRules}
 use Rattle.pssm_model.specs.BuiltMachine.{IsPlainVertex, IsPlainTransition}
-use Rattle.pssm_model.specs.Silent.{IsSilentVertex, IsSilentTransition, IsSilentMachine}
+use Rattle.pssm_model.specs.Silent.{IsSilentVertex, IsSilentTransition}
 use Rattle.pssm_model.proofs.BuiltShape.{built_has_shape}
 use Rattle.pssm_model.proofs.BuiltWellFormed.{built_keeps_rules}
 use Rattle.pssm_semantics.specs.declared.tree.Act.{Act}
-use Rattle.pssm_semantics.specs.declared.tree.Stmt.{Stmt}
 use Rattle.pssm_semantics.specs.declared.setting.Class.{Class}
 use Rattle.pssm_semantics.specs.declared.setting.Setting.{Setting}
 use Rattle.pssm_semantics.specs.declared.setting.SignalDecl.{SignalDecl}
 use Rattle.pssm_semantics.specs.declared.setting.VarDecl.{VarDecl}
 use Rattle.pssm_semantics.specs.declared.setting.ObjectDecl.{ObjectDecl}
 use Rattle.pssm_semantics.specs.Fits.{Vocabulary, StmtFits, stmts_count, ActFits, CondFits}
-use Rattle.pssm_semantics.specs.Built.{IsPlainSignal, IsSilentClass, IsSilent, IsPlainClass, IsBuilt, ListsSignals, DefersSignals}
+use Rattle.pssm_semantics.specs.Built.{IsPlainSignal, IsSilentClass, IsSilent, IsBuilt, ListsSignals, DefersSignals}
 use Rattle.pssm_semantics.specs.Proper.{HasAct, GuardFits, VertexFits, TransitionFits, IsShortName, AreNames, ProgramFits, HasSignal, CanSend, ClassFits, IsProper, IsWellFormed}
 
 -- what holds of each element of a list holds of each in another way

@@ -1,5 +1,5 @@
 -- In every admissible journal steps follow finished steps, and each signal that is taken was told earlier, to its object, and is taken once.
-use Rattle.std.proofs.Common.{◌≡◌, ◌<◌, ◌+◌, ◌++◌, ◌==◌, ◌&&◌, ◌||◌, ℕ, zero, suc, List, [], ◌∷◌, Bool, true, false, not, cond, filter, Some, None, slice_get, refl, sym, ap, subst, ◌∙◌, ⊎_elim, arith, add-one, eq-eqb}
+use Rattle.std.proofs.Common.{◌≡◌, ◌<◌, ◌+◌, ◌++◌, ◌==◌, ◌&&◌, ◌||◌, ℕ, zero, suc, List, [], ◌∷◌, Bool, true, false, not, cond, filter, Some, None, slice_get, refl, sym, ap, subst, ◌∙◌, arith, add-one, eq-eqb}
 use Rattle.std.specs.List.{AllByRecursion, list_any, enumerate_from}
 use Rattle.std.proofs.lemmas.Bool.{false≢true}
 use Rattle.std.proofs.lemmas.Grind.{flat_map-append}
@@ -13,8 +13,8 @@ use Rattle.pssm_semantics.specs.declared.setting.Setting.{Setting}
 use Rattle.pssm_semantics.specs.Settings.{class_of}
 use Rattle.pssm_semantics.specs.Journal.{Splits}
 use Rattle.pssm_semantics.specs.Pool.{signals_of_entry, signals_of, takes, pool_of, told_by}
-use Rattle.pssm_semantics.specs.Ways.{IsStepFinished}
-use Rattle.pssm_semantics.specs.Runs.{IsAdmissibleIn}
+use Rattle.pssm_semantics.specs.Completion.{IsStepFinished}
+use Rattle.pssm_semantics.specs.Admissible.{IsAdmissibleIn}
 use Rattle.pssm_semantics.specs.Laws.{StepsFollow, TakesAreTold, TakesDiffer, KeepsTakes}
 use Rattle.pssm_semantics.proofs.Appended.{AllByRecursion-back}
 use Rattle.pssm_semantics.proofs.Objects.{same_object}

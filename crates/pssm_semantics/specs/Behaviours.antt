@@ -11,7 +11,7 @@ use Rattle.pssm_semantics.specs.declared.setting.Class.{Class}
 use Rattle.pssm_semantics.specs.declared.setting.Outcome.{Outcome}
 use Rattle.pssm_semantics.specs.declared.tree.Act.{Act}
 use Rattle.pssm_semantics.specs.Values.{Store, Params, eight_of, no_params, truth_of, outcome_of}
-use Rattle.pssm_semantics.specs.Pool.{Told}
+use Rattle.pssm_semantics.specs.Pool.{KnownSignals}
 use Rattle.pssm_semantics.specs.Journal.{object_of, is_head_of}
 
 -- the entry that began the object's last step (UML 2.5.1 14.2.3.9, run to completion)
@@ -19,16 +19,16 @@ abbrev pub last_head : List Entry → ObjectId → Option Entry
 last_head J o = find (is_head_of o) (reverse J)
 
 -- the arguments of the signal that a head entry took, and zeros at another (UML 2.5.1 13.3.3, the data of a signal event)
-abbrev pub params_of_head : Told → Option Entry → Params
+abbrev pub params_of_head : KnownSignals → Option Entry → Params
 params_of_head told (Some (Take object number firing)) = eight_of (option_map_or (λ x. x.args) (told number) [])
 params_of_head told _ = no_params
 
 -- the parameters of the object's step (UML 2.5.1 13.3.3, the data of a signal event)
-abbrev pub params_of : Told → List Entry → ObjectId → Params
+abbrev pub params_of : KnownSignals → List Entry → ObjectId → Params
 params_of told J o = params_of_head told (last_head J o)
 
 -- the parameters of an entry's behaviour: those of the step, and zeros for a do step (this profile's choice)
-abbrev pub params_at : Told → List Entry → Entry → Params
+abbrev pub params_at : KnownSignals → List Entry → Entry → Params
 params_at told J (DoStep object state step outs) = no_params
 params_at told J e = params_of told J (object_of e)
 
@@ -47,7 +47,7 @@ act_of class (DoStep object state step outs) =
 act_of class _ = None
 
 -- what the behaviour of an entry after these entries makes of a store; without behaviour nothing changes (UML 2.5.1 13.2.3, behaviours)
-abbrev pub outcome_at : Class → Told → List Entry → Entry → Store → Outcome
+abbrev pub outcome_at : Class → KnownSignals → List Entry → Entry → Store → Outcome
 outcome_at class told J e store =
     option_map_or (λ act. outcome_of act (object_of e) store (params_at told J e)) (act_of class e) (record { store = store; outs = [] })
 
@@ -56,17 +56,17 @@ abbrev pub first_store : Class → Store
 first_store class = map (λ x. x.first) class.vars
 
 -- the store after an entry: an entry of the object changes it by its behaviour (UML 2.5.1 13.2.3, behaviours)
-abbrev pub store_after : Class → Told → ObjectId → List Entry → Entry → Store → Store
+abbrev pub store_after : Class → KnownSignals → ObjectId → List Entry → Entry → Store → Store
 store_after class told o before e store = if (object_of e).0 == o.0 then (outcome_at class told before e store).store else store
 
 -- the store after further entries, in order (UML 2.5.1 13.2.3, behaviours)
-abbrev pub store_through : Class → Told → ObjectId → List Entry → List Entry → Store → Store
+abbrev pub store_through : Class → KnownSignals → ObjectId → List Entry → List Entry → Store → Store
 store_through class told o before [] store = store
 store_through class told o before (e ∷ rest) store =
     store_through class told o (before ++ e ∷ []) rest (store_after class told o before e store)
 
 -- the store of the object after the journal (UML 2.5.1 13.2.3, behaviours)
-abbrev pub store_of : Class → Told → List Entry → ObjectId → Store
+abbrev pub store_of : Class → KnownSignals → List Entry → ObjectId → Store
 store_of class told J o = store_through class told o [] J (first_store class)
 
 -- the values of the guards on a store and parameters (UML 2.5.1 14.2.3.8, guards)
@@ -74,5 +74,5 @@ abbrev pub guards_under : Class → Store → Params → Truth
 guards_under class store params g = option_map_or (λ c. truth_of c store params) (slice_get class.program.guards g.0) false
 
 -- the values of the guards within the object's step after the journal (UML 2.5.1 14.2.3.8, guards)
-abbrev pub guards_at : Class → Told → List Entry → ObjectId → Truth
+abbrev pub guards_at : Class → KnownSignals → List Entry → ObjectId → Truth
 guards_at class told J o = guards_under class (store_of class told J o) (params_of told J o)

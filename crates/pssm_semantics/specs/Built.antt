@@ -1,4 +1,4 @@
--- The settings that the code runs so far: one class with a machine of one region, one object, and signals without arguments;
+-- The premise of what is built, the settings that the code runs: one class with a machine of one region, one object, and signals without arguments;
 -- and the entries of their runs.
 -- Later work widens this premise; no definition changes with it.
 use Rattle.std.specs.Prelude.{◌≡◌, ◌≢◌, ◌⊎◌, ◌<◌, ◌≤◌, ℕ, [], ◌∷◌, length, AllPairs}
@@ -59,7 +59,7 @@ pub record IsSilentClass (x : Class) : Type 0 where
   pub marks : x.program.marks ≡ []
   pub machine : IsSilentMachine x.machine
 
--- one such class, one object of it, and signals without arguments: what a model's text spells so far
+-- one such class, one object of it, and signals without arguments, of which the readers and writers of a model's text know
 pub record IsSilent (setting : Setting) : Type 0 where
   pub class : Class
   pub object : ObjectDecl
@@ -94,16 +94,16 @@ abbrev pub entries_to_complete : ℕ
 entries_to_complete = 3
 
 -- Nothing fires, or one transition does.
-abbrev pub IsPlainFiring : Firing → Type 0
-IsPlainFiring firing = (firing.routes ≡ []) ⊎ ((t : TransId) × (firing.routes ≡ single_route t ∷ []))
+abbrev pub IsBuiltFiring : Firing → Type 0
+IsBuiltFiring firing = (firing.routes ≡ []) ⊎ ((t : TransId) × (firing.routes ≡ single_route t ∷ []))
 
 -- the entries of a run of such a setting: no arguments, no outputs, routes of one transition
-abbrev pub IsPlainEntry : Entry → Type 0
-IsPlainEntry (Post o signal args) = args ≡ []
-IsPlainEntry (Start o) = Unit {0}
-IsPlainEntry (Take o number firing) = (0 < number) × IsPlainFiring firing
-IsPlainEntry (Exit o state outs) = outs ≡ []
-IsPlainEntry (Effect o transition outs) = outs ≡ []
-IsPlainEntry (Enter o state outs) = outs ≡ []
-IsPlainEntry (Opened o region mode how) = (mode ≡ Plain) × ((t : TransId) × (how ≡ By (single_route t)))
-IsPlainEntry _ = ⊥
+abbrev pub IsBuiltEntry : Entry → Type 0
+IsBuiltEntry (Post o signal args) = args ≡ []
+IsBuiltEntry (Start o) = Unit {0}
+IsBuiltEntry (Take o number firing) = (0 < number) × IsBuiltFiring firing
+IsBuiltEntry (Exit o state outs) = outs ≡ []
+IsBuiltEntry (Effect o transition outs) = outs ≡ []
+IsBuiltEntry (Enter o state outs) = outs ≡ []
+IsBuiltEntry (Opened o region mode how) = (mode ≡ Plain) × ((t : TransId) × (how ≡ By (single_route t)))
+IsBuiltEntry _ = ⊥

@@ -1,20 +1,19 @@
--- When a State is complete, which completion comes next, and when an object has ended.
-use Rattle.std.specs.Prelude.{◌≡◌, ◌⊎◌, ◌≤◌, ◌<◌, ◌++◌, ℕ, List, [], ◌∷◌, length, Some, Contains}
+-- When a State becomes complete, which completion comes next, when a step is finished, and when an object has ended.
+use Rattle.std.specs.Prelude.{◌≡◌, ◌⊎◌, ◌≤◌, ◌++◌, ℕ, List, [], ◌∷◌, length, Contains}
 use Rattle.std.specs.List.{AllByRecursion}
-use Rattle.std.specs.Option.{option_map_or}
 use Rattle.pssm_model.specs.declared.ids.VertexId.{VertexId}
-use Rattle.pssm_model.specs.declared.ids.RegionId.{RegionId}
 use Rattle.pssm_model.specs.declared.ids.TransId.{TransId}
 use Rattle.pssm_model.specs.declared.elements.DraftMachine.{DraftMachine}
 use Rattle.pssm_model.specs.declared.elements.VertexKind.TheVariants as kinds
-use Rattle.pssm_model.specs.declared.elements.Owner.TheVariants.{Top, Region, State}
-use Rattle.pssm_model.specs.Forest.{vertex_at, HasKind, owner_of}
+use Rattle.pssm_model.specs.Forest.{HasKind}
 use Rattle.pssm_model.specs.Legs.{Leaves, Enters}
 use Rattle.pssm_model.specs.Configuration.{IsComplete, AllTopsAreFinal}
 use Rattle.pssm_model.specs.Routes.{HasNoTrigger}
+use Rattle.pssm_model.specs.Items.{HasRunOut}
 use Rattle.pssm_semantics.specs.declared.entry.ObjectId.{ObjectId}
 use Rattle.pssm_semantics.specs.declared.entry.Entry.{Entry}
 use Rattle.pssm_semantics.specs.declared.entry.Entry.TheVariants.{Done, Effect}
+use Rattle.pssm_semantics.specs.Steps.{StepAt, IsLastStep, course_of}
 use Rattle.pssm_semantics.specs.Journal.{Splits, IsActive, EntersAt, configuration_after}
 
 -- The entry dispatches the completion of the State (UML 2.5.1 14.2.3.8, completion events).
@@ -66,3 +65,8 @@ HasTerminated m J o =
 -- The object has terminated, or every top region has an active final state of its own (UML 2.5.1 14.2.3.6 and 14.2.3.7, final states and terminate).
 abbrev pub HasEnded : DraftMachine → List Entry → ObjectId → Type 0
 HasEnded m J o = HasTerminated m J o ⊎ AllTopsAreFinal m (configuration_after m J o)
+
+-- Every item that the object's last step calls has run, or the object has ended (UML 2.5.1 14.2.3.9, run to completion).
+abbrev pub IsStepFinished : DraftMachine → List Entry → ObjectId → Type 0
+IsStepFinished m J o =
+    ((step : StepAt) → IsLastStep J o step → HasRunOut m (course_of m o step)) ⊎ HasEnded m J o

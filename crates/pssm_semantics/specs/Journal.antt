@@ -99,8 +99,8 @@ DoesAt (DoStep object state step outs) o s k = (object ≡ o) × (state ≡ s) �
 DoesAt _ o s k = ⊥
 
 -- The do step stands in the journal after the State's last entry (UML 2.5.1 14.2.3.4, doActivity).
-abbrev pub HasStepped : List Entry → ObjectId → VertexId → ℕ → Type 0
-HasStepped J o s k =
+abbrev pub HasDoneStep : List Entry → ObjectId → VertexId → ℕ → Type 0
+HasDoneStep J o s k =
     (before after : List Entry) × (e : Entry) × Splits J before e after × DoesAt e o s k × AllByRecursion (λ f. EntersAt f o s → ⊥) after
 
 -- the configuration of the object after these entries (UML 2.5.1 14.2.3.4, State configurations)
@@ -108,6 +108,6 @@ abbrev pub configuration_after : DraftMachine → List Entry → ObjectId → Co
 configuration_after m J o = record {
   Active = IsActive J o;
   Remembers = IsMemory m J o;
-  HasStepped = HasStepped J o;
+  HasDoneStep = HasDoneStep J o;
   LeftEmpty = IsLeftEmpty m J o;
 }

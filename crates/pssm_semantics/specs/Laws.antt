@@ -1,12 +1,10 @@
 -- The statements about all admissible journals.
-use Rattle.std.specs.Prelude.{◌≡◌, ◌≢◌, ◌⊎◌, ◌≤◌, ◌<◌, ◌++◌, ℕ, List, length, sum_by, Some, Contains, AllPairs, slice_get}
-use Rattle.std.specs.Option.{option_map_or}
+use Rattle.std.specs.Prelude.{◌≡◌, ◌≢◌, ◌⊎◌, ◌≤◌, ◌<◌, ◌++◌, ℕ, List, length, Some, slice_get}
 use Rattle.pssm_model.specs.declared.ids.VertexId.{VertexId}
 use Rattle.pssm_model.specs.declared.ids.RegionId.{RegionId}
 use Rattle.pssm_model.specs.declared.steps.Firing.{Firing}
 use Rattle.pssm_model.specs.declared.elements.Owner.TheVariants.{Top, Region, State}
 use Rattle.pssm_model.specs.Forest.{owner_of}
-use Rattle.pssm_model.specs.Limits.{entries_at_most}
 use Rattle.pssm_semantics.specs.declared.entry.ObjectId.{ObjectId}
 use Rattle.pssm_semantics.specs.declared.entry.Entry.{Entry}
 use Rattle.pssm_semantics.specs.declared.entry.Entry.TheVariants.{Take, Done}
@@ -17,36 +15,14 @@ use Rattle.pssm_semantics.specs.Settings.{class_of}
 use Rattle.pssm_semantics.specs.Journal.{Splits, IsActive}
 use Rattle.pssm_semantics.specs.Pool.{told_by}
 use Rattle.pssm_semantics.specs.Completion.{BecomesComplete}
-use Rattle.pssm_semantics.specs.Ways.{IsStepFinished}
-use Rattle.pssm_semantics.specs.Proper.{IsWellFormed}
-use Rattle.pssm_semantics.specs.Runs.{IsAdmissibleIn, IsCompleteRun}
-
--- an object whose last step is not finished (UML 2.5.1 14.2.3.9, run to completion)
-abbrev pub HasOpenStep : Setting → List Entry → ObjectId → Type 0
-HasOpenStep setting J o = (class : Class) × (class_of setting o ≡ Some class) × (IsStepFinished class.machine J o → ⊥)
-
--- the objects with an open step, each once (UML 2.5.1 14.2.3.9, run to completion)
-pub record AreOpen (setting : Setting) (J : List Entry) (unfinished : List ObjectId) : Type 0 where
-  pub each : (o : ObjectId) → HasOpenStep setting J o → Contains unfinished o
-  pub only : (o : ObjectId) → Contains unfinished o → HasOpenStep setting J o
-  pub once : AllPairs (λ a b. a ≢ b) unfinished
-
--- the sum of what the open steps of these objects can need (this profile's choice)
-abbrev pub needs_at_most : Setting → List ObjectId → ℕ
-needs_at_most setting objects = sum_by (λ o. option_map_or (λ c. entries_at_most c.machine) (class_of setting o) 0) objects
+use Rattle.pssm_semantics.specs.Completion.{IsStepFinished}
+use Rattle.pssm_semantics.specs.Admissible.{IsCompleteRun}
 
 -- The journal can be continued to a complete run by at most so many entries (UML 2.5.1 14.2.3.9, run to completion).
 pub record CompletesWithin (setting : Setting) (J : List Entry) (most : ℕ) : Type 0 where
   pub more : List Entry
   pub few : length more ≤ most
   pub run : IsCompleteRun setting (J ++ more)
-
--- Every admissible journal of a well-formed setting can be completed, by no more entries than its open steps need at most
--- (UML 2.5.1 14.2.3.9, run to completion; the bound is this profile's choice).
-abbrev pub CompletionLaw : Setting → Type 0
-CompletionLaw setting =
-    (J : List Entry) → IsWellFormed setting → IsAdmissibleIn setting J
-    → (unfinished : List ObjectId) × AreOpen setting J unfinished × CompletesWithin setting J (needs_at_most setting unfinished)
 
 -- The entry begins a step of the object other than its first (UML 2.5.1 14.2.3.9, run to completion).
 abbrev pub BeginsStep : Entry → ObjectId → Type 0
@@ -103,8 +79,3 @@ pub record KeepsRegions (setting : Setting) (J : List Entry) : Type 0 where
   pub one_each : RegionsHoldOne setting J
   pub owners : OwnersAreActive setting J
   pub one_completes : OneBecomesComplete setting J
-
--- the laws of all admissible journals (UML 2.5.1 14.2.3.4, 14.2.3.8 and 14.2.3.9)
-abbrev pub LawsOfJournals : Setting → Type 0
-LawsOfJournals setting =
-    (J : List Entry) → IsAdmissibleIn setting J → KeepsTakes setting J × (IsWellFormed setting → KeepsRegions setting J)

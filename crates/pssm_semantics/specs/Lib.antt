@@ -6,14 +6,15 @@ pub mod Pool
 pub mod Steps
 pub mod Completion
 pub mod Behaviours
-pub mod Ways
+pub mod Deferral
 pub mod Known
 pub mod Rules
 pub mod Verdict
-pub mod Runs
+pub mod Admissible
 pub mod Fits
 pub mod Proper
 pub mod Laws
 pub mod Equal
 pub mod Arguments
 pub mod Work
+pub mod later

@@ -52,16 +52,16 @@ abbrev pub pool_of : List Entry → ObjectId → List (ℕ × Stimulus)
 pool_of J o = filter (λ w. (w.1.object.0 == o.0) && not (list_any (λ e. takes e o w.0) J)) (numbered_signals J)
 
 -- what is known of signals by their numbers (this profile's choice)
-abbrev pub Told : Type 0
-Told = ℕ → Option Stimulus
+abbrev pub KnownSignals : Type 0
+KnownSignals = ℕ → Option Stimulus
 
 -- the signal with a number in a list, from 1 (this profile's choice)
-abbrev pub signal_in : List Stimulus → Told
+abbrev pub signal_in : List Stimulus → KnownSignals
 signal_in signals zero = None
 signal_in signals (suc n) = slice_get signals n
 
 -- the signals of a journal by their numbers (this profile's choice)
-abbrev pub told_by : List Entry → Told
+abbrev pub told_by : List Entry → KnownSignals
 told_by J = signal_in (signals_of J)
 
 -- how many posts, sends and marks the journal has (this profile's choice)

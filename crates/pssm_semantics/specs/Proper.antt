@@ -56,10 +56,6 @@ pub record ProgramFits (class : Class) (Sends : Option ObjectId → SignalId →
   pub names : IsShortName class.name × AreNames (map (λ x. x.name) class.vars) × AreNames class.program.marks
   pub limits : (length class.vars ≤ 64) × (length class.program.acts ≤ 32768) × (length class.program.marks ≤ 32768)
 
--- a class by itself: of sends it is asked only that they have at most eight arguments (this profile's choice)
-abbrev pub IsProperClass : Class → Type 0
-IsProperClass class = ProgramFits class (λ to signal n. n ≤ 8)
-
 -- The signal is one of the setting (this profile's choice).
 abbrev pub HasSignal : Setting → SignalId → Type 0
 HasSignal setting signal = signal.0 < length setting.signals
@@ -86,8 +82,3 @@ pub record IsProper (setting : Setting) : Type 0 where
 pub record IsWellFormed (setting : Setting) : Type 0 where
   pub proper : IsProper setting
   pub rules : All (λ c. KeepsModelRules c.machine) setting.classes
-
--- the same of a class by itself (this profile's choice)
-pub record IsWellFormedClass (class : Class) : Type 0 where
-  pub proper : IsProperClass class
-  pub rules : KeepsModelRules class.machine

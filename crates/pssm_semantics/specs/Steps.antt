@@ -1,5 +1,5 @@
 -- The steps of an object, and how far each has come, read off the journal.
-use Rattle.std.specs.Prelude.{◌≡◌, ◌==◌, List, [], if◌then◌else◌, Option, Some, None, filter_map}
+use Rattle.std.specs.Prelude.{◌==◌, List, [], if◌then◌else◌, Option, Some, None, filter_map}
 use Rattle.std.specs.List.{AllByRecursion}
 use Rattle.pssm_model.specs.declared.elements.DraftMachine.{DraftMachine}
 use Rattle.pssm_model.specs.declared.steps.How.{How}

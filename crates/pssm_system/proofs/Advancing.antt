@@ -26,7 +26,7 @@ use Rattle.pssm_semantics.specs.Pool.{signals_of, signals_of_entry, takes}
 use Rattle.pssm_semantics.proofs.Appending.{every_push, more, active_push, active_entered, active_kept, none_active}
 use Rattle.pssm_system.specs.declared.progress.Progress.{Progress}
 use Rattle.pssm_system.specs.declared.progress.Progress.TheVariants.{Unstarted, Opening, Resting, Exiting, Acting, Entering}
-use Rattle.pssm_system.specs.Standing.{the_object, waiting, IsUnderWay, IsProgressOf, HasTaken, StandsAt}
+use Rattle.pssm_system.specs.inner.Situations.{the_object, waiting, IsUnderWay, IsProgressOf, HasTaken, StandsAt}
 use Rattle.pssm_semantics.proofs.Courses.{run_cases}
 use Rattle.pssm_semantics.proofs.Members.{in_cases}
 use Rattle.pssm_system.proofs.Steps.{AddsNothing, runs_nothing, step_kept, step_ran}

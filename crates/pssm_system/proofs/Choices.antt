@@ -13,7 +13,7 @@ use Rattle.pssm_model.specs.Routes.{Lists}
 use Rattle.pssm_model.proofs.BuiltElements.{same_transition}
 use Rattle.pssm_model.proofs.BuiltTransitions.{leaves_at, lists_at}
 use Rattle.pssm_semantics.proofs.Appending.{every_push}
-use Rattle.pssm_system.specs.Choosing.{AreEnabledBelow}
+use Rattle.pssm_system.specs.inner.Choosing.{AreEnabledBelow}
 use Rattle.pssm_system.proofs.Marks.{transition_number}
 
 pub enabled_none : (m : DraftMachine) (s : VertexId) (signal : SignalId) (found : List TransId) → found ≡ [] → AreEnabledBelow m s signal 0 found

@@ -22,14 +22,14 @@ use Rattle.pssm_semantics.specs.declared.setting.Setting.{Setting}
 use Rattle.pssm_semantics.specs.Journal.{IsPost, object_of}
 use Rattle.pssm_semantics.specs.Known.{IsRouteOf, IsOutOf, NamesKnown}
 use Rattle.pssm_semantics.specs.Rules.{Holds, IsCalledItem}
-use Rattle.pssm_semantics.specs.Runs.{MayFollow, IsQuiet}
+use Rattle.pssm_semantics.specs.Admissible.{MayFollow, IsQuiet}
 use Rattle.pssm_semantics.specs.Built.{IsBuilt}
 use Rattle.pssm_system.specs.declared.progress.Progress.{Progress}
 use Rattle.pssm_system.specs.declared.progress.Progress.TheVariants.{Unstarted, Opening, Resting, Exiting, Acting, Entering}
-use Rattle.pssm_system.specs.Standing.{the_object, IsProgressIn, IsTransitionOf, StandsAt}
-use Rattle.pssm_system.specs.Judging.{FiresAt, IsNumbered, Judges}
-use Rattle.pssm_system.specs.Reactions.{has_mark, AreReactions}
-use Rattle.pssm_system.specs.Choosing.{the_opening, next_entry, IsIdle, Chooses}
+use Rattle.pssm_system.specs.inner.Situations.{the_object, IsProgressIn, IsTransitionOf, StandsAt}
+use Rattle.pssm_system.specs.inner.Judging.{FiresAt, IsNumbered, Judges}
+use Rattle.pssm_system.specs.inner.Reactions.{has_mark, AreReactions}
+use Rattle.pssm_system.specs.inner.Choosing.{the_opening, next_entry, IsIdle, Chooses}
 use Rattle.pssm_system.proofs.Kept.{asks, own_class, own_entry}
 use Rattle.pssm_system.proofs.Rules.{starts_once, no_queue_head, called_item_waits, no_do_step}
 use Rattle.pssm_system.proofs.Judged.{judged}

@@ -14,15 +14,15 @@ use Rattle.pssm_semantics.specs.declared.entry.Entry.TheVariants.{Post, Start, T
 use Rattle.pssm_semantics.specs.declared.setting.Class.{Class}
 use Rattle.pssm_semantics.specs.declared.setting.Setting.{Setting}
 use Rattle.pssm_semantics.specs.Journal.{Heads, IsPost}
-use Rattle.pssm_semantics.specs.Ways.{IsStepFinished}
-use Rattle.pssm_semantics.specs.Runs.{IsAdmissibleIn, IsCompleteRun, AllFinished, MayFollow}
+use Rattle.pssm_semantics.specs.Completion.{IsStepFinished}
+use Rattle.pssm_semantics.specs.Admissible.{IsAdmissibleIn, IsCompleteRun, AllFinished, MayFollow}
 use Rattle.pssm_semantics.specs.Laws.{CompletesWithin}
 use Rattle.pssm_semantics.specs.Built.{IsBuilt}
 use Rattle.pssm_semantics.proofs.Appending.{admissible_push}
 use Rattle.pssm_system.specs.declared.progress.Progress.{Progress}
 use Rattle.pssm_system.specs.declared.progress.Progress.TheVariants.{Unstarted, Opening, Resting, Exiting, Acting, Entering}
-use Rattle.pssm_system.specs.Standing.{the_object, IsProgressOf, StandsAt}
-use Rattle.pssm_system.specs.Choosing.{the_opening}
+use Rattle.pssm_system.specs.inner.Situations.{the_object, IsProgressOf, StandsAt}
+use Rattle.pssm_system.specs.inner.Choosing.{the_opening}
 use Rattle.pssm_semantics.proofs.Members.{first_in}
 use Rattle.pssm_system.proofs.Kept.{class_is}
 use Rattle.pssm_system.proofs.Rules.{each_of, step_finished}
@@ -45,7 +45,7 @@ post_is_no_head (DoStep p v k outs) o post h = post
 -- where the object has not started, no step is open
 unstarted_finished : (m : DraftMachine) (J : List Entry) → IsProgressOf m J the_object Unstarted → IsStepFinished m J the_object
 unstarted_finished m J posts =
-    inl (λ step item last called.
+    inl (λ step last item called.
     let there : Contains J step.head =
     subst (λ js. Contains js step.head) (sym last.splits)
     (Contains-append_right step.before (step.head ∷ step.after) step.head (first_in step.head step.after)) in

@@ -27,13 +27,13 @@ use Rattle.pssm_semantics.specs.Values.{eight_of}
 use Rattle.pssm_semantics.specs.Pool.{signals_of, told_by}
 use Rattle.pssm_semantics.specs.Behaviours.{store_of, guards_under, guards_at}
 use Rattle.pssm_semantics.specs.Rules.{IsCalledItem, IsClearedItem}
-use Rattle.pssm_semantics.specs.Runs.{MayFollow}
+use Rattle.pssm_semantics.specs.Admissible.{MayFollow}
 use Rattle.pssm_semantics.specs.Built.{IsBuilt}
 use Rattle.pssm_system.specs.declared.progress.Progress.{Progress}
 use Rattle.pssm_system.specs.declared.progress.Progress.TheVariants.{Unstarted, Opening, Resting, Exiting, Acting, Entering}
-use Rattle.pssm_system.specs.Standing.{the_object, waiting, passed, active_in, IsStarted, StandsAt}
-use Rattle.pssm_system.specs.Judging.{FiresAt}
-use Rattle.pssm_system.specs.Advancing.{AdvancesByFiring, Advances, signals_after, taken_after}
+use Rattle.pssm_system.specs.inner.Situations.{the_object, waiting, passed, active_in, IsStarted, StandsAt}
+use Rattle.pssm_system.specs.inner.Judging.{FiresAt}
+use Rattle.pssm_system.specs.inner.Advancing.{AdvancesByFiring, Advances, signals_after, taken_after}
 use Rattle.pssm_semantics.proofs.Members.{first_in, in_cases}
 use Rattle.pssm_system.proofs.Signals.{IsNext, active_states, waiting_is_next, told_next}
 use Rattle.pssm_system.proofs.Kept.{asks, own_entry}

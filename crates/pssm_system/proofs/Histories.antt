@@ -27,26 +27,26 @@ use Rattle.pssm_semantics.specs.Journal.{IsPost}
 use Rattle.pssm_semantics.specs.Values.{no_params}
 use Rattle.pssm_semantics.specs.Pool.{signals_of, told_by}
 use Rattle.pssm_semantics.specs.Behaviours.{store_of, params_of}
-use Rattle.pssm_semantics.specs.Runs.{MayFollow, IsAdmissibleIn, IsQuiet, KeepsJournalLimits}
+use Rattle.pssm_semantics.specs.Admissible.{MayFollow, IsAdmissibleIn, IsQuiet, KeepsJournalLimits}
 use Rattle.pssm_semantics.specs.Laws.{CompletesWithin, KeepsTakes, KeepsRegions}
-use Rattle.pssm_semantics.specs.Built.{IsBuilt, IsPlainClass, IsPlainEntry}
+use Rattle.pssm_semantics.specs.Built.{IsBuilt, IsPlainClass, IsBuiltEntry}
 use Rattle.pssm_semantics.proofs.Appending.{every_push, admissible_push, admissible_none}
 use Rattle.pssm_semantics.proofs.Outputs.{signals_of-within}
 use Rattle.pssm_semantics.specs.Proper.{IsWellFormed}
 use Rattle.pssm_semantics.proofs.ProperSettings.{built_is_well_formed}
 use Rattle.pssm_semantics.proofs.Takes.{admissible-keeps_takes}
 use Rattle.pssm_system.specs.declared.progress.Progress.TheVariants.{Unstarted}
-use Rattle.pssm_system.specs.declared.judging.Standing.{Standing}
+use Rattle.pssm_system.specs.declared.judging.Situation.{Situation}
 use Rattle.pssm_system.specs.History.{History}
-use Rattle.pssm_system.specs.Judging.{NamesTransitions, Judges}
-use Rattle.pssm_system.specs.Reactions.{AreReactions}
-use Rattle.pssm_system.specs.Keeping.{KeepsRun, KeepsFirst}
-use Rattle.pssm_system.specs.Standing.{StandsAt}
-use Rattle.pssm_system.specs.Advancing.{Advances, signals_after, taken_after}
+use Rattle.pssm_system.specs.inner.Judging.{NamesTransitions, Judges}
+use Rattle.pssm_system.specs.inner.Reactions.{AreReactions}
+use Rattle.pssm_system.specs.inner.Keeping.{KeepsRun, KeepsFirst}
+use Rattle.pssm_system.specs.inner.Situations.{StandsAt}
+use Rattle.pssm_system.specs.inner.Advancing.{Advances, signals_after, taken_after}
 use Rattle.pssm_system.proofs.Kept.{class_is}
 use Rattle.pssm_system.proofs.Judged.{IsJudged, judged}
 use Rattle.pssm_system.proofs.Advancing.{at_the_start}
-use Rattle.pssm_system.specs.Choosing.{IsIdle, Chooses}
+use Rattle.pssm_system.specs.inner.Choosing.{IsIdle, Chooses}
 use Rattle.pssm_system.proofs.Following.{following, next_waits}
 use Rattle.pssm_system.proofs.Chosen.{chosen_follows, none_is_idle, idle_is_quiet, quiet_is_idle}
 use Rattle.pssm_system.proofs.Completing.{completes}
@@ -67,7 +67,7 @@ named b J (Opened o region mode how) h = tt
 named b J (Pick o choice route) h = tt
 named b J (DoStep o state step outs) h = tt
 
-module _ (h : History) (standing : Standing) (rows : List (Vec Bool Global)) (setting : Setting) (J : List Entry) (k : KeepsRun setting J standing rows)
+module _ (h : History) (situation : Situation) (rows : List (Vec Bool Global)) (setting : Setting) (J : List Entry) (k : KeepsRun setting J situation rows)
     (m : DraftMachine) (machine_is : m ≡ k.built.class.machine)
     (view_is : let seen : History = record { setting = setting; journal = J } in seen ≡ h) (e : Entry) where
   names_seen : Holds h.setting A1 h.journal e → Holds setting A1 J e
@@ -79,26 +79,26 @@ module _ (h : History) (standing : Standing) (rows : List (Vec Bool Global)) (se
   pub table_known : AreReactions m rows
   table_known = subst (λ n. AreReactions n rows) (sym machine_is) k.reactions
 
-  verdict_seen : Holds h.setting A1 h.journal e → (answer : Option Rule) → Judges m standing.progress standing.signals.items standing.taken e answer
+  verdict_seen : Holds h.setting A1 h.journal e → (answer : Option Rule) → Judges m situation.progress situation.signals.items situation.taken e answer
       → IsJudged h.setting h.journal e answer
   verdict_seen names answer judges =
       subst (λ (v : History). IsJudged v.setting v.journal e answer) view_is
-      (judged k.built J e standing.progress standing.signals.items standing.taken k.stands (names_seen names) answer
-      (subst (λ n. Judges n standing.progress standing.signals.items standing.taken e answer) machine_is judges))
+      (judged k.built J e situation.progress situation.signals.items situation.taken k.stands (names_seen names) answer
+      (subst (λ n. Judges n situation.progress situation.signals.items situation.taken e answer) machine_is judges))
 
-  pub keeps_all : Holds h.setting A1 h.journal e → (answer : Option Rule) → Judges m standing.progress standing.signals.items standing.taken e answer
+  pub keeps_all : Holds h.setting A1 h.journal e → (answer : Option Rule) → Judges m situation.progress situation.signals.items situation.taken e answer
       → IfNone answer (MayFollow h.setting h.journal e)
   keeps_all names None judges = verdict_seen names None judges
   keeps_all names (Some rule) judges = tt
 
-  pub breaks_first : Holds h.setting A1 h.journal e → (answer : Option Rule) → Judges m standing.progress standing.signals.items standing.taken e answer
+  pub breaks_first : Holds h.setting A1 h.journal e → (answer : Option Rule) → Judges m situation.progress situation.signals.items situation.taken e answer
       → IfSome answer (IsFirstBroken (Holds h.setting) h.journal e)
   breaks_first names None judges = tt
   breaks_first names (Some rule) judges = verdict_seen names (Some rule) judges
 
   -- what is kept once an entry that may follow is appended
-  pub keeps_longer : MayFollow h.setting h.journal e → KeepsJournalLimits (h.journal ++ e ∷ []) → (next : Standing) → Advances m standing.progress e next.progress
-      → next.signals.items ≡ signals_after standing.signals.items e → next.taken ≡ taken_after standing.taken e
+  pub keeps_longer : MayFollow h.setting h.journal e → KeepsJournalLimits (h.journal ++ e ∷ []) → (next : Situation) → Advances m situation.progress e next.progress
+      → next.signals.items ≡ signals_after situation.signals.items e → next.taken ≡ taken_after situation.taken e
       → KeepsRun setting (J ++ e ∷ []) next rows
   keeps_longer may limits next advances signals taken =
       let follows : MayFollow setting J e = subst (λ (v : History). MayFollow v.setting v.journal e) (sym view_is) may in
@@ -106,12 +106,12 @@ module _ (h : History) (standing : Standing) (rows : List (Vec Bool Global)) (se
         built = k.built;
         admissible = admissible_push setting J e k.admissible follows;
         limits = subst (λ (v : History). KeepsJournalLimits (v.journal ++ e ∷ [])) (sym view_is) limits;
-        plain = every_push IsPlainEntry J e k.plain
-            (is_plain k.built J standing.progress standing.signals.items standing.taken k.stands e follows);
+        plain = every_push IsBuiltEntry J e k.plain
+            (is_plain k.built J situation.progress situation.signals.items situation.taken k.stands e follows);
         stands = subst (λ n. StandsAt k.built.class.machine (J ++ e ∷ []) next.progress next.signals.items n) (sym taken)
-            (subst (λ gs. StandsAt k.built.class.machine (J ++ e ∷ []) next.progress gs (taken_after standing.taken e)) (sym signals)
-            (following k.built J standing.progress standing.signals.items standing.taken k.stands e follows next.progress
-            (subst (λ n. Advances n standing.progress e next.progress) machine_is advances)));
+            (subst (λ gs. StandsAt k.built.class.machine (J ++ e ∷ []) next.progress gs (taken_after situation.taken e)) (sym signals)
+            (following k.built J situation.progress situation.signals.items situation.taken k.stands e follows next.progress
+            (subst (λ n. Advances n situation.progress e next.progress) machine_is advances)));
         reactions = k.reactions;
       }
 
@@ -120,20 +120,20 @@ module _ (h : History) (standing : Standing) (rows : List (Vec Bool Global)) (se
   machine_built = subst IsBuiltMachine (sym machine_is) k.built.class_is.machine
 
   -- a signal waits for an entry that takes one
-  pub signal_waits : MayFollow h.setting h.journal e → ((n : ℕ) → taken_after n e ≡ n + 1) → standing.taken < length standing.signals.items
+  pub signal_waits : MayFollow h.setting h.journal e → ((n : ℕ) → taken_after n e ≡ n + 1) → situation.taken < length situation.signals.items
   signal_waits may takes =
-      next_waits k.built J standing.progress standing.signals.items standing.taken k.stands e
+      next_waits k.built J situation.progress situation.signals.items situation.taken k.stands e
       (subst (λ (v : History). MayFollow v.setting v.journal e) (sym view_is) may) takes
 
 -- what a system tells of itself
-module _ (h : History) (standing : Standing) (rows : List (Vec Bool Global)) (setting : Setting) (J : List Entry) (k : KeepsRun setting J standing rows)
+module _ (h : History) (situation : Situation) (rows : List (Vec Bool Global)) (setting : Setting) (J : List Entry) (k : KeepsRun setting J situation rows)
     (view_is : let seen : History = record { setting = setting; journal = J } in seen ≡ h) where
   seen : (P : Setting → List Entry → Type 0) → P setting J → P h.setting h.journal
   seen P here = subst (λ (v : History). P v.setting v.journal) view_is here
 
   pub completes_seen : CompletesWithin h.setting h.journal 3
   completes_seen =
-      seen (λ s js. CompletesWithin s js 3) (completes k.built J standing.progress standing.signals.items standing.taken k.stands k.admissible)
+      seen (λ s js. CompletesWithin s js 3) (completes k.built J situation.progress situation.signals.items situation.taken k.stands k.admissible)
 
   -- its setting is well formed
   pub well_formed_seen : IsWellFormed h.setting
@@ -144,16 +144,16 @@ module _ (h : History) (standing : Standing) (rows : List (Vec Bool Global)) (se
   laws_seen = (seen KeepsTakes (admissible-keeps_takes setting J k.admissible), seen KeepsRegions (keeps_regions k.built J k.admissible))
 
   -- it is quiet exactly where the object rests and no signal waits
-  pub quiet_seen : (b : Bool) → IsTrue b ↔ IsIdle standing.progress standing.signals.items standing.taken → IsTrue b ↔ IsQuiet h.setting h.journal
+  pub quiet_seen : (b : Bool) → IsTrue b ↔ IsIdle situation.progress situation.signals.items situation.taken → IsTrue b ↔ IsQuiet h.setting h.journal
   quiet_seen b says = (
-    λ is. seen IsQuiet (idle_is_quiet k.built J standing.progress standing.signals.items standing.taken k.stands (says.0 is)),
+    λ is. seen IsQuiet (idle_is_quiet k.built J situation.progress situation.signals.items situation.taken k.stands (says.0 is)),
     λ quiet. says.1
-        (quiet_is_idle k.built J standing.progress standing.signals.items standing.taken rows k.reactions k.stands
+        (quiet_is_idle k.built J situation.progress situation.signals.items situation.taken rows k.reactions k.stands
         (subst (λ (v : History). IsQuiet v.setting v.journal) (sym view_is) quiet)),
   )
 
   -- the signals are within the limits
-  pub few_signals : length standing.signals.items ≤ 2000000
+  pub few_signals : length situation.signals.items ≤ 2000000
   few_signals =
       let long = ap length k.stands.signals_are ∙ length-map (signals_of J) (λ (x : Stimulus). x.signal) in
       let within = signals_of-within J in
@@ -162,22 +162,22 @@ module _ (h : History) (standing : Standing) (rows : List (Vec Bool Global)) (se
 
   -- what is chosen may follow, and nothing is chosen where nothing may
   module _ (m : DraftMachine) (machine_is : m ≡ k.built.class.machine) where
-    own_machine : (chosen : Option Entry) → Chooses m standing.progress standing.signals.items standing.taken chosen
-        → Chooses k.built.class.machine standing.progress standing.signals.items standing.taken chosen
-    own_machine chosen is = subst (λ n. Chooses n standing.progress standing.signals.items standing.taken chosen) machine_is is
+    own_machine : (chosen : Option Entry) → Chooses m situation.progress situation.signals.items situation.taken chosen
+        → Chooses k.built.class.machine situation.progress situation.signals.items situation.taken chosen
+    own_machine chosen is = subst (λ n. Chooses n situation.progress situation.signals.items situation.taken chosen) machine_is is
 
-    pub chosen_seen : (chosen : Option Entry) → Chooses m standing.progress standing.signals.items standing.taken chosen
+    pub chosen_seen : (chosen : Option Entry) → Chooses m situation.progress situation.signals.items situation.taken chosen
         → IfSome chosen (λ e. (IsPost e → ⊥) × MayFollow h.setting h.journal e)
     chosen_seen None is = tt
     chosen_seen (Some e) is =
-        let may = chosen_follows k.built J standing.progress standing.signals.items standing.taken k.stands e (own_machine (Some e) is) in
+        let may = chosen_follows k.built J situation.progress situation.signals.items situation.taken k.stands e (own_machine (Some e) is) in
         (may.0, seen (λ s js. MayFollow s js e) may.1)
 
-    pub none_seen : (chosen : Option Entry) → Chooses m standing.progress standing.signals.items standing.taken chosen
+    pub none_seen : (chosen : Option Entry) → Chooses m situation.progress situation.signals.items situation.taken chosen
         → IfNone chosen (IsQuiet h.setting h.journal)
     none_seen None is =
-        seen IsQuiet (idle_is_quiet k.built J standing.progress standing.signals.items standing.taken k.stands
-        (none_is_idle k.built standing.progress standing.signals.items standing.taken (own_machine None is)))
+        seen IsQuiet (idle_is_quiet k.built J situation.progress situation.signals.items situation.taken k.stands
+        (none_is_idle k.built situation.progress situation.signals.items situation.taken (own_machine None is)))
     none_seen (Some e) is = tt
 
   -- nothing is stored, and the parameters are zeros
@@ -196,17 +196,17 @@ pub first_known : (setting : Setting) (b : IsBuilt setting) (m : DraftMachine) �
 first_known setting b m machine_is first keeps = keeps b ∙ ap first_transition (sym machine_is)
 
 -- where nothing has changed, the same is kept
-pub keeps_same : (setting : Setting) (J K : List Entry) (standing next : Standing) (rows : List (Vec Bool Global)) → KeepsRun setting J standing rows → K ≡ J
-    → next.progress ≡ standing.progress → next.signals.items ≡ standing.signals.items → next.taken ≡ standing.taken → KeepsRun setting K next rows
-keeps_same setting J K standing next rows k entries progress signals taken =
+pub keeps_same : (setting : Setting) (J K : List Entry) (situation next : Situation) (rows : List (Vec Bool Global)) → KeepsRun setting J situation rows → K ≡ J
+    → next.progress ≡ situation.progress → next.signals.items ≡ situation.signals.items → next.taken ≡ situation.taken → KeepsRun setting K next rows
+keeps_same setting J K situation next rows k entries progress signals taken =
     let there : KeepsRun setting J next rows = record {
       built = k.built;
       admissible = k.admissible;
       limits = k.limits;
       plain = k.plain;
       stands = subst (λ p. StandsAt k.built.class.machine J p next.signals.items next.taken) (sym progress)
-          (subst (λ gs. StandsAt k.built.class.machine J standing.progress gs next.taken) (sym signals)
-          (subst (StandsAt k.built.class.machine J standing.progress standing.signals.items) (sym taken) k.stands));
+          (subst (λ gs. StandsAt k.built.class.machine J situation.progress gs next.taken) (sym signals)
+          (subst (StandsAt k.built.class.machine J situation.progress situation.signals.items) (sym taken) k.stands));
       reactions = k.reactions;
     } in
     subst (λ js. KeepsRun setting js next rows) (sym entries) there
@@ -230,16 +230,16 @@ takes_one true e h is = h
 takes_one false e h is = absurd (false≢true is)
 
 -- a system that has just been made
-pub keeps_new : (setting : Setting) (b : IsBuilt setting) (J : List Entry) (standing : Standing) (rows : List (Vec Bool Global)) (m : DraftMachine) → m ≡ b.class.machine
-    → J ≡ [] → standing.progress ≡ Unstarted → standing.signals.items ≡ [] → standing.taken ≡ 0 → AreReactions m rows → KeepsRun setting J standing rows
-keeps_new setting b J standing rows m machine_is empty unstarted no_signals none_taken table = record {
+pub keeps_new : (setting : Setting) (b : IsBuilt setting) (J : List Entry) (situation : Situation) (rows : List (Vec Bool Global)) (m : DraftMachine) → m ≡ b.class.machine
+    → J ≡ [] → situation.progress ≡ Unstarted → situation.signals.items ≡ [] → situation.taken ≡ 0 → AreReactions m rows → KeepsRun setting J situation rows
+keeps_new setting b J situation rows m machine_is empty unstarted no_signals none_taken table = record {
   built = b;
   admissible = subst (λ js. IsAdmissibleIn setting js) (sym empty) (admissible_none setting);
   limits = subst KeepsJournalLimits (sym empty) (record { entries = omega arith; outputs = omega arith });
-  plain = subst (AllByRecursion IsPlainEntry) (sym empty) tt;
-  stands = subst (λ js. StandsAt b.class.machine js standing.progress standing.signals.items standing.taken) (sym empty)
-      (subst (λ p. StandsAt b.class.machine [] p standing.signals.items standing.taken) (sym unstarted)
-      (subst (λ gs. StandsAt b.class.machine [] Unstarted gs standing.taken) (sym no_signals)
+  plain = subst (AllByRecursion IsBuiltEntry) (sym empty) tt;
+  stands = subst (λ js. StandsAt b.class.machine js situation.progress situation.signals.items situation.taken) (sym empty)
+      (subst (λ p. StandsAt b.class.machine [] p situation.signals.items situation.taken) (sym unstarted)
+      (subst (λ gs. StandsAt b.class.machine [] Unstarted gs situation.taken) (sym no_signals)
       (subst (StandsAt b.class.machine [] Unstarted []) (sym none_taken) (at_the_start b.class_is.machine))));
   reactions = subst (λ n. AreReactions n rows) machine_is table;
 }

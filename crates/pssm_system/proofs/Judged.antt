@@ -18,7 +18,7 @@ use Rattle.pssm_model.specs.declared.steps.How.TheVariants.{By, Nothing}
 use Rattle.pssm_model.specs.Configuration.{Configuration}
 use Rattle.pssm_model.specs.Ways.{Memory, CanOpen}
 use Rattle.pssm_model.specs.Routes.{Truth}
-use Rattle.pssm_model.specs.Firing.{IsFiring}
+use Rattle.pssm_model.specs.FiringSets.{IsFiring}
 use Rattle.pssm_model.specs.BuiltMachine.{IsBuiltMachine}
 use Rattle.pssm_model.specs.OneRegion.{top_region, first_transition}
 use Rattle.pssm_model.proofs.BuiltTransitions.{nothing_in_nil}
@@ -39,12 +39,12 @@ use Rattle.pssm_semantics.specs.Pool.{signals_of, told_by, outs_of}
 use Rattle.pssm_semantics.specs.Behaviours.{store_of, guards_under, guards_at}
 use Rattle.pssm_semantics.specs.Rules.{Holds, KeepsShared, IsCalledItem, IsClearedItem, IsFirstWaiting}
 use Rattle.pssm_semantics.specs.Verdict.{number_of, IsFirstBroken}
-use Rattle.pssm_semantics.specs.Runs.{MayFollow}
+use Rattle.pssm_semantics.specs.Admissible.{MayFollow}
 use Rattle.pssm_semantics.specs.Built.{IsBuilt}
 use Rattle.pssm_system.specs.declared.progress.Progress.{Progress}
 use Rattle.pssm_system.specs.declared.progress.Progress.TheVariants.{Unstarted, Opening, Resting, Exiting, Acting, Entering}
-use Rattle.pssm_system.specs.Standing.{the_object, waiting, active_in, IsStarted, StandsAt}
-use Rattle.pssm_system.specs.Judging.{FiresAt, IsBusy, IsNumbered, JudgesStart, JudgesTake, JudgesDone, JudgesItem, JudgesWork, JudgesOpened, JudgesNever, Judges}
+use Rattle.pssm_system.specs.inner.Situations.{the_object, waiting, active_in, IsStarted, StandsAt}
+use Rattle.pssm_system.specs.inner.Judging.{FiresAt, IsBusy, IsNumbered, JudgesStart, JudgesTake, JudgesDone, JudgesItem, JudgesWork, JudgesOpened, JudgesNever, Judges}
 use Rattle.pssm_semantics.proofs.Members.{first_in, later_in, in_cases}
 use Rattle.pssm_system.proofs.Signals.{active_states, waiting_is_next, next_is_waiting, told_next}
 use Rattle.pssm_system.proofs.Kept.{IsKeptBelow, kept_more, kept_first, follows, first_broken, holds, asks, own_entry}

@@ -13,9 +13,9 @@ use Rattle.pssm_semantics.specs.Settings.{class_of}
 use Rattle.pssm_semantics.specs.Journal.{object_of}
 use Rattle.pssm_semantics.specs.Rules.{Holds, KeepsShared}
 use Rattle.pssm_semantics.specs.Verdict.{number_of, IsFirstBroken}
-use Rattle.pssm_semantics.specs.Runs.{MayFollow}
+use Rattle.pssm_semantics.specs.Admissible.{MayFollow}
 use Rattle.pssm_semantics.specs.Built.{IsBuilt}
-use Rattle.pssm_system.specs.Standing.{the_object}
+use Rattle.pssm_system.specs.inner.Situations.{the_object}
 
 -- a number says which rule it is of
 rule_with : ℕ → Rule

@@ -8,8 +8,8 @@ use Rattle.pssm_semantics.specs.declared.setting.Setting.{Setting}
 use Rattle.pssm_semantics.specs.Journal.{object_of}
 use Rattle.pssm_semantics.specs.Pool.{told_by, outs_of, posts_of_entry, output_count}
 use Rattle.pssm_semantics.specs.Behaviours.{store_of}
-use Rattle.pssm_semantics.specs.Runs.{MayFollow, KeepsJournalLimits}
-use Rattle.pssm_semantics.specs.Built.{IsBuilt, IsPlainEntry}
+use Rattle.pssm_semantics.specs.Admissible.{MayFollow, KeepsJournalLimits}
+use Rattle.pssm_semantics.specs.Built.{IsBuilt, IsBuiltEntry}
 use Rattle.pssm_semantics.proofs.Outputs.{outputs_in, output_count-append, output_count-plain}
 use Rattle.pssm_system.proofs.Kept.{asks, own_entry}
 use Rattle.pssm_system.proofs.Rules.{outs_are_none}
@@ -47,5 +47,5 @@ module _ {setting : Setting} (b : IsBuilt setting) (J : List Entry) (e : Entry) 
       }
 
   -- a journal of plain entries has room where it has room for one entry
-  pub plain_keeps_limits : AllByRecursion IsPlainEntry J → length J < 1000000 → KeepsJournalLimits (J ++ e ∷ [])
+  pub plain_keeps_limits : AllByRecursion IsBuiltEntry J → length J < 1000000 → KeepsJournalLimits (J ++ e ∷ [])
   plain_keeps_limits plain room = let few = output_count-plain J plain in keeps_limits room (omega arith)

@@ -18,7 +18,7 @@ use Rattle.pssm_model.specs.BuiltMachine.{IsBuiltMachine}
 use Rattle.pssm_model.proofs.BuiltElements.{same_vertex, same_transition, mapped_at, all_at}
 use Rattle.pssm_model.proofs.BuiltTransitions.{leaving_in_range, source_in_range, some_and, and_some}
 use Rattle.pssm_semantics.specs.Built.{ListsSignals}
-use Rattle.pssm_system.specs.Reactions.{has_mark, AreReactions, IsMarkedBelow}
+use Rattle.pssm_system.specs.inner.Reactions.{has_mark, AreReactions, IsMarkedBelow}
 use Rattle.pssm_system.proofs.Rules.{each_weaker}
 
 same_signal : (g h : SignalId) → g.0 ≡ h.0 → g ≡ h

@@ -16,7 +16,7 @@ use Rattle.pssm_model.specs.declared.steps.Item.TheVariants as items
 use Rattle.pssm_model.specs.declared.steps.How.{How}
 use Rattle.pssm_model.specs.Course.{FiresBy, HasRun, HasRestored, Leg, IsLeg}
 use Rattle.pssm_model.specs.Course.Head.{Starts}
-use Rattle.pssm_model.specs.Items.{LegRuns, RunsInLeg, Called, StartOpens}
+use Rattle.pssm_model.specs.Items.{LegCalls, IsCalledInLeg, Called, StartOpens}
 use Rattle.pssm_model.specs.Items.Called.{start, run, ends, opens, restored, entered}
 use Rattle.pssm_model.specs.Items.Before.{exit_effect, effect_enter}
 use Rattle.pssm_model.specs.Legs.{On, Enters, Leaves}
@@ -35,7 +35,7 @@ use Rattle.pssm_semantics.proofs.Appending.{more, goes_on, begins}
 use Rattle.pssm_semantics.proofs.Courses.{Runs, runs_own, runs_one, ran_now, run_now, run_cases, leg_cases, restored_cases}
 use Rattle.pssm_semantics.proofs.Members.{first_in, later_in, in_cases}
 use Rattle.pssm_system.specs.declared.progress.Progress.TheVariants.{Opening, Exiting, Acting}
-use Rattle.pssm_system.specs.Standing.{waiting, IsOpenStep, IsFresh, IsUnderWay}
+use Rattle.pssm_system.specs.inner.Situations.{waiting, IsOpenStep, IsFresh, IsUnderWay}
 use Rattle.pssm_system.proofs.Steps.{no_leg_ends, no_leg_opens, no_enter_opens}
 
 -- a fresh step has no legs and restores nothing
@@ -54,11 +54,11 @@ begun_no_run m o J head item (how, h) = nothing_in_nil (item, how) h
 
 -- the leg of a route of one transition
 abbrev pub single_leg : TransId → Leg
-single_leg t = record { route = single_route t; by = t }
+single_leg t = record { route = single_route t; named_by = t }
 
 module _ {m : DraftMachine} (b : IsBuiltMachine m) where
   -- what a route of one transition calls
-  pub single_runs : (Active : VertexId → Type 0) (t : TransId) (v : VertexId) (item : Item) → Enters m t v → LegRuns m Active (single_route t) t item
+  pub single_runs : (Active : VertexId → Type 0) (t : TransId) (v : VertexId) (item : Item) → Enters m t v → LegCalls m Active (single_route t) t item
       → ((s : VertexId) × (item ≡ items.Exit s) × Active s) ⊎ ((item ≡ items.Effect t) ⊎ (item ≡ items.Enter v))
   single_runs Active t v (items.Exit s) e h = inl (s, refl, (exited_is b Active (single_route t) t s (entering_in_range b t v e) h).1)
   single_runs Active t v (items.Effect u) e h = inr (inl (ap items.Effect (sym (same_leg_is b (single_route t) t u h).0)))
@@ -67,21 +67,21 @@ module _ {m : DraftMachine} (b : IsBuiltMachine m) where
   single_runs Active t v (items.Pick c) e h = absurd h
 
   -- the same of a leg of an equal route
-  pub leg_runs : (o : ObjectId) (step : StepAt) (leg : Leg) (t : TransId) (v : VertexId) (item : Item) → leg.route ≡ single_route t → On leg.route leg.by
-      → Enters m t v → RunsInLeg m (course_of m o step) leg item
+  pub leg_runs : (o : ObjectId) (step : StepAt) (leg : Leg) (t : TransId) (v : VertexId) (item : Item) → leg.route ≡ single_route t → On leg.route leg.named_by
+      → Enters m t v → IsCalledInLeg m (course_of m o step) leg item
       → ((s : VertexId) × (item ≡ items.Exit s) × (FiresBy (head_of step.head) (single_route t) × IsActive step.before o s))
       ⊎ ((item ≡ items.Effect t) ⊎ (item ≡ items.Enter v))
   leg_runs o step leg t v item same on e h =
-      let there : On (single_route t) leg.by = subst (λ r. On r leg.by) same on in
-      let first = on_single_is t leg.by there in
-      let moved = subst (λ r. LegRuns m (λ s. FiresBy (head_of step.head) r × IsActive step.before o s) r leg.by item) same h in
+      let there : On (single_route t) leg.named_by = subst (λ r. On r leg.named_by) same on in
+      let first = on_single_is t leg.named_by there in
+      let moved = subst (λ r. LegCalls m (λ s. FiresBy (head_of step.head) r × IsActive step.before o s) r leg.named_by item) same h in
       single_runs (λ s. FiresBy (head_of step.head) (single_route t) × IsActive step.before o s) t v item e
-      (subst (λ u. LegRuns m (λ s. FiresBy (head_of step.head) (single_route t) × IsActive step.before o s) (single_route t) u item) first moved)
+      (subst (λ u. LegCalls m (λ s. FiresBy (head_of step.head) (single_route t) × IsActive step.before o s) (single_route t) u item) first moved)
 
-  pub effect_runs : (o : ObjectId) (step : StepAt) (t : TransId) → RunsInLeg m (course_of m o step) (single_leg t) (items.Effect t)
+  pub effect_runs : (o : ObjectId) (step : StepAt) (t : TransId) → IsCalledInLeg m (course_of m o step) (single_leg t) (items.Effect t)
   effect_runs o step t = same_leg_of b (single_route t) t t refl (on_single t)
 
-  pub enter_runs : (o : ObjectId) (step : StepAt) (t : TransId) (v : VertexId) → Enters m t v → RunsInLeg m (course_of m o step) (single_leg t) (items.Enter v)
+  pub enter_runs : (o : ObjectId) (step : StepAt) (t : TransId) (v : VertexId) → Enters m t v → IsCalledInLeg m (course_of m o step) (single_leg t) (items.Enter v)
   enter_runs o step t v e = leg_enters b (single_route t) t v (on_single t) e
 
   -- a start opens the one region
@@ -164,8 +164,8 @@ module _ {m : DraftMachine} (b : IsBuiltMachine m) where
       (later_in (items.Exit from) (items.Effect t ∷ items.Enter to ∷ []) (items.Enter to)
       (later_in (items.Effect t) (items.Enter to ∷ []) (items.Enter to) (in_one (items.Enter to))))))
       (leg_runs o step leg t to item same on e h)
-  called_take J o n firing from to t one e only item (ends leg is h) = absurd (no_leg_ends b leg.route leg.by item h)
-  called_take J o n firing from to t one e only item (opens leg is h) = absurd (no_leg_opens b leg.route leg.by item h)
+  called_take J o n firing from to t one e only item (ends leg is h) = absurd (no_leg_ends b leg.route leg.named_by item h)
+  called_take J o n firing from to t one e only item (opens leg is h) = absurd (no_leg_opens b leg.route leg.named_by item h)
   called_take J o n firing from to t one e only item (restored mode s h same) = absurd (nothing_in_nil (items.Opened h.0 mode, Restore s) h.1)
   called_take J o n firing from to t one e only item (entered s is h) = absurd (nothing_in_nil (items.Enter s, is.0) is.1)
 
@@ -176,7 +176,7 @@ module _ {m : DraftMachine} (b : IsBuiltMachine m) where
       let step : StepAt = record { before = J; head = Take o n firing; after = [] } in
       let goes : FiresBy (head_of step.head) (single_route t) = subst (λ rs. Contains rs (single_route t)) (sym one) (in_one (single_route t)) in
       let leg : IsLeg (course_of m o step) (single_leg t) = (inl goes, on_single t) in
-      let exits : RunsInLeg m (course_of m o step) (single_leg t) (items.Exit from) =
+      let exits : IsCalledInLeg m (course_of m o step) (single_leg t) (items.Exit from) =
       leg_exits b (λ s. FiresBy (head_of step.head) (single_route t) × IsActive step.before o s) (single_route t) t from (on_single t) (goes, active)
       (source_in_range b t from l) in
       let effect = effect_runs o step t in
@@ -225,8 +225,8 @@ module _ {m : DraftMachine} (b : IsBuiltMachine m) where
       (later_in (items.Effect (first_transition m)) (items.Enter to ∷ []) (items.Enter to) (in_one (items.Enter to))))))
       (leg_runs o now leg (first_transition m) to item same new.2 e h))
       (leg_cases m o step (opening o) leg is)
-  called_opened o step to e fresh was item (ends leg is h) = absurd (no_leg_ends b leg.route leg.by item h)
-  called_opened o step to e fresh was item (opens leg is h) = absurd (no_leg_opens b leg.route leg.by item h)
+  called_opened o step to e fresh was item (ends leg is h) = absurd (no_leg_ends b leg.route leg.named_by item h)
+  called_opened o step to e fresh was item (opens leg is h) = absurd (no_leg_opens b leg.route leg.named_by item h)
   called_opened o step to e fresh was item (restored mode s h same) =
       absurd (⊎_elim (λ old. fresh_no_restore m o step mode s fresh old) (λ new. restores_nothing o (items.Opened new.0 mode) s new.1)
       (restored_cases m o step (opening o) mode s h))

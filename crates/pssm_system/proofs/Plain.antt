@@ -14,11 +14,11 @@ use Rattle.pssm_semantics.specs.declared.setting.SignalDecl.{SignalDecl}
 use Rattle.pssm_semantics.specs.declared.setting.Setting.{Setting}
 use Rattle.pssm_semantics.specs.Settings.{HasCount}
 use Rattle.pssm_semantics.specs.Journal.{object_of}
-use Rattle.pssm_semantics.specs.Runs.{MayFollow}
-use Rattle.pssm_semantics.specs.Built.{IsBuilt, IsPlainSignal, IsPlainFiring, IsPlainEntry}
+use Rattle.pssm_semantics.specs.Admissible.{MayFollow}
+use Rattle.pssm_semantics.specs.Built.{IsBuilt, IsPlainSignal, IsBuiltFiring, IsBuiltEntry}
 use Rattle.pssm_system.specs.declared.progress.Progress.{Progress}
-use Rattle.pssm_system.specs.Standing.{the_object, StandsAt}
-use Rattle.pssm_system.specs.Judging.{FiresAt}
+use Rattle.pssm_system.specs.inner.Situations.{the_object, StandsAt}
+use Rattle.pssm_system.specs.inner.Judging.{FiresAt}
 use Rattle.pssm_system.proofs.Kept.{asks, own_entry}
 use Rattle.pssm_system.proofs.Rules.{no_queue_head, no_do_step}
 use Rattle.pssm_system.proofs.Limits.{without_outs}
@@ -31,7 +31,7 @@ no_arguments (x ∷ xs) none = absurd (omega arith)
 
 -- what fires is nothing or one transition
 plain_firing : (m : DraftMachine) (a : VertexId) (signal : SignalId) (firing : Firing) (routes : List Route) → firing.routes ≡ routes → FiresAt m a signal routes
-    → IsPlainFiring firing
+    → IsBuiltFiring firing
 plain_firing m a signal firing [] are h = inl are
 plain_firing m a signal firing (route ∷ []) are (t, same, leaves, lists) = inr (t, are ∙ ap (λ r. r ∷ []) same)
 plain_firing m a signal firing (route ∷ other ∷ rest) are h = absurd h
@@ -44,7 +44,7 @@ module _ {setting : Setting} (b : IsBuilt setting) where
 
 module _ {setting : Setting} (b : IsBuilt setting) (J : List Entry) (p : Progress) (signals : List SignalId) (taken : ℕ)
     (s : StandsAt b.class.machine J p signals taken) where
-  plain_own : (e : Entry) → object_of e ≡ the_object → MayFollow setting J e → IsPlainEntry e
+  plain_own : (e : Entry) → object_of e ≡ the_object → MayFollow setting J e → IsBuiltEntry e
   plain_own (Post o g args) own may = posts_without b g args (may A1).2
   plain_own (Start o) own may = tt
   plain_own (Take o number firing) own may =
@@ -64,5 +64,5 @@ module _ {setting : Setting} (b : IsBuilt setting) (J : List Entry) (p : Progres
       let there = subst (λ x. MayFollow setting J (DoStep x v k outs)) own may in
       no_do_step b.class_is.machine J the_object v k (asks b J (DoStep the_object v k outs) A11 (λ e. cc) refl (there A11))
 
-  pub is_plain : (e : Entry) → MayFollow setting J e → IsPlainEntry e
+  pub is_plain : (e : Entry) → MayFollow setting J e → IsBuiltEntry e
   is_plain e may = plain_own e (own_entry b J e (may A1)) may

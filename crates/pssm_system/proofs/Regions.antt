@@ -23,16 +23,16 @@ use Rattle.pssm_semantics.specs.declared.setting.Setting.{Setting}
 use Rattle.pssm_semantics.specs.Settings.{class_of}
 use Rattle.pssm_semantics.specs.Journal.{IsActive, object_of}
 use Rattle.pssm_semantics.specs.Rules.{Holds}
-use Rattle.pssm_semantics.specs.Runs.{MayFollow, IsAdmissibleIn}
+use Rattle.pssm_semantics.specs.Admissible.{MayFollow, IsAdmissibleIn}
 use Rattle.pssm_semantics.specs.Laws.{KeepsRegions}
 use Rattle.pssm_semantics.specs.Built.{IsBuilt}
 use Rattle.pssm_semantics.proofs.Appended.{from_the_end}
 use Rattle.pssm_semantics.proofs.Admissible.{IsAdmissible-front, IsAdmissible-last}
 use Rattle.pssm_system.specs.declared.progress.Progress.{Progress}
 use Rattle.pssm_system.specs.declared.progress.Progress.TheVariants.{Unstarted, Opening, Resting, Exiting, Acting}
-use Rattle.pssm_system.specs.Standing.{the_object, passed, active_in, StandsAt}
-use Rattle.pssm_system.specs.Judging.{FiresAt}
-use Rattle.pssm_system.specs.Advancing.{AdvancesByFiring, Advances, signals_after, taken_after}
+use Rattle.pssm_system.specs.inner.Situations.{the_object, passed, active_in, StandsAt}
+use Rattle.pssm_system.specs.inner.Judging.{FiresAt}
+use Rattle.pssm_system.specs.inner.Advancing.{AdvancesByFiring, Advances, signals_after, taken_after}
 use Rattle.pssm_system.proofs.Kept.{class_is, own_entry}
 use Rattle.pssm_system.proofs.Advancing.{at_the_start}
 use Rattle.pssm_system.proofs.Following.{following, takes_what}

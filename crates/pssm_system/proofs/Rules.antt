@@ -13,7 +13,7 @@ use Rattle.pssm_model.specs.declared.steps.How.TheVariants.{By, Restore, Nothing
 use Rattle.pssm_model.specs.declared.steps.Item.{Item}
 use Rattle.pssm_model.specs.declared.steps.Item.TheVariants as items
 use Rattle.pssm_model.specs.Forest.{vertex_at, transition_at}
-use Rattle.pssm_model.specs.Configuration.{IsNextStep}
+use Rattle.pssm_model.specs.Configuration.{IsNextDoStep}
 use Rattle.pssm_model.specs.Routes.{Truth}
 use Rattle.pssm_model.specs.Course.{HasRun}
 use Rattle.pssm_model.specs.Items.{Called, Before, IsExit, IsEffect, IsEnter}
@@ -33,16 +33,16 @@ use Rattle.pssm_semantics.specs.declared.tree.Act.{Act}
 use Rattle.pssm_semantics.specs.Journal.{IsPost, IsStart, object_of, configuration_after}
 use Rattle.pssm_semantics.specs.Steps.{StepAt, IsLastStep, course_of}
 use Rattle.pssm_semantics.specs.Values.{Store, Params, outcome_of}
-use Rattle.pssm_semantics.specs.Pool.{Told}
+use Rattle.pssm_semantics.specs.Pool.{KnownSignals}
 use Rattle.pssm_semantics.specs.Completion.{HasEnded, IsQueuedAt, IsQueueHead}
 use Rattle.pssm_semantics.specs.Behaviours.{act_of, act_at, outcome_at, params_at}
-use Rattle.pssm_semantics.specs.Ways.{IsStepFinished}
+use Rattle.pssm_semantics.specs.Completion.{IsStepFinished}
 use Rattle.pssm_semantics.specs.Rules.{KeepsStart, IsCalledItem, IsClearedItem}
 use Rattle.pssm_semantics.specs.Built.{IsPlainClass}
 use Rattle.pssm_semantics.proofs.Appending.{one_last_step}
 use Rattle.pssm_system.specs.declared.progress.Progress.{Progress}
 use Rattle.pssm_system.specs.declared.progress.Progress.TheVariants.{Unstarted, Opening, Resting, Exiting, Acting, Entering}
-use Rattle.pssm_system.specs.Standing.{waiting, IsStarted, IsInOrder, IsUnderWay, IsProgressOf}
+use Rattle.pssm_system.specs.inner.Situations.{waiting, IsStarted, IsInOrder, IsUnderWay, IsProgressOf}
 use Rattle.pssm_semantics.proofs.Members.{first_in, later_in, in_cases}
 use Rattle.pssm_system.proofs.Steps.{before_is}
 use Rattle.pssm_system.proofs.Kept.{and_then_some}
@@ -120,7 +120,7 @@ module _ {m : DraftMachine} (b : IsBuiltMachine m) where
   pub step_finished : (J : List Entry) (o : ObjectId) (p : Progress) → IsStarted p → waiting p ≡ [] → IsProgressOf m J o p → IsStepFinished m J o
   step_finished J o p is none h =
       let u = under_way m J o p is h in
-      inl (λ step item last called.
+      inl (λ step last item called.
       let same = one_last_step J o u.step step u.step_is.last last in
       subst (λ s. HasRun (course_of m o s) item) same
       (⊎_elim (λ waits. absurd (nothing_in_nil item (subst (λ xs. Contains xs item) none waits))) (λ ran. ran)
@@ -129,7 +129,7 @@ module _ {m : DraftMachine} (b : IsBuiltMachine m) where
   pub step_unfinished : (J : List Entry) (o : ObjectId) (p : Progress) (item : Item) → Contains (waiting p) item → IsProgressOf m J o p → IsStepFinished m J o → ⊥
   step_unfinished J o p item waits h (inl all) =
       let u = under_way m J o p (started_of_waiting p item waits) h in
-      u.step_is.not_run item waits (all u.step item u.step_is.last (u.step_is.waits item waits))
+      u.step_is.not_run item waits (all u.step u.step_is.last item (u.step_is.waits item waits))
   step_unfinished J o p item waits h (inr ended) = never_ended J o ended
 
   -- no completion waits
@@ -143,15 +143,19 @@ module _ {m : DraftMachine} (b : IsBuiltMachine m) where
   pub called_item : (J : List Entry) (o : ObjectId) (p : Progress) (item : Item) → Contains (waiting p) item → IsProgressOf m J o p → IsCalledItem m J o item
   called_item J o p item waits h =
       let u = under_way m J o p (started_of_waiting p item waits) h in
-      record { step = u.step; last = u.step_is.last; called = u.step_is.waits item waits; waiting = u.step_is.not_run item waits }
+      record {
+        step = u.step;
+        last = u.step_is.last;
+        waits = record { called = u.step_is.waits item waits; not_run = u.step_is.not_run item waits };
+      }
 
   pub called_item_waits : (J : List Entry) (o : ObjectId) (p : Progress) (item : Item) → IsStarted p → IsProgressOf m J o p → IsCalledItem m J o item
       → Contains (waiting p) item
   called_item_waits J o p item is h c =
       let u = under_way m J o p is h in
       let same = one_last_step J o u.step c.step u.step_is.last c.last in
-      ⊎_elim (λ waits. waits) (λ ran. absurd (c.waiting (subst (λ s. HasRun (course_of m o s) item) same ran)))
-      (u.step_is.called item (subst (λ s. Called m (course_of m o s) item) (sym same) c.called))
+      ⊎_elim (λ waits. waits) (λ ran. absurd (c.waits.not_run (subst (λ s. HasRun (course_of m o s) item) same ran)))
+      (u.step_is.called item (subst (λ s. Called m (course_of m o s) item) (sym same) c.waits.called))
 
   -- the first of what is left comes after nothing that is left
   first_is_clear : (o : ObjectId) (step : StepAt) (p : Progress) (item x : Item) (rest : List Item) → waiting p ≡ item ∷ rest → Contains (waiting p) x
@@ -174,8 +178,8 @@ module _ {m : DraftMachine} (b : IsBuiltMachine m) where
       ⊎_elim (λ k. subst IsExit (is_one (items.Enter v) x is) k.0) (λ k. subst IsEffect (is_one (items.Enter v) x is) k.0) (before_is b o step x item before)
 
   pub order_kept : (J : List Entry) (o : ObjectId) (p : Progress) (item : Item) (rest : List Item) → waiting p ≡ item ∷ rest → IsProgressOf m J o p
-      → (x : Item) (step : StepAt) → IsLastStep J o step → Called m (course_of m o step) x → Before m (course_of m o step) x item → HasRun (course_of m o step) x
-  order_kept J o p item rest e h x step last called before =
+      → IsClearedItem m J o item
+  order_kept J o p item rest e h step last x called before =
       let waits : Contains (waiting p) item = subst (λ xs. Contains xs item) (sym e) (first_in item rest) in
       let u = under_way m J o p (started_of_waiting p item waits) h in
       let same = one_last_step J o u.step step u.step_is.last last in
@@ -185,13 +189,13 @@ module _ {m : DraftMachine} (b : IsBuiltMachine m) where
 
   -- an item that is left, and not the first, comes after one that has not run
   pub order_broken : (J : List Entry) (o : ObjectId) (p : Progress) (first item : Item) (rest : List Item) → waiting p ≡ first ∷ rest → Contains rest item
-      → IsProgressOf m J o p → ((x : Item) (step : StepAt) → IsLastStep J o step → Called m (course_of m o step) x → Before m (course_of m o step) x item → HasRun (course_of m o step) x) → ⊥
+      → IsProgressOf m J o p → IsClearedItem m J o item → ⊥
   order_broken J o p first item rest e is h kept =
       let waits : Contains (waiting p) item = subst (λ xs. Contains xs item) (sym e) (later_in first rest item is) in
       let u = under_way m J o p (started_of_waiting p item waits) h in
       let found = predecessor m o u.step first rest item (subst (IsInOrder m o u.step) e u.step_is.in_order) is in
       let left : Contains (waiting p) found.0 = subst (λ xs. Contains xs found.0) (sym e) found.1 in
-      u.step_is.not_run found.0 left (kept found.0 u.step u.step_is.last (u.step_is.waits found.0 left) found.2)
+      u.step_is.not_run found.0 left (kept u.step u.step_is.last found.0 (u.step_is.waits found.0 left) found.2)
 
   -- the region opens by the transition out of its initial vertex, and by no other way
   pub opens_first : (truth : Truth) (memory : Memory) → CanOpen m truth memory top_region Plain (By (single_route (first_transition m)))
@@ -203,7 +207,7 @@ module _ {m : DraftMachine} (b : IsBuiltMachine m) where
   opens_only truth memory Nothing h = absurd (h (initial_vertex m) (initial_of_region b))
 
   -- no State has a do step
-  pub no_do_step : (J : List Entry) (o : ObjectId) (s : VertexId) (k : ℕ) → IsNextStep m (configuration_after m J o) s k → ⊥
+  pub no_do_step : (J : List Entry) (o : ObjectId) (s : VertexId) (k : ℕ) → IsNextDoStep m (configuration_after m J o) s k → ⊥
   no_do_step J o s k h = no_steps (vertex_at m s) (vertex_steps b s) h.in_range
     where
       no_steps : (there : Option Vertex) → ((x : Vertex) → there ≡ Some x → x.steps ≡ []) → k < option_map_or (λ (x : Vertex). length x.steps) there 0 → ⊥
@@ -234,7 +238,7 @@ nothing_out : (found : Option Act) (o : ObjectId) (store : Store) (params : Para
 nothing_out None o store params none = refl
 nothing_out (Some a) o store params none = rw (none a refl) refl
 
-pub outs_are_none : (c : Class) → IsPlainClass c → (told : Told) (J : List Entry) (e : Entry) (store : Store) → (outcome_at c told J e store).outs ≡ []
+pub outs_are_none : (c : Class) → IsPlainClass c → (told : KnownSignals) (J : List Entry) (e : Entry) (store : Store) → (outcome_at c told J e store).outs ≡ []
 outs_are_none c plain told J e store =
     nothing_out (act_of c e) (object_of e) store (params_at told J e)
     (λ a h. let found = act_found c e a h in act_is_empty c plain found.0 a found.1)

@@ -20,7 +20,7 @@ use Rattle.pssm_semantics.specs.Settings.{class_of}
 use Rattle.pssm_semantics.specs.Rules.{Holds}
 use Rattle.pssm_system.proofs.Kept.{class_there}
 use Rattle.pssm_semantics.specs.Built.{IsBuilt, ListsSignals, DefersSignals}
-use Rattle.pssm_system.specs.Sample.{sample_vertex, sample_transition, to_b, sample_machine, sample_class, sample_setting, IsNamed}
+use Rattle.pssm_system.specs.inner.Sample.{sample_vertex, sample_transition, to_b, sample_machine, sample_class, sample_setting, IsNamed}
 
 plain_vertex : (kind : VertexKind) → IsPlainKind (sample_vertex kind) → IsPlainVertex (sample_vertex kind)
 plain_vertex kind is = record { owner = refl; kind_is = is; entry = refl; exit = refl; steps = refl }

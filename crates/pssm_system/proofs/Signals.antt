@@ -20,12 +20,12 @@ use Rattle.pssm_semantics.specs.declared.entry.Entry.TheVariants.{Take}
 use Rattle.pssm_semantics.specs.declared.stimulus.Stimulus.{Stimulus}
 use Rattle.pssm_semantics.specs.declared.setting.Class.{Class}
 use Rattle.pssm_semantics.specs.Journal.{IsActive}
-use Rattle.pssm_semantics.specs.Pool.{Told, signals_of, signals_of_entry, takes, pool_of, told_by}
-use Rattle.pssm_semantics.specs.Ways.{IsDeferred}
+use Rattle.pssm_semantics.specs.Pool.{KnownSignals, signals_of, signals_of_entry, takes, pool_of, told_by}
+use Rattle.pssm_semantics.specs.Deferral.{IsDeferred}
 use Rattle.pssm_semantics.specs.Rules.{IsFirstWaiting}
 use Rattle.pssm_system.specs.declared.progress.Progress.{Progress}
 use Rattle.pssm_system.specs.declared.progress.Progress.TheVariants.{Unstarted, Opening, Resting, Exiting, Acting, Entering}
-use Rattle.pssm_system.specs.Standing.{the_object, active_in, IsProgressIn, HasTaken, StandsAt}
+use Rattle.pssm_system.specs.inner.Situations.{the_object, active_in, IsProgressIn, HasTaken, StandsAt}
 
 -- the signals of a longer journal
 pub signals_push : (J : List Entry) (e : Entry) → signals_of (J ++ e ∷ []) ≡ signals_of J ++ (signals_of_entry e ++ [])
@@ -166,7 +166,7 @@ pub active_states : (m : DraftMachine) (J : List Entry) (p : Progress) (signals 
 active_states m J p signals taken s v is = state_active m p v s.names (s.active v is)
 
 -- a State of a machine of one region defers nothing
-pub defers_nothing : (c : Class) → IsBuiltMachine c.machine → (told : Told) (J : List Entry) (o : ObjectId) (x : Stimulus) → AreStatesActive c J o
+pub defers_nothing : (c : Class) → IsBuiltMachine c.machine → (told : KnownSignals) (J : List Entry) (o : ObjectId) (x : Stimulus) → AreStatesActive c J o
     → IsDeferred c told J o x → ⊥
 defers_nothing c b told J o x states h = nothing_deferred b h.0 x.signal (states h.0 h.1) h.2
 

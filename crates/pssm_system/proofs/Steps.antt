@@ -28,7 +28,7 @@ use Rattle.pssm_semantics.specs.Steps.{StepAt, item_of, course_of}
 use Rattle.pssm_semantics.proofs.Appending.{more, goes_on}
 use Rattle.pssm_semantics.proofs.Courses.{Runs, runs_is, runs_own, runs_one, run_kept, run_now, run_cases, leg_kept, leg_cases, restored_kept, restored_cases}
 use Rattle.pssm_semantics.proofs.Members.{later_in, in_cases}
-use Rattle.pssm_system.specs.Standing.{IsOpenStep, IsInOrder}
+use Rattle.pssm_system.specs.inner.Situations.{IsOpenStep, IsInOrder}
 
 -- entries that call nothing and begin no step
 abbrev pub AddsNothing : Entry → Type 0
@@ -117,16 +117,16 @@ module _ {m : DraftMachine} (b : IsBuiltMachine m) where
   pub called_kept : (o : ObjectId) (step : StepAt) (e : Entry) (item : Item) → Called m (course_of m o step) item → Called m (course_of m o (more step e)) item
   called_kept o step e item (start h) = start h
   called_kept o step e item (run leg is h) = run leg (leg_kept m o step e leg is) h
-  called_kept o step e item (ends leg is h) = absurd (no_leg_ends leg.route leg.by item h)
-  called_kept o step e item (opens leg is h) = absurd (no_leg_opens leg.route leg.by item h)
+  called_kept o step e item (ends leg is h) = absurd (no_leg_ends leg.route leg.named_by item h)
+  called_kept o step e item (opens leg is h) = absurd (no_leg_opens leg.route leg.named_by item h)
   called_kept o step e item (restored mode s h same) = restored mode s (restored_kept m o step e mode s h) same
   called_kept o step e item (entered s is h) = absurd (no_enter_opens (course_of m o step) s item h)
 
   pub called_back : (o : ObjectId) (step : StepAt) (e : Entry) (item : Item) → AddsNothing e → Called m (course_of m o (more step e)) item → Called m (course_of m o step) item
   called_back o step e item quiet (start h) = start h
   called_back o step e item quiet (run leg is h) = run leg (leg_back m o step e leg quiet is) h
-  called_back o step e item quiet (ends leg is h) = absurd (no_leg_ends leg.route leg.by item h)
-  called_back o step e item quiet (opens leg is h) = absurd (no_leg_opens leg.route leg.by item h)
+  called_back o step e item quiet (ends leg is h) = absurd (no_leg_ends leg.route leg.named_by item h)
+  called_back o step e item quiet (opens leg is h) = absurd (no_leg_opens leg.route leg.named_by item h)
   called_back o step e item quiet (restored mode s h same) =
       ⊎_elim (λ was. restored mode s was same) (λ new. absurd (adds_no_restore e o (items.Opened new.0 mode) s quiet new.1))
       (restored_cases m o step e mode s h)
@@ -155,9 +155,9 @@ module _ {m : DraftMachine} (b : IsBuiltMachine m) where
   before_is o step x y (exit_effect leg is k l h g) = inl (k, l)
   before_is o step x y (path {t} {u} leg is h g) = absurd (no_path leg.route t u g)
   before_is o step x y (effect_enter leg is k l h g) = inr (k, l)
-  before_is o step x y (effect_end leg is k h g) = absurd (⊎_elim (no_leg_ends leg.route leg.by y) (no_leg_opens leg.route leg.by y) g)
-  before_is o step x y (enter_end leg is k h g) = absurd (no_leg_ends leg.route leg.by y g)
-  before_is o step x y (later leg u is l h g) = absurd (no_later_leg b leg.route leg.by u l)
+  before_is o step x y (effect_end leg is k h g) = absurd (⊎_elim (no_leg_ends leg.route leg.named_by y) (no_leg_opens leg.route leg.named_by y) g)
+  before_is o step x y (enter_end leg is k h g) = absurd (no_leg_ends leg.route leg.named_by y g)
+  before_is o step x y (later leg u is l h g) = absurd (no_later_leg b leg.route leg.named_by u l)
 
   -- an entry that runs nothing and adds nothing leaves the step as it is
   pub step_kept : (J : List Entry) (o : ObjectId) (left : List Item) (step : StepAt) (e : Entry) → AddsNothing e

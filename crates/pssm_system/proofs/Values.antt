@@ -13,9 +13,9 @@ use Rattle.pssm_semantics.specs.declared.setting.VarDecl.{VarDecl}
 use Rattle.pssm_semantics.specs.declared.tree.Act.{Act}
 use Rattle.pssm_semantics.specs.Journal.{object_of}
 use Rattle.pssm_semantics.specs.Values.{Store, Params, eight_of, no_params, outcome_of}
-use Rattle.pssm_semantics.specs.Pool.{Told, signals_of, signals_of_out, signals_of_entry, told_by}
+use Rattle.pssm_semantics.specs.Pool.{KnownSignals, signals_of, signals_of_out, signals_of_entry, told_by}
 use Rattle.pssm_semantics.specs.Behaviours.{last_head, params_of_head, params_of, params_at, act_of, outcome_at, store_after, store_through, store_of}
-use Rattle.pssm_semantics.specs.Built.{IsPlainClass, IsPlainEntry}
+use Rattle.pssm_semantics.specs.Built.{IsPlainClass, IsBuiltEntry}
 use Rattle.pssm_semantics.proofs.Appended.{AllByRecursion-append}
 use Rattle.pssm_system.proofs.Rules.{act_found, act_is_empty}
 
@@ -29,7 +29,7 @@ same_either : {X : Type 0} (own : Bool) (x y : X) → x ≡ y → (if own then x
 same_either true x y same = same
 same_either false x y same = refl
 
-module _ (c : Class) (plain : IsPlainClass c) (told : Told) (o : ObjectId) where
+module _ (c : Class) (plain : IsPlainClass c) (told : KnownSignals) (o : ObjectId) where
   -- so no entry changes it
   unchanged : (before : List Entry) (e : Entry) (store : Store) → store_after c told o before e store ≡ store
   unchanged before e store =
@@ -51,7 +51,7 @@ HasNoArgs x = x.args ≡ []
 no_sends : (outs : List Out) → outs ≡ [] → AllByRecursion HasNoArgs (flat_map signals_of_out outs)
 no_sends outs none = subst (λ os. AllByRecursion HasNoArgs (flat_map signals_of_out os)) (sym none) tt
 
-signals_plain : (e : Entry) → IsPlainEntry e → AllByRecursion HasNoArgs (signals_of_entry e)
+signals_plain : (e : Entry) → IsBuiltEntry e → AllByRecursion HasNoArgs (signals_of_entry e)
 signals_plain (Post o g args) is = (is, tt)
 signals_plain (Start o) is = tt
 signals_plain (Take o number firing) is = tt
@@ -63,7 +63,7 @@ signals_plain (Opened o r mode how) is = tt
 signals_plain (Pick o v route) is = tt
 signals_plain (DoStep o v k outs) is = absurd is
 
-all_signals_plain : (J : List Entry) → AllByRecursion IsPlainEntry J → AllByRecursion HasNoArgs (signals_of J)
+all_signals_plain : (J : List Entry) → AllByRecursion IsBuiltEntry J → AllByRecursion HasNoArgs (signals_of J)
 all_signals_plain [] all = tt
 all_signals_plain (e ∷ J) all = AllByRecursion-append HasNoArgs (signals_of_entry e) (signals_of J) (signals_plain e all.0) (all_signals_plain J all.1)
 
@@ -72,11 +72,11 @@ zeros_told : (found : Option Stimulus) → ((x : Stimulus) → found ≡ Some x 
 zeros_told None none = refl
 zeros_told (Some x) none = rw (none x refl) refl
 
-told_plain : (J : List Entry) → AllByRecursion IsPlainEntry J → (n : ℕ) (x : Stimulus) → told_by J n ≡ Some x → x.args ≡ []
+told_plain : (J : List Entry) → AllByRecursion IsBuiltEntry J → (n : ℕ) (x : Stimulus) → told_by J n ≡ Some x → x.args ≡ []
 told_plain J all zero x told = let clash : None ≡ Some x = told in absurd (cc)
 told_plain J all (suc n) x told = all_at HasNoArgs (signals_of J) n x (all_signals_plain J all) told
 
-zeros_at : (J : List Entry) → AllByRecursion IsPlainEntry J → (head : Option Entry) → params_of_head (told_by J) head ≡ no_params
+zeros_at : (J : List Entry) → AllByRecursion IsBuiltEntry J → (head : Option Entry) → params_of_head (told_by J) head ≡ no_params
 zeros_at J all (Some (Take o number firing)) = zeros_told (told_by J number) (told_plain J all number)
 zeros_at J all (Some (Post o g args)) = refl
 zeros_at J all (Some (Start o)) = refl
@@ -89,5 +89,5 @@ zeros_at J all (Some (Pick o v route)) = refl
 zeros_at J all (Some (DoStep o v k outs)) = refl
 zeros_at J all None = refl
 
-pub zero_params : (J : List Entry) (o : ObjectId) → AllByRecursion IsPlainEntry J → params_of (told_by J) J o ≡ no_params
+pub zero_params : (J : List Entry) (o : ObjectId) → AllByRecursion IsBuiltEntry J → params_of (told_by J) J o ≡ no_params
 zero_params J o all = zeros_at J all (last_head J o)

@@ -1,8 +1,2 @@
 pub mod History
-pub mod Standing
-pub mod Judging
-pub mod Reactions
-pub mod Keeping
-pub mod Advancing
-pub mod Choosing
-pub mod Sample
+pub mod inner

@@ -1,11 +1,11 @@
 //! The entry that may come next, where the object stands as is told.
 ghost use Rattle.std.specs.Prelude.{◌≡◌, ◌≤◌, ◌↔◌, [], IsTrue, IfOk, length};
 ghost use Rattle.pssm_model.specs.OneRegion.{first_transition};
-ghost use Rattle.pssm_system.specs.Standing.{the_object};
-ghost use Rattle.pssm_system.specs.Judging.{FiresAt};
-ghost use Rattle.pssm_system.specs.Choosing.{the_opening, IsIdle, ChoosesTake, Chooses, AreEnabledBelow};
+ghost use Rattle.pssm_system.specs.inner.Situations.{the_object};
+ghost use Rattle.pssm_system.specs.inner.Judging.{FiresAt};
+ghost use Rattle.pssm_system.specs.inner.Choosing.{the_opening, IsIdle, ChoosesTake, Chooses, AreEnabledBelow};
 
-use crate::judging::{Standing, reacts_in};
+use crate::judging::{Situation, reacts_in};
 use crate::progress::{Progress, TOP_REGION};
 use crate::routes::single_route;
 use pssm_model::{Firing, How, Machine, Mode, Row, SignalId, TransId, VertexId};
@@ -15,7 +15,7 @@ use std::alloc::{AllocError as NoMemory, Global};
 /// The one object.
 const OBJECT: ObjectId = ObjectId(0);
 
-impl Standing {
+impl Situation {
     /// Whether the object rests and no signal waits.
     pub fn is_idle(&self) -> bool
         ensures { IsTrue result ↔ IsIdle self.now.progress self.now.signals.items self.now.taken }

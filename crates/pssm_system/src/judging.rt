@@ -2,8 +2,8 @@
 ghost use Rattle.std.specs.Prelude.{◌≡◌, ◌≢◌, ◌↔◌, ◌<◌, ◌+◌, ◌++◌, if◌then◌else◌, IsTrue, Contains, MatchOption, MatchResult, vec_len, vec_capacity, option_to_list};
 ghost use Rattle.pssm_model.specs.OneRegion.{single_route, first_transition};
 ghost use Rattle.pssm_semantics.specs.Known.{IsRouteOf, IsFiringOf};
-ghost use Rattle.pssm_system.specs.Reactions.{AreReactions};
-ghost use Rattle.pssm_system.specs.Judging.{IsReaction, FiresAt, IsNumbered, JudgesRest, JudgesStart, JudgesTake, JudgesDone, JudgesItem, JudgesWork, JudgesOpened, JudgesNever, NamesTransitions, Judges};
+ghost use Rattle.pssm_system.specs.inner.Reactions.{AreReactions};
+ghost use Rattle.pssm_system.specs.inner.Judging.{IsReaction, FiresAt, IsNumbered, JudgesRest, JudgesStart, JudgesTake, JudgesDone, JudgesItem, JudgesWork, JudgesOpened, JudgesNever, NamesTransitions, Judges};
 
 use crate::progress::Progress;
 use crate::reactions::Reactions;
@@ -13,7 +13,7 @@ use pssm_semantics::{Entry, Out, Rule};
 
 /// What is kept of the journal beside its entries.
 #[derive(Drop)]
-pub struct Standing {
+pub struct Situation {
     /// What the open step runs next.
     pub progress: Progress,
     /// The signals that were posted, in order.
@@ -22,7 +22,7 @@ pub struct Standing {
     pub taken: usize,
 }
 
-impl Standing {
+impl Situation {
     /// The first rule that the entry breaks, if it breaks one; `first` is the transition out of the initial vertex.
     pub fn judge(
         &self,

@@ -33,7 +33,7 @@ pub enum Progress {
 }
 
 impl Progress {
-    ghost use Rattle.pssm_system.specs.Standing.{waiting, passed, IsStarted};
+    ghost use Rattle.pssm_system.specs.inner.Situations.{waiting, passed, IsStarted};
 
     /// Whether the object has started.
     pub fn is_started(self) -> bool

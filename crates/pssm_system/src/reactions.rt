@@ -3,7 +3,7 @@ ghost use Rattle.std.specs.Prelude.{◌≡◌, ◌↔◌, ◌<◌, ◌⊎◌, �
 ghost use Rattle.std.specs.List.{AllByRecursion};
 ghost use Rattle.pssm_model.specs.BuiltMachine.{IsBuiltMachine};
 ghost use Rattle.pssm_semantics.specs.Built.{ListsSignals};
-ghost use Rattle.pssm_system.specs.Reactions.{has_mark, AreReactions, IsMarkedBelow};
+ghost use Rattle.pssm_system.specs.inner.Reactions.{has_mark, AreReactions, IsMarkedBelow};
 
 use pssm_model::{Machine, SignalId, TransId, VertexId};
 use std::alloc::{AllocError as NoMemory, Global};

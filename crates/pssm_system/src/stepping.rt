@@ -3,8 +3,8 @@ ghost use Rattle.std.specs.Prelude.{◌≡◌, ◌++◌, ◌∷◌, [], ◌+◌,
 ghost use Rattle.pssm_model.specs.BuiltMachine.{IsBuiltMachine};
 ghost use Rattle.pssm_model.specs.OneRegion.{first_transition};
 ghost use Rattle.pssm_semantics.specs.Known.{IsFiringOf};
-ghost use Rattle.pssm_system.specs.Judging.{NamesTransitions};
-ghost use Rattle.pssm_system.specs.Advancing.{AdvancesByFiring, Advances, signals_after, taken_after};
+ghost use Rattle.pssm_system.specs.inner.Judging.{NamesTransitions};
+ghost use Rattle.pssm_system.specs.inner.Advancing.{AdvancesByFiring, Advances, signals_after, taken_after};
 
 use crate::progress::Progress;
 use crate::routes::single_start;

@@ -2,9 +2,9 @@
 ghost use Rattle.std.specs.Prelude.{◌≡◌, ◌<◌, ◌↔◌, ◌++◌, ◌∷◌, [], length, IsTrue, IfOk, IfNone, IfSome, OnOk, OnErr, Some};
 ghost use Rattle.std.specs.List.{AllByRecursion};
 ghost use Rattle.pssm_semantics.specs.Values.{no_params};
-ghost use Rattle.pssm_semantics.specs.Built.{IsBuilt, IsPlainEntry, entries_to_complete};
+ghost use Rattle.pssm_semantics.specs.Built.{IsBuilt, IsBuiltEntry, entries_to_complete};
 
-use crate::judging::Standing;
+use crate::judging::Situation;
 use crate::progress::Progress;
 use crate::reactions::{Reactions, reactions_of};
 use crate::routes::first_transition;
@@ -23,7 +23,7 @@ pub struct System {
     alloc: Global,
     setting: Setting,
     entries: Vec<Entry>,
-    standing: Standing,
+    situation: Situation,
     reactions: Reactions,
     /// The transition out of the initial vertex of the machine.
     first: TransId,
@@ -44,11 +44,11 @@ impl Model for System {
 
     ghost coded = { Prim.hlevel (codes, stmt.the_row.coded, cond.the_row.coded, expr.the_row.coded) };
 
-    ghost use Rattle.pssm_system.specs.Keeping.{KeepsRun, KeepsValues, KeepsFirst};
+    ghost use Rattle.pssm_system.specs.inner.Keeping.{KeepsRun, KeepsValues, KeepsFirst};
 
     ghost view = { λ s. record { setting = s.setting; journal = s.entries.items } };
 
-    ghost invariant = { λ s. KeepsRun s.setting s.entries.items s.standing s.reactions.rows.items × KeepsValues s.store.items s.params × KeepsFirst s.setting s.first };
+    ghost invariant = { λ s. KeepsRun s.setting s.entries.items s.situation s.reactions.rows.items × KeepsValues s.store.items s.params × KeepsFirst s.setting s.first };
 }
 
 impl System {
@@ -58,7 +58,7 @@ impl System {
     ghost use Rattle.pssm_semantics.specs.Behaviours.{store_of, params_of};
     ghost use Rattle.pssm_semantics.specs.Proper.{IsWellFormed};
     ghost use Rattle.pssm_semantics.specs.Rules.{Holds};
-    ghost use Rattle.pssm_semantics.specs.Runs.{MayFollow, IsAdmissibleIn, IsQuiet, KeepsJournalLimits};
+    ghost use Rattle.pssm_semantics.specs.Admissible.{MayFollow, IsAdmissibleIn, IsQuiet, KeepsJournalLimits};
     ghost use Rattle.pssm_semantics.specs.Laws.{CompletesWithin, KeepsTakes, KeepsRegions};
     ghost use Rattle.pssm_semantics.specs.Verdict.{IsFirstBroken};
     ghost use Rattle.pssm_semantics.specs.declared.entry.Rule.TheVariants.{A1};
@@ -82,7 +82,7 @@ impl System {
             alloc,
             setting,
             entries: Vec::new(alloc),
-            standing: Standing {
+            situation: Situation {
                 progress: Progress::Unstarted,
                 signals: Vec::new(alloc),
                 taken: 0,
@@ -110,7 +110,7 @@ impl System {
         ensures journal { result.now ≡ self.now.journal }
         ensures admissible { IsAdmissibleIn self.now.setting self.now.journal }
         ensures limits { KeepsJournalLimits self.now.journal }
-        ensures plain { AllByRecursion IsPlainEntry self.now.journal }
+        ensures built { AllByRecursion IsBuiltEntry self.now.journal }
         ensures completes { CompletesWithin self.now.setting self.now.journal entries_to_complete }
         ensures laws { KeepsTakes self.now.setting self.now.journal × KeepsRegions self.now.setting self.now.journal }
     {
@@ -125,7 +125,7 @@ impl System {
     {
         let machine = machine_of(&self.setting);
         Ok(
-            self.standing
+            self.situation
                 .judge(machine, self.first, &self.reactions, entry),
         )
     }
@@ -142,14 +142,14 @@ impl System {
         let progress = progress_after(
             machine_of(&self.setting),
             self.first,
-            self.standing.progress,
+            self.situation.progress,
             &entry,
         );
         let posted = posted_signal(&entry);
         let takes = takes_signal(&entry);
-        self.standing.signals.reserve(1)?;
+        self.situation.signals.reserve(1)?;
         self.entries.push(entry)?;
-        self.standing.advance(progress, posted, takes);
+        self.situation.advance(progress, posted, takes);
         Ok(())
     }
 
@@ -157,7 +157,7 @@ impl System {
     pub fn quiet(&self) -> bool
         ensures { IsTrue result ↔ IsQuiet self.now.setting self.now.journal }
     {
-        self.standing.is_idle()
+        self.situation.is_idle()
     }
 
     /// An entry other than a post that breaks no rule after the journal, or none where there is none.
@@ -167,7 +167,7 @@ impl System {
         ensures chosen { IfOk result (λ o. IfSome o (λ e. (IsPost e → ⊥) × MayFollow self.now.setting self.now.journal e)) }
         ensures none { IfOk result (λ o. IfNone o (IsQuiet self.now.setting self.now.journal)) }
     {
-        self.standing
+        self.situation
             .choose(self.alloc, machine_of(&self.setting), self.first, word)
     }
 

@@ -1,6 +1,6 @@
 //! What no journal says in lines: what a word picks, what is stored, and the rules that entries break which no line spells.
 ghost use Rattle.std.specs.Prelude.{◌≡◌};
-ghost use Rattle.pssm_semantics.specs.Runs.{MayFollow};
+ghost use Rattle.pssm_semantics.specs.Admissible.{MayFollow};
 ghost use Rattle.pssm_semantics.specs.Built.{IsBuilt};
 
 use crate::System;

@@ -33,7 +33,8 @@ pub(crate) fn unread(alloc: Global) -> Result<Vec<Outcome>, AllocError> {
     Ok(vec![in alloc; outcome]?)
 }
 
-// What became of a line: nothing where it is no row and may stand there, and otherwise why it does not hold, or nothing where it does.
+// What became of a line: nothing where it is no row and may stand there, and otherwise why it does not hold, or
+// nothing where it does.
 fn met(alloc: Global, place: &mut Place, line: &str) -> Result<Option<Option<String>>, AllocError> {
     if line.is_empty() || line.starts_with("#") {
         return Ok(None);

@@ -4,6 +4,7 @@ use crate::stop::Stop;
 use pssm_acts::{Names, ObjectId, SignalDecl};
 use pssm_model::{Row, Text};
 use std::alloc::{AllocError, Global};
+use std::mem;
 
 // What the texts of rows are.
 #[derive(Clone, Copy)]
@@ -41,9 +42,21 @@ impl Known {
             marks: Vec::new(alloc),
         }
     }
+
+    // Takes in the names of a kind: variables, objects, signals or marks.
+    fn name(&mut self, alloc: Global, kind: &str, words: &str) -> Result<(), Stop> {
+        match kind {
+            "variables" => self.names.vars = Row::from_vec(texts(alloc, words)?),
+            "objects" => self.names.objects = Row::from_vec(texts(alloc, words)?),
+            "signals" => self.names.signals = Row::from_vec(signals(alloc, words)?),
+            _ => self.marks = texts(alloc, words)?,
+        }
+        Ok(())
+    }
 }
 
-// What holds for the rows below: the names to read with, other names to write with, what is run on, and what is owed of which forms.
+// What holds for the rows below: the names to read with, other names to write with, what is run on, and what is owed
+// of which forms.
 #[derive(Drop)]
 pub(crate) struct Place {
     pub(crate) reading: Known,
@@ -73,15 +86,11 @@ impl Place {
     pub(crate) fn note(&mut self, alloc: Global, line: &str) -> Result<(), Stop> {
         let (word, rest) = line.split_once(" ").unwrap_or((line, ""));
         match word {
-            "read" => {
-                self.reading = Known::new(alloc);
-                self.writing = None;
+            "read" => self.forget(alloc),
+            "written" => drop(self.writing.replace(Known::new(alloc))),
+            "variables" | "objects" | "signals" | "marks" => {
+                return self.known().name(alloc, word, rest);
             }
-            "written" => self.writing = Some(Known::new(alloc)),
-            "variables" => self.known().names.vars = Row::from_vec(texts(alloc, rest)?),
-            "objects" => self.known().names.objects = Row::from_vec(texts(alloc, rest)?),
-            "signals" => self.known().names.signals = Row::from_vec(signals(alloc, rest)?),
-            "marks" => self.known().marks = texts(alloc, rest)?,
             "self" => self.own = ObjectId(rest.parse::<u8>().ok().ok_or(Stop::Unread)?),
             "values" => self.values = numbers(alloc, rest)?,
             "parameters" => self.params = numbers(alloc, rest)?,
@@ -89,6 +98,12 @@ impl Place {
             _ => return Err(Stop::Unread),
         }
         Ok(())
+    }
+
+    // Forgets all names.
+    fn forget(&mut self, alloc: Global) {
+        drop(mem::replace(&mut self.reading, Known::new(alloc)));
+        drop(self.writing.take());
     }
 
     // The names that the headings speak of.
@@ -103,12 +118,18 @@ impl Place {
     fn rows(&mut self, alloc: Global, words: &str) -> Result<(), Stop> {
         let (asked, forms) = words.split_once(" of ").ok_or(Stop::Unread)?;
         self.asked = asked_of(asked).ok_or(Stop::Unread)?;
-        self.forms = Vec::new(alloc);
-        for form in forms.split(" and ") {
-            self.forms.push(form_of(form).ok_or(Stop::Unread)?)?;
-        }
+        self.forms = forms_of(alloc, forms)?;
         Ok(())
     }
+}
+
+// The forms that stand with `and` between them.
+fn forms_of(alloc: Global, words: &str) -> Result<Vec<Form>, Stop> {
+    let mut forms = Vec::new(alloc);
+    for word in words.split(" and ") {
+        forms.push(form_of(word).ok_or(Stop::Unread)?)?;
+    }
+    Ok(forms)
 }
 
 fn asked_of(word: &str) -> Option<Asked> {
@@ -151,11 +172,17 @@ fn numbers(alloc: Global, words: &str) -> Result<Vec<i64>, Stop> {
 fn signals(alloc: Global, words: &str) -> Result<Vec<SignalDecl>, Stop> {
     let mut signals = Vec::new(alloc);
     for word in words.split_whitespace() {
-        let (name, count) = word.split_once("/").ok_or(Stop::Unread)?;
-        signals.push(SignalDecl {
-            name: Text::from_vec(name.as_bytes().to_vec(alloc)?),
-            count: count.parse::<u8>().ok().ok_or(Stop::Unread)?,
-        })?;
+        signals.push(signal(alloc, word)?)?;
     }
     Ok(signals)
+}
+
+// A signal and how many parameters it has, as `One/1`.
+fn signal(alloc: Global, word: &str) -> Result<SignalDecl, Stop> {
+    let (name, count) = word.split_once("/").ok_or(Stop::Unread)?;
+    let count = count.parse::<u8>().ok().ok_or(Stop::Unread)?;
+    Ok(SignalDecl {
+        name: Text::from_vec(name.as_bytes().to_vec(alloc)?),
+        count,
+    })
 }

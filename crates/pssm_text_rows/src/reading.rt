@@ -66,7 +66,7 @@ pub(crate) fn guard(alloc: Global, text: &[u8], names: &Names) -> Result<Cond, S
     if !are_few(names, &[]) {
         return Err(Stop::Unread);
     }
-    Ok(read_cond(alloc, text, names)?)
+    read_cond(alloc, text, names).map_err(Stop::from)
 }
 
 // The behaviour that a text spells.
@@ -97,7 +97,7 @@ fn steps(
     if !are_few(names, marks.as_slice()) {
         return Err(Stop::Unread);
     }
-    Ok(read_steps(alloc, text, names, marks)?)
+    read_steps(alloc, text, names, marks).map_err(Stop::from)
 }
 
 // What a text of a form spells.

@@ -1,4 +1,6 @@
 //! Whether a row holds: its text is answered with what is owed.
+//!
+//! What a text is read as is dropped by a call: a drop at the end of a body is proved for each of its variants.
 ghost use Rattle.std.specs.Prelude.{◌≡◌, ◌≢◌, ◌↔◌, IsTrue, codes};
 
 use crate::escapes::bytes_of;
@@ -18,7 +20,8 @@ struct Reply {
     text: Vec<u8>,
 }
 
-// Whether an answer is the owed one: `read` is owed of a text that is read, whatever it is read as, and all else to the letter.
+// Whether an answer is the owed one: `read` is owed of a text that is read, whatever it is read as, and all else to
+// the letter.
 fn is_owed(found: &Reply, owed: &[u8]) -> bool
     ensures read { owed.now ≡ codes "read" → result ≡ found.now.is_read }
     ensures exact { owed.now ≢ codes "read" → IsTrue result ↔ (found.now.text.items ≡ owed.now) }
@@ -80,12 +83,29 @@ fn answer(
     text: &str,
     marks: &mut Vec<Text>,
 ) -> Result<Vec<u8>, Stop> {
-    let names = &place.reading.names;
     match place.asked {
-        Asked::Comparisons => compared(alloc, names, form, text, marks),
+        Asked::Comparisons => compared(alloc, &place.reading.names, form, text, marks),
         Asked::Worth => worth(alloc, place, form, bytes_of(alloc, text)?.as_slice(), marks),
-        Asked::Trees | Asked::Marks => tree_of(alloc, names, form, text, marks),
-        Asked::Spellings => spelling_of(alloc, place, form, text, marks),
+        Asked::Trees | Asked::Marks | Asked::Spellings => {
+            let read = read_row(alloc, &place.reading.names, form, text, marks)?;
+            let shown = shown(alloc, place, &read, marks.as_slice());
+            drop(read);
+            shown
+        }
+    }
+}
+
+// The tree of what was read, or its canonical spelling by the names to write with.
+fn shown(alloc: Global, place: &Place, read: &Spelled, marks: &[Text]) -> Result<Vec<u8>, Stop> {
+    match (place.asked, &place.writing) {
+        (Asked::Spellings, Some(known)) => spelling(
+            alloc,
+            read,
+            &known.names,
+            known.marks.as_slice(),
+        ),
+        (Asked::Spellings, None) => spelling(alloc, read, &place.reading.names, marks),
+        _ => tree(alloc, read),
     }
 }
 
@@ -101,33 +121,6 @@ fn read_row(
     read(alloc, form, bytes.as_slice(), names, marks)
 }
 
-// The tree of what a text is read as.
-fn tree_of(
-    alloc: Global,
-    names: &Names,
-    form: Form,
-    text: &str,
-    marks: &mut Vec<Text>,
-) -> Result<Vec<u8>, Stop> {
-    let read = read_row(alloc, names, form, text, marks)?;
-    tree(alloc, &read)
-}
-
-// The canonical spelling of what a text is read as, by the names to write with.
-fn spelling_of(
-    alloc: Global,
-    place: &Place,
-    form: Form,
-    text: &str,
-    marks: &mut Vec<Text>,
-) -> Result<Vec<u8>, Stop> {
-    let read = read_row(alloc, &place.reading.names, form, text, marks)?;
-    match &place.writing {
-        Some(known) => spelling(alloc, &read, &known.names, known.marks.as_slice()),
-        None => spelling(alloc, &read, &place.reading.names, marks.as_slice()),
-    }
-}
-
 // Whether a copy of what one text is read as equals what the other is read as.
 fn compared(
     alloc: Global,
@@ -138,7 +131,9 @@ fn compared(
 ) -> Result<Vec<u8>, Stop> {
     let (left, right) = texts.split_once(" & ").ok_or(Stop::Unread)?;
     let left = read_row(alloc, names, form, left, marks)?;
-    compared_with(alloc, names, form, &left, right, marks)
+    let compared = compared_with(alloc, names, form, &left, right, marks);
+    drop(left);
+    compared
 }
 
 fn compared_with(
@@ -150,12 +145,16 @@ fn compared_with(
     marks: &mut Vec<Text>,
 ) -> Result<Vec<u8>, Stop> {
     let right = read_row(alloc, names, form, right, marks)?;
-    comparison(alloc, left, &right)
+    let comparison = comparison(alloc, left, &right);
+    drop(right);
+    comparison
 }
 
 fn comparison(alloc: Global, left: &Spelled, right: &Spelled) -> Result<Vec<u8>, Stop> {
     let copy = left.copy(alloc)?;
-    word(alloc, copy.equals(right))
+    let is_equal = copy.equals(right);
+    drop(copy);
+    word(alloc, is_equal)
 }
 
 fn word(alloc: Global, is_equal: bool) -> Result<Vec<u8>, Stop> {

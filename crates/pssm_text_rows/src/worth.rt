@@ -6,7 +6,7 @@ use crate::polish::put_word;
 use crate::reading::{behaviour, guard};
 use crate::stop::Stop;
 use pssm_acts::{Act, Args, Names, Out, Outcome, run, truth};
-use pssm_model::Text;
+use pssm_model::{SignalId, Text};
 use std::alloc::{AllocError, Global};
 
 // Whether a guard is true, or what a behaviour makes of the values.
@@ -27,7 +27,9 @@ pub(crate) fn worth(
 fn guard_worth(alloc: Global, place: &Place, text: &[u8]) -> Result<Vec<u8>, Stop> {
     let params = params(alloc, place.params.as_slice())?;
     let guard = guard(alloc, text, &place.reading.names)?;
-    truth_word(alloc, truth(&guard, place.values.as_slice(), &params))
+    let holds = truth(&guard, place.values.as_slice(), &params);
+    drop(guard);
+    truth_word(alloc, holds)
 }
 
 fn truth_word(alloc: Global, holds: bool) -> Result<Vec<u8>, Stop> {
@@ -42,7 +44,9 @@ fn behaviour_worth(
     marks: &mut Vec<Text>,
 ) -> Result<Vec<u8>, Stop> {
     let act = behaviour(alloc, text, &place.reading.names, marks)?;
-    made_by(alloc, place, &act, marks.as_slice())
+    let made = made_by(alloc, place, &act, marks.as_slice());
+    drop(act);
+    made
 }
 
 // What a behaviour makes of the values.
@@ -51,7 +55,9 @@ fn made_by(alloc: Global, place: &Place, act: &Act, marks: &[Text]) -> Result<Ve
 {
     let params = params(alloc, place.params.as_slice())?;
     let worked = run(alloc, place.own, act, place.values.as_slice(), &params)?;
-    made(alloc, worked.outcome(), &place.reading.names, marks)
+    let made = made(alloc, worked.outcome(), &place.reading.names, marks);
+    drop(worked);
+    made
 }
 
 fn params(alloc: Global, values: &[i64]) -> Result<Args, Stop> {
@@ -91,16 +97,19 @@ fn put_out(
             signal,
             args,
         } => {
-            let signals = names.signals.as_slice();
-            let signal = signals
-                .get(usize::from(signal.0))
-                .map(|signal| &signal.name);
             put_word(text, b">")?;
             text.extend_from_slice(name_of(names.objects.as_slice().get(usize::from(object.0))))?;
             text.push(b'.')?;
-            text.extend_from_slice(name_of(signal))?;
+            text.extend_from_slice(signal_name(names, *signal))?;
             put_args(alloc, text, args)
         }
+    }
+}
+
+fn signal_name(names: &Names, signal: SignalId) -> &[u8] {
+    match names.signals.as_slice().get(usize::from(signal.0)) {
+        Some(signal) => signal.name.as_slice(),
+        None => b"",
     }
 }
 

@@ -15,12 +15,12 @@ use Rattle.pssm_semantics.specs.declared.setting.Setting.{Setting}
 use Rattle.pssm_semantics.specs.declared.stimulus.Stimulus.{Stimulus}
 use Rattle.pssm_spelling.specs.SpellingReading.{stripped}
 use Rattle.pssm_journal.specs.LineText.{line_text, call_text}
-use Rattle.pssm_journal.specs.LineReading.{post_taken, line_taken, ◌>>=◌}
+use Rattle.pssm_journal.specs.inner.LineReading.{post_taken, line_taken, ◌>>=◌}
 use Rattle.pssm_journal.specs.Entries.{IsEntryOf, KeepsNames, BreaksNames, entry_named, entry_at, object_named, signal_named}
-use Rattle.pssm_journal.specs.Grammar.{IsLine}
+use Rattle.pssm_journal.specs.Grammar.{IsTakenLine}
 use Rattle.pssm_journal.proofs.LineLaws.{line_takes, line_again}
 use Rattle.pssm_tool.specs.Words.{texts, IsCall, IsStimulusText}
-use Rattle.pssm_tool.specs.Running.{IsKnown}
+use Rattle.pssm_tool.specs.inner.Running.{IsKnown}
 use Rattle.pssm_tool.specs.Stimuli.{post_of, Names, AreStimuli, NameNoStimuli}
 
 -- ---- one word
@@ -38,7 +38,7 @@ call_read word object signal e =
 
 call_spelled : (word object signal : List ℕ) → IsCall word object signal → post_taken word ≡ Some (Post object signal [])
 call_spelled word object signal call =
-    let line : IsLine (Post object signal []) = (refl, (call.object_name, call.signal_name, (omega arith, tt))) in
+    let line : IsTakenLine (Post object signal []) = (refl, (call.object_name, call.signal_name, (omega arith, tt))) in
     sym (post_line word) ∙ ap (λ (t : List ℕ). line_taken (codes "post " ++ t)) call.spelled ∙ line_again (Post object signal []) line
 
 -- what the reader of a word gives

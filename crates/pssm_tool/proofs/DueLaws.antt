@@ -17,7 +17,7 @@ use Rattle.pssm_tool.specs.declared.stop.Stop.TheVariants.{Answered, ReadFault, 
 use Rattle.pssm_tool.specs.Words.{IsJudge, Meaning, Judges, Runs, Checks, Prints, Means}
 use Rattle.pssm_tool.specs.Verdicts.{IsVerdict, said}
 use Rattle.pssm_tool.specs.Due.{model_of, NamesPath, IsAboutRuns, HasBuiltModel, IsDueForJournal, large_journal, judged, IsDue, large_model, judge, refused, unbuilt, IsOwed, IsContinued, ReadFailed}
-use Rattle.pssm_tool.specs.Stops.{LacksModel, holds_more, is_refused, LacksBuiltModel, no_model, not_built, StopsModel, StopsBuiltModel, GoesOn, StopsAll}
+use Rattle.pssm_tool.specs.inner.Stops.{LacksModel, holds_more, is_refused, LacksBuiltModel, no_model, not_built, StopsModel, StopsBuiltModel, GoesOn, StopsAll}
 
 -- ---- the model
 

@@ -59,7 +59,7 @@ told_bytes None some = absurd cc
 told_bytes (Some held) some = (held, refl)
 
 -- The bytes that were read are what the path holds.
-pub read_is : (contents : Contents) (path bytes held : List ℕ) → contents path ≡ Some held → ReadsWhole contents path 16777216 bytes → bytes ≡ held
+read_is : (contents : Contents) (path bytes held : List ℕ) → contents path ≡ Some held → ReadsWhole contents path 16777216 bytes → bytes ≡ held
 read_is contents path bytes held told read = subst (λ (o : Option (List ℕ)). IfSome o (λ x. bytes ≡ x)) told read.told
 
 -- A path that was read is not too large.

@@ -2,6 +2,7 @@ pub mod Regrouped
 pub mod Three
 pub mod WordLaws
 pub mod CallLaws
+pub mod PostLaws
 pub mod RunLaws
 pub mod TextLaws
 pub mod RefusalLaws

@@ -16,7 +16,7 @@ use Rattle.pssm_tool.specs.declared.run.Ended.TheVariants as ends
 use Rattle.pssm_tool.specs.Words.{Judges, Runs, Checks, Prints, IsJudge, IsRun}
 use Rattle.pssm_tool.specs.Answers.{code_of, reply_text, reply_code, IsFailure}
 use Rattle.pssm_tool.specs.Due.{ReadsModel, IsDueForJournal, large_journal, judged, IsDue, usage, large_model, judge, unfit, well_formed, IsDueRefusal, IsDueText, IsRunDue, IsDueJournal, IsOwed, IsTold, Gives, IsContinued, IsAcceptedText}
-use Rattle.pssm_tool.specs.Stops.{GoesOn}
+use Rattle.pssm_tool.specs.inner.Stops.{GoesOn}
 use Rattle.pssm_tool.proofs.WordLaws.{one_meaning, not_both_commands}
 use Rattle.pssm_tool.proofs.DueOnce.{IsJournal, AreAlike, line_alike, refusal_alike, text_alike, run_alike}
 

@@ -17,13 +17,13 @@ use Rattle.pssm_semantics.specs.Built.{IsBuilt, IsPlainClass}
 use Rattle.pssm_semantics.specs.Journal.{object_of}
 use Rattle.pssm_semantics.specs.Pool.{told_by, posts_of_entry, outs_of, posts_of, output_count}
 use Rattle.pssm_semantics.specs.Behaviours.{store_of}
-use Rattle.pssm_semantics.specs.Runs.{MayFollow, IsQuiet, IsFull, KeepsJournalLimits, FitsStimuli, HasEndedQuietly}
+use Rattle.pssm_semantics.specs.Admissible.{MayFollow, IsQuiet, IsFull, KeepsJournalLimits, FitsStimuli, HasEndedQuietly}
 use Rattle.pssm_system.specs.History.{History}
 use Rattle.pssm_system.proofs.Kept.{class_is}
 use Rattle.pssm_system.proofs.Rules.{outs_are_none}
 use Rattle.pssm_tool.specs.declared.run.Ended.TheVariants.{Quiet, Limit}
-use Rattle.pssm_tool.specs.Runs.{EndsRun}
-use Rattle.pssm_tool.specs.Running.{IsKnown, IsFullAt, PostsNext, IsNext, IsOver, IsRunning}
+use Rattle.pssm_tool.specs.RunTexts.{EndsRun}
+use Rattle.pssm_tool.specs.inner.Running.{IsKnown, IsFullAt, PostsNext, IsNext, IsOver, IsRunning}
 
 -- Entries of the settings that the code runs so far have no outputs.
 pub no_outs : (setting : Setting) (J : List Entry) (e : Entry) → IsBuilt setting → MayFollow setting J e → outs_of e ≡ []

@@ -20,7 +20,7 @@ use Rattle.pssm_tool.specs.declared.reply.Reply.TheVariants.{Line, Journal, Flat
 use Rattle.pssm_tool.specs.declared.run.Ended.{Ended}
 use Rattle.pssm_tool.specs.Words.{IsJudge, IsRun, IsCheck, IsPrint, Meaning, Judges, Runs, Checks, Prints, Means, IsUsage}
 use Rattle.pssm_tool.specs.Stimuli.{AreStimuli, NameNoStimuli}
-use Rattle.pssm_tool.specs.Runs.{IsRunText}
+use Rattle.pssm_tool.specs.RunTexts.{IsRunText}
 use Rattle.pssm_tool.specs.Refusals.{flat_fault_line, AreFaultLines, KeepRules, AreBuilt, IsNotBuiltLine}
 use Rattle.pssm_tool.specs.Answers.{reply_text}
 use Rattle.pssm_tool.specs.Verdicts.{IsVerdict}

@@ -1,10 +1,9 @@
 pub mod Words
 pub mod Stimuli
-pub mod Runs
-pub mod Running
+pub mod RunTexts
 pub mod Answers
 pub mod Verdicts
 pub mod Due
-pub mod Stops
 pub mod Refusals
 pub mod Headline
+pub mod inner

@@ -3,7 +3,7 @@ ghost use Rattle.std.specs.Prelude.{◌≡◌, ◌≤◌, List, ℕ, IfOk, IfErr
 ghost use Rattle.pssm_tool.specs.Words.{texts, IsJudge, IsRun, IsCheck, IsPrint};
 ghost use Rattle.pssm_tool.specs.Verdicts.{said};
 ghost use Rattle.pssm_tool.specs.Due.{IsOwed};
-ghost use Rattle.pssm_tool.specs.Stops.{StopsAll, GoesOn};
+ghost use Rattle.pssm_tool.specs.inner.Stops.{StopsAll, GoesOn};
 
 use crate::answer::Answer;
 use crate::load::{built_model, model};
@@ -88,8 +88,9 @@ pub fn run_model<I: Inputs>(
         options.seed,
         options.limit,
     )?;
-    let text = text_of(alloc, &system)?;
-    Ok(Reply::Journal { text, ended })
+    let text = text_of(alloc, &system);
+    drop(system);
+    Ok(Reply::Journal { text: text?, ended })
 }
 
 /// Says that the model that stands under the path is well formed.

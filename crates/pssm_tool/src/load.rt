@@ -1,13 +1,11 @@
 //! The model that the words name.
 ghost use Rattle.std.specs.Prelude.{◌≡◌, ◌≢◌, ◌≤◌, List, ℕ, IfOk, IfErr, []};
-ghost use Rattle.std.specs.List.{AllByRecursion};
 ghost use Rattle.pssm_base.specs.Faults.{NoneFell};
 ghost use Rattle.pssm_base.specs.Reading.{SameContent};
-ghost use Rattle.pssm_model.specs.Shape.{HasShape};
-ghost use Rattle.pssm_semantics.specs.declared.setting.Class.{Class};
+ghost use Rattle.pssm_semantics.specs.Proper.{IsWellFormed};
 ghost use Rattle.pssm_tool.specs.Refusals.{KeepRules};
 ghost use Rattle.pssm_tool.specs.Due.{LoadsModel, HasBuiltModel};
-ghost use Rattle.pssm_tool.specs.Stops.{StopsModel, StopsBuiltModel, StopsRules};
+ghost use Rattle.pssm_tool.specs.inner.Stops.{StopsModel, StopsBuiltModel, StopsRules};
 
 use crate::answer::Answer;
 use crate::refusal::{fault_text, flat_fault_text, not_built_text};
@@ -25,6 +23,7 @@ const LIMIT: u64 = 16_777_216;
 /// The setting of a model's file, whose machines keep the rules of models.
 pub fn model<I: Inputs>(alloc: Global, inputs: &mut I, path: &str) -> Result<Setting, Stop>
     ensures loads { IfOk result (LoadsModel (I.content inputs.old) path.now) }
+    ensures well_formed { IfOk result IsWellFormed }
     ensures stops { IfErr result (StopsModel (I.content inputs.old)
         (I.faults inputs.old path.now) (I.faults inputs.new path.now) path.now) }
     ensures counts { NoneFell (I.faults inputs.old) (I.faults inputs.new) }
@@ -65,7 +64,6 @@ pub fn built_model<I: Inputs>(alloc: Global, inputs: &mut I, path: &str) -> Resu
 
 // The setting, where its machines keep the rules of models.
 fn well_formed(alloc: Global, setting: Setting) -> Result<Setting, Stop>
-    requires { AllByRecursion (λ (x : Class). HasShape x.machine) setting.classes }
     ensures same { IfOk result (λ kept. kept ≡ setting) }
     ensures rules { IfOk result (λ _. KeepRules setting.classes) }
     ensures stops { IfErr result (StopsRules setting.classes) }
@@ -74,6 +72,7 @@ fn well_formed(alloc: Global, setting: Setting) -> Result<Setting, Stop>
     if text.as_slice().is_empty() {
         Ok(setting)
     } else {
+        drop(setting);
         Err(refused(text))
     }
 }

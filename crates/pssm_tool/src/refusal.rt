@@ -1,8 +1,7 @@
 //! What is wrong with a model, as the lines that the program writes.
 ghost use Rattle.std.specs.Prelude.{◌≡◌, ◌≢◌, ◌++◌, ℕ, List, IfOk, IfSome, IfNone, OnOk, codes, string_bytes};
-ghost use Rattle.std.specs.List.{AllByRecursion, flat_map};
+ghost use Rattle.std.specs.List.{flat_map};
 ghost use Rattle.std.specs.Fmt.{decimal};
-ghost use Rattle.pssm_model.specs.Shape.{HasShape};
 ghost use Rattle.pssm_semantics.specs.declared.setting.Class.{Class};
 ghost use Rattle.pssm_tool.specs.Refusals.{element_text, place_text, rule_text, fault_line, shape_word, flat_fault_line, not_built_line, AreFaultLines, AreBuilt, IsNotBuiltLine};
 
@@ -65,7 +64,6 @@ fn shape_name(shape: Shape) -> &'static str
 
 /// The rules of models that the machines of these classes break, a line for each; empty where they break none.
 pub fn fault_text(alloc: Global, classes: &[Class]) -> Result<Text, NoMemory>
-    requires { AllByRecursion (λ (x : Class). HasShape x.machine) classes.now }
     ensures { IfOk result (AreFaultLines classes.now) }
 {
     let mut text = Vec::new(alloc);

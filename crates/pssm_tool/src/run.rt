@@ -1,11 +1,12 @@
 //! A run: entries that may follow, one after another, until nothing more can happen or the journal is full.
-ghost use Rattle.std.specs.Prelude.{◌≡◌, ◌≤◌, ◌↔◌, length, IsTrue, IfOk, IfSome, IfNone};
+ghost use Rattle.std.specs.Prelude.{◌≡◌, ◌≤◌, ◌↔◌, ◌⊎◌, length, Some, IsTrue, IfOk, IfSome, IfNone};
 ghost use Rattle.std.specs.List.{AllByRecursion};
 ghost use Rattle.std.specs.Option.{option_copied};
 ghost use Rattle.pssm_semantics.specs.Built.{IsBuilt};
 ghost use Rattle.pssm_semantics.specs.Pool.{posts_of_entry, outs_of};
-ghost use Rattle.pssm_tool.specs.Runs.{EndsRun};
-ghost use Rattle.pssm_tool.specs.Running.{IsNext, IsOver, IsKnown, IsFullAt};
+ghost use Rattle.pssm_tool.specs.RunTexts.{EndsRun};
+ghost use Rattle.pssm_tool.specs.Stimuli.{post_of};
+ghost use Rattle.pssm_tool.specs.inner.Running.{IsNext, IsOver, IsKnown, IsFullAt};
 
 use pssm_semantics::{Entry, Setting, Stimulus};
 use pssm_system::System;
@@ -75,12 +76,26 @@ fn next(
     ensures over { IfOk result (λ o. IfNone o (IsOver system.now (option_copied waiting.entry))) }
 {
     let other = system.choose(words.next_u64())?;
-    let Some(stimulus) = waiting else {
-        return Ok(other);
-    };
-    if other.is_some() && words.next_u64() % 2 == 0 {
-        return Ok(other);
+    match waiting {
+        Some(stimulus) if is_its_turn(other.is_some(), words) => {
+            drop(other);
+            post(alloc, stimulus)
+        }
+        _ => Ok(other),
     }
+}
+
+// Whether the stimulus that waits is posted now. Where another entry may come, a word settles it.
+fn is_its_turn(may_other: bool, words: &mut Pcg64) -> bool
+    ensures { IsTrue result ⊎ IsTrue may_other }
+{
+    !(may_other && words.next_u64() % 2 == 0)
+}
+
+// The post of a stimulus.
+fn post(alloc: Global, stimulus: &Stimulus) -> Result<Option<Entry>, NoMemory>
+    ensures { IfOk result (λ o. o ≡ Some (post_of stimulus.now)) }
+{
     Ok(Some(Entry::Post {
         object: stimulus.object,
         signal: stimulus.signal,

@@ -6,7 +6,7 @@ ghost use Rattle.pssm_semantics.specs.declared.stimulus.Stimulus.{Stimulus};
 ghost use Rattle.pssm_semantics.specs.declared.line.Line.TheVariants.{Post};
 ghost use Rattle.pssm_semantics.specs.Pool.{posts_of_entry};
 ghost use Rattle.pssm_journal.specs.Entries.{IsEntryOf, KeepsNames, BreaksNames};
-ghost use Rattle.pssm_journal.specs.LineReading.{post_taken};
+ghost use Rattle.pssm_journal.specs.inner.LineReading.{post_taken};
 ghost use Rattle.pssm_tool.specs.Words.{texts, IsStimulusText};
 ghost use Rattle.pssm_tool.specs.Stimuli.{Names, AreStimuli, NameNoStimuli};
 
@@ -72,7 +72,10 @@ fn post_named(
     ensures none { IfOk result (λ o. IfNone o (BreaksNames setting.now (Post object.now signal.now []))) }
 {
     let line = post_line(alloc, object, signal)?;
-    entry_of(alloc, setting, &line)
+    let entry = entry_of(alloc, setting, &line);
+    // (a call: a drop at the end of the body would be one for each kind of line)
+    drop(line);
+    entry
 }
 
 // The line that posts a signal without arguments to an object.
@@ -100,12 +103,15 @@ fn posted(entry: Entry) -> Option<Stimulus>
             signal,
             args,
         }),
-        _ => None,
+        other => {
+            drop(other);
+            None
+        }
     }
 }
 
 // The names of the object and of the signal, where the word is spelled as a stimulus.
-#[tactic(auto, unfolding(pssm_journal::specs::LineReading::post_taken))]
+#[tactic(auto, unfolding(pssm_journal::specs::inner::LineReading::post_taken))]
 fn call_of(word: &[u8]) -> Option<(&[u8], &[u8])>
     ensures { option_map (λ x. Post x.0.now x.1.now []) result ≡ post_taken word.now }
 {

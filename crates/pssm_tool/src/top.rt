@@ -14,7 +14,7 @@ ghost use Rattle.pssm_tool.specs.Words.{texts, IsJudge, IsRun};
 ghost use Rattle.pssm_tool.specs.Answers.{reply_text, reply_code, code_of, IsStatus, IsFailure};
 ghost use Rattle.pssm_tool.specs.Due.{IsDue, IsDueRefusal, IsDueText, IsRunDue, IsOwed, IsTold, Gives, IsContinued, IsAcceptedText, ReadFailed};
 ghost use Rattle.pssm_tool.specs.Headline.{AcceptsPrefixes};
-ghost use Rattle.pssm_tool.specs.Stops.{StopsAll, GoesOn};
+ghost use Rattle.pssm_tool.specs.inner.Stops.{StopsAll, GoesOn};
 
 use crate::answer::Answer;
 use crate::commands::{check_model, judge_journal, print_model, run_model};
@@ -56,8 +56,8 @@ pub fn pssm<R, I: Inputs, S: Sink, G: Gate + Sync>(
     ensures continued { result.code ≡ 0 → (model journal : List ℕ) → IsJudge (texts words.now) model journal
         → IsContinued (I.content inputs.old) model journal }
 
-    // The headline: a journal whose text reads within the limits is accepted exactly where it is a prefix of a complete
-    // run of the model, unless reading, writing or memory failed.
+    // The headline: the journal is accepted exactly where its bytes are the text, within the limits, of a prefix of a
+    // complete run of the model, unless reading, writing or memory failed.
     ensures headline { IsTold (texts words.now) (I.content inputs.old)
         → AcceptsPrefixes (texts words.now) (I.content inputs.old) result.code }
 

@@ -9,15 +9,15 @@ use Rattle.pssm_model.specs.declared.elements.DraftMachine.{DraftMachine}
 use Rattle.pssm_model.specs.declared.elements.VertexKind.TheVariants as kinds
 use Rattle.pssm_model.specs.declared.elements.Owner.TheVariants.{State}
 use Rattle.pssm_model.specs.Legs.{Leaves, Enters}
-use Rattle.pssm_model.specs.Shape.{HasShape}
-use Rattle.pssm_model.specs.Firing.{IsHistory, IsLateOrigin}
+use Rattle.pssm_model.specs.Shapes.{HasShape}
+use Rattle.pssm_model.specs.FiringSets.{IsHistory, IsLateOrigin}
 use Rattle.pssm_wellformed.specs.declared.survey.End.TheVariants.{Source, Target}
 use Rattle.pssm_wellformed.specs.declared.walks.Walk.{Walk}
 use Rattle.pssm_wellformed.specs.declared.walks.Walk.TheVariants.{Through}
-use Rattle.pssm_wellformed.specs.Lists.{list_at}
-use Rattle.pssm_wellformed.specs.Survey.{HasEnd, OwnsOfKind, vertex_number, region_number, transition_number}
-use Rattle.pssm_wellformed.specs.Walks.{Passes, near_end, far_end, AreArrowsBelow, AreArrows, AreArrowsAlong, AreArrowsWith, IsDefault, number_of_region, LeadsThrough, LeadsToRegion, LeadsFromRegion, AreLeads, IsLateTarget, IsLateTargetBelow}
-use Rattle.pssm_wellformed.specs.Reach.{StaysWithin}
+use Rattle.pssm_wellformed.specs.inner.Lists.{list_at}
+use Rattle.pssm_wellformed.specs.inner.Survey.{HasEnd, OwnsOfKind, vertex_number, region_number, transition_number}
+use Rattle.pssm_wellformed.specs.inner.Walks.{Passes, near_end, far_end, AreArrowsBelow, AreArrows, AreArrowsAlong, AreArrowsWith, IsDefault, number_of_region, LeadsThrough, LeadsToRegion, LeadsFromRegion, AreLeads, IsLateTarget, IsLateTargetBelow}
+use Rattle.pssm_wellformed.specs.inner.Reach.{StaysWithin}
 use Rattle.pssm_wellformed.proofs.Listing.{puts_here, puts_there}
 use Rattle.pssm_wellformed.proofs.Places.{end_there, end_only, kind_there, owning_region_there, one_region}
 use Rattle.pssm_wellformed.proofs.Walking.{only_first}

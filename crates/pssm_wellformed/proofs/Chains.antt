@@ -8,7 +8,7 @@ use Rattle.pssm_model.specs.declared.elements.Owner.TheVariants.{Top, Region, St
 use Rattle.pssm_model.specs.Forest.{owner_of, LiesUnder, LiesInRegion, HasRegionsAbove}
 use Rattle.pssm_model.specs.Forest.LiesUnder.{owned, further}
 use Rattle.pssm_model.specs.Forest.HasRegionsAbove.{region, state, machine}
-use Rattle.pssm_model.specs.Shape.{HasShape}
+use Rattle.pssm_model.specs.Shapes.{HasShape}
 use Rattle.pssm_wellformed.proofs.Places.{owner_may, owning_region_there}
 
 -- Chains follow on each other.

@@ -11,14 +11,14 @@ use Rattle.pssm_model.specs.Forest.{HasKind, owner_of, LiesUnder, LiesInRegion, 
 use Rattle.pssm_model.specs.Forest.LiesUnder.{owned, further}
 use Rattle.pssm_model.specs.Forest.HasRegionsAbove.{region, state, machine}
 use Rattle.pssm_model.specs.Legs.{IsPoint}
-use Rattle.pssm_model.specs.Shape.{HasShape}
+use Rattle.pssm_model.specs.Shapes.{HasShape}
 use Rattle.pssm_model.proofs.BuiltElements.{some_at, kind_unique, mapped_at}
 use Rattle.pssm_model.specs.declared.elements.Vertex.{Vertex}
 use Rattle.pssm_model.specs.Forest.{vertex_at}
-use Rattle.pssm_wellformed.specs.Walks.{LiesIn, IsThere}
-use Rattle.pssm_wellformed.specs.Survey.{OwnsOfKind}
-use Rattle.pssm_wellformed.specs.Levels.{IsLevel, IsWithin, IsHome, IsCommonLevel, IsClimbing, IsPartWith, IsSeeking}
-use Rattle.pssm_wellformed.specs.Levels.IsLevel.{top, over}
+use Rattle.pssm_wellformed.specs.inner.Walks.{LiesIn, IsThere}
+use Rattle.pssm_wellformed.specs.inner.Survey.{OwnsOfKind}
+use Rattle.pssm_wellformed.specs.inner.Levels.{IsLevel, IsWithin, IsHome, IsCommonLevel, IsClimbing, IsPartWith, IsSeeking}
+use Rattle.pssm_wellformed.specs.inner.Levels.IsLevel.{top, over}
 use Rattle.pssm_wellformed.proofs.Places.{owner_may, owning_region_there, kind_there}
 use Rattle.pssm_wellformed.proofs.Chains.{under_under, one_chain, nothing_over, chain_region_there, top_above}
 

@@ -6,10 +6,10 @@ use Rattle.std.proofs.lemmas.List.Elements.{Contains-append_left, Contains-push,
 use Rattle.pssm_wellformed.specs.declared.cycles.Stage.{Stage}
 use Rattle.pssm_wellformed.specs.declared.cycles.Stage.TheVariants.{New, Open, Closed}
 use Rattle.pssm_wellformed.specs.declared.cycles.Group.{Group}
-use Rattle.pssm_wellformed.specs.Lists.{list_at}
-use Rattle.pssm_wellformed.specs.Reach.{IsReached}
-use Rattle.pssm_wellformed.specs.Reach.IsReached.{at_first, by_arrow}
-use Rattle.pssm_wellformed.specs.Cycles.{GoesRound, stage_at, StandsFrom, IsLedFromOpen, IsSearch, IsSettled}
+use Rattle.pssm_wellformed.specs.inner.Lists.{list_at}
+use Rattle.pssm_wellformed.specs.inner.Reach.{IsReached}
+use Rattle.pssm_wellformed.specs.inner.Reach.IsReached.{at_first, by_arrow}
+use Rattle.pssm_wellformed.specs.inner.Cycles.{GoesRound, stage_at, StandsFrom, IsLedFromOpen, IsSearch, IsSettled}
 use Rattle.pssm_wellformed.proofs.Walking.{only_first}
 use Rattle.pssm_wellformed.proofs.Closures.{reach_from}
 use Rattle.pssm_wellformed.proofs.Groups.{front_ascending, up_to_last, alone, stands_place, stands_right, stands_behind}

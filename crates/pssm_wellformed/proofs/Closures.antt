@@ -9,8 +9,8 @@ use Rattle.pssm_model.specs.declared.elements.DraftMachine.{DraftMachine}
 use Rattle.pssm_model.specs.declared.elements.VertexKind.TheVariants as kinds
 use Rattle.pssm_model.specs.Forest.{HasKind}
 use Rattle.pssm_model.specs.Legs.{Leaves, Enters}
-use Rattle.pssm_model.specs.Shape.{HasShape}
-use Rattle.pssm_model.specs.Firing.{IsHistory, IsLateOrigin}
+use Rattle.pssm_model.specs.Shapes.{HasShape}
+use Rattle.pssm_model.specs.FiringSets.{IsHistory, IsLateOrigin}
 use Rattle.pssm_model.specs.Paths.{IsPseudostate, ComesAfter, IsJunctionPath, Reaches, LeadsOn}
 use Rattle.pssm_model.specs.Paths.ComesAfter.{end, inner}
 use Rattle.pssm_model.specs.Paths.IsJunctionPath.{one, more}
@@ -18,13 +18,13 @@ use Rattle.pssm_model.specs.Paths.Reaches.{by, on}
 use Rattle.pssm_model.specs.Paths.LeadsOn.{next, after}
 use Rattle.pssm_wellformed.specs.declared.survey.End.TheVariants.{Source, Target}
 use Rattle.pssm_wellformed.specs.declared.walks.Walk.TheVariants.{Junctions, Inner, Through}
-use Rattle.pssm_wellformed.specs.Lists.{list_at}
-use Rattle.pssm_wellformed.specs.Reach.{IsReached}
-use Rattle.pssm_wellformed.specs.Reach.IsReached.{at_first, by_arrow}
-use Rattle.pssm_wellformed.specs.Cycles.{GoesRound}
-use Rattle.pssm_wellformed.specs.Survey.{vertex_number, region_number}
-use Rattle.pssm_wellformed.specs.Walks.{AreArrows, IsDefault, number_of_region, AreLeads, IsLateTarget}
-use Rattle.pssm_wellformed.specs.Strays.{IsReachedLate}
+use Rattle.pssm_wellformed.specs.inner.Lists.{list_at}
+use Rattle.pssm_wellformed.specs.inner.Reach.{IsReached}
+use Rattle.pssm_wellformed.specs.inner.Reach.IsReached.{at_first, by_arrow}
+use Rattle.pssm_wellformed.specs.inner.Cycles.{GoesRound}
+use Rattle.pssm_wellformed.specs.inner.Survey.{vertex_number, region_number}
+use Rattle.pssm_wellformed.specs.inner.Walks.{AreArrows, IsDefault, number_of_region, AreLeads, IsLateTarget}
+use Rattle.pssm_wellformed.specs.inner.Strays.{IsReachedLate}
 use Rattle.pssm_wellformed.proofs.Walking.{only_first}
 use Rattle.pssm_wellformed.proofs.Places.{end_there, end_exists, end_only, kind_there}
 use Rattle.pssm_wellformed.proofs.Arrows.{from_region_there, to_region_there}

@@ -7,7 +7,7 @@ use Rattle.std.proofs.lemmas.List.Elements.{Contains-append_left, Contains-push,
 use Rattle.std.proofs.lemmas.Option.{slice_get-get_or}
 use Rattle.std.proofs.Math.Seq.{get_or-append_seam, take-append_seam}
 use Rattle.pssm_wellformed.specs.declared.cycles.Group.{Group}
-use Rattle.pssm_wellformed.specs.Cycles.{StandsFrom, IsEarlierGroup, IsLastGroup, IsJoined}
+use Rattle.pssm_wellformed.specs.inner.Cycles.{StandsFrom, IsEarlierGroup, IsLastGroup, IsJoined}
 
 -- the beginning of an ascending list is ascending
 pub front_ascending : (xs ys : List Group) → AllPairs IsEarlierGroup (xs ++ ys) → AllPairs IsEarlierGroup xs

@@ -5,7 +5,7 @@ use Rattle.std.proofs.lemmas.Bool.{cases_eq, ne_eqb, false≢true, ltb-true, lt-
 use Rattle.std.proofs.lemmas.List.{get_or_default, append-nil, take_more, take_all}
 use Rattle.std.proofs.lemmas.List.Elements.{Contains-append_left, Contains-push, Contains-push_cases, Contains-get_or}
 use Rattle.std.proofs.lemmas.List.Quantifiers.{all_pairs_push}
-use Rattle.pssm_wellformed.specs.Lists.{list_at, AreListed, AreListedBelow}
+use Rattle.pssm_wellformed.specs.inner.Lists.{list_at, AreListed, AreListedBelow}
 
 -- what is put is the item for this number, and nothing for another
 pub puts_here : (key item k : ℕ) (xs : List ℕ) → k ≡ key → xs ++ (if k == key then item ∷ [] else []) ≡ xs ++ item ∷ []

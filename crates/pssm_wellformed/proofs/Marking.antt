@@ -8,15 +8,15 @@ use Rattle.std.proofs.lemmas.Option.{slice_get-get_or, slice_get_past}
 use Rattle.pssm_model.specs.declared.ids.VertexId.{VertexId}
 use Rattle.pssm_model.specs.declared.elements.DraftMachine.{DraftMachine}
 use Rattle.pssm_model.specs.declared.elements.Owner.{Owner}
-use Rattle.pssm_model.specs.Shape.{HasShape}
+use Rattle.pssm_model.specs.Shapes.{HasShape}
 use Rattle.pssm_wellformed.specs.declared.walks.Walk.{Walk}
-use Rattle.pssm_wellformed.specs.Lists.{list_at}
-use Rattle.pssm_wellformed.specs.Reach.{IsReached, StaysWithin}
-use Rattle.pssm_wellformed.specs.Reach.IsReached.{at_first, by_arrow}
-use Rattle.pssm_wellformed.specs.Survey.{vertex_number}
-use Rattle.pssm_wellformed.specs.Walks.{AreArrows, LiesIn, Strays}
-use Rattle.pssm_wellformed.specs.Levels.{IsLevel, AreLevelsBelow, AreLowestLevels}
-use Rattle.pssm_wellformed.specs.Marks.{AreTurnedBelow, AreTurned, IsPutToEach, marks_at, AreMarksOf, AreMarksBelow, AreStrayMarks}
+use Rattle.pssm_wellformed.specs.inner.Lists.{list_at}
+use Rattle.pssm_wellformed.specs.inner.Reach.{IsReached, StaysWithin}
+use Rattle.pssm_wellformed.specs.inner.Reach.IsReached.{at_first, by_arrow}
+use Rattle.pssm_wellformed.specs.inner.Survey.{vertex_number}
+use Rattle.pssm_wellformed.specs.inner.Walks.{AreArrows, LiesIn, Strays}
+use Rattle.pssm_wellformed.specs.inner.Levels.{IsLevel, AreLevelsBelow, AreLowestLevels}
+use Rattle.pssm_wellformed.specs.inner.Marks.{AreTurnedBelow, AreTurned, IsPutToEach, marks_at, AreMarksOf, AreMarksBelow, AreStrayMarks}
 use Rattle.pssm_wellformed.proofs.Listing.{puts_here, puts_there}
 use Rattle.pssm_wellformed.proofs.Walking.{only_first}
 use Rattle.pssm_wellformed.proofs.Arrows.{arrows_within}

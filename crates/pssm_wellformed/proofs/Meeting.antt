@@ -4,9 +4,9 @@ use Rattle.pssm_model.specs.declared.ids.VertexId.{VertexId}
 use Rattle.pssm_model.specs.declared.elements.DraftMachine.{DraftMachine}
 use Rattle.pssm_model.specs.declared.elements.Owner.{Owner}
 use Rattle.pssm_model.specs.Forest.{owner_of}
-use Rattle.pssm_model.specs.Shape.{HasShape}
-use Rattle.pssm_wellformed.specs.Walks.{LiesIn}
-use Rattle.pssm_wellformed.specs.Levels.{IsCommonLevel, AreClimbing}
+use Rattle.pssm_model.specs.Shapes.{HasShape}
+use Rattle.pssm_wellformed.specs.inner.Walks.{LiesIn}
+use Rattle.pssm_wellformed.specs.inner.Levels.{IsCommonLevel, AreClimbing}
 use Rattle.pssm_wellformed.proofs.Climbing.{level_over, climb_has_room, climb_goes_on, climb_ends}
 
 -- Of two places that differ the deeper one does not hold the other's vertex.

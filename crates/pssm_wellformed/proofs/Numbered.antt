@@ -11,12 +11,12 @@ use Rattle.pssm_model.specs.declared.elements.FaultPlace.TheVariants.{Top, At}
 use Rattle.pssm_model.specs.declared.elements.Element.TheVariants as elements
 use Rattle.pssm_model.specs.declared.elements.Owner.TheVariants as owners
 use Rattle.pssm_model.specs.Forest.{transition_at}
-use Rattle.pssm_model.specs.Shape.{HasShape}
-use Rattle.pssm_model.specs.WellFormed.{Breaks, HasNoTopRegion, IsBadInitial, IsBadHistory, IsBadJoin, IsBadFork, JoinsBadly, ForksBadly, IsOpenEnded, IsBadFinal, IsBadTerminate, IsBadEntryPoint, IsBadExitPoint, MayFindNone, IsOnCycle, GoesOutside, IsTriggeredWrongly, IsBadInternal, IsBadLocal, IsBadElse, IsTorn, IsTopWithoutInitial, OwnsTwoEntries}
+use Rattle.pssm_model.specs.Shapes.{HasShape}
+use Rattle.pssm_model.specs.WellFormed.{Breaks, HasNoTopRegion, IsBadInitial, IsBadHistory, IsBadJoin, IsBadFork, JoinsBadly, ForksBadly, IsOpenEnded, IsBadFinal, IsBadTerminate, IsBadEntryPoint, IsBadExitPoint, MayFindNoBranch, IsOnCycle, GoesOutside, IsTriggeredWrongly, IsBadInternal, IsBadLocal, IsBadElse, ConnectsBadly, IsTopWithoutInitial, OwnsTwoOfAKind}
 use Rattle.pssm_model.specs.WellFormed.Breaks.{E01_top, E01, E02, E03, E04, E05, E06, E07, E08, E09, E10, E11, E12, E13, E14, E15, E16, E17, E18, E19, E20, E21}
 use Rattle.pssm_model.proofs.BuiltElements.{mapped_some}
 use Rattle.pssm_wellformed.specs.declared.survey.End.TheVariants.{Source}
-use Rattle.pssm_wellformed.specs.Checked.{IsPlace}
+use Rattle.pssm_wellformed.specs.inner.Checked.{IsPlace}
 use Rattle.pssm_wellformed.proofs.Closures.{leader_is_pseudostate}
 use Rattle.pssm_wellformed.proofs.Places.{kind_there, end_there, owning_region_there}
 
@@ -38,12 +38,12 @@ pub region_iff_1 : (m : DraftMachine) (v : RegionId) (n : ℕ) (b : Bool) → n 
 region_iff_1 m v n b e iff =
     (λ t. subst (Breaks m (At (elements.Region v))) (sym e) (E01 (iff.0 t)), λ h. iff.1 (region_at_1 m v (At (elements.Region v)) n h e refl))
 
-region_at_2 : (m : DraftMachine) (v : RegionId) (p : FaultPlace) (n : ℕ) → Breaks m p n → n ≡ 2 → p ≡ At (elements.Region v) → OwnsTwoEntries m v
-region_at_2 m v _ _ (E02 {r = w} h) e q = let same : w ≡ v = cc in subst (OwnsTwoEntries m) same h
+region_at_2 : (m : DraftMachine) (v : RegionId) (p : FaultPlace) (n : ℕ) → Breaks m p n → n ≡ 2 → p ≡ At (elements.Region v) → OwnsTwoOfAKind m v
+region_at_2 m v _ _ (E02 {r = w} h) e q = let same : w ≡ v = cc in subst (OwnsTwoOfAKind m) same h
 region_at_2 m v _ _ _ e q = absurd (omega arith)
 
 -- E02
-pub region_iff_2 : (m : DraftMachine) (v : RegionId) (n : ℕ) (b : Bool) → n ≡ 2 → (IsTrue b ↔ OwnsTwoEntries m v) → IsTrue b ↔ Breaks m (At (elements.Region v)) n
+pub region_iff_2 : (m : DraftMachine) (v : RegionId) (n : ℕ) (b : Bool) → n ≡ 2 → (IsTrue b ↔ OwnsTwoOfAKind m v) → IsTrue b ↔ Breaks m (At (elements.Region v)) n
 region_iff_2 m v n b e iff =
     (λ t. subst (Breaks m (At (elements.Region v))) (sym e) (E02 (iff.0 t)), λ h. iff.1 (region_at_2 m v (At (elements.Region v)) n h e refl))
 
@@ -146,12 +146,12 @@ pub vertex_iff_16 : (m : DraftMachine) (v : VertexId) (n : ℕ) (b : Bool) → n
 vertex_iff_16 m v n b e iff =
     (λ t. subst (Breaks m (At (elements.Vertex v))) (sym e) (E16 (iff.0 t)), λ h. iff.1 (vertex_at_16 m v (At (elements.Vertex v)) n h e refl))
 
-vertex_at_18 : (m : DraftMachine) (v : VertexId) (p : FaultPlace) (n : ℕ) → Breaks m p n → n ≡ 18 → p ≡ At (elements.Vertex v) → MayFindNone m v
-vertex_at_18 m v _ _ (E18 {v = w} h) e q = let same : w ≡ v = cc in subst (MayFindNone m) same h
+vertex_at_18 : (m : DraftMachine) (v : VertexId) (p : FaultPlace) (n : ℕ) → Breaks m p n → n ≡ 18 → p ≡ At (elements.Vertex v) → MayFindNoBranch m v
+vertex_at_18 m v _ _ (E18 {v = w} h) e q = let same : w ≡ v = cc in subst (MayFindNoBranch m) same h
 vertex_at_18 m v _ _ _ e q = absurd (omega arith)
 
 -- E18
-pub vertex_iff_18 : (m : DraftMachine) (v : VertexId) (n : ℕ) (b : Bool) → n ≡ 18 → (IsTrue b ↔ MayFindNone m v) → IsTrue b ↔ Breaks m (At (elements.Vertex v)) n
+pub vertex_iff_18 : (m : DraftMachine) (v : VertexId) (n : ℕ) (b : Bool) → n ≡ 18 → (IsTrue b ↔ MayFindNoBranch m v) → IsTrue b ↔ Breaks m (At (elements.Vertex v)) n
 vertex_iff_18 m v n b e iff =
     (λ t. subst (Breaks m (At (elements.Vertex v))) (sym e) (E18 (iff.0 t)), λ h. iff.1 (vertex_at_18 m v (At (elements.Vertex v)) n h e refl))
 
@@ -209,12 +209,12 @@ pub transition_iff_17 : (m : DraftMachine) (v : TransId) (n : ℕ) (b : Bool) �
 transition_iff_17 m v n b e iff =
     (λ t. subst (Breaks m (At (elements.Transition v))) (sym e) (E17 (iff.0 t)), λ h. iff.1 (transition_at_17 m v (At (elements.Transition v)) n h e refl))
 
-transition_at_21 : (m : DraftMachine) (v : TransId) (p : FaultPlace) (n : ℕ) → Breaks m p n → n ≡ 21 → p ≡ At (elements.Transition v) → IsTorn m v
-transition_at_21 m v _ _ (E21 {t = w} h) e q = let same : w ≡ v = cc in subst (IsTorn m) same h
+transition_at_21 : (m : DraftMachine) (v : TransId) (p : FaultPlace) (n : ℕ) → Breaks m p n → n ≡ 21 → p ≡ At (elements.Transition v) → ConnectsBadly m v
+transition_at_21 m v _ _ (E21 {t = w} h) e q = let same : w ≡ v = cc in subst (ConnectsBadly m) same h
 transition_at_21 m v _ _ _ e q = absurd (omega arith)
 
 -- E21
-pub transition_iff_21 : (m : DraftMachine) (v : TransId) (n : ℕ) (b : Bool) → n ≡ 21 → (IsTrue b ↔ IsTorn m v) → IsTrue b ↔ Breaks m (At (elements.Transition v)) n
+pub transition_iff_21 : (m : DraftMachine) (v : TransId) (n : ℕ) (b : Bool) → n ≡ 21 → (IsTrue b ↔ ConnectsBadly m v) → IsTrue b ↔ Breaks m (At (elements.Transition v)) n
 transition_iff_21 m v n b e iff =
     (λ t. subst (Breaks m (At (elements.Transition v))) (sym e) (E21 (iff.0 t)), λ h. iff.1 (transition_at_21 m v (At (elements.Transition v)) n h e refl))
 

@@ -10,11 +10,11 @@ use Rattle.pssm_model.specs.declared.elements.DraftMachine.{DraftMachine}
 use Rattle.pssm_model.specs.declared.elements.FaultPlace.{FaultPlace}
 use Rattle.pssm_model.specs.declared.elements.FaultPlace.TheVariants.{Top, At}
 use Rattle.pssm_model.specs.declared.elements.Element.TheVariants as elements
-use Rattle.pssm_model.specs.Shape.{HasShape}
+use Rattle.pssm_model.specs.Shapes.{HasShape}
 use Rattle.pssm_model.specs.WellFormed.{Breaks, KeepsModelRules}
 use Rattle.pssm_wellformed.specs.declared.fault.Fault.{Fault}
 use Rattle.pssm_wellformed.specs.Faults.{IsEarlierPlace, IsEarlierFault}
-use Rattle.pssm_wellformed.specs.Checked.{IsPlace, place_number, IsCheckedBelow}
+use Rattle.pssm_wellformed.specs.inner.Checked.{IsPlace, place_number, IsCheckedBelow}
 use Rattle.pssm_wellformed.proofs.Numbered.{rule_range, breaks_there}
 
 -- Places of one number are one.

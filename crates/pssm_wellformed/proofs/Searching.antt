@@ -8,10 +8,10 @@ use Rattle.std.proofs.Math.Seq.{get_or-append_seam}
 use Rattle.pssm_wellformed.specs.declared.cycles.Stage.{Stage}
 use Rattle.pssm_wellformed.specs.declared.cycles.Stage.TheVariants.{New, Open, Closed}
 use Rattle.pssm_wellformed.specs.declared.cycles.Group.{Group}
-use Rattle.pssm_wellformed.specs.Lists.{list_at}
-use Rattle.pssm_wellformed.specs.Reach.{IsReached, StaysWithin}
-use Rattle.pssm_wellformed.specs.Reach.IsReached.{at_first, by_arrow}
-use Rattle.pssm_wellformed.specs.Cycles.{GoesRound, stage_at, StandsFrom, IsEarlierGroup, IsLedFromOpen, IsSearch, IsJoined}
+use Rattle.pssm_wellformed.specs.inner.Lists.{list_at}
+use Rattle.pssm_wellformed.specs.inner.Reach.{IsReached, StaysWithin}
+use Rattle.pssm_wellformed.specs.inner.Reach.IsReached.{at_first, by_arrow}
+use Rattle.pssm_wellformed.specs.inner.Cycles.{GoesRound, stage_at, StandsFrom, IsEarlierGroup, IsLedFromOpen, IsSearch, IsJoined}
 use Rattle.pssm_wellformed.proofs.Walking.{only_first, reached_within}
 use Rattle.pssm_wellformed.proofs.Closures.{here_first, reach_from}
 use Rattle.pssm_wellformed.proofs.Groups.{stands_left, stands_right, stands_cases}

@@ -5,8 +5,8 @@ use Rattle.std.proofs.lemmas.List.{take_more, get_or-set_same, get_or-set_other,
 use Rattle.std.proofs.lemmas.List.Elements.{Contains-append_left, Contains-push, Contains-push_cases}
 use Rattle.pssm_wellformed.specs.declared.cycles.Stage.{Stage}
 use Rattle.pssm_wellformed.specs.declared.cycles.Stage.TheVariants.{New, Open, Closed}
-use Rattle.pssm_wellformed.specs.Lists.{list_at}
-use Rattle.pssm_wellformed.specs.Cycles.{stage_at, new_steps, IsSettled}
+use Rattle.pssm_wellformed.specs.inner.Lists.{list_at}
+use Rattle.pssm_wellformed.specs.inner.Cycles.{stage_at, new_steps, IsSettled}
 
 -- a number is no longer new, and its arrows no longer count
 pub new_steps_open : (g : List (Vec ℕ Global)) (stages : List Stage) (b i : ℕ) → b < length g → b < length stages → stage_at stages b ≡ New

@@ -9,12 +9,12 @@ use Rattle.pssm_model.specs.declared.ids.RegionId.{RegionId}
 use Rattle.pssm_model.specs.declared.ids.TransId.{TransId}
 use Rattle.pssm_model.specs.declared.elements.DraftMachine.{DraftMachine}
 use Rattle.pssm_model.specs.Forest.{LiesInRegion, LiesInState}
-use Rattle.pssm_model.specs.Shape.{HasShape}
+use Rattle.pssm_model.specs.Shapes.{HasShape}
 use Rattle.pssm_model.specs.WellFormed.{LieApart}
 use Rattle.pssm_model.proofs.BuiltElements.{same_transition}
 use Rattle.pssm_wellformed.specs.declared.survey.End.{End}
-use Rattle.pssm_wellformed.specs.Survey.{HasEnd, HasRegion, vertex_number, region_number, transition_number}
-use Rattle.pssm_wellformed.specs.Apart.{EndLiesIn, EndLiesInside, AreEnds, LieApartAround, AreApartMarks, AreStamps, EndLiesInOneOf, AreStamped}
+use Rattle.pssm_wellformed.specs.inner.Survey.{HasEnd, HasRegion, vertex_number, region_number, transition_number}
+use Rattle.pssm_wellformed.specs.inner.Apart.{EndLiesIn, EndLiesInside, AreEnds, LieApartAround, AreApartMarks, AreStamps, EndLiesInOneOf, AreStamped}
 use Rattle.pssm_wellformed.proofs.Listing.{placed_apart}
 use Rattle.pssm_wellformed.proofs.Places.{end_only}
 use Rattle.pssm_wellformed.proofs.Chains.{one_region_inside}

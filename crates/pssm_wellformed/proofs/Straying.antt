@@ -11,8 +11,8 @@ use Rattle.pssm_model.specs.declared.elements.Owner.{Owner}
 use Rattle.pssm_model.specs.declared.elements.Owner.TheVariants.{Top, Region, State}
 use Rattle.pssm_model.specs.Forest.{HasKind, owner_of, LiesInRegion, LiesInState}
 use Rattle.pssm_model.specs.Legs.{Leaves, Enters, Goes}
-use Rattle.pssm_model.specs.Shape.{HasShape}
-use Rattle.pssm_model.specs.Firing.{IsLateOrigin}
+use Rattle.pssm_model.specs.Shapes.{HasShape}
+use Rattle.pssm_model.specs.FiringSets.{IsLateOrigin}
 use Rattle.pssm_model.specs.Paths.{IsJunctionPath}
 use Rattle.pssm_model.specs.Paths.IsJunctionPath.{one, more}
 use Rattle.pssm_model.specs.Legs.{IsPoint}
@@ -21,11 +21,11 @@ use Rattle.pssm_model.specs.WellFormed.{LeavesLocally, IsBadLocal, LeavesRegion,
 use Rattle.pssm_model.proofs.BuiltElements.{same_vertex, kind_unique}
 use Rattle.pssm_wellformed.specs.declared.survey.End.TheVariants.{Source}
 use Rattle.pssm_wellformed.specs.declared.walks.Walk.TheVariants.{Junctions, Inner, Back}
-use Rattle.pssm_wellformed.specs.Reach.{IsReached}
-use Rattle.pssm_wellformed.specs.Reach.IsReached.{at_first, by_arrow}
-use Rattle.pssm_wellformed.specs.Survey.{vertex_number}
-use Rattle.pssm_wellformed.specs.Walks.{AreArrows, LiesIn, Strays}
-use Rattle.pssm_wellformed.specs.Strays.{StraysFrom, ComesFromAfar, IsLast}
+use Rattle.pssm_wellformed.specs.inner.Reach.{IsReached}
+use Rattle.pssm_wellformed.specs.inner.Reach.IsReached.{at_first, by_arrow}
+use Rattle.pssm_wellformed.specs.inner.Survey.{vertex_number}
+use Rattle.pssm_wellformed.specs.inner.Walks.{AreArrows, LiesIn, Strays}
+use Rattle.pssm_wellformed.specs.inner.Strays.{StraysFrom, ComesFromAfar, IsLast}
 use Rattle.pssm_wellformed.proofs.Walking.{reached_within, only_first}
 use Rattle.pssm_wellformed.proofs.Arrows.{arrows_within}
 use Rattle.pssm_wellformed.proofs.Closures.{after_reached, reached_after, path_reached, reached_path}

@@ -10,12 +10,12 @@ use Rattle.pssm_model.specs.declared.elements.VertexKind.TheVariants as kinds
 use Rattle.pssm_model.specs.declared.elements.Owner.TheVariants.{Region, State}
 use Rattle.pssm_model.specs.Forest.{HasKind, owner_of, LiesInState}
 use Rattle.pssm_model.specs.Legs.{IsPoint}
-use Rattle.pssm_model.specs.Shape.{HasShape}
-use Rattle.pssm_model.specs.WellFormed.{Ends, LieApart, LieApartInNoState}
+use Rattle.pssm_model.specs.Shapes.{HasShape}
+use Rattle.pssm_model.specs.WellFormed.{Ends, LieApart, LieApartBeside}
 use Rattle.pssm_model.proofs.BuiltElements.{kind_unique}
 use Rattle.pssm_wellformed.specs.declared.survey.End.{End}
-use Rattle.pssm_wellformed.specs.Survey.{HasEnd, OwnsOfKind, transition_number}
-use Rattle.pssm_wellformed.specs.Apart.{EndLiesInside, AreEnds, IsAround, AreOtherEnds, LieApartAround, IsFitting}
+use Rattle.pssm_wellformed.specs.inner.Survey.{HasEnd, OwnsOfKind, transition_number}
+use Rattle.pssm_wellformed.specs.inner.Apart.{EndLiesInside, AreEnds, IsAround, AreOtherEnds, LieApartAround, IsFitting}
 use Rattle.pssm_wellformed.proofs.Places.{end_exists, one_region, one_state, owner_may}
 use Rattle.pssm_wellformed.proofs.Climbing.{one_state_inside}
 
@@ -103,11 +103,11 @@ plain_kind m v kind is entry exit point = ⊎_elim (λ p. entry (kind_unique m v
 
 -- what the marks say of a join or fork, and of an entry point
 pub nowhere_iff : (m : DraftMachine) → HasShape m → (near far : End) (v : VertexId) (b : Bool) → (IsPoint m v → ⊥) → (IsTrue b ↔ LieApartAround m near far v)
-    → IsTrue (not b) ↔ LieApartInNoState m v (AreOtherEnds m near far v)
+    → IsTrue (not b) ↔ (LieApartBeside m v (AreOtherEnds m near far v) → ⊥)
 nowhere_iff m shape near far v b plain iff =
     let no = not_when b (LieApartAround m near far v) iff in (
-      λ t s r kind own owner h. no.0 t (s, inr (r, (kind, own), owner), h),
-      λ none. no.1 (λ h. ⊎_elim (λ own. plain (owner_may m shape v (State h.0) own).0) (λ w. none h.0 w.0 w.1.0 w.1.1 w.2 h.2) h.1),
+      λ t (s, r, kind, own, owner, h). no.0 t (s, inr (r, (kind, own), owner), h),
+      λ none. no.1 (λ h. ⊎_elim (λ own. plain (owner_may m shape v (State h.0) own).0) (λ w. none (h.0, w.0, w.1.0, w.1.1, w.2, h.2)) h.1),
     )
 
 pub point_iff : (m : DraftMachine) → HasShape m → (near far : End) (v : VertexId) (b : Bool) → IsPoint m v → (IsTrue b ↔ LieApartAround m near far v)

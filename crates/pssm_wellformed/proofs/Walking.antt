@@ -5,9 +5,9 @@ use Rattle.std.proofs.lemmas.List.{take_more, get_or-set_same, get_or-set_other,
 use Rattle.std.proofs.lemmas.List.Elements.{Contains-append_left, Contains-push, Contains-push_cases, Contains-get_or}
 use Rattle.std.specs.Option.{option_map_or}
 use Rattle.std.proofs.lemmas.Option.{slice_get-get_or}
-use Rattle.pssm_wellformed.specs.Lists.{list_at}
-use Rattle.pssm_wellformed.specs.Reach.{IsReached, StaysWithin, marked, AreMarked, FindsMore, IsWalked}
-use Rattle.pssm_wellformed.specs.Reach.IsReached.{at_first, by_arrow}
+use Rattle.pssm_wellformed.specs.inner.Lists.{list_at}
+use Rattle.pssm_wellformed.specs.inner.Reach.{IsReached, StaysWithin, marked, AreMarked, FindsMore, IsWalked}
+use Rattle.pssm_wellformed.specs.inner.Reach.IsReached.{at_first, by_arrow}
 
 -- nothing more is found among none
 pub finds_none : (found : List ℕ) → FindsMore found found []

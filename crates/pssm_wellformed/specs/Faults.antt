@@ -2,7 +2,7 @@
 use Rattle.std.specs.Prelude.{◌≡◌, ◌⊎◌, ◌<◌}
 use Rattle.pssm_model.specs.declared.elements.FaultPlace.{FaultPlace}
 use Rattle.pssm_model.specs.declared.elements.FaultPlace.TheVariants.{Top, At}
-use Rattle.pssm_model.specs.Shape.{IsEarlier}
+use Rattle.pssm_model.specs.Shapes.{IsEarlier}
 use Rattle.pssm_wellformed.specs.declared.fault.Fault.{Fault}
 
 -- the machine as a whole, and then its regions, vertices and transitions, each by number (this profile's choice)

@@ -1,12 +1,2 @@
-pub mod Lists
-pub mod Reach
-pub mod Survey
-pub mod Questions
-pub mod Apart
-pub mod Walks
-pub mod Levels
-pub mod Marks
-pub mod Strays
-pub mod Cycles
 pub mod Faults
-pub mod Checked
+pub mod inner

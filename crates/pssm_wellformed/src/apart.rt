@@ -1,12 +1,13 @@
-//! The rules of joins, forks and entry points, whose transitions lead from or to different regions of a State: E07, E08 and E15.
+//! The rules of joins, forks and entry points, whose transitions lead from or to different regions
+//! of a State: E07, E08 and E15.
 ghost use Rattle.std.specs.Prelude.{◌≡◌, ◌↔◌, ◌<◌, Some, length, IsTrue};
 ghost use Rattle.pssm_model.specs.declared.elements.Owner.TheVariants.{State};
 ghost use Rattle.pssm_model.specs.Forest.{HasKind, owner_of};
-ghost use Rattle.pssm_model.specs.Shape.{HasShape};
+ghost use Rattle.pssm_model.specs.Shapes.{HasShape};
 ghost use Rattle.pssm_model.specs.WellFormed.{LieApart, HasSourcesTogether, HasTargetsTogether, JoinsBadly, ForksBadly, IsBadEntryPoint};
-ghost use Rattle.pssm_wellformed.specs.Survey.{IsSurvey};
-ghost use Rattle.pssm_wellformed.specs.Apart.{AreOtherEnds};
-ghost use Rattle.pssm_wellformed.specs.Strays.{AreVertexMarks};
+ghost use Rattle.pssm_wellformed.specs.inner.Survey.{IsSurvey};
+ghost use Rattle.pssm_wellformed.specs.inner.Apart.{AreOtherEnds};
+ghost use Rattle.pssm_wellformed.specs.inner.Strays.{AreVertexMarks};
 
 use crate::elements::has_kind;
 use crate::paths::VertexMarks;
@@ -42,13 +43,15 @@ fn entries_lie_together(machine: &Machine, marks: &VertexMarks, vertex: VertexId
     requires marks { AreVertexMarks machine.now marks.now }
     requires there { vertex.0 < length machine.now.vertices }
     requires point { HasKind machine.now vertex VertexKind.EntryPoint }
-    ensures { IsTrue result ↔ ((s : VertexId) → owner_of machine.now (State vertex) ≡ Some (State s) → LieApart machine.now s (AreOtherEnds machine.now End.Source End.Target vertex) → ⊥) }
+    ensures { IsTrue result
+        ↔ ((s : VertexId) → owner_of machine.now (State vertex) ≡ Some (State s)
+        → LieApart machine.now s (AreOtherEnds machine.now End.Source End.Target vertex) → ⊥) }
 {
     !marks.targets_apart[vertex.0 as usize]
 }
 
-/// E07: whether it is a join with a segment in that has a guard or trigger or leaves no State, or whose sources lie in different
-/// regions of no State beside it.
+/// E07: whether it is a join with a segment in that has a guard or trigger or leaves no State, or
+/// whose sources lie in different regions of no State beside it.
 pub fn joins_badly(
     machine: &Machine,
     survey: &Survey,
@@ -70,8 +73,8 @@ pub fn joins_badly(
         ) || sources_lie_together(machine, marks, vertex))
 }
 
-/// E08: whether it is a fork with a segment out that has a guard or ends on no State or final state, or whose targets lie in different
-/// regions of no State beside it.
+/// E08: whether it is a fork with a segment out that has a guard or ends on no State or final
+/// state, or whose targets lie in different regions of no State beside it.
 pub fn forks_badly(
     machine: &Machine,
     survey: &Survey,

@@ -1,11 +1,11 @@
 //! `check`: every rule of models that a machine breaks, and where.
 ghost use Rattle.std.specs.Prelude.{◌≡◌, ◌↔◌, ◌<◌, ◌+◌, [], Contains, AllPairs, length, IfOk, OnOk};
-ghost use Rattle.pssm_model.specs.Shape.{HasShape};
+ghost use Rattle.pssm_model.specs.Shapes.{HasShape};
 ghost use Rattle.pssm_model.specs.WellFormed.{Breaks, KeepsModelRules};
-ghost use Rattle.pssm_wellformed.specs.Survey.{IsSurvey};
-ghost use Rattle.pssm_wellformed.specs.Strays.{AreVertexMarks};
+ghost use Rattle.pssm_wellformed.specs.inner.Survey.{IsSurvey};
+ghost use Rattle.pssm_wellformed.specs.inner.Strays.{AreVertexMarks};
 ghost use Rattle.pssm_wellformed.specs.Faults.{IsEarlierFault};
-ghost use Rattle.pssm_wellformed.specs.Checked.{IsPlace, place_number, IsCheckedBelow};
+ghost use Rattle.pssm_wellformed.specs.inner.Checked.{IsPlace, place_number, IsCheckedBelow};
 
 use crate::fault::Fault;
 use crate::paths::VertexMarks;
@@ -19,8 +19,8 @@ const LAST_RULE: u8 = 21;
 
 /// How many places a fault may have: the machine as a whole, and its regions, vertices and transitions.
 fn places(machine: &Machine) -> u16
-    requires { HasShape machine.now }
-    ensures { result ≡ 1 + length machine.now.regions + length machine.now.vertices + length machine.now.transitions }
+    ensures count { result ≡ 1 + length machine.now.regions + length machine.now.vertices + length machine.now.transitions }
+    ensures shaped { HasShape machine.now }
 {
     1 + machine.regions() + machine.vertices() + machine.transitions()
 }
@@ -68,20 +68,22 @@ fn list_faults(
     Ok(())
 }
 
-/// Every rule of models that the machine breaks, once for each element that breaks it: sorted by element, first the machine as a whole
-/// and then its regions, vertices and transitions, and by rule.
+/// Every rule of models that the machine breaks, once for each element that breaks it: sorted by
+/// element, first the machine as a whole and then its regions, vertices and transitions, and by
+/// rule.
 ///
 /// The list is empty exactly where the machine keeps every rule. Where memory runs out the answer is `NoMemory`.
 pub fn check(alloc: Global, machine: &Machine) -> Result<Vec<Fault>, NoMemory>
-    requires { HasShape machine.now }
-    ensures exact { IfOk result (λ list. (f : Fault) → Contains list.items f ↔ Breaks machine.now f.element f.rule) }
+    ensures exact { IfOk result
+        (λ list. (f : Fault) → Contains list.items f ↔ Breaks machine.now f.element f.rule) }
     ensures ascending { IfOk result (λ list. AllPairs IsEarlierFault list.items) }
     ensures keeps_rules { IfOk result (λ list. (list.items ≡ []) ↔ KeepsModelRules machine.now) }
 {
+    let places = places(machine);
     let survey = Survey::of(alloc, machine)?;
     let marks = VertexMarks::of(alloc, machine, &survey)?;
     let mut faults = Vec::new(alloc);
-    for number in 0..places(machine) {
+    for number in 0..places {
         let place = place_at(machine, number);
         list_faults(machine, &survey, &marks, place, &mut faults)?;
     }

@@ -1,15 +1,17 @@
 //! E19: which vertices lie on a cycle of pseudostates, found for all of them at once.
 //!
-//! One search walks each arrow once. The numbers that it has come to and not yet left are open. They stand in groups: within a group each
-//! number leads to each other, and each group leads to the next. An arrow to an open number makes one group of all groups from that
-//! number's on. Once every arrow of the last group has been walked, the group is closed: no arrow leads from what is closed to what is
-//! not, so no cycle goes through two groups. (This is the path-based search for strong components.)
+//! One search walks each arrow once. The numbers that it has come to and not yet left are open.
+//! They stand in groups: within a group each number leads to each other, and each group leads to
+//! the next. An arrow to an open number makes one group of all groups from that number's on. Once
+//! every arrow of the last group has been walked, the group is closed: no arrow leads from what is
+//! closed to what is not, so no cycle goes through two groups. (This is the path-based search for
+//! strong components.)
 ghost use Rattle.std.specs.Prelude.{◌≡◌, ◌↔◌, ◌≤◌, ◌<◌, ◌+◌, ℕ, true, false, AllPairs, Contains, length, slice_index_or, IfOk, OnOk, IsTrue, MatchOption};
 ghost use Rattle.pssm_model.specs.WellFormed.{IsOnCycle};
-ghost use Rattle.pssm_wellformed.specs.Reach.{StaysWithin};
-ghost use Rattle.pssm_wellformed.specs.Survey.{IsSurvey};
-ghost use Rattle.pssm_wellformed.specs.Strays.{AreVertexMarks};
-ghost use Rattle.pssm_wellformed.specs.Cycles.{GoesRound, stage_at, IsEarlierGroup, IsLastGroup, IsSearching, IsMeeting, steps_left, IsJoined, IsWalkedGroup, IsSettled};
+ghost use Rattle.pssm_wellformed.specs.inner.Reach.{StaysWithin};
+ghost use Rattle.pssm_wellformed.specs.inner.Survey.{IsSurvey};
+ghost use Rattle.pssm_wellformed.specs.inner.Strays.{AreVertexMarks};
+ghost use Rattle.pssm_wellformed.specs.inner.Cycles.{GoesRound, stage_at, IsEarlierGroup, IsLastGroup, IsSearching, IsMeeting, steps_left, IsJoined, IsWalkedGroup, IsSettled};
 
 use crate::paths::VertexMarks;
 use crate::survey::Survey;
@@ -32,8 +34,8 @@ pub struct Group {
     pub ahead: usize,
 }
 
-/// A search: the stage of each number, the open numbers and their groups, the ends of the arrows ahead, and a mark for each closed
-/// number that lies on a cycle.
+/// A search: the stage of each number, the open numbers and their groups, the ends of the arrows
+/// ahead, and a mark for each closed number that lies on a cycle.
 #[derive(Drop)]
 pub struct Search {
     pub stages: Vec<Stage>,
@@ -78,7 +80,8 @@ fn settle(stages: &mut Vec<Stage>, cyclic: &mut Vec<bool>, onward: &[Vec<u16>], 
     requires stages { length stages.old.items ≡ length onward.now }
     requires marks { length cyclic.old.items ≡ length onward.now }
     requires there { (a : ℕ) → Contains group.now a → a < length onward.now }
-    ensures { IsSettled onward.now group.now (length group.now) stages.old.items stages.new.items cyclic.old.items cyclic.new.items }
+    ensures { IsSettled onward.now group.now
+        (length group.now) stages.old.items stages.new.items cyclic.old.items cyclic.new.items }
 {
     for number in group {
         let place = *number as usize;
@@ -111,7 +114,8 @@ impl Search {
 
     /// The last group, where each of its arrows has been walked.
     fn walked(&self) -> Option<Group>
-        ensures { MatchOption result ((x : Group) → IsWalkedGroup self.now x → ⊥) (λ x. IsWalkedGroup self.now x) }
+        ensures { MatchOption result ((x : Group) → IsWalkedGroup self.now x → ⊥)
+            (λ x. IsWalkedGroup self.now x) }
     {
         let group = *self.groups.as_slice().last()?;
         if group.ahead == self.ahead.len() {
@@ -196,7 +200,8 @@ fn cyclic_numbers(alloc: Global, onward: &[Vec<u16>]) -> Result<Vec<bool>, NoMem
     requires few { length onward.now < 65536 }
     requires within { StaysWithin onward.now }
     ensures width { IfOk result (λ marks. length marks.items ≡ length onward.now) }
-    ensures marks { IfOk result (λ marks. (a : ℕ) → (slice_index_or marks.items a false ≡ true) ↔ GoesRound onward.now a) }
+    ensures marks { IfOk result
+        (λ marks. (a : ℕ) → (slice_index_or marks.items a false ≡ true) ↔ GoesRound onward.now a) }
 {
     let mut search = Search::new(alloc, onward)?;
     while search.goes_on() {
@@ -205,7 +210,8 @@ fn cyclic_numbers(alloc: Global, onward: &[Vec<u16>]) -> Result<Vec<bool>, NoMem
     Ok(search.cyclic)
 }
 
-/// A mark for each vertex that lies on a cycle of pseudostates. The numbers behind those of the vertices stand for regions.
+/// A mark for each vertex that lies on a cycle of pseudostates. The numbers behind those of the
+/// vertices stand for regions.
 pub fn cyclic_marks(
     alloc: Global,
     machine: &Machine,
@@ -213,7 +219,9 @@ pub fn cyclic_marks(
 ) -> Result<Vec<bool>, NoMemory>
     requires { IsSurvey machine.now survey.now }
     ensures width { IfOk result (λ marks. length marks.items ≡ length machine.now.vertices) }
-    ensures marks { IfOk result (λ marks. (v : VertexId) → (slice_index_or marks.items v.0 false ≡ true) ↔ IsOnCycle machine.now v) }
+    ensures marks { IfOk result
+        (λ marks. (v : VertexId) → (slice_index_or marks.items v.0 false ≡ true)
+        ↔ IsOnCycle machine.now v) }
 {
     let leads = leads_of(alloc, machine, survey)?;
     let mut marks = cyclic_numbers(alloc, leads.as_slice())?;

@@ -1,9 +1,9 @@
 //! What is asked of one vertex or transition.
 ghost use Rattle.std.specs.Prelude.{◌↔◌, ◌<◌, length, IsTrue};
 ghost use Rattle.pssm_model.specs.Forest.{HasKind, IsStateOrFinal};
-ghost use Rattle.pssm_model.specs.Shape.{HasShape};
-ghost use Rattle.pssm_wellformed.specs.Survey.{HasEnd};
-ghost use Rattle.pssm_model.specs.Firing.{IsHistory, IsLateOrigin};
+ghost use Rattle.pssm_model.specs.Shapes.{HasShape};
+ghost use Rattle.pssm_wellformed.specs.inner.Survey.{HasEnd};
+ghost use Rattle.pssm_model.specs.FiringSets.{IsHistory, IsLateOrigin};
 ghost use Rattle.pssm_model.specs.Paths.{IsPseudostate, IsPseudostateKind, IsInner};
 ghost use Rattle.pssm_model.specs.WellFormed.{HasGuard, HasElse, HasTrigger, IsBranch, IsUnguardedKind};
 

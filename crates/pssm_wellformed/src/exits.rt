@@ -3,9 +3,9 @@ ghost use Rattle.std.specs.Prelude.{◌≡◌, ◌↔◌, ◌<◌, ℕ, Some, Co
 ghost use Rattle.pssm_model.specs.declared.elements.Owner.TheVariants.{State};
 ghost use Rattle.pssm_model.specs.Forest.{HasKind, owner_of};
 ghost use Rattle.pssm_model.specs.Legs.{Enters};
-ghost use Rattle.pssm_model.specs.WellFormed.{StaysInside, IsComeToFromAfar, IsBadExitPoint};
-ghost use Rattle.pssm_wellformed.specs.Survey.{IsSurvey, transition_number};
-ghost use Rattle.pssm_wellformed.specs.Strays.{AreVertexMarks, ComesFromAfar};
+ghost use Rattle.pssm_model.specs.WellFormed.{StaysInside, HasStrayPathIn, IsBadExitPoint};
+ghost use Rattle.pssm_wellformed.specs.inner.Survey.{IsSurvey, transition_number};
+ghost use Rattle.pssm_wellformed.specs.inner.Strays.{AreVertexMarks, ComesFromAfar};
 
 use crate::counts::lacks_one;
 use crate::elements::{end_of, has_kind};
@@ -16,7 +16,8 @@ use crate::questions::{Question, holds_at};
 use crate::survey::{End, Survey, meeting, regions_in};
 use pssm_model::{Machine, Owner, TransId, VertexId, VertexKind};
 
-/// Whether the other vertices of some junction path to the vertex that ends with the transition do not all lie in one region of the State.
+/// Whether the other vertices of some junction path to the vertex that ends with the transition do
+/// not all lie in one region of the State.
 fn comes_from_afar(
     machine: &Machine,
     survey: &Survey,
@@ -35,7 +36,8 @@ fn comes_from_afar(
     ensures { IsTrue result ↔ ComesFromAfar machine.now vertex state transition }
 {
     let source = end_of(machine, transition, End::Source);
-    // A path that ends with a transition from the exit point to itself has no other vertex, so any region of the State holds it.
+    // A path that ends with a transition from the exit point to itself has no other vertex, so any
+    // region of the State holds it.
     if source.0 == vertex.0 {
         return regions_in(machine, survey, state).is_empty();
     }
@@ -66,7 +68,9 @@ fn some_come_from_afar(
     requires point { HasKind machine.now vertex VertexKind.ExitPoint }
     requires owner { owner_of machine.now (State vertex) ≡ Some (State state) }
     requires leaves { StaysInside machine.now vertex → ⊥ }
-    ensures { IsTrue result ↔ ((t : ℕ) × Contains transitions.now t × ComesFromAfar machine.now vertex state (transition_number t)) }
+    ensures { IsTrue result
+        ↔ ((t : ℕ) × Contains transitions.now t × ComesFromAfar machine.now vertex state
+        (transition_number t)) }
 {
     for number in transitions {
         if comes_from_afar(machine, survey, marks, TransId(*number), vertex, state) {
@@ -77,7 +81,7 @@ fn some_come_from_afar(
 }
 
 /// Whether the other vertices of some junction path to the exit point do not all lie in one region of its State.
-fn is_come_to_from_afar(
+fn has_stray_path_in(
     machine: &Machine,
     survey: &Survey,
     marks: &VertexMarks,
@@ -88,7 +92,7 @@ fn is_come_to_from_afar(
     requires point { HasKind machine.now vertex VertexKind.ExitPoint }
     requires there { vertex.0 < length machine.now.vertices }
     requires leaves { StaysInside machine.now vertex → ⊥ }
-    ensures { IsTrue result ↔ IsComeToFromAfar machine.now vertex }
+    ensures { IsTrue result ↔ HasStrayPathIn machine.now vertex }
 {
     match machine.vertex(vertex).owner {
         Owner::State(state) => some_come_from_afar(
@@ -121,8 +125,9 @@ fn stays_inside(machine: &Machine, survey: &Survey, vertex: VertexId) -> bool
     }
 }
 
-/// E16: whether it is an exit point with not exactly one transition out, or with one that ends in its State, or to which some junction
-/// path comes from more than one region of its State, or from outside.
+/// E16: whether it is an exit point with not exactly one transition out, or with one that ends in
+/// its State, or to which some junction path comes from more than one region of its State, or from
+/// outside.
 pub fn is_bad_exit_point(
     machine: &Machine,
     survey: &Survey,
@@ -140,5 +145,5 @@ pub fn is_bad_exit_point(
     if lacks_one(machine, survey, vertex, End::Source) || stays_inside(machine, survey, vertex) {
         return true;
     }
-    is_come_to_from_afar(machine, survey, marks, vertex)
+    has_stray_path_in(machine, survey, marks, vertex)
 }

@@ -2,9 +2,9 @@
 ghost use Rattle.std.specs.Prelude.{◌≡◌, ◌↔◌, ◌<◌, Some, length, IsTrue, MatchOption};
 ghost use Rattle.pssm_model.specs.declared.elements.Owner.TheVariants.{Region, State};
 ghost use Rattle.pssm_model.specs.Forest.{owner_of, LiesInRegion, LiesInState};
-ghost use Rattle.pssm_model.specs.Shape.{HasShape};
-ghost use Rattle.pssm_wellformed.specs.Survey.{OwnsOfKind};
-ghost use Rattle.pssm_wellformed.specs.Levels.{IsPartWith};
+ghost use Rattle.pssm_model.specs.Shapes.{HasShape};
+ghost use Rattle.pssm_wellformed.specs.inner.Survey.{OwnsOfKind};
+ghost use Rattle.pssm_wellformed.specs.inner.Levels.{IsPartWith};
 
 use crate::levels::{common_level, home, level, owner};
 use pssm_model::{Machine, Owner, RegionId, VertexId, VertexKind};
@@ -33,7 +33,8 @@ fn as_state(place: Owner) -> Option<VertexId>
 fn part_inside(machine: &Machine, vertex: VertexId, whole: Owner) -> Option<Owner>
     requires shape { HasShape machine.now }
     requires there { vertex.0 < length machine.now.vertices }
-    ensures { MatchOption result ((p : Owner) → IsPartWith machine.now vertex whole p → ⊥) (λ p. IsPartWith machine.now vertex whole p) }
+    ensures { MatchOption result ((p : Owner) → IsPartWith machine.now vertex whole p → ⊥)
+        (λ p. IsPartWith machine.now vertex whole p) }
 {
     let mut place = home(machine, vertex);
     let mut height = level(machine, place);
@@ -52,7 +53,8 @@ fn part_inside(machine: &Machine, vertex: VertexId, whole: Owner) -> Option<Owne
 pub fn region_inside(machine: &Machine, vertex: VertexId, state: VertexId) -> Option<RegionId>
     requires shape { HasShape machine.now }
     requires there { vertex.0 < length machine.now.vertices }
-    ensures { MatchOption result (LiesInState machine.now vertex state → ⊥) (λ r. (owner_of machine.now (Region r) ≡ Some (State state)) × LiesInRegion machine.now vertex r) }
+    ensures { MatchOption result (LiesInState machine.now vertex state → ⊥)
+        (λ r. (owner_of machine.now (Region r) ≡ Some (State state)) × LiesInRegion machine.now vertex r) }
 {
     match part_inside(machine, vertex, Owner::State(state)) {
         Some(part) => as_region(part),
@@ -64,7 +66,10 @@ pub fn region_inside(machine: &Machine, vertex: VertexId, state: VertexId) -> Op
 pub fn state_inside(machine: &Machine, vertex: VertexId, region: RegionId) -> Option<VertexId>
     requires shape { HasShape machine.now }
     requires there { vertex.0 < length machine.now.vertices }
-    ensures { MatchOption result ((s : VertexId) → OwnsOfKind machine.now VertexKind.State region s → LiesInState machine.now vertex s → ⊥) (λ s. OwnsOfKind machine.now VertexKind.State region s × LiesInState machine.now vertex s) }
+    ensures { MatchOption result
+        ((s : VertexId) → OwnsOfKind machine.now VertexKind.State region s
+        → LiesInState machine.now vertex s → ⊥)
+        (λ s. OwnsOfKind machine.now VertexKind.State region s × LiesInState machine.now vertex s) }
 {
     match part_inside(machine, vertex, Owner::Region(region)) {
         Some(part) => as_state(part),
@@ -77,7 +82,8 @@ pub fn share_region(machine: &Machine, vertex: VertexId, other: VertexId) -> boo
     requires shape { HasShape machine.now }
     requires vertex { vertex.0 < length machine.now.vertices }
     requires other { other.0 < length machine.now.vertices }
-    ensures { IsTrue result ↔ ((r : RegionId) × LiesInRegion machine.now vertex r × LiesInRegion machine.now other r) }
+    ensures { IsTrue result
+        ↔ ((r : RegionId) × LiesInRegion machine.now vertex r × LiesInRegion machine.now other r) }
 {
     common_level(machine, vertex, other) > 0
 }

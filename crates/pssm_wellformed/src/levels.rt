@@ -1,10 +1,10 @@
 //! How deep places stand, and up to which level places hold two vertices.
 ghost use Rattle.std.specs.Prelude.{◌≡◌, ◌↔◌, ◌<◌, ◌≤◌, ℕ, Some, Contains, length, IfOk, IsTrue};
 ghost use Rattle.pssm_model.specs.Forest.{owner_of};
-ghost use Rattle.pssm_model.specs.Shape.{HasShape};
-ghost use Rattle.pssm_wellformed.specs.Reach.{StaysWithin};
-ghost use Rattle.pssm_wellformed.specs.Walks.{LiesIn, IsThere};
-ghost use Rattle.pssm_wellformed.specs.Levels.{IsLevel, IsHome, IsCommonLevel, IsLowestLevel, AreLevelsBelow, AreLowestLevels};
+ghost use Rattle.pssm_model.specs.Shapes.{HasShape};
+ghost use Rattle.pssm_wellformed.specs.inner.Reach.{StaysWithin};
+ghost use Rattle.pssm_wellformed.specs.inner.Walks.{LiesIn, IsThere};
+ghost use Rattle.pssm_wellformed.specs.inner.Levels.{IsLevel, IsHome, IsCommonLevel, IsLowestLevel, AreLevelsBelow, AreLowestLevels};
 
 use crate::lists::list_of;
 use pssm_model::{Machine, Owner, RegionId, VertexId};
@@ -75,7 +75,8 @@ pub fn home(machine: &Machine, vertex: VertexId) -> Owner
     }
 }
 
-/// The level of the innermost place in which both vertices lie. Of the innermost places of each the deeper one is left, until they meet.
+/// The level of the innermost place in which both vertices lie. Of the innermost places of each the
+/// deeper one is left, until they meet.
 pub fn common_level(machine: &Machine, vertex: VertexId, other: VertexId) -> u16
     requires shape { HasShape machine.now }
     requires vertex { vertex.0 < length machine.now.vertices }
@@ -125,7 +126,9 @@ pub fn lowest_levels(
     requires shape { HasShape machine.now }
     requires width { length onward.now.items ≡ length machine.now.vertices }
     requires within { StaysWithin onward.now.items }
-    ensures { IfOk result (λ lowest. AreLowestLevels machine.now onward.now.items (length machine.now.vertices) lowest.items) }
+    ensures { IfOk result
+        (λ lowest. AreLowestLevels machine.now onward.now.items
+        (length machine.now.vertices) lowest.items) }
 {
     let mut lowest = Vec::new(alloc);
     for number in 0..machine.vertices() {

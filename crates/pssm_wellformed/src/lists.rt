@@ -1,6 +1,6 @@
 //! Lists of numbers, one for each number below a count.
 ghost use Rattle.std.specs.Prelude.{◌≡◌, ◌<◌, ◌+◌, ◌++◌, ◌==◌, ◌∷◌, [], ℕ, if◌then◌else◌, length, IfOk, OnOk};
-ghost use Rattle.pssm_wellformed.specs.Lists.{list_at};
+ghost use Rattle.pssm_wellformed.specs.inner.Lists.{list_at};
 
 use std::alloc::{AllocError as NoMemory, Global};
 
@@ -20,7 +20,9 @@ pub fn empty_lists(alloc: Global, count: u16) -> Result<Vec<Vec<u16>>, NoMemory>
 pub fn put(lists: &mut Vec<Vec<u16>>, key: u16, item: u16) -> Result<(), NoMemory>
     requires { key < length lists.old.items }
     ensures width { OnOk result (length lists.new.items ≡ length lists.old.items) }
-    ensures puts { OnOk result ((k : ℕ) → list_at lists.new.items k ≡ list_at lists.old.items k ++ (if k == key then item ∷ [] else [])) }
+    ensures puts { OnOk result
+        ((k : ℕ) → list_at lists.new.items k ≡ list_at lists.old.items k
+        ++ (if k == key then item ∷ [] else [])) }
 {
     lists[key as usize].push(item)?;
     Ok(())
@@ -39,7 +41,9 @@ pub fn list_of(lists: &Vec<Vec<u16>>, key: u16) -> &[u16]
 /// Puts a list of these items behind the others.
 pub fn put_behind(alloc: Global, lists: &mut Vec<Vec<u16>>, items: &[u16]) -> Result<(), NoMemory>
     ensures width { OnOk result (length lists.new.items ≡ length lists.old.items + 1) }
-    ensures puts { OnOk result ((k : ℕ) → list_at lists.new.items k ≡ list_at lists.old.items k ++ (if k == length lists.old.items then items.now else [])) }
+    ensures puts { OnOk result
+        ((k : ℕ) → list_at lists.new.items k ≡ list_at lists.old.items k
+        ++ (if k == length lists.old.items then items.now else [])) }
 {
     let mut list = Vec::with_capacity(alloc, items.len())?;
     list.extend_from_slice(items)?;

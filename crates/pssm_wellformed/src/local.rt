@@ -1,8 +1,8 @@
 //! The rule of local transitions, E14.
 ghost use Rattle.std.specs.Prelude.{◌↔◌, ◌<◌, length, IsTrue, MatchOption};
-ghost use Rattle.pssm_model.specs.Shape.{HasShape};
+ghost use Rattle.pssm_model.specs.Shapes.{HasShape};
 ghost use Rattle.pssm_model.specs.WellFormed.{LeavesLocally, IsBadLocal};
-ghost use Rattle.pssm_wellformed.specs.Strays.{AreVertexMarks};
+ghost use Rattle.pssm_wellformed.specs.inner.Strays.{AreVertexMarks};
 
 use crate::elements::end_of;
 use crate::marks::strays;
@@ -15,7 +15,8 @@ use pssm_model::{Machine, Owner, TransId, TransKind, VertexId, VertexKind};
 fn local_state(machine: &Machine, transition: TransId) -> Option<VertexId>
     requires shape { HasShape machine.now }
     requires there { transition.0 < length machine.now.transitions }
-    ensures { MatchOption result ((s : VertexId) → LeavesLocally machine.now transition s → ⊥) (λ s. LeavesLocally machine.now transition s) }
+    ensures { MatchOption result ((s : VertexId) → LeavesLocally machine.now transition s → ⊥)
+        (λ s. LeavesLocally machine.now transition s) }
 {
     let source = end_of(machine, transition, End::Source);
     let found = machine.vertex(source);
@@ -26,8 +27,8 @@ fn local_state(machine: &Machine, transition: TransId) -> Option<VertexId>
     }
 }
 
-/// E14: whether it is local, and leaves neither a State nor an entry point, or a junction path that begins with it comes to a vertex
-/// outside the State.
+/// E14: whether it is local, and leaves neither a State nor an entry point, or a junction path that
+/// begins with it comes to a vertex outside the State.
 pub fn is_bad_local(machine: &Machine, marks: &VertexMarks, transition: TransId) -> bool
     requires shape { HasShape machine.now }
     requires marks { AreVertexMarks machine.now marks.now }

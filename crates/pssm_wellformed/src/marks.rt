@@ -1,10 +1,10 @@
 //! From which vertices a walk strays from the places in which they lie: marks by level, for all vertices at once.
 ghost use Rattle.std.specs.Prelude.{◌≡◌, ◌↔◌, ◌<◌, ◌^◌, ℕ, List, length, Contains, Vec, slice_index_or, IfOk, OnOk, IsTrue};
 ghost use Rattle.std.specs.declared.alloc.Global.{Global};
-ghost use Rattle.pssm_model.specs.Shape.{HasShape};
-ghost use Rattle.pssm_wellformed.specs.Reach.{StaysWithin};
-ghost use Rattle.pssm_wellformed.specs.Walks.{IsThere, Strays};
-ghost use Rattle.pssm_wellformed.specs.Marks.{AreTurned, IsPutToEach, AreMarksOf, AreMarksBelow, AreStrayMarks, HaveRoom, MarkStrays};
+ghost use Rattle.pssm_model.specs.Shapes.{HasShape};
+ghost use Rattle.pssm_wellformed.specs.inner.Reach.{StaysWithin};
+ghost use Rattle.pssm_wellformed.specs.inner.Walks.{IsThere, Strays};
+ghost use Rattle.pssm_wellformed.specs.inner.Marks.{AreTurned, IsPutToEach, AreMarksOf, AreMarksBelow, AreStrayMarks, HaveRoom, MarkStrays};
 
 use crate::levels::{count_levels, level, lies_in, lowest_levels};
 use crate::lists::{empty_lists, list_of, put};
@@ -40,7 +40,9 @@ fn turned(alloc: Global, onward: &Vec<Vec<u16>>, count: u16) -> Result<Vec<Vec<u
 /// The vertices whose lowest level is below this one.
 fn vertices_below(alloc: Global, lowest: &[u16], level: u16) -> Result<Vec<u16>, NoMemory>
     requires { length lowest.now < 2 ^ 16 }
-    ensures { IfOk result (λ list. (a : ℕ) → Contains list.items a ↔ ((a < length lowest.now) × (slice_index_or lowest.now a 0 < level))) }
+    ensures { IfOk result
+        (λ list. (a : ℕ) → Contains list.items a
+        ↔ ((a < length lowest.now) × (slice_index_or lowest.now a 0 < level))) }
 {
     let mut list = Vec::new(alloc);
     for number in 0..lowest.len() as u16 {
@@ -104,7 +106,8 @@ pub fn strays(machine: &Machine, levels: &[Vec<bool>], start: VertexId, place: O
     requires room { HaveRoom machine.now levels.now }
     requires there { start.0 < length machine.now.vertices }
     requires place { IsThere machine.now place }
-    ensures { (onward : List (Vec ℕ Global)) → MarkStrays machine.now onward levels.now → IsTrue result ↔ Strays machine.now onward start place }
+    ensures { (onward : List (Vec ℕ Global)) → MarkStrays machine.now onward levels.now
+        → IsTrue result ↔ Strays machine.now onward start place }
 {
     if !lies_in(machine, start, place) {
         return true;

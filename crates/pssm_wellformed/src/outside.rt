@@ -1,12 +1,12 @@
 //! The rule of paths that stay inside, E20.
 ghost use Rattle.std.specs.Prelude.{◌↔◌, ◌⊎◌, ◌<◌, ℕ, Contains, length, IsTrue};
 ghost use Rattle.pssm_model.specs.Forest.{HasKind};
-ghost use Rattle.pssm_model.specs.Firing.{IsLateOrigin};
-ghost use Rattle.pssm_model.specs.Shape.{HasShape};
+ghost use Rattle.pssm_model.specs.FiringSets.{IsLateOrigin};
+ghost use Rattle.pssm_model.specs.Shapes.{HasShape};
 ghost use Rattle.pssm_model.specs.WellFormed.{LeavesRegion, GoesOutside};
-ghost use Rattle.pssm_wellformed.specs.Survey.{IsSurvey, transition_number};
-ghost use Rattle.pssm_wellformed.specs.Walks.{IsThere};
-ghost use Rattle.pssm_wellformed.specs.Strays.{AreVertexMarks, LeavesItsRegion, StraysFrom};
+ghost use Rattle.pssm_wellformed.specs.inner.Survey.{IsSurvey, transition_number};
+ghost use Rattle.pssm_wellformed.specs.inner.Walks.{IsThere};
+ghost use Rattle.pssm_wellformed.specs.inner.Strays.{AreVertexMarks, LeavesItsRegion, StraysFrom};
 
 use crate::elements::{end_of, has_kind, is_late_origin};
 use crate::inside::region_inside;
@@ -82,7 +82,8 @@ fn some_stray_from(
     requires marks { AreVertexMarks machine.now marks.now }
     requires there { (t : ℕ) → Contains transitions.now t → t < length machine.now.transitions }
     requires owner { IsThere machine.now owner }
-    ensures { IsTrue result ↔ ((t : ℕ) × Contains transitions.now t × StraysFrom machine.now owner (transition_number t)) }
+    ensures { IsTrue result
+        ↔ ((t : ℕ) × Contains transitions.now t × StraysFrom machine.now owner (transition_number t)) }
 {
     for number in transitions {
         if strays_from(machine, marks, TransId(*number), owner) {
@@ -92,7 +93,8 @@ fn some_stray_from(
     false
 }
 
-/// Whether inner paths begin at the vertex that may not leave a region: it is an initial, history or choice vertex or an entry point.
+/// Whether inner paths begin at the vertex that may not leave a region: it is an initial, history
+/// or choice vertex or an entry point.
 fn is_bound(machine: &Machine, vertex: VertexId) -> bool
     requires { vertex.0 < length machine.now.vertices }
     ensures { IsTrue result ↔ (IsLateOrigin machine.now vertex ⊎ HasKind machine.now vertex VertexKind.EntryPoint) }
@@ -100,8 +102,8 @@ fn is_bound(machine: &Machine, vertex: VertexId) -> bool
     is_late_origin(machine, vertex) || has_kind(machine, vertex, VertexKind::EntryPoint)
 }
 
-/// E20: whether an inner path from an initial, history or choice vertex leaves its region, or one from an entry point the region of its
-/// State in which the path's first transition ends.
+/// E20: whether an inner path from an initial, history or choice vertex leaves its region, or one
+/// from an entry point the region of its State in which the path's first transition ends.
 pub fn goes_outside(
     machine: &Machine,
     survey: &Survey,

@@ -1,9 +1,10 @@
-//! What is marked by vertex, once for all rules, and the rule E18. Each walk passes a vertex once, however many paths lead to it.
+//! What is marked by vertex, once for all rules, and the rule E18. Each walk passes a vertex once,
+//! however many paths lead to it.
 ghost use Rattle.std.specs.Prelude.{◌≡◌, ◌↔◌, ◌<◌, true, false, length, slice_index_or, IfOk, IsTrue};
-ghost use Rattle.pssm_model.specs.Shape.{HasShape};
-ghost use Rattle.pssm_model.specs.WellFormed.{MayFindNone};
-ghost use Rattle.pssm_wellformed.specs.Survey.{IsSurvey};
-ghost use Rattle.pssm_wellformed.specs.Strays.{IsReachedLate, AreVertexMarks};
+ghost use Rattle.pssm_model.specs.Shapes.{HasShape};
+ghost use Rattle.pssm_model.specs.WellFormed.{MayFindNoBranch};
+ghost use Rattle.pssm_wellformed.specs.inner.Survey.{IsSurvey};
+ghost use Rattle.pssm_wellformed.specs.inner.Strays.{IsReachedLate, AreVertexMarks};
 
 use crate::cycles::cyclic_marks;
 use crate::elements::has_kind;
@@ -16,8 +17,9 @@ use crate::walks::{Walk, arrows_of, late_targets};
 use pssm_model::{Machine, VertexId, VertexKind};
 use std::alloc::{AllocError as NoMemory, Global};
 
-/// By level the marks of the walks that may stray, a mark for each vertex that an initial, history or choice vertex reaches through
-/// pseudostates, for each on a cycle of them, and for each whose sources or targets lie in different regions of a State around it.
+/// By level the marks of the walks that may stray, a mark for each vertex that an initial, history
+/// or choice vertex reaches through pseudostates, for each on a cycle of them, and for each whose
+/// sources or targets lie in different regions of a State around it.
 #[derive(Drop)]
 pub struct VertexMarks {
     pub junctions: Vec<Vec<bool>>,
@@ -33,7 +35,9 @@ pub struct VertexMarks {
 fn late_marks(alloc: Global, machine: &Machine) -> Result<Vec<bool>, NoMemory>
     requires { HasShape machine.now }
     ensures width { IfOk result (λ marks. length marks.items ≡ length machine.now.vertices) }
-    ensures marks { IfOk result (λ marks. (v : VertexId) → (slice_index_or marks.items v.0 false ≡ true) ↔ IsReachedLate machine.now v) }
+    ensures marks { IfOk result
+        (λ marks. (v : VertexId) → (slice_index_or marks.items v.0 false ≡ true)
+        ↔ IsReachedLate machine.now v) }
 {
     let through = arrows_of(alloc, machine, Walk::Through)?;
     let first = late_targets(alloc, machine)?;
@@ -67,9 +71,9 @@ fn is_reached_late(machine: &Machine, marks: &VertexMarks, vertex: VertexId) -> 
     marks.late[vertex.0 as usize]
 }
 
-/// E18: whether it is a choice, or a junction that an initial, history or choice vertex reaches through pseudostates, and has neither
-/// `else` nor a branch without guard.
-pub fn may_find_none(
+/// E18: whether it is a choice, or a junction that an initial, history or choice vertex reaches
+/// through pseudostates, and has neither `else` nor a branch without guard.
+pub fn may_find_no_branch(
     machine: &Machine,
     survey: &Survey,
     marks: &VertexMarks,
@@ -78,7 +82,7 @@ pub fn may_find_none(
     requires survey { IsSurvey machine.now survey.now }
     requires marks { AreVertexMarks machine.now marks.now }
     requires there { vertex.0 < length machine.now.vertices }
-    ensures { IsTrue result ↔ MayFindNone machine.now vertex }
+    ensures { IsTrue result ↔ MayFindNoBranch machine.now vertex }
 {
     !holds_at(machine, survey, vertex, End::Source, Question::IsFallback)
         && (has_kind(machine, vertex, VertexKind::Choice)

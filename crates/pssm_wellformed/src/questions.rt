@@ -1,15 +1,15 @@
 //! What is asked of the transitions that meet at a vertex.
 ghost use Rattle.std.specs.Prelude.{◌↔◌, ◌<◌, ℕ, Contains, length, IsTrue};
-ghost use Rattle.pssm_model.specs.Shape.{HasShape};
-ghost use Rattle.pssm_wellformed.specs.Survey.{HasEnd, IsSurvey, transition_number};
-ghost use Rattle.pssm_wellformed.specs.Questions.{Holds, IsAbout};
+ghost use Rattle.pssm_model.specs.Shapes.{HasShape};
+ghost use Rattle.pssm_wellformed.specs.inner.Survey.{HasEnd, IsSurvey, transition_number};
+ghost use Rattle.pssm_wellformed.specs.inner.Questions.{Holds, IsAbout};
 
 use crate::elements::{end_of, has_else, has_guard, has_kind, has_trigger, is_state_or_final};
 use crate::survey::{End, Survey, meeting};
 use pssm_model::{Machine, TransId, VertexId, VertexKind};
 
 /// A question about a transition.
-#[derive(Clone, Copy, PartialEq, Eq, Debug)]
+#[derive(Clone, Copy)]
 pub enum Question {
     /// Has it a guard or trigger, or does it leave no State?
     IsBadSegmentIn,
@@ -48,7 +48,8 @@ fn holds_for_some(machine: &Machine, transitions: &[u16], question: Question) ->
     requires shape { HasShape machine.now }
     requires there { (t : ℕ) → Contains transitions.now t → t < length machine.now.transitions }
     requires named { IsAbout machine.now question }
-    ensures { IsTrue result ↔ ((t : ℕ) × Contains transitions.now t × Holds machine.now question (transition_number t)) }
+    ensures { IsTrue result
+        ↔ ((t : ℕ) × Contains transitions.now t × Holds machine.now question (transition_number t)) }
 {
     for number in transitions {
         if holds(machine, TransId(*number), question) {

@@ -1,6 +1,6 @@
 //! Which numbers can be reached over arrows.
 ghost use Rattle.std.specs.Prelude.{◌≡◌, ◌↔◌, ◌<◌, ℕ, true, false, length, slice_index_or, Contains, IfOk, OnOk};
-ghost use Rattle.pssm_wellformed.specs.Reach.{IsReached, StaysWithin, AreMarked, FindsMore};
+ghost use Rattle.pssm_wellformed.specs.inner.Reach.{IsReached, StaysWithin, AreMarked, FindsMore};
 
 use std::alloc::{AllocError as NoMemory, Global};
 
@@ -26,7 +26,9 @@ pub fn walk_from(alloc: Global, onward: &[Vec<u16>], first: &[u16]) -> Result<Ve
     requires within { StaysWithin onward.now }
     requires there { (b : ℕ) → Contains first.now b → b < length onward.now }
     ensures width { IfOk result (λ marks. length marks.items ≡ length onward.now) }
-    ensures marks { IfOk result (λ marks. (b : ℕ) → (slice_index_or marks.items b false ≡ true) ↔ IsReached onward.now first.now b) }
+    ensures marks { IfOk result
+        (λ marks. (b : ℕ) → (slice_index_or marks.items b false ≡ true)
+        ↔ IsReached onward.now first.now b) }
 {
     let mut marks = vec![in alloc; false; onward.len()]?;
     let mut found = Vec::new(alloc);

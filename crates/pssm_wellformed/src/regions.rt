@@ -1,7 +1,7 @@
 //! The rules of regions: E01 and E02.
 ghost use Rattle.std.specs.Prelude.{◌↔◌, ◌<◌, length, IsTrue};
-ghost use Rattle.pssm_model.specs.WellFormed.{HasNoTopRegion, IsTopWithoutInitial, OwnsTwo, OwnsTwoEntries};
-ghost use Rattle.pssm_wellformed.specs.Survey.{IsListedKind, OwnsOfKind, IsSurvey};
+ghost use Rattle.pssm_model.specs.WellFormed.{HasNoTopRegion, IsTopWithoutInitial, OwnsTwo, OwnsTwoOfAKind};
+ghost use Rattle.pssm_wellformed.specs.inner.Survey.{IsListedKind, OwnsOfKind, IsSurvey};
 
 use crate::survey::{Survey, is_top, owned, tops};
 use pssm_model::{Machine, RegionId, VertexId, VertexKind};
@@ -44,7 +44,7 @@ pub fn is_top_without_initial(machine: &Machine, survey: &Survey, region: Region
 /// E02: whether the region owns two initial, two shallow history or two deep history vertices.
 pub fn owns_two_entries(machine: &Machine, survey: &Survey, region: RegionId) -> bool
     requires survey { IsSurvey machine.now survey.now }
-    ensures { IsTrue result ↔ OwnsTwoEntries machine.now region }
+    ensures { IsTrue result ↔ OwnsTwoOfAKind machine.now region }
 {
     owns_two(machine, survey, region, VertexKind::Initial)
         || owns_two(machine, survey, region, VertexKind::ShallowHistory)

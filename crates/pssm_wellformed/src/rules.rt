@@ -1,19 +1,19 @@
 //! Which rule is broken where: the twenty-one rules by number.
 ghost use Rattle.std.specs.Prelude.{◌↔◌, ◌<◌, length, IsTrue};
 ghost use Rattle.pssm_model.specs.WellFormed.{Breaks};
-ghost use Rattle.pssm_wellformed.specs.Survey.{IsSurvey};
-ghost use Rattle.pssm_wellformed.specs.Strays.{AreVertexMarks};
-ghost use Rattle.pssm_wellformed.specs.Checked.{IsPlace};
+ghost use Rattle.pssm_wellformed.specs.inner.Survey.{IsSurvey};
+ghost use Rattle.pssm_wellformed.specs.inner.Strays.{AreVertexMarks};
+ghost use Rattle.pssm_wellformed.specs.inner.Checked.{IsPlace};
 
 use crate::apart::{forks_badly, is_bad_entry_point, joins_badly};
 use crate::cycles::is_on_cycle;
 use crate::exits::is_bad_exit_point;
 use crate::local::is_bad_local;
 use crate::outside::goes_outside;
-use crate::paths::{VertexMarks, may_find_none};
+use crate::paths::{VertexMarks, may_find_no_branch};
 use crate::regions::{has_no_top_region, is_top_without_initial, owns_two_entries};
 use crate::survey::Survey;
-use crate::transitions::{is_bad_else, is_bad_internal, is_torn, is_triggered_wrongly};
+use crate::transitions::{connects_badly, is_bad_else, is_bad_internal, is_triggered_wrongly};
 use crate::vertices::{
     is_bad_final, is_bad_fork, is_bad_history, is_bad_initial, is_bad_join, is_bad_terminate,
     is_open_ended,
@@ -66,7 +66,7 @@ fn vertex_breaks(
         12 => is_bad_terminate(machine, survey, vertex),
         15 => is_bad_entry_point(machine, survey, marks, vertex),
         16 => is_bad_exit_point(machine, survey, marks, vertex),
-        18 => may_find_none(machine, survey, marks, vertex),
+        18 => may_find_no_branch(machine, survey, marks, vertex),
         19 => is_on_cycle(machine, marks, vertex),
         20 => goes_outside(machine, survey, marks, vertex),
         _ => false,
@@ -91,7 +91,7 @@ fn transition_breaks(
         13 => is_bad_internal(machine, survey, transition),
         14 => is_bad_local(machine, marks, transition),
         17 => is_bad_else(machine, survey, transition),
-        21 => is_torn(machine, survey, transition),
+        21 => connects_badly(machine, survey, transition),
         _ => false,
     }
 }

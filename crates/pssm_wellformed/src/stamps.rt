@@ -1,12 +1,14 @@
-//! Whether the ends of the transitions that meet at a vertex lie in different regions of a State, marked once for all vertices.
+//! Whether the ends of the transitions that meet at a vertex lie in different regions of a State,
+//! marked once for all vertices.
 //!
-//! Each region has a stamp: one more than the number of the last vertex across which an end was found in it, and 0 before there is one. So
-//! an end that comes to a region with its own vertex's stamp comes to it second, and each transition is looked at once.
+//! Each region has a stamp: one more than the number of the last vertex across which an end was
+//! found in it, and 0 before there is one. So an end that comes to a region with its own vertex's
+//! stamp comes to it second, and each transition is looked at once.
 ghost use Rattle.std.specs.Prelude.{◌≡◌, ◌↔◌, ◌<◌, ◌+◌, ℕ, AllPairs, Contains, length, slice_index_or, IfOk, IsTrue, MatchOption};
-ghost use Rattle.pssm_model.specs.Shape.{HasShape};
+ghost use Rattle.pssm_model.specs.Shapes.{HasShape};
 ghost use Rattle.pssm_model.specs.WellFormed.{LieApart};
-ghost use Rattle.pssm_wellformed.specs.Survey.{OwnsOfKind, HasRegion, IsSurvey};
-ghost use Rattle.pssm_wellformed.specs.Apart.{EndLiesIn, EndLiesInside, AreEnds, IsAround, LieApartAround, IsFitting, AreApartMarks, AreStamps};
+ghost use Rattle.pssm_wellformed.specs.inner.Survey.{OwnsOfKind, HasRegion, IsSurvey};
+ghost use Rattle.pssm_wellformed.specs.inner.Apart.{EndLiesIn, EndLiesInside, AreEnds, IsAround, LieApartAround, IsFitting, AreApartMarks, AreStamps};
 
 use crate::elements::end_of;
 use crate::inside::{region_inside, state_inside};
@@ -23,7 +25,8 @@ fn region_of_end(
 ) -> Option<RegionId>
     requires shape { HasShape machine.now }
     requires there { transition.0 < length machine.now.transitions }
-    ensures { MatchOption result (EndLiesInside machine.now end state transition → ⊥) (λ r. HasRegion machine.now state.0 r.0 × EndLiesIn machine.now end r transition) }
+    ensures { MatchOption result (EndLiesInside machine.now end state transition → ⊥)
+        (λ r. HasRegion machine.now state.0 r.0 × EndLiesIn machine.now end r transition) }
 {
     region_inside(machine, end_of(machine, transition, end), state)
 }
@@ -34,14 +37,16 @@ fn put_stamp(stamps: &mut Vec<u16>, region: RegionId, stamp: u16) -> bool
     ensures before { IsTrue result ↔ (slice_index_or stamps.old.items region.0 0 ≡ stamp) }
     ensures width { length stamps.new.items ≡ length stamps.old.items }
     ensures here { slice_index_or stamps.new.items region.0 0 ≡ stamp }
-    ensures elsewhere { (r : ℕ) → (r ≡ region.0 → ⊥) → slice_index_or stamps.new.items r 0 ≡ slice_index_or stamps.old.items r 0 }
+    ensures elsewhere { (r : ℕ) → (r ≡ region.0 → ⊥) → slice_index_or stamps.new.items r 0
+        ≡ slice_index_or stamps.old.items r 0 }
 {
     let before = stamps[region.0 as usize] == stamp;
     stamps[region.0 as usize] = stamp;
     before
 }
 
-/// Whether the ends of these transitions lie in different regions of the State. The regions met get a stamp later than the last.
+/// Whether the ends of these transitions lie in different regions of the State. The regions met get
+/// a stamp later than the last.
 fn lie_apart(
     machine: &Machine,
     transitions: &[u16],
@@ -74,7 +79,9 @@ fn lie_apart(
 /// A State that the region owns, where it owns any.
 fn some_state(machine: &Machine, survey: &Survey, region: RegionId) -> Option<VertexId>
     requires { IsSurvey machine.now survey.now }
-    ensures { MatchOption result ((s : VertexId) → OwnsOfKind machine.now VertexKind.State region s → ⊥) (λ s. OwnsOfKind machine.now VertexKind.State region s) }
+    ensures { MatchOption result
+        ((s : VertexId) → OwnsOfKind machine.now VertexKind.State region s → ⊥)
+        (λ s. OwnsOfKind machine.now VertexKind.State region s) }
 {
     match owned(machine, survey, region, VertexKind::State).get(0) {
         Some(number) => Some(VertexId(*number)),
@@ -82,7 +89,8 @@ fn some_state(machine: &Machine, survey: &Survey, region: RegionId) -> Option<Ve
     }
 }
 
-/// A State that the region owns, and in whose regions the ends of these transitions lie apart, if they do so in those of any.
+/// A State that the region owns, and in whose regions the ends of these transitions lie apart, if
+/// they do so in those of any.
 fn state_beside(
     machine: &Machine,
     survey: &Survey,
@@ -92,7 +100,11 @@ fn state_beside(
 ) -> Option<VertexId>
     requires survey { IsSurvey machine.now survey.now }
     requires there { (t : ℕ) → Contains transitions.now t → t < length machine.now.transitions }
-    ensures { MatchOption result ((s : VertexId) → OwnsOfKind machine.now VertexKind.State region s → LieApart machine.now s (AreEnds machine.now end transitions.now) → ⊥) (λ s. IsFitting machine.now (λ q. OwnsOfKind machine.now VertexKind.State region q) (AreEnds machine.now end transitions.now) s) }
+    ensures { MatchOption result
+        ((s : VertexId) → OwnsOfKind machine.now VertexKind.State region s → LieApart machine.now s
+        (AreEnds machine.now end transitions.now) → ⊥)
+        (λ s. IsFitting machine.now (λ q. OwnsOfKind machine.now VertexKind.State region q)
+        (AreEnds machine.now end transitions.now) s) }
 {
     if transitions.is_empty() {
         return some_state(machine, survey, region);
@@ -112,7 +124,11 @@ fn state_around(
     requires survey { IsSurvey machine.now survey.now }
     requires vertex { vertex.0 < length machine.now.vertices }
     requires there { (t : ℕ) → Contains transitions.now t → t < length machine.now.transitions }
-    ensures { MatchOption result ((s : VertexId) → IsAround machine.now vertex s → LieApart machine.now s (AreEnds machine.now end transitions.now) → ⊥) (λ s. IsFitting machine.now (λ q. IsAround machine.now vertex q) (AreEnds machine.now end transitions.now) s) }
+    ensures { MatchOption result
+        ((s : VertexId) → IsAround machine.now vertex s → LieApart machine.now s
+        (AreEnds machine.now end transitions.now) → ⊥)
+        (λ s. IsFitting machine.now (λ q. IsAround machine.now vertex q)
+        (AreEnds machine.now end transitions.now) s) }
 {
     match machine.vertex(vertex).owner {
         Owner::Region(region) => state_beside(machine, survey, region, transitions, end),

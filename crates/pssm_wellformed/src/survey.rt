@@ -3,10 +3,10 @@ ghost use Rattle.std.specs.Prelude.{◌≡◌, ◌↔◌, ◌<◌, ℕ, Some, Al
 ghost use Rattle.pssm_model.specs.declared.elements.Owner.TheVariants.{Top, Region, State};
 ghost use Rattle.pssm_model.specs.Forest.{owner_of};
 ghost use Rattle.pssm_model.specs.Legs.{Leaves};
-ghost use Rattle.pssm_model.specs.Shape.{HasShape};
+ghost use Rattle.pssm_model.specs.Shapes.{HasShape};
 ghost use Rattle.pssm_model.specs.WellFormed.{HasElse};
-ghost use Rattle.pssm_wellformed.specs.Lists.{AreListed};
-ghost use Rattle.pssm_wellformed.specs.Survey.{IsListedKind, HasEnd, OwnsOfKind, IsEndOf, IsElseOf, IsOwnerOf, HasRegion, IsSurvey, vertex_number, region_number, transition_number};
+ghost use Rattle.pssm_wellformed.specs.inner.Lists.{AreListed};
+ghost use Rattle.pssm_wellformed.specs.inner.Survey.{IsListedKind, HasEnd, OwnsOfKind, IsEndOf, IsElseOf, IsOwnerOf, HasRegion, IsSurvey, vertex_number, region_number, transition_number};
 
 use crate::elements::{end_of, has_else, has_kind};
 use crate::lists::{empty_lists, list_of, put};
@@ -14,14 +14,14 @@ use pssm_model::{Machine, Owner, RegionId, TransId, VertexId, VertexKind};
 use std::alloc::{AllocError as NoMemory, Global};
 
 /// An end of a transition.
-#[derive(Clone, Copy, PartialEq, Eq, Debug)]
+#[derive(Clone, Copy)]
 pub enum End {
     Source,
     Target,
 }
 
-/// By vertex its outgoing and incoming transitions, the outgoing ones with `else` and its regions, by region its vertices of four kinds,
-/// and the top regions.
+/// By vertex its outgoing and incoming transitions, the outgoing ones with `else` and its regions,
+/// by region its vertices of four kinds, and the top regions.
 #[derive(Drop)]
 pub struct Survey {
     pub outgoing: Vec<Vec<u16>>,
@@ -51,7 +51,8 @@ fn transitions_at(alloc: Global, machine: &Machine, end: End) -> Result<Vec<Vec<
 /// The source of the transition, where that has `else`.
 fn source_with_else(machine: &Machine, transition: TransId) -> Option<VertexId>
     requires { transition.0 < length machine.now.transitions }
-    ensures { MatchOption result (HasElse machine.now transition → ⊥) (λ v. Leaves machine.now transition v × HasElse machine.now transition) }
+    ensures { MatchOption result (HasElse machine.now transition → ⊥)
+        (λ v. Leaves machine.now transition v × HasElse machine.now transition) }
 {
     if has_else(machine, transition) {
         return Some(machine.transition(transition).source);
@@ -77,7 +78,8 @@ fn elses_of(alloc: Global, machine: &Machine) -> Result<Vec<Vec<u16>>, NoMemory>
 /// The region that owns the vertex, where it is of the kind.
 fn region_with(machine: &Machine, vertex: VertexId, kind: VertexKind) -> Option<RegionId>
     requires { vertex.0 < length machine.now.vertices }
-    ensures { MatchOption result ((r : RegionId) → OwnsOfKind machine.now kind r vertex → ⊥) (λ r. OwnsOfKind machine.now kind r vertex) }
+    ensures { MatchOption result ((r : RegionId) → OwnsOfKind machine.now kind r vertex → ⊥)
+        (λ r. OwnsOfKind machine.now kind r vertex) }
 {
     if !has_kind(machine, vertex, kind) {
         return None;
@@ -110,7 +112,9 @@ fn vertices_of(
 /// The State that owns the region, where one does.
 fn state_with(machine: &Machine, region: RegionId) -> Option<VertexId>
     requires { region.0 < length machine.now.regions }
-    ensures { MatchOption result ((s : VertexId) → owner_of machine.now (Region region) ≡ Some (State s) → ⊥) (λ s. owner_of machine.now (Region region) ≡ Some (State s)) }
+    ensures { MatchOption result
+        ((s : VertexId) → owner_of machine.now (Region region) ≡ Some (State s) → ⊥)
+        (λ s. owner_of machine.now (Region region) ≡ Some (State s)) }
 {
     match machine.region_owner(region) {
         Owner::State(state) => Some(state),
@@ -143,7 +147,9 @@ fn regions_of(alloc: Global, machine: &Machine) -> Result<Vec<Vec<u16>>, NoMemor
 
 /// The top regions.
 fn top_regions(alloc: Global, machine: &Machine) -> Result<Vec<u16>, NoMemory>
-    ensures { IfOk result (λ list. (r : ℕ) → Contains list.items r ↔ (owner_of machine.now (Region (region_number r)) ≡ Some Top)) }
+    ensures { IfOk result
+        (λ list. (r : ℕ) → Contains list.items r
+        ↔ (owner_of machine.now (Region (region_number r)) ≡ Some Top)) }
 {
     let mut list = Vec::new(alloc);
     for number in 0..machine.regions() {
@@ -199,7 +205,8 @@ pub fn elses_at<'a>(machine: &Machine, survey: &'a Survey, vertex: VertexId) -> 
 /// The regions of the State.
 pub fn regions_in<'a>(machine: &Machine, survey: &'a Survey, state: VertexId) -> &'a [u16]
     requires { IsSurvey machine.now survey.now }
-    ensures { (r : ℕ) → Contains result.now r ↔ (owner_of machine.now (Region (region_number r)) ≡ Some (State state)) }
+    ensures { (r : ℕ) → Contains result.now r
+        ↔ (owner_of machine.now (Region (region_number r)) ≡ Some (State state)) }
 {
     list_of(&survey.regions, state.0)
 }

@@ -1,8 +1,8 @@
 //! The rules of single transitions: E10, E13, E17 and E21.
 ghost use Rattle.std.specs.Prelude.{◌↔◌, ◌<◌, ℕ, AllPairs, Contains, length, IsTrue};
 ghost use Rattle.pssm_model.specs.Legs.{Goes};
-ghost use Rattle.pssm_model.specs.WellFormed.{IsTriggeredWrongly, IsBadInternal, IsBadElse, IsTorn};
-ghost use Rattle.pssm_wellformed.specs.Survey.{IsSurvey};
+ghost use Rattle.pssm_model.specs.WellFormed.{IsTriggeredWrongly, IsBadInternal, IsBadElse, ConnectsBadly};
+ghost use Rattle.pssm_wellformed.specs.inner.Survey.{IsSurvey};
 
 use crate::elements::{
     end_of, has_else, has_guard, has_kind, has_trigger, is_branch, is_pseudostate,
@@ -20,7 +20,8 @@ pub fn goes(machine: &Machine, transition: TransId, kind: TransKind) -> bool
     machine.transition(transition).kind == kind
 }
 
-/// E10: whether it leaves a pseudostate and has a trigger, or leaves an initial, history or entry point and has a guard.
+/// E10: whether it leaves a pseudostate and has a trigger, or leaves an initial, history or entry
+/// point and has a guard.
 pub fn is_triggered_wrongly(machine: &Machine, survey: &Survey, transition: TransId) -> bool
     requires survey { IsSurvey machine.now survey.now }
     requires there { transition.0 < length machine.now.transitions }
@@ -67,10 +68,10 @@ pub fn is_bad_else(machine: &Machine, survey: &Survey, transition: TransId) -> b
 }
 
 /// E21: whether its ends lie in no common region, or it ends on a join and leaves no State.
-pub fn is_torn(machine: &Machine, survey: &Survey, transition: TransId) -> bool
+pub fn connects_badly(machine: &Machine, survey: &Survey, transition: TransId) -> bool
     requires survey { IsSurvey machine.now survey.now }
     requires there { transition.0 < length machine.now.transitions }
-    ensures { IsTrue result ↔ IsTorn machine.now transition }
+    ensures { IsTrue result ↔ ConnectsBadly machine.now transition }
 {
     let source = end_of(machine, transition, End::Source);
     let target = end_of(machine, transition, End::Target);

@@ -1,7 +1,7 @@
 //! The rules of single vertices and what meets at them: E03 to E06, E09, E11 and E12.
 ghost use Rattle.std.specs.Prelude.{◌↔◌, ◌<◌, length, IsTrue};
 ghost use Rattle.pssm_model.specs.WellFormed.{IsBadInitial, IsBadHistory, IsBadJoin, IsBadFork, IsOpenEnded, Behaves, IsBadFinal, IsBadTerminate};
-ghost use Rattle.pssm_wellformed.specs.Survey.{IsSurvey};
+ghost use Rattle.pssm_wellformed.specs.inner.Survey.{IsSurvey};
 
 use crate::counts::{lacks_one, meets_some, meets_two};
 use crate::elements::{has_kind, is_branch, is_history};
@@ -73,7 +73,8 @@ fn behaves(machine: &Machine, vertex: VertexId) -> bool
         || !found.defers.as_slice().is_empty()
 }
 
-/// E11: whether it is final and has a transition out, a behaviour or a deferred signal. (It owns nothing, by its shape.)
+/// E11: whether it is final and has a transition out, a behaviour or a deferred signal. (It owns
+/// nothing, by its shape.)
 pub fn is_bad_final(machine: &Machine, survey: &Survey, vertex: VertexId) -> bool
     requires survey { IsSurvey machine.now survey.now }
     requires there { vertex.0 < length machine.now.vertices }

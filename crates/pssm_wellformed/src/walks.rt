@@ -1,8 +1,8 @@
 //! The arrows that the rules of paths follow.
 ghost use Rattle.std.specs.Prelude.{◌≡◌, ◌↔◌, ◌<◌, ℕ, Contains, length, IfOk, IsTrue, MatchOption};
-ghost use Rattle.pssm_model.specs.Shape.{HasShape};
-ghost use Rattle.pssm_wellformed.specs.Survey.{IsSurvey};
-ghost use Rattle.pssm_wellformed.specs.Walks.{Passes, near_end, far_end, AreArrows, IsDefault, number_of_region, AreLeadsOut, AreLeads, IsLateTarget};
+ghost use Rattle.pssm_model.specs.Shapes.{HasShape};
+ghost use Rattle.pssm_wellformed.specs.inner.Survey.{IsSurvey};
+ghost use Rattle.pssm_wellformed.specs.inner.Walks.{Passes, near_end, far_end, AreArrows, IsDefault, number_of_region, AreLeadsOut, AreLeads, IsLateTarget};
 
 use crate::counts::meets_some;
 use crate::elements::{end_of, has_kind, is_history, is_inner, is_late_origin, is_pseudostate};
@@ -11,9 +11,9 @@ use crate::survey::{End, Survey, owned};
 use pssm_model::{Machine, Owner, RegionId, TransId, VertexId, VertexKind};
 use std::alloc::{AllocError as NoMemory, Global};
 
-/// A way to walk over transitions: forwards through junctions, forwards as inner paths do, backwards through junctions, and forwards
-/// through all pseudostates.
-#[derive(Clone, Copy, PartialEq, Eq, Debug)]
+/// A way to walk over transitions: forwards through junctions, forwards as inner paths do,
+/// backwards through junctions, and forwards through all pseudostates.
+#[derive(Clone, Copy)]
 pub enum Walk {
     Junctions,
     Inner,
@@ -69,11 +69,13 @@ pub fn arrows_of(alloc: Global, machine: &Machine, walk: Walk) -> Result<Vec<Vec
     Ok(onward)
 }
 
-/// The region to whose initial vertices the vertex leads by default: its own, where it is a history vertex without transitions.
+/// The region to whose initial vertices the vertex leads by default: its own, where it is a history
+/// vertex without transitions.
 fn default_region(machine: &Machine, survey: &Survey, vertex: VertexId) -> Option<RegionId>
     requires survey { IsSurvey machine.now survey.now }
     requires there { vertex.0 < length machine.now.vertices }
-    ensures { MatchOption result ((r : RegionId) → IsDefault machine.now vertex r → ⊥) (λ r. IsDefault machine.now vertex r) }
+    ensures { MatchOption result ((r : RegionId) → IsDefault machine.now vertex r → ⊥)
+        (λ r. IsDefault machine.now vertex r) }
 {
     if !is_history(machine, vertex) || meets_some(machine, survey, vertex, End::Source) {
         return None;
@@ -93,7 +95,8 @@ fn number_behind(machine: &Machine, region: RegionId) -> u16
     machine.vertices() + region.0
 }
 
-/// The arrows out of vertices: through pseudostates, and from each history vertex without transitions to the number of its region.
+/// The arrows out of vertices: through pseudostates, and from each history vertex without
+/// transitions to the number of its region.
 fn leads_out(alloc: Global, machine: &Machine, survey: &Survey) -> Result<Vec<Vec<u16>>, NoMemory>
     requires { IsSurvey machine.now survey.now }
     ensures { IfOk result (λ onward. AreLeadsOut machine.now onward.items) }
@@ -108,8 +111,9 @@ fn leads_out(alloc: Global, machine: &Machine, survey: &Survey) -> Result<Vec<Ve
     Ok(onward)
 }
 
-/// The arrows through pseudostates, and those of history vertices without transitions. Each of these leads to the number of its region,
-/// and that to the region's initial vertices, so that there are no more arrows than vertices and transitions.
+/// The arrows through pseudostates, and those of history vertices without transitions. Each of
+/// these leads to the number of its region, and that to the region's initial vertices, so that
+/// there are no more arrows than vertices and transitions.
 pub fn leads_of(
     alloc: Global,
     machine: &Machine,

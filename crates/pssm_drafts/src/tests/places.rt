@@ -90,8 +90,10 @@ fn lie_as_owned(alloc: Global, machine: &Machine) -> Result<bool, Fail> {
 
 #[test]
 fn vertices_lie_in_what_stands_on_their_owner_chains(rt: HostRuntime) -> Result<(), Fail> {
-    let holds = lie_as_owned(rt.alloc(), &history_machine(rt.alloc())?)?;
-    assert!(rt; holds);
+    let machine = history_machine(rt.alloc())?;
+    let holds = lie_as_owned(rt.alloc(), &machine);
+    drop(machine);
+    assert!(rt; holds?);
     Ok(())
 }
 
@@ -107,7 +109,9 @@ fn have_scopes(machine: &Machine) -> bool {
 
 #[test]
 fn the_scope_is_the_innermost_common_region(rt: HostRuntime) -> Result<(), Fail> {
-    let holds = have_scopes(&history_machine(rt.alloc())?);
+    let machine = history_machine(rt.alloc())?;
+    let holds = have_scopes(&machine);
+    drop(machine);
     assert!(rt; holds);
     Ok(())
 }
@@ -130,7 +134,9 @@ fn points_lie_outside(alloc: Global, machine: &Machine) -> Result<bool, Fail> {
 
 #[test]
 fn points_lie_where_their_states_lie(rt: HostRuntime) -> Result<(), Fail> {
-    let holds = points_lie_outside(rt.alloc(), &entered_machine(rt.alloc())?)?;
-    assert!(rt; holds);
+    let machine = entered_machine(rt.alloc())?;
+    let holds = points_lie_outside(rt.alloc(), &machine);
+    drop(machine);
+    assert!(rt; holds?);
     Ok(())
 }

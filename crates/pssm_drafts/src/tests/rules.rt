@@ -1,4 +1,6 @@
 //! Rules of models at guards and behaviours, and of a machine without regions: what no text says.
+ghost use Rattle.pssm_model.specs.Shapes.{HasShape};
+
 use crate::tests::{draft_of, draft_of_a_state, vertex};
 use pssm_model::{
     ActId, DraftMachine, Element, FaultPlace, Machine, Owner, RegionId, TransId, VertexId,
@@ -19,12 +21,19 @@ fn told(faults: &[Fault]) -> (usize, Option<Broken>) {
     }
 }
 
+/// How many rules the machine breaks, and the last of them.
+fn faults_in(alloc: Global, machine: &Machine) -> Result<(usize, Option<Broken>), Fail>
+    requires { HasShape machine.now }
+{
+    Ok(told(check(alloc, machine)?.as_slice()))
+}
+
 /// How many rules the machine of the draft breaks, and the last of them.
 fn faults_of(alloc: Global, draft: &DraftMachine) -> Result<(usize, Option<Broken>), Fail> {
-    match Machine::new(alloc, draft) {
-        Ok(machine) => Ok(told(check(alloc, &machine)?.as_slice())),
-        Err(shape) => Err(Fail::from(shape)),
-    }
+    let machine = Machine::new(alloc, draft)?;
+    let faults = faults_in(alloc, &machine);
+    drop(machine);
+    faults
 }
 
 /// Whether the machine breaks this rule alone, or none.
@@ -36,8 +45,10 @@ fn breaks(
     broken: Option<Broken>,
 ) -> Result<bool, Fail> {
     let draft = draft_of(alloc, regions, vertices, transitions)?;
+    let faults = faults_of(alloc, &draft);
+    drop(draft);
     let count = if broken.is_some() { 1 } else { 0 };
-    Ok(faults_of(alloc, &draft)? == (count, broken))
+    Ok(faults? == (count, broken))
 }
 
 fn at_vertex(number: u16, rule: u8) -> Option<Broken> {
@@ -89,14 +100,21 @@ fn a_guarded_way_outside(rt: HostRuntime) -> Result<(), Fail> {
     Ok(())
 }
 
-/// No region at all, and a final state with an entry behaviour in a region that lacks its initial vertex.
+/// No region at all.
 #[test]
-fn no_region_and_a_final_state_that_behaves(rt: HostRuntime) -> Result<(), Fail> {
-    let alloc = rt.alloc();
-    assert!(rt; breaks(alloc, b"", b"", b"", Some((FaultPlace::Top, 1)))?);
-    let mut last = vertex(alloc, Owner::Region(RegionId(0)), VertexKind::Final);
+fn no_region(rt: HostRuntime) -> Result<(), Fail> {
+    assert!(rt; breaks(rt.alloc(), b"", b"", b"", Some((FaultPlace::Top, 1)))?);
+    Ok(())
+}
+
+/// A final state with an entry behaviour in a region that lacks its initial vertex.
+#[test]
+fn a_final_state_that_behaves(rt: HostRuntime) -> Result<(), Fail> {
+    let mut last = vertex(rt.alloc(), Owner::Region(RegionId(0)), VertexKind::Final);
     last.entry = ActId(1);
-    let faults = faults_of(alloc, &draft_of_a_state(alloc, last)?)?;
-    assert_eq!(rt; faults, (2, at_vertex(0, 11)));
+    let draft = draft_of_a_state(rt.alloc(), last)?;
+    let faults = faults_of(rt.alloc(), &draft);
+    drop(draft);
+    assert!(rt; faults? == (2, at_vertex(0, 11)));
     Ok(())
 }

@@ -7,20 +7,29 @@ use pssm_model::{
 use std::alloc::Global;
 use std::test::Fail;
 
-fn fault_of(alloc: Global, regions: &[u8], vertices: &[u8]) -> Result<Option<Shape>, Fail> {
-    Ok(Machine::new(alloc, &draft_of(alloc, regions, vertices, b"")?).err())
+/// What is wrong with the shape of a draft, if anything is.
+fn shape_of(alloc: Global, draft: &DraftMachine) -> Option<Shape> {
+    Machine::new(alloc, draft).err()
+}
+
+/// Whether a draft without transitions has this shape and no machine's.
+fn is_refused(alloc: Global, regions: &[u8], vertices: &[u8], shape: Shape) -> Result<bool, Fail> {
+    let draft = draft_of(alloc, regions, vertices, b"")?;
+    let found = shape_of(alloc, &draft);
+    drop(draft);
+    Ok(found == Some(shape))
 }
 
 /// A region on a region, alone and before a vertex at fault; and a State on the machine, alone and before another.
 #[test]
 fn owners_of_a_wrong_sort(rt: HostRuntime) -> Result<(), Fail> {
-    let region = Some(Shape::BadOwner(Element::Region(RegionId(1))));
-    assert_eq!(rt; fault_of(rt.alloc(), b"t0", b"0s")?, region);
-    assert_eq!(rt; fault_of(rt.alloc(), b"t01", b"ts")?, region);
-    let state = Some(Shape::BadOwner(Element::Vertex(VertexId(0))));
-    assert_eq!(rt; fault_of(rt.alloc(), b"t", b"ts")?, state);
-    let second = Some(Shape::BadOwner(Element::Vertex(VertexId(1))));
-    assert_eq!(rt; fault_of(rt.alloc(), b"t", b"0stsAs")?, second);
+    let region = Shape::BadOwner(Element::Region(RegionId(1)));
+    assert!(rt; is_refused(rt.alloc(), b"t0", b"0s", region)?);
+    assert!(rt; is_refused(rt.alloc(), b"t01", b"ts", region)?);
+    let state = Shape::BadOwner(Element::Vertex(VertexId(0)));
+    assert!(rt; is_refused(rt.alloc(), b"t", b"ts", state)?);
+    let second = Shape::BadOwner(Element::Vertex(VertexId(1)));
+    assert!(rt; is_refused(rt.alloc(), b"t", b"0stsAs", second)?);
     Ok(())
 }
 
@@ -48,14 +57,24 @@ fn long_chain(alloc: Global) -> Result<DraftMachine, Fail> {
 /// The chain of region 0 passes 65,536 regions and ends at the machine.
 #[test]
 fn a_long_chain_of_regions(rt: HostRuntime) -> Result<(), Fail> {
-    let fault = Machine::new(rt.alloc(), &long_chain(rt.alloc())?).err();
-    assert_eq!(rt; fault, Some(Shape::TooDeep(Element::Region(RegionId(0)))));
+    let draft = long_chain(rt.alloc())?;
+    let found = shape_of(rt.alloc(), &draft);
+    drop(draft);
+    assert!(rt; found == Some(Shape::TooDeep(Element::Region(RegionId(0)))));
     Ok(())
 }
 
-/// The first element of a form that is not built, in a machine of one region.
-fn found(alloc: Global, vertices: &[u8], transitions: &[u8]) -> Result<Option<Element>, Fail> {
-    Ok(first_not_built(&machine_of(alloc, b"t", vertices, transitions)?))
+/// Whether this is the first element of a form that is not built, in a machine of one region.
+fn finds(
+    alloc: Global,
+    vertices: &[u8],
+    transitions: &[u8],
+    element: Option<Element>,
+) -> Result<bool, Fail> {
+    let machine = machine_of(alloc, b"t", vertices, transitions)?;
+    let found = first_not_built(&machine);
+    drop(machine);
+    Ok(found == element)
 }
 
 /// A join, a fork and a local transition: in well-formed machines a region comes before them.
@@ -63,20 +82,30 @@ fn found(alloc: Global, vertices: &[u8], transitions: &[u8]) -> Result<Option<El
 fn forms_that_are_not_built(rt: HostRuntime) -> Result<(), Fail> {
     let alloc = rt.alloc();
     let fourth = Some(Element::Vertex(VertexId(3)));
-    assert_eq!(rt; found(alloc, b"0s0s0i0j0j", b"01!20.")?, fourth);
-    assert_eq!(rt; found(alloc, b"0s0s0i0k0k", b"01!20.")?, fourth);
+    assert!(rt; finds(alloc, b"0s0s0i0j0j", b"01!20.", fourth)?);
+    assert!(rt; finds(alloc, b"0s0s0i0k0k", b"01!20.", fourth)?);
     let third = Some(Element::Transition(TransId(2)));
-    assert_eq!(rt; found(alloc, b"0s0s0i", b"01!20.00l00l")?, third);
-    assert_eq!(rt; found(alloc, b"0s0s0i", b"01!20.")?, None);
+    assert!(rt; finds(alloc, b"0s0s0i", b"01!20.00l00l", third)?);
+    assert!(rt; finds(alloc, b"0s0s0i", b"01!20.", None)?);
     Ok(())
+}
+
+/// A State with a step to do, in one region.
+fn doing_machine(alloc: Global) -> Result<Machine, Fail> {
+    let steps = vec_of(alloc, ActId(0))?;
+    let mut doing = vertex(alloc, Owner::Region(RegionId(0)), VertexKind::State);
+    doing.steps = Row::from_vec(steps);
+    let draft = draft_of_a_state(alloc, doing)?;
+    let machine = Machine::new(alloc, &draft);
+    drop(draft);
+    Ok(machine?)
 }
 
 #[test]
 fn a_state_that_does_is_not_built(rt: HostRuntime) -> Result<(), Fail> {
-    let alloc = rt.alloc();
-    let mut doing = vertex(alloc, Owner::Region(RegionId(0)), VertexKind::State);
-    doing.steps = Row::from_vec(vec_of(alloc, ActId(0))?);
-    let found = first_not_built(&Machine::new(alloc, &draft_of_a_state(alloc, doing)?)?);
-    assert_eq!(rt; found, Some(Element::Vertex(VertexId(0))));
+    let machine = doing_machine(rt.alloc())?;
+    let found = first_not_built(&machine);
+    drop(machine);
+    assert!(rt; found == Some(Element::Vertex(VertexId(0))));
     Ok(())
 }

@@ -1,7 +1,7 @@
 //! The setting of the tests: an object `a` whose machine goes from one State to another on `Go`.
 ghost use Rattle.std.specs.Prelude.{◌≡◌, [], IfOk};
 ghost use Rattle.pssm_semantics.specs.Built.{IsBuilt};
-ghost use Rattle.pssm_judge.specs.Sample.{sample_vertex, sample_transition, sample_machine, sample_class, sample_setting};
+ghost use Rattle.pssm_judge.specs.inner.Sample.{sample_vertex, sample_transition, sample_machine, sample_class, sample_setting};
 
 use pssm_model::{
     ActId, DraftMachine, Guard, Machine, Owner, RegionId, Row, SignalId, Text, TransKind,

@@ -1,7 +1,7 @@
 //! Runs that go by what is chosen.
-ghost use Rattle.std.specs.Prelude.{◌≡◌, IfOk};
+ghost use Rattle.std.specs.Prelude.{◌≡◌, IfOk, false};
 ghost use Rattle.pssm_semantics.specs.Built.{IsBuilt};
-ghost use Rattle.pssm_system.specs.Sample.{sample_setting};
+ghost use Rattle.pssm_system.specs.inner.Sample.{sample_setting};
 
 use crate::System;
 use crate::tests::entries::post;
@@ -12,35 +12,54 @@ use pssm_semantics::Entry;
 use std::alloc::{AllocError as NoMemory, Global};
 use std::test::Fail;
 
-/// Goes on with what is chosen by the word until nothing is, and says whether all of it was allowed and the end is quiet.
-fn runs_to_quiet(system: &mut System, word: u64) -> Result<bool, NoMemory>
+/// Goes on with what is chosen by the word, at most so many times.
+fn go_on(system: &mut System, word: u64, times: usize) -> Result<(), NoMemory>
     requires { IsBuilt system.old.setting }
+    ensures { system.new.setting ≡ system.old.setting }
 {
-    for _turn in 0..100 {
-        match system.choose(word)? {
-            None => return Ok(system.quiet()),
-            Some(entry) => {
-                if system.quiet() || system.allows(&entry)?.is_some() {
-                    return Ok(false);
-                }
-                append(system, entry)?;
-            }
+    for _turn in 0..times {
+        if let Some(entry) = system.choose(word)? {
+            append(system, entry)?;
         }
     }
-    Ok(false)
+    Ok(())
 }
 
-/// A system of the machine, into which Go was posted so many times.
-pub fn posted(alloc: Global, forked: bool, posts: usize) -> Result<System, NoMemory>
+/// Posts Go to the object, where the rules allow it.
+fn post_go(alloc: Global, forked: bool, system: &mut System) -> Result<(), NoMemory>
+    requires { system.old.setting ≡ sample_setting forked }
+    ensures { system.new.setting ≡ system.old.setting }
+{
+    let _ = forked;
+    let entry = post(alloc);
+    if system.allows(&entry)?.is_none() {
+        append(system, entry)?;
+    }
+    Ok(())
+}
+
+/// Posts Go to the object, and goes on with what is chosen.
+fn begin(
+    alloc: Global,
+    forked: bool,
+    system: &mut System,
+    word: u64,
+    times: usize,
+) -> Result<(), NoMemory>
+    requires { system.old.setting ≡ sample_setting forked }
+    ensures { system.new.setting ≡ system.old.setting }
+{
+    post_go(alloc, forked, system)?;
+    go_on(system, word, times)
+}
+
+/// A system of the machine into which Go was posted, and which has then gone on with what is chosen by the word, at
+/// most so many times.
+pub fn begun(alloc: Global, forked: bool, word: u64, times: usize) -> Result<System, NoMemory>
     ensures { IfOk result (λ system. system.setting ≡ sample_setting forked) }
 {
     let mut system = system(alloc, forked)?;
-    for _post in 0..posts {
-        let entry = post(alloc);
-        if system.allows(&entry)?.is_none() {
-            append(&mut system, entry)?;
-        }
-    }
+    begin(alloc, forked, &mut system, word, times)?;
     Ok(system)
 }
 
@@ -56,6 +75,12 @@ fn fired(entries: &[Entry]) -> Option<TransId> {
     None
 }
 
+/// Whether a run of the forked machine that goes by the word ends, and fires the transition.
+fn fires(alloc: Global, word: u64, transition: TransId) -> Result<bool, NoMemory> {
+    let system = begun(alloc, true, word, 100)?;
+    Ok(system.quiet() && fired(system.entries()) == Some(transition))
+}
+
 /// A word, and the transition that it picks of the two from A to B.
 const WORDS: [(u64, TransId); 4] = [
     (0, TransId(0)),
@@ -66,23 +91,29 @@ const WORDS: [(u64, TransId); 4] = [
 
 #[test]
 fn reaches_each_transition(rt: HostRuntime) -> Result<(), Fail> {
-    let alloc = rt.alloc();
-    for (word, transition) in WORDS.iter() {
-        let mut system = posted(alloc, true, 1)?;
-        assert!(rt; runs_to_quiet(&mut system, *word)?);
-        assert!(rt; fired(system.entries()) == Some(*transition));
+    for (word, transition) in &WORDS {
+        assert!(rt; fires(rt.alloc(), *word, *transition)?, "{word}");
     }
     Ok(())
 }
 
+/// Whether the object has no variables, and eight zeros as parameters.
+fn stores_zeros(system: &System) -> bool
+    requires { system.now.setting ≡ sample_setting false }
+{
+    system.store(OBJECT).is_empty() && system.params(OBJECT).as_slice() == [0; 8].as_slice()
+}
+
 #[test]
 fn stores_nothing(rt: HostRuntime) -> Result<(), Fail> {
-    let alloc = rt.alloc();
-    let mut system = posted(alloc, false, 1)?;
-    assert!(rt; runs_to_quiet(&mut system, 0)?);
-    assert_eq!(rt; system.entries().len(), 9);
-    assert_eq!(rt; system.setting().signals.as_slice().len(), 1);
-    assert!(rt; system.store(OBJECT).is_empty());
-    assert!(rt; system.params(OBJECT).as_slice() == [0, 0, 0, 0, 0, 0, 0, 0].as_slice());
+    let system = begun(rt.alloc(), false, 0, 100)?;
+    assert!(rt; stores_zeros(&system));
+    Ok(())
+}
+
+#[test]
+fn keeps_setting_and_journal(rt: HostRuntime) -> Result<(), Fail> {
+    let system = begun(rt.alloc(), false, 0, 100)?;
+    assert!(rt; system.entries().len() == 9 && system.setting().signals.as_slice().len() == 1);
     Ok(())
 }

@@ -1,6 +1,6 @@
 //! Entries of the object of the tests.
 ghost use Rattle.std.specs.Prelude.{◌<◌, IfOk, Bool, false};
-ghost use Rattle.pssm_system.specs.Sample.{IsNamed};
+ghost use Rattle.pssm_system.specs.inner.Sample.{IsNamed};
 
 use crate::tests::{GO, OBJECT};
 use pssm_model::{Firing, Row, VertexId};

@@ -1,13 +1,12 @@
 //! What the rules say of entries that no line of a journal spells yet.
 ghost use Rattle.std.specs.Prelude.{◌≡◌, false};
-ghost use Rattle.pssm_system.specs.Sample.{sample_setting, IsNamed};
+ghost use Rattle.pssm_system.specs.inner.Sample.{sample_setting, IsNamed};
 
 use crate::System;
-use crate::tests::append;
-use crate::tests::choosing::posted;
+use crate::tests::choosing::begun;
 use crate::tests::entries::{do_step, done, exit_sending};
 use pssm_semantics::{Entry, Rule};
-use std::alloc::AllocError as NoMemory;
+use std::alloc::{AllocError as NoMemory, Global};
 use std::test::Fail;
 
 /// What the rules say of an entry that names what the sample has.
@@ -18,28 +17,32 @@ fn broken(system: &System, entry: &Entry) -> Result<Option<Rule>, NoMemory>
     system.allows(entry)
 }
 
-/// Goes on with what is chosen, so many times.
-fn go_on(system: &mut System, times: usize) -> Result<(), NoMemory>
-    requires { system.old.setting ≡ sample_setting false }
-    ensures { system.new.setting ≡ sample_setting false }
+/// The first rule that an entry breaks after a post and so many entries more.
+fn broken_after(alloc: Global, times: usize, entry: &Entry) -> Result<Option<Rule>, NoMemory>
+    requires { IsNamed false entry.now }
 {
-    for _turn in 0..times {
-        if let Some(entry) = system.choose(0)? {
-            append(system, entry)?;
-        }
-    }
-    Ok(())
+    broken(&begun(alloc, false, 0, times)?, entry)
 }
 
-// At rest in A nothing completes and A has no step to do, and the exit of A sends nothing.
+/// At rest in A nothing completes.
+fn completion(alloc: Global) -> Result<Option<Rule>, NoMemory> {
+    broken_after(alloc, 4, &done(alloc, 0))
+}
+
+/// A has no step to do.
+fn step(alloc: Global) -> Result<Option<Rule>, NoMemory> {
+    broken_after(alloc, 4, &do_step(alloc, 0))
+}
+
+/// The exit of A sends nothing.
+fn sending_exit(alloc: Global) -> Result<Option<Rule>, NoMemory> {
+    broken_after(alloc, 5, &exit_sending(alloc, 0)?)
+}
+
 #[test]
 fn refuses_what_no_line_spells(rt: HostRuntime) -> Result<(), Fail> {
-    let alloc = rt.alloc();
-    let mut system = posted(alloc, false, 1)?;
-    go_on(&mut system, 4)?;
-    assert_eq!(rt; broken(&system, &done(alloc, 0))?, Some(Rule::A5));
-    assert_eq!(rt; broken(&system, &do_step(alloc, 0))?, Some(Rule::A11));
-    go_on(&mut system, 1)?;
-    assert_eq!(rt; broken(&system, &exit_sending(alloc, 0)?)?, Some(Rule::A12));
+    assert_eq!(rt; completion(rt.alloc())?, Some(Rule::A5));
+    assert_eq!(rt; step(rt.alloc())?, Some(Rule::A11));
+    assert_eq!(rt; sending_exit(rt.alloc())?, Some(Rule::A12));
     Ok(())
 }

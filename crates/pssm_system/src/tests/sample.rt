@@ -1,6 +1,6 @@
 //! The machine of the tests, and a system of it.
-ghost use Rattle.std.specs.Prelude.{◌≡◌, IfOk, Bool};
-ghost use Rattle.pssm_system.specs.Sample.{sample_vertex, sample_transition, to_b, sample_machine, sample_setting};
+ghost use Rattle.std.specs.Prelude.{◌≡◌, ◌∷◌, [], IfOk, Bool};
+ghost use Rattle.pssm_system.specs.inner.Sample.{sample_vertex, sample_transition, to_b, sample_machine, sample_program, sample_class, sample_setting};
 
 use crate::System;
 use crate::tests::GO;
@@ -72,35 +72,69 @@ fn machine(alloc: Global, forked: bool) -> Result<Machine, NoMemory>
     Machine::new(alloc, &draft(alloc, forked)?).map_err(|_| NoMemory)
 }
 
+fn text(alloc: Global, bytes: &[u8]) -> Result<Text, NoMemory>
+    ensures { IfOk result (λ text. text ≡ bytes.now) }
+{
+    Ok(Text::from_vec(bytes.to_vec(alloc)?))
+}
+
+fn program(alloc: Global) -> Result<Program, NoMemory>
+    ensures { IfOk result (λ program. program ≡ sample_program) }
+{
+    let nothing = Act {
+        stmts: Row::from_vec(Vec::new(alloc)),
+    };
+    Ok(Program {
+        acts: Row::from_vec(vec![in alloc; nothing]?),
+        guards: Row::from_vec(Vec::new(alloc)),
+        marks: Row::from_vec(Vec::new(alloc)),
+    })
+}
+
+fn class(alloc: Global, name: Text, machine: Machine, program: Program) -> Class
+    ensures { result ≡ record { name = name; vars = []; machine = machine; program = program } }
+{
+    Class {
+        name,
+        vars: Row::from_vec(Vec::new(alloc)),
+        machine,
+        program,
+    }
+}
+
+fn classes(alloc: Global, forked: bool) -> Result<Row<Class>, NoMemory>
+    ensures { IfOk result (λ classes. classes ≡ sample_class forked ∷ []) }
+{
+    let name = text(alloc, b"M")?;
+    let program = program(alloc)?;
+    let class = class(alloc, name, machine(alloc, forked)?, program);
+    Ok(Row::from_vec(vec![in alloc; class]?))
+}
+
+fn signals(alloc: Global) -> Result<Row<SignalDecl>, NoMemory>
+    ensures { IfOk result (λ signals. signals ≡ record { name = 71 ∷ 111 ∷ []; count = 0 } ∷ []) }
+{
+    let name = text(alloc, b"Go")?;
+    Ok(Row::from_vec(vec![in alloc; SignalDecl { name, count: 0 }]?))
+}
+
+fn objects(alloc: Global) -> Result<Row<ObjectDecl>, NoMemory>
+    ensures { IfOk result (λ objects. objects ≡ record { name = 97 ∷ []; class = 0 } ∷ []) }
+{
+    let name = text(alloc, b"a")?;
+    Ok(Row::from_vec(vec![in alloc; ObjectDecl { name, class: 0 }]?))
+}
+
 fn setting(alloc: Global, forked: bool) -> Result<Setting, NoMemory>
     ensures { IfOk result (λ setting. setting ≡ sample_setting forked) }
 {
-    let go = Text::from_vec(b"Go".to_vec(alloc)?);
-    let class_name = Text::from_vec(b"M".to_vec(alloc)?);
-    let object_name = Text::from_vec(b"a".to_vec(alloc)?);
-    let act = Act {
-        stmts: Row::from_vec(Vec::new(alloc)),
-    };
-    let machine = machine(alloc, forked)?;
-    let class = Class {
-        name: class_name,
-        vars: Row::from_vec(Vec::new(alloc)),
-        machine,
-        program: Program {
-            acts: Row::from_vec(vec![in alloc; act]?),
-            guards: Row::from_vec(Vec::new(alloc)),
-            marks: Row::from_vec(Vec::new(alloc)),
-        },
-    };
+    let signals = signals(alloc)?;
+    let objects = objects(alloc)?;
+    let classes = classes(alloc, forked)?;
     Ok(Setting {
-        signals: Row::from_vec(vec![in alloc; SignalDecl { name: go, count: 0 }]?),
-        classes: Row::from_vec(vec![in alloc; class]?),
-        objects: Row::from_vec(vec![in alloc;
-            ObjectDecl {
-                name: object_name,
-                class: 0
-            },
-        ]?),
+        signals,
+        classes,
+        objects,
     })
 }
 

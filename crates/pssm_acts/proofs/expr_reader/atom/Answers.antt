@@ -1,5 +1,5 @@
 use Rattle.std.proofs.Common.{◌≡◌, position, bytes_eq, None}
-use Rattle.pssm_acts.specs.ExprReading.{token_of}
+use Rattle.pssm_acts.specs.inner.ExprReading.{token_of}
 use Rattle.pssm_acts.proofs.ReaderLaws.{atom_unknown}
 use Rattle.pssm_acts.proofs.expr_reader.atom.Goals as goal
 

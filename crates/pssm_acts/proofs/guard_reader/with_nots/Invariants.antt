@@ -1,5 +1,5 @@
 use Rattle.std.proofs.Common.{◌≡◌}
-use Rattle.pssm_acts.specs.GuardReading.{nots_of}
+use Rattle.pssm_acts.specs.inner.GuardReading.{nots_of}
 use Rattle.pssm_acts.proofs.guard_reader.with_nots.Given as goal
 
 abbrev pub invariant-loop-i : goal.invariant-loop-i

@@ -1,6 +1,6 @@
 use Rattle.std.proofs.Common.{◌≡◌, position, bytes_eq, None, Some}
-use Rattle.pssm_acts.specs.ExprReading.{token_of}
-use Rattle.pssm_acts.specs.PhraseReading.{signal_found}
+use Rattle.pssm_acts.specs.inner.ExprReading.{token_of}
+use Rattle.pssm_acts.specs.inner.PhraseReading.{signal_found}
 use Rattle.pssm_acts.proofs.ReaderLaws.{signal_step}
 use Rattle.pssm_acts.proofs.phrase_reader.signal.Goals as goal
 

@@ -1,32 +1,27 @@
-use Rattle.std.proofs.Common.{◌≡◌, ◌-◌, List, ℕ, Bool, length, Ok, Err, sym, ◌∙◌, subst, false}
-use Rattle.pssm_acts.specs.declared.guard_reader.GuardReader.{GuardReader}
-use Rattle.pssm_acts.specs.ExprReading.{Answers}
-use Rattle.pssm_acts.specs.GuardReading.{guard_step}
-use Rattle.pssm_acts.proofs.TextLaws.{IsReadTo, start, blank_passed, token_passed, token_failed, end_read, behind_first, none_left}
+use Rattle.std.proofs.Common.{length, subst}
+use Rattle.pssm_acts.specs.Answers.{Answers}
+use Rattle.pssm_acts.specs.inner.ExprReading.{token_of}
+use Rattle.pssm_acts.specs.inner.GuardReading.{guard_step, guard_value, text_reading}
+use Rattle.pssm_acts.specs.inner.TextLeft.{left}
+use Rattle.pssm_acts.proofs.Readers.{refused, ended, handed_on}
+use Rattle.pssm_acts.proofs.TextLaws.{start, token_passed}
 use Rattle.pssm_acts.proofs.reading.cond_of.Goals as goal
 
-pub loop-rest-init : goal.loop-rest-init
-loop-rest-init c = subst (λ (r : GuardReader). IsReadTo c.args.names.now c.args.text.now r false c.args.text.now) (sym c.new_guard-reader.ensures) (start c.args.names.now c.args.text.now)
+pub loop-piece-init : goal.loop-piece-init
+loop-piece-init c = start c.args.names.now c.args.text.now c.new_guard-reader.result c.of-tokens.result c.new_guard-reader.ensures c.of-tokens.ensures.all c.of-tokens.ensures.short
 
-pub loop-rest-preserved-then-blank : goal.loop-rest-preserved-then-blank
-loop-rest-preserved-then-blank c =
-    blank_passed c.args.names.now c.args.text.now c.loop-rest.reader c.loop-rest.after_operand c.loop-rest.rest.now _ c.loop-rest.invariant c.in-len1-up.len_at_least (sym c.blank.ensures ∙ c.if-blank.true) (behind_first c.loop-rest.rest.now)
+pub returns-in_err-reader : goal.returns-in_err-reader
+returns-in_err-reader c =
+    let fault = c.in_err-reader.field-0.0 in
+    let due = text_reading c.args.names.now c.args.text.now in
+    handed_on due c.from_residual.result fault c.from_residual.ensures.1
+    (refused (guard_step c.args.names.now 16) (λ r. guard_value r (length c.args.text.now)) due c.loop-piece.reader (token_of c.in-Some.piece) (left c.next.new.self) (left c.loop-piece.tokens) fault c.in-Some.ensures.first c.loop-piece.invariant.same c.in_err-reader.ensures)
 
-pub returns-in-Err : goal.returns-in-Err
-returns-in-Err c =
-    let step = subst (λ (w : List ℕ). Answers (guard_step c.args.names.now 16 c.loop-rest.reader (record { at = length c.args.text.now - length c.loop-rest.rest.now; kind = c.token_at-kind.result.0; word = w })) (Err c.in-Err.fault))
-    c.split_at.ensures.front c.in-Err.ensures in
-    token_failed c.args.names.now c.args.text.now c.loop-rest.reader c.loop-rest.after_operand c.loop-rest.rest.now c.split_at.result.1.now c.token_at-kind.result.0 c.token_at-kind.result.1 c.in-Err.fault
-    (sym c.blank.ensures ∙ c.if-blank.false) (sym c.token_at-kind.ensures.gives) c.token_at-kind.ensures.some c.token_at-kind.ensures.within c.split_at.ensures.back c.loop-rest.invariant step
-
-pub loop-rest-preserved : goal.loop-rest-preserved
-loop-rest-preserved c =
-    let step = subst (λ (w : List ℕ). guard_step c.args.names.now 16 c.loop-rest.reader (record { at = length c.args.text.now - length c.loop-rest.rest.now; kind = c.token_at-kind.result.0; word = w }) ≡ Ok c.in-Ok.next)
-    c.split_at.ensures.front c.in-Ok.ensures in
-    subst (λ (b : Bool). IsReadTo c.args.names.now c.args.text.now c.in-Ok.next b c.split_at.result.1.now) (sym c.closes_operand-after_operand.ensures)
-    (token_passed c.args.names.now c.args.text.now c.loop-rest.reader c.in-Ok.next c.loop-rest.after_operand c.loop-rest.rest.now c.split_at.result.1.now c.token_at-kind.result.0 c.token_at-kind.result.1
-    (sym c.blank.ensures ∙ c.if-blank.false) (sym c.token_at-kind.ensures.gives) c.token_at-kind.ensures.some c.token_at-kind.ensures.within c.split_at.ensures.back c.loop-rest.invariant step)
+pub loop-piece-preserved : goal.loop-piece-preserved
+loop-piece-preserved c =
+    token_passed c.args.names.now c.args.text.now c.loop-piece.reader c.in_ok-reader.reader c.loop-piece.tokens c.next.new.self (token_of c.in-Some.piece) c.in-Some.ensures.first c.next.ensures.short c.loop-piece.invariant c.in_ok-reader.ensures
 
 pub returns : goal.returns
 returns c =
-    end_read c.args.names.now c.args.text.now c.loop-rest.reader c.loop-rest.after_operand c.loop-rest.rest.now c.guard_end.result c.loop-rest.invariant (none_left c.loop-rest.rest.now c.in_default.len_below) c.guard_end.ensures
+    let worth = ended (guard_step c.args.names.now 16) (λ r. guard_value r (length c.args.text.now)) (text_reading c.args.names.now c.args.text.now) c.loop-piece.reader (left c.loop-piece.tokens) c.in_default.ensures.first c.loop-piece.invariant.same in
+    subst (λ due. Answers due c.guard_end.result) worth c.guard_end.ensures

@@ -1,6 +1,6 @@
 use Rattle.std.proofs.Common.{◌≡◌, List, Ok, sym, subst}
 use Rattle.pssm_semantics.specs.declared.tree.Act.{Act}
-use Rattle.pssm_acts.specs.ActReading.{steps_reading}
+use Rattle.pssm_acts.specs.inner.ActReading.{steps_reading}
 use Rattle.pssm_acts.proofs.ActLaws.{steps_answers_spelled, steps_answers_fit, steps_known, steps_refused}
 use Rattle.pssm_acts.proofs.TextFaultLaws.{steps_answers_fault, steps_refused_first, steps_read_first}
 use Rattle.pssm_acts.proofs.reading.read_steps.Goals as goal

@@ -1,6 +1,6 @@
 use Rattle.std.proofs.Common.{◌≡◌, take}
 use Rattle.std.specs.Prelude.{sum_by}
-use Rattle.pssm_flat.specs.Places.{transition_size}
+use Rattle.pssm_flat.specs.inner.Places.{transition_size}
 use Rattle.pssm_flat.proofs.places.transition_lines.Given as goal
 
 abbrev pub invariant-loop-transition : goal.invariant-loop-transition

@@ -1,6 +1,6 @@
 use Rattle.std.proofs.Common.{◌≡◌, take}
 use Rattle.std.specs.Prelude.{sum_by}
-use Rattle.pssm_flat.specs.Places.{vertex_size}
+use Rattle.pssm_flat.specs.inner.Places.{vertex_size}
 use Rattle.pssm_flat.proofs.places.vertex_lines.Given as goal
 
 abbrev pub invariant-loop-vertex : goal.invariant-loop-vertex

@@ -1,4 +1,4 @@
-use Rattle.pssm_journal.specs.LineReading.{line_of_parts}
+use Rattle.pssm_journal.specs.inner.LineReading.{line_of_parts}
 use Rattle.pssm_journal.proofs.LineLaws.{spelled_at}
 use Rattle.pssm_journal.proofs.line.read_line.Goals as goal
 

@@ -4,7 +4,7 @@ use Rattle.pssm_semantics.specs.declared.line.Line.{Line}
 use Rattle.pssm_semantics.specs.Pool.{posts_of_entry, outs_of}
 use Rattle.pssm_journal.specs.Entries.{IsEntryOf}
 use Rattle.pssm_journal.specs.Judged.{line_output_count}
-use Rattle.pssm_journal.specs.EntryLine.{line_of_entry}
+use Rattle.pssm_journal.specs.inner.EntryLine.{line_of_entry}
 use Rattle.pssm_journal.proofs.NamedLines.{line_writes}
 use Rattle.pssm_journal.proofs.OutputCounts.{line_outputs}
 use Rattle.pssm_journal.proofs.naming.line_of.Goals as goal

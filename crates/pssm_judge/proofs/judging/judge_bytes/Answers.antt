@@ -4,7 +4,7 @@ use Rattle.pssm_semantics.specs.declared.line.Line.{Line}
 use Rattle.pssm_journal.specs.declared.fault.LineFault.{LineFault}
 use Rattle.pssm_judge.specs.declared.verdict.Verdict.TheVariants.{Accept}
 use Rattle.pssm_judge.specs.Verdicts.{IsVerdictOn}
-use Rattle.pssm_judge.specs.Following.{Follows, StopsAmong}
+use Rattle.pssm_judge.specs.inner.Following.{Follows, StopsAmong}
 use Rattle.pssm_judge.proofs.JudgingLaws.{judging_begin, judging_at, stops_fed, bad_fed, more_fed, none_left, judged_whole, judged_cut}
 use Rattle.pssm_judge.proofs.AnswerLaws.{answered_verdict, answered_fault}
 use Rattle.pssm_judge.proofs.judging.judge_bytes.Goals as goal
@@ -23,9 +23,9 @@ returns-in-Some-clause-verdict c =
     let j = judging_at c.args.setting c.args.journal.now c.loop-rest.rest.now c.split_at.result.0.now c.split_at.result.1.now c.loop-rest.reader.pending c.loop-rest.reader.begun
     c.loop-rest.run c.loop-rest.invariant.judging c.split_at.ensures.by_index.0 in
     let told = rw c.in-Some.is at c.in_ok-stop.ensures in
-    let stops = subst (λ (ls : List Line). StopsAmong c.loop-rest.run ls c.in-Some.stop) c.as_slice.ensures.value told in
+    let stops = subst (λ (ls : List Line). StopsAmong c.loop-rest.run ls c.in-Some.stop) c.as_slice.ensures told in
     let judged = stops_fed c.args.setting c.args.journal.now c.split_at.result.0.now c.split_at.result.1.now c.loop-rest.reader.pending c.feed.new.self.pending c.loop-rest.reader.begun
-    c.feed.new.self.begun c.loop-rest.run c.in_ok-fed.fed.lines.items c.in_ok-fed.fed.fault c.in-Some.stop j (c.in_ok-fed.ensures.read c.loop-rest.invariant.no_fault) stops in
+    c.feed.new.self.begun c.loop-rest.run c.in_ok-fed.fed.lines c.in_ok-fed.fed.fault c.in-Some.stop j (c.in_ok-fed.ensures.read c.loop-rest.invariant.no_fault) stops in
     answered_verdict c.args.setting c.args.journal.now c.in-Some.stop c.answer.result c.answer.ensures judged
 
 pub returns-in-Some-clause-fault : goal.returns-in-Some-clause-fault
@@ -33,9 +33,9 @@ returns-in-Some-clause-fault c =
     let j = judging_at c.args.setting c.args.journal.now c.loop-rest.rest.now c.split_at.result.0.now c.split_at.result.1.now c.loop-rest.reader.pending c.loop-rest.reader.begun
     c.loop-rest.run c.loop-rest.invariant.judging c.split_at.ensures.by_index.0 in
     let told = rw c.in-Some.is at c.in_ok-stop.ensures in
-    let stops = subst (λ (ls : List Line). StopsAmong c.loop-rest.run ls c.in-Some.stop) c.as_slice.ensures.value told in
+    let stops = subst (λ (ls : List Line). StopsAmong c.loop-rest.run ls c.in-Some.stop) c.as_slice.ensures told in
     let judged = stops_fed c.args.setting c.args.journal.now c.split_at.result.0.now c.split_at.result.1.now c.loop-rest.reader.pending c.feed.new.self.pending c.loop-rest.reader.begun
-    c.feed.new.self.begun c.loop-rest.run c.in_ok-fed.fed.lines.items c.in_ok-fed.fed.fault c.in-Some.stop j (c.in_ok-fed.ensures.read c.loop-rest.invariant.no_fault) stops in
+    c.feed.new.self.begun c.loop-rest.run c.in_ok-fed.fed.lines c.in_ok-fed.fed.fault c.in-Some.stop j (c.in_ok-fed.ensures.read c.loop-rest.invariant.no_fault) stops in
     answered_fault c.args.setting c.args.journal.now c.in-Some.stop c.answer.result c.answer.ensures judged
 
 -- The piece has a fault behind the lines that were taken.
@@ -44,9 +44,9 @@ returns-in-Some-fault-clause-fault c =
     let j = judging_at c.args.setting c.args.journal.now c.loop-rest.rest.now c.split_at.result.0.now c.split_at.result.1.now c.loop-rest.reader.pending c.loop-rest.reader.begun
     c.loop-rest.run c.loop-rest.invariant.judging c.split_at.ensures.by_index.0 in
     let told = rw c.in_default.is at c.in_ok-stop.ensures in
-    let follows = subst (λ (ls : List Line). Follows c.loop-rest.run c.follow.new.self ls) c.as_slice.ensures.value told in
+    let follows = subst (λ (ls : List Line). Follows c.loop-rest.run c.follow.new.self ls) c.as_slice.ensures told in
     bad_fed c.args.setting c.args.journal.now c.split_at.result.0.now c.split_at.result.1.now c.loop-rest.reader.pending c.feed.new.self.pending c.loop-rest.reader.begun
-    c.feed.new.self.begun c.loop-rest.run c.follow.new.self c.in_ok-fed.fed.lines.items c.in_ok-fed.fed.fault
+    c.feed.new.self.begun c.loop-rest.run c.follow.new.self c.in_ok-fed.fed.lines c.in_ok-fed.fed.fault
     (subst (λ (o : Option LineFault). IsSome o) (sym c.in-Some-fault.is) refl) j (c.in_ok-fed.ensures.read c.loop-rest.invariant.no_fault) follows
 
 -- The piece has no fault, and its lines were taken.
@@ -55,10 +55,10 @@ loop-rest-preserved c =
     let j = judging_at c.args.setting c.args.journal.now c.loop-rest.rest.now c.split_at.result.0.now c.split_at.result.1.now c.loop-rest.reader.pending c.loop-rest.reader.begun
     c.loop-rest.run c.loop-rest.invariant.judging c.split_at.ensures.by_index.0 in
     let told = rw c.in_default.is at c.in_ok-stop.ensures in
-    let follows = subst (λ (ls : List Line). Follows c.loop-rest.run c.follow.new.self ls) c.as_slice.ensures.value told in
+    let follows = subst (λ (ls : List Line). Follows c.loop-rest.run c.follow.new.self ls) c.as_slice.ensures told in
     record {
       judging = more_fed c.args.setting c.args.journal.now c.split_at.result.0.now c.split_at.result.1.now c.loop-rest.reader.pending c.feed.new.self.pending c.loop-rest.reader.begun
-          c.feed.new.self.begun c.loop-rest.run c.follow.new.self c.in_ok-fed.fed.lines.items c.in_ok-fed.fed.fault c.in_default-fault.is j
+          c.feed.new.self.begun c.loop-rest.run c.follow.new.self c.in_ok-fed.fed.lines c.in_ok-fed.fed.fault c.in_default-fault.is j
           (c.in_ok-fed.ensures.read c.loop-rest.invariant.no_fault) follows;
       no_fault = c.in_ok-fed.ensures.kept ∙ c.in_default-fault.is;
     }

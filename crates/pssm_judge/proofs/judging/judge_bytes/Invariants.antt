@@ -1,5 +1,5 @@
 use Rattle.std.proofs.Common.{◌≡◌, length, None}
-use Rattle.pssm_judge.specs.Judging.{IsJudging}
+use Rattle.pssm_judge.specs.inner.Judging.{IsJudging}
 use Rattle.pssm_judge.proofs.judging.judge_bytes.Given as goal
 
 -- The run has taken the lines that were read, and no fault was met.

@@ -4,8 +4,8 @@ use Rattle.std.proofs.lemmas.Bool.{false≢true}
 use Rattle.pssm_model.specs.declared.shape.PlaceKind.TheVariants.{Regions}
 use Rattle.pssm_model.specs.declared.elements.Owner.TheVariants.{Top}
 use Rattle.pssm_model.specs.Equal.{owner_same}
-use Rattle.pssm_model.specs.Sound.{place_element}
-use Rattle.pssm_model.specs.Found.{HasTopBelow}
+use Rattle.pssm_model.specs.inner.Faultless.{place_element}
+use Rattle.pssm_model.specs.inner.Found.{HasTopBelow}
 use Rattle.pssm_model.proofs.NotBuiltFirst.{built_more, fails, region_built, tops_with, tops_without}
 use Rattle.pssm_model.proofs.built.first_region.Goals.{then-eq, else-eq}
 use Rattle.pssm_model.proofs.built.first_region.Goals as goal

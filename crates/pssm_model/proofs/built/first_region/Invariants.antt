@@ -1,7 +1,7 @@
 use Rattle.std.proofs.Common.{◌↔◌, IsTrue}
 use Rattle.pssm_model.specs.declared.shape.PlaceKind.TheVariants.{Regions}
-use Rattle.pssm_model.specs.Sound.{place_element}
-use Rattle.pssm_model.specs.Found.{AreBuiltBelow, HasTopBelow}
+use Rattle.pssm_model.specs.inner.Faultless.{place_element}
+use Rattle.pssm_model.specs.inner.Found.{AreBuiltBelow, HasTopBelow}
 use Rattle.pssm_model.proofs.built.first_region.Given as goal
 
 abbrev pub invariant-loop-number : goal.invariant-loop-number

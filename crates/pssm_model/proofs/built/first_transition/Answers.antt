@@ -1,7 +1,7 @@
 -- each turn looks at one transition more
 use Rattle.std.proofs.Common.{◌≡◌, length, subst, arith}
-use Rattle.pssm_model.specs.Sound.{transition_element}
-use Rattle.pssm_model.specs.Found.{AreBuiltBelow}
+use Rattle.pssm_model.specs.inner.Faultless.{transition_element}
+use Rattle.pssm_model.specs.inner.Found.{AreBuiltBelow}
 use Rattle.pssm_model.proofs.NotBuiltFirst.{built_more, fails, transition_built}
 use Rattle.pssm_model.proofs.built.first_transition.Goals as goal
 

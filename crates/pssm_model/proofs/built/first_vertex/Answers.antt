@@ -1,8 +1,8 @@
 -- each turn looks at one vertex more
 use Rattle.std.proofs.Common.{◌≡◌, length, subst, arith}
 use Rattle.pssm_model.specs.declared.shape.PlaceKind.TheVariants.{Vertices}
-use Rattle.pssm_model.specs.Sound.{place_element}
-use Rattle.pssm_model.specs.Found.{AreBuiltBelow}
+use Rattle.pssm_model.specs.inner.Faultless.{place_element}
+use Rattle.pssm_model.specs.inner.Found.{AreBuiltBelow}
 use Rattle.pssm_model.proofs.NotBuiltFirst.{built_more, fails, vertex_built}
 use Rattle.pssm_model.proofs.built.first_vertex.Goals as goal
 

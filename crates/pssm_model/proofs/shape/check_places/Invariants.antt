@@ -1,4 +1,4 @@
-use Rattle.pssm_model.specs.Depths.{AreDepths}
+use Rattle.pssm_model.specs.inner.Depths.{AreDepths}
 use Rattle.pssm_model.proofs.Checked.{IsChecked}
 use Rattle.pssm_model.proofs.shape.check_places.Given as goal
 

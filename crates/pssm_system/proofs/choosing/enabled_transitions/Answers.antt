@@ -2,7 +2,7 @@
 use Rattle.std.proofs.Common.{◌≡◌, ◌+◌, List, Vec, Global, length, sym, ap, subst, ◌∙◌, arith}
 use Rattle.std.proofs.lemmas.Bool.{false≢true}
 use Rattle.pssm_model.specs.declared.ids.TransId.{TransId}
-use Rattle.pssm_system.specs.Choosing.{AreEnabledBelow}
+use Rattle.pssm_system.specs.inner.Choosing.{AreEnabledBelow}
 use Rattle.pssm_system.proofs.Choices.{enabled_none, enabled_more, enabled_same}
 use Rattle.pssm_system.proofs.choosing.enabled_transitions.Goals.{then-reacts_in+in_ok-push, else-reacts_in}
 use Rattle.pssm_system.proofs.choosing.enabled_transitions.Goals as goal

@@ -1,4 +1,4 @@
-use Rattle.pssm_system.specs.Choosing.{AreEnabledBelow}
+use Rattle.pssm_system.specs.inner.Choosing.{AreEnabledBelow}
 use Rattle.pssm_system.proofs.choosing.enabled_transitions.Given as goal
 
 abbrev pub invariant-loop-number : goal.invariant-loop-number

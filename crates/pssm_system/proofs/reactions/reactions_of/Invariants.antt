@@ -1,4 +1,4 @@
-use Rattle.pssm_system.specs.Reactions.{IsMarkedBelow}
+use Rattle.pssm_system.specs.inner.Reactions.{IsMarkedBelow}
 use Rattle.pssm_system.proofs.reactions.reactions_of.Given as goal
 
 abbrev pub invariant-loop-number : goal.invariant-loop-number

@@ -2,7 +2,7 @@ use Rattle.std.proofs.Common.{List, refl, subst, sym}
 use Rattle.std.specs.List.{AllByRecursion}
 use Rattle.pssm_semantics.specs.declared.stimulus.Stimulus.{Stimulus}
 use Rattle.pssm_tool.specs.Words.{texts, Runs}
-use Rattle.pssm_tool.specs.Running.{IsKnown}
+use Rattle.pssm_tool.specs.inner.Running.{IsKnown}
 use Rattle.pssm_tool.specs.Due.{unfit}
 use Rattle.pssm_tool.proofs.CallLaws.{all_known}
 use Rattle.pssm_tool.proofs.DueLaws.{stops_at_built_model}

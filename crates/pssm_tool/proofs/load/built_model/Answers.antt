@@ -2,7 +2,7 @@ use Rattle.std.proofs.Common.{List, refl, subst, sym}
 use Rattle.pssm_semantics.specs.declared.setting.Class.{Class}
 use Rattle.pssm_tool.specs.declared.stop.Stop.{Stop}
 use Rattle.pssm_tool.specs.Refusals.{IsNotBuiltLine}
-use Rattle.pssm_tool.specs.Stops.{not_built, StopsBuiltModel}
+use Rattle.pssm_tool.specs.inner.Stops.{not_built, StopsBuiltModel}
 use Rattle.pssm_tool.proofs.LoadLaws.{stops_before_forms}
 use Rattle.pssm_tool.proofs.load.built_model.Goals as goal
 

@@ -1,7 +1,7 @@
 use Rattle.std.proofs.Common.{List, Option, length, sym, subst}
 use Rattle.pssm_semantics.specs.declared.entry.Entry.{Entry}
 use Rattle.pssm_semantics.specs.declared.stimulus.Stimulus.{Stimulus}
-use Rattle.pssm_tool.specs.Running.{IsFullAt, IsNext, IsOver}
+use Rattle.pssm_tool.specs.inner.Running.{IsFullAt, IsNext, IsOver}
 use Rattle.pssm_tool.proofs.WordLaws.{true_and_false}
 use Rattle.pssm_tool.proofs.RunLaws.{got, got_known, ends_full, ends_quietly, running_more, limits_more}
 use Rattle.pssm_tool.proofs.run.run.Goals as goal

@@ -1,5 +1,5 @@
 use Rattle.std.proofs.Common.{◌-◌, length}
-use Rattle.pssm_tool.specs.Running.{IsRunning}
+use Rattle.pssm_tool.specs.inner.Running.{IsRunning}
 use Rattle.pssm_tool.proofs.run.run.Given as goal
 
 -- so many of the stimuli are posted, and the journal has so many outputs

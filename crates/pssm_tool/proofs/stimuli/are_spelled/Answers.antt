@@ -1,7 +1,7 @@
 use Rattle.std.proofs.Common.{◌≡◌, List, ℕ, IsNone, not, ap, sym, subst, ◌∙◌}
 use Rattle.std.specs.List.{AllByRecursion}
 use Rattle.pssm_semantics.proofs.Appending.{every_push}
-use Rattle.pssm_journal.specs.LineReading.{post_taken}
+use Rattle.pssm_journal.specs.inner.LineReading.{post_taken}
 use Rattle.pssm_tool.specs.Words.{texts, IsStimulusText}
 use Rattle.pssm_tool.proofs.CallLaws.{spelled_where_some, unspelled_where_none, texts_more, not_spelled}
 use Rattle.pssm_tool.proofs.stimuli.are_spelled.Goals as goal

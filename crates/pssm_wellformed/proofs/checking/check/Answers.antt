@@ -8,11 +8,11 @@ loop-number-init c = rw c.new-faults.ensures.items (none_checked c.args.machine.
 
 pub returns-clause-exact : goal.returns-clause-exact
 returns-clause-exact c =
-    all_checked c.requires c.loop-number.number c.loop-number.faults.items
-    (let last = c.loop-number-test.false in let is = c.places-number-end.ensures in omega arith) c.loop-number.invariant
+    all_checked c.places-places.ensures.shaped c.loop-number.number c.loop-number.faults.items
+    (let last = c.loop-number-test.false in let is = c.places-places.ensures.count in omega arith) c.loop-number.invariant
 
 pub returns-clause-keeps_rules : goal.returns-clause-keeps_rules
 returns-clause-keeps_rules c =
     none_listed c.args.machine.now c.loop-number.faults.items
-    (all_checked c.requires c.loop-number.number c.loop-number.faults.items
-    (let last = c.loop-number-test.false in let is = c.places-number-end.ensures in omega arith) c.loop-number.invariant)
+    (all_checked c.places-places.ensures.shaped c.loop-number.number c.loop-number.faults.items
+    (let last = c.loop-number-test.false in let is = c.places-places.ensures.count in omega arith) c.loop-number.invariant)

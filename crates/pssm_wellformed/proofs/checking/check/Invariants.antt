@@ -1,4 +1,4 @@
-use Rattle.pssm_wellformed.specs.Checked.{IsCheckedBelow}
+use Rattle.pssm_wellformed.specs.inner.Checked.{IsCheckedBelow}
 use Rattle.pssm_wellformed.proofs.checking.check.Given as goal
 
 abbrev pub invariant-loop-number : goal.invariant-loop-number

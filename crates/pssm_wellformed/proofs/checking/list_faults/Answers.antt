@@ -2,7 +2,7 @@
 use Rattle.std.proofs.Common.{◌+◌, refl, sym, subst, arith, Vec, Global}
 use Rattle.std.proofs.lemmas.Bool.{false≢true}
 use Rattle.pssm_wellformed.specs.declared.fault.Fault.{Fault}
-use Rattle.pssm_wellformed.specs.Checked.{place_number, IsCheckedBelow}
+use Rattle.pssm_wellformed.specs.inner.Checked.{place_number, IsCheckedBelow}
 use Rattle.pssm_wellformed.proofs.Order.{fault_listed, fault_passed, place_done}
 use Rattle.pssm_wellformed.proofs.checking.list_faults.Goals as goal
 use Rattle.pssm_wellformed.proofs.checking.list_faults.Goals.{then-breaks+in_ok-push, else-breaks}

@@ -1,4 +1,4 @@
-use Rattle.pssm_wellformed.specs.Checked.{place_number, IsCheckedBelow}
+use Rattle.pssm_wellformed.specs.inner.Checked.{place_number, IsCheckedBelow}
 use Rattle.pssm_wellformed.proofs.checking.list_faults.Given as goal
 
 abbrev pub invariant-loop-rule : goal.invariant-loop-rule

@@ -1,4 +1,4 @@
-use Rattle.pssm_wellformed.specs.Survey.{transition_number}
+use Rattle.pssm_wellformed.specs.inner.Survey.{transition_number}
 use Rattle.pssm_wellformed.proofs.Listing.{not_empty_iff}
 use Rattle.pssm_wellformed.proofs.counts.meets_some.Goals as goal
 

@@ -1,7 +1,7 @@
 -- a vertex is marked where arrows lead from it back to it
 use Rattle.std.proofs.Common.{◌≡◌, ◌↔◌, ℕ, true, false, get_or, take, sym, subst, ◌∙◌, ap, Vec, Global, List}
 use Rattle.pssm_model.specs.WellFormed.{IsOnCycle}
-use Rattle.pssm_wellformed.specs.Cycles.{GoesRound}
+use Rattle.pssm_wellformed.specs.inner.Cycles.{GoesRound}
 use Rattle.pssm_wellformed.proofs.Arrows.{leads_within}
 use Rattle.pssm_wellformed.proofs.Closures.{vertex_rounds}
 use Rattle.pssm_wellformed.proofs.cycles.cyclic_marks.Goals as goal

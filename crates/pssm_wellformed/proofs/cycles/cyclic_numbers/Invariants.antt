@@ -1,4 +1,4 @@
-use Rattle.pssm_wellformed.specs.Cycles.{IsSearching, steps_left}
+use Rattle.pssm_wellformed.specs.inner.Cycles.{IsSearching, steps_left}
 use Rattle.pssm_wellformed.proofs.cycles.cyclic_numbers.Given as goal
 
 abbrev pub invariant-loop-search : goal.invariant-loop-search

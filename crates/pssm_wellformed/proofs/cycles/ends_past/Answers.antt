@@ -3,7 +3,7 @@ use Rattle.std.proofs.Common.{sym, subst, arith}
 use Rattle.std.specs.List.{AllPairs}
 use Rattle.std.specs.Prelude.{Contains}
 use Rattle.std.proofs.lemmas.Bool.{ltb-false}
-use Rattle.pssm_wellformed.specs.Cycles.{IsEarlierGroup}
+use Rattle.pssm_wellformed.specs.inner.Cycles.{IsEarlierGroup}
 use Rattle.pssm_wellformed.proofs.Groups.{last_got, up_to_last}
 use Rattle.pssm_wellformed.proofs.cycles.ends_past.Goals as goal
 

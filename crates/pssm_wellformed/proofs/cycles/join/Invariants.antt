@@ -1,5 +1,5 @@
 use Rattle.std.proofs.Common.{length}
-use Rattle.pssm_wellformed.specs.Cycles.{IsJoined}
+use Rattle.pssm_wellformed.specs.inner.Cycles.{IsJoined}
 use Rattle.pssm_wellformed.proofs.cycles.join.Given as goal
 
 abbrev pub invariant-loop-groups : goal.invariant-loop-groups

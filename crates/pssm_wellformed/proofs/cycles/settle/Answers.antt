@@ -2,7 +2,7 @@
 use Rattle.std.proofs.Common.{◌≡◌, ◌↔◌, ◌⊎◌, ◌<◌, length, true, get_or, Contains, refl, sym, subst, ◌∙◌, inl, inr, ⊎_elim, arith}
 use Rattle.std.proofs.lemmas.Bool.{lt-ltb}
 use Rattle.std.proofs.lemmas.List.Elements.{Contains-get_or}
-use Rattle.pssm_wellformed.specs.Lists.{list_at}
+use Rattle.pssm_wellformed.specs.inner.Lists.{list_at}
 use Rattle.pssm_wellformed.proofs.Walking.{list_there}
 use Rattle.pssm_wellformed.proofs.Settling.{settling_begins, settling_more}
 use Rattle.pssm_wellformed.proofs.cycles.settle.Goals as goal

@@ -1,5 +1,5 @@
 use Rattle.std.proofs.Common.{length, take}
-use Rattle.pssm_wellformed.specs.Cycles.{IsSettled}
+use Rattle.pssm_wellformed.specs.inner.Cycles.{IsSettled}
 use Rattle.pssm_wellformed.proofs.cycles.settle.Given as goal
 
 abbrev pub invariant-loop-number : goal.invariant-loop-number

@@ -3,8 +3,8 @@ use Rattle.std.proofs.lemmas.Option.{slice_get_within}
 use Rattle.pssm_model.specs.declared.ids.VertexId.{VertexId}
 use Rattle.pssm_model.specs.declared.elements.Owner.TheVariants.{State}
 use Rattle.pssm_model.proofs.BuiltElements.{same_vertex}
-use Rattle.pssm_wellformed.specs.Survey.{region_number}
-use Rattle.pssm_wellformed.specs.Marks.{MarkStrays}
+use Rattle.pssm_wellformed.specs.inner.Survey.{region_number}
+use Rattle.pssm_wellformed.specs.inner.Marks.{MarkStrays}
 use Rattle.pssm_wellformed.proofs.Listing.{empty_iff}
 use Rattle.pssm_wellformed.proofs.Straying.{afar_itself, afar_outside, afar_iff, point_aside}
 use Rattle.pssm_wellformed.proofs.exits.comes_from_afar.Goals as goal

@@ -4,7 +4,7 @@ use Rattle.pssm_wellformed.proofs.exits.is_bad_exit_point.Goals as goal
 
 pub returns : goal.returns
 returns c =
-    let says = c.is_come_to_from_afar.ensures in (
+    let says = c.has_stray_path_in.ensures in (
       λ t. (c.if-not-has_kind.ensures.0 refl, inr (inr (says.0 t))),
       λ bad. ⊎_elim (λ lacks. absurd (false≢true (c.if-lacks_one.ensures.1 lacks)))
           (⊎_elim (λ stays. absurd (false≢true (c.if-stays_inside.ensures.1 stays))) (λ far. says.1 far)) bad.1,

@@ -1,4 +1,4 @@
-use Rattle.pssm_wellformed.specs.Levels.{IsSeeking}
+use Rattle.pssm_wellformed.specs.inner.Levels.{IsSeeking}
 use Rattle.pssm_wellformed.proofs.inside.part_inside.Given as goal
 
 abbrev pub invariant-loop-height : goal.invariant-loop-height

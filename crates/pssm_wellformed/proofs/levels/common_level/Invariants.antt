@@ -1,5 +1,5 @@
 use Rattle.std.proofs.Common.{◌+◌}
-use Rattle.pssm_wellformed.specs.Levels.{AreClimbing}
+use Rattle.pssm_wellformed.specs.inner.Levels.{AreClimbing}
 use Rattle.pssm_wellformed.proofs.levels.common_level.Given as goal
 
 abbrev pub invariant-loop-place : goal.invariant-loop-place

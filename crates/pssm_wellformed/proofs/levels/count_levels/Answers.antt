@@ -1,6 +1,6 @@
 -- each turn takes one vertex more
 use Rattle.std.proofs.Common.{◌+◌, sym, subst}
-use Rattle.pssm_wellformed.specs.Levels.{AreLevelsBelow}
+use Rattle.pssm_wellformed.specs.inner.Levels.{AreLevelsBelow}
 use Rattle.pssm_wellformed.proofs.Lowest.{count_higher, count_same}
 use Rattle.pssm_wellformed.proofs.levels.count_levels.Goals as goal
 use Rattle.pssm_wellformed.proofs.levels.count_levels.Goals.{then-count-own, else-count-own}

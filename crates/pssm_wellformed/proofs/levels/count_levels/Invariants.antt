@@ -1,4 +1,4 @@
-use Rattle.pssm_wellformed.specs.Levels.{AreLevelsBelow}
+use Rattle.pssm_wellformed.specs.inner.Levels.{AreLevelsBelow}
 use Rattle.pssm_wellformed.proofs.levels.count_levels.Given as goal
 
 abbrev pub invariant-loop-number : goal.invariant-loop-number

@@ -1,7 +1,7 @@
 use Rattle.std.proofs.Common.{sym, subst}
 use Rattle.pssm_model.specs.declared.elements.Owner.{Owner}
-use Rattle.pssm_wellformed.specs.Levels.{IsLevel}
-use Rattle.pssm_wellformed.specs.Levels.IsLevel.{top}
+use Rattle.pssm_wellformed.specs.inner.Levels.{IsLevel}
+use Rattle.pssm_wellformed.specs.inner.Levels.IsLevel.{top}
 use Rattle.pssm_wellformed.proofs.Climbing.{state_level}
 use Rattle.pssm_wellformed.proofs.levels.level.Goals as goal
 

@@ -2,7 +2,7 @@
 use Rattle.std.proofs.Common.{◌+◌, get_or, take, refl, sym, subst}
 use Rattle.std.proofs.lemmas.List.{take_all}
 use Rattle.std.proofs.lemmas.List.Elements.{Contains-get_or}
-use Rattle.pssm_wellformed.specs.Levels.{IsLowestLevel}
+use Rattle.pssm_wellformed.specs.inner.Levels.{IsLowestLevel}
 use Rattle.pssm_wellformed.proofs.Lowest.{lowest_alone, lowest_lower, lowest_same}
 use Rattle.pssm_wellformed.proofs.levels.lowest_level.Goals as goal
 use Rattle.pssm_wellformed.proofs.levels.lowest_level.Goals.{then-common-lowest, else-common-lowest}

@@ -1,5 +1,5 @@
 use Rattle.std.proofs.Common.{take}
-use Rattle.pssm_wellformed.specs.Levels.{IsLowestLevel}
+use Rattle.pssm_wellformed.specs.inner.Levels.{IsLowestLevel}
 use Rattle.pssm_wellformed.proofs.levels.lowest_level.Given as goal
 
 abbrev pub invariant-loop-number : goal.invariant-loop-number

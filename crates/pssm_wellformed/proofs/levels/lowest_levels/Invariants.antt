@@ -1,4 +1,4 @@
-use Rattle.pssm_wellformed.specs.Levels.{AreLowestLevels}
+use Rattle.pssm_wellformed.specs.inner.Levels.{AreLowestLevels}
 use Rattle.pssm_wellformed.proofs.levels.lowest_levels.Given as goal
 
 abbrev pub invariant-loop-number : goal.invariant-loop-number

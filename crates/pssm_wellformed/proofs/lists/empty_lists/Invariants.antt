@@ -1,5 +1,5 @@
 use Rattle.std.proofs.Common.{◌≡◌, ℕ, length, []}
-use Rattle.pssm_wellformed.specs.Lists.{list_at}
+use Rattle.pssm_wellformed.specs.inner.Lists.{list_at}
 use Rattle.pssm_wellformed.proofs.lists.empty_lists.Given as goal
 
 abbrev pub invariant-loop-number : goal.invariant-loop-number

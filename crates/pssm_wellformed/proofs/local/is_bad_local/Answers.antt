@@ -1,6 +1,6 @@
 use Rattle.std.proofs.Common.{refl, ⊎_elim}
 use Rattle.pssm_model.specs.declared.elements.Owner.TheVariants.{State}
-use Rattle.pssm_wellformed.specs.Marks.{MarkStrays}
+use Rattle.pssm_wellformed.specs.inner.Marks.{MarkStrays}
 use Rattle.pssm_wellformed.proofs.Places.{owner_may}
 use Rattle.pssm_wellformed.proofs.Straying.{local_iff}
 use Rattle.pssm_wellformed.proofs.local.is_bad_local.Goals as goal

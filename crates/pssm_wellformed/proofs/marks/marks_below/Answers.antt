@@ -1,6 +1,6 @@
 -- each turn makes the marks of one level more
 use Rattle.std.proofs.Common.{◌+◌, sym, subst}
-use Rattle.pssm_wellformed.specs.Marks.{AreMarksBelow}
+use Rattle.pssm_wellformed.specs.inner.Marks.{AreMarksBelow}
 use Rattle.pssm_wellformed.proofs.Marking.{marks_pushed}
 use Rattle.pssm_wellformed.proofs.marks.marks_below.Goals as goal
 

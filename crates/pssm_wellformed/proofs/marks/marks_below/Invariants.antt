@@ -1,4 +1,4 @@
-use Rattle.pssm_wellformed.specs.Marks.{AreMarksBelow}
+use Rattle.pssm_wellformed.specs.inner.Marks.{AreMarksBelow}
 use Rattle.pssm_wellformed.proofs.marks.marks_below.Given as goal
 
 abbrev pub invariant-loop-level : goal.invariant-loop-level

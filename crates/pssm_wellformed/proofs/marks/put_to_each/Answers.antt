@@ -2,7 +2,7 @@
 use Rattle.std.proofs.Common.{◌<◌, get_or, refl, sym, subst}
 use Rattle.std.proofs.lemmas.List.{take_all}
 use Rattle.std.proofs.lemmas.List.Elements.{Contains-get_or}
-use Rattle.pssm_wellformed.specs.Marks.{IsPutToEach}
+use Rattle.pssm_wellformed.specs.inner.Marks.{IsPutToEach}
 use Rattle.pssm_wellformed.proofs.Marking.{put_to_none, put_to_more}
 use Rattle.pssm_wellformed.proofs.marks.put_to_each.Goals as goal
 

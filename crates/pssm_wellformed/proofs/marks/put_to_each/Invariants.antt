@@ -1,5 +1,5 @@
 use Rattle.std.proofs.Common.{take}
-use Rattle.pssm_wellformed.specs.Marks.{IsPutToEach}
+use Rattle.pssm_wellformed.specs.inner.Marks.{IsPutToEach}
 use Rattle.pssm_wellformed.proofs.marks.put_to_each.Given as goal
 
 abbrev pub invariant-loop-number : goal.invariant-loop-number

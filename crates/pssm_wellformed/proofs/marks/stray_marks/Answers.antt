@@ -1,6 +1,6 @@
 use Rattle.std.proofs.Common.{ℕ, List, Bool, subst, Vec, Global}
-use Rattle.pssm_wellformed.specs.Reach.{StaysWithin}
-use Rattle.pssm_wellformed.specs.Marks.{AreMarksBelow, AreStrayMarks}
+use Rattle.pssm_wellformed.specs.inner.Reach.{StaysWithin}
+use Rattle.pssm_wellformed.specs.inner.Marks.{AreMarksBelow, AreStrayMarks}
 use Rattle.pssm_wellformed.proofs.Arrows.{arrows_within}
 use Rattle.pssm_wellformed.proofs.Marking.{turned_within, stray_marks_are}
 use Rattle.pssm_wellformed.proofs.Straying.{ok_by}

@@ -1,8 +1,8 @@
 use Rattle.std.proofs.Common.{◌≡◌, ◌<◌, List, Bool, false, length, get_or, sym, subst, ap, ◌∙◌}
 use Rattle.std.proofs.lemmas.Bool.{false≢true}
 use Rattle.std.proofs.lemmas.List.{get_or_default}
-use Rattle.pssm_wellformed.specs.Walks.{LiesIn}
-use Rattle.pssm_wellformed.specs.Marks.{marks_at}
+use Rattle.pssm_wellformed.specs.inner.Walks.{LiesIn}
+use Rattle.pssm_wellformed.specs.inner.Marks.{marks_at}
 use Rattle.pssm_wellformed.proofs.Marking.{strays_at_once, marks_there}
 use Rattle.pssm_wellformed.proofs.marks.strays.Goals as goal
 

@@ -1,6 +1,6 @@
 -- each turn turns the arrows of one number more
 use Rattle.std.proofs.Common.{◌<◌, Contains, sym, subst, ◌∙◌, arith}
-use Rattle.pssm_wellformed.specs.Marks.{IsPutToEach}
+use Rattle.pssm_wellformed.specs.inner.Marks.{IsPutToEach}
 use Rattle.pssm_wellformed.proofs.Marking.{turned_begins, turned_more, turned_ends}
 use Rattle.pssm_wellformed.proofs.marks.turned.Goals as goal
 

@@ -1,4 +1,4 @@
-use Rattle.pssm_wellformed.specs.Marks.{AreTurnedBelow}
+use Rattle.pssm_wellformed.specs.inner.Marks.{AreTurnedBelow}
 use Rattle.pssm_wellformed.proofs.marks.turned.Given as goal
 
 abbrev pub invariant-loop-number : goal.invariant-loop-number

@@ -1,5 +1,5 @@
 use Rattle.std.proofs.Common.{refl}
-use Rattle.pssm_wellformed.specs.Survey.{transition_number}
+use Rattle.pssm_wellformed.specs.inner.Survey.{transition_number}
 use Rattle.pssm_wellformed.proofs.Places.{owner_at}
 use Rattle.pssm_wellformed.proofs.Straying.{outside_iff}
 use Rattle.pssm_wellformed.proofs.outside.goes_outside.Goals as goal

@@ -1,4 +1,4 @@
-use Rattle.pssm_wellformed.specs.Marks.{MarkStrays}
+use Rattle.pssm_wellformed.specs.inner.Marks.{MarkStrays}
 use Rattle.pssm_wellformed.proofs.Straying.{leaves_iff}
 use Rattle.pssm_wellformed.proofs.outside.leaves_region.Goals as goal
 

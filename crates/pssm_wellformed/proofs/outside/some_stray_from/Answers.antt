@@ -1,8 +1,8 @@
 use Rattle.std.proofs.Common.{get_or}
 use Rattle.std.proofs.lemmas.Bool.{false≢true}
 use Rattle.std.proofs.lemmas.List.Elements.{Contains-get_or}
-use Rattle.pssm_wellformed.specs.Survey.{transition_number}
-use Rattle.pssm_wellformed.specs.Strays.{StraysFrom}
+use Rattle.pssm_wellformed.specs.inner.Survey.{transition_number}
+use Rattle.pssm_wellformed.specs.inner.Strays.{StraysFrom}
 use Rattle.pssm_wellformed.proofs.Listing.{none_more, none_at_all}
 use Rattle.pssm_wellformed.proofs.outside.some_stray_from.Goals as goal
 

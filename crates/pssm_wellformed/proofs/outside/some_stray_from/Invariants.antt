@@ -1,6 +1,6 @@
 use Rattle.std.proofs.Common.{ℕ, take, Contains}
-use Rattle.pssm_wellformed.specs.Survey.{transition_number}
-use Rattle.pssm_wellformed.specs.Strays.{StraysFrom}
+use Rattle.pssm_wellformed.specs.inner.Survey.{transition_number}
+use Rattle.pssm_wellformed.specs.inner.Strays.{StraysFrom}
 use Rattle.pssm_wellformed.proofs.outside.some_stray_from.Given as goal
 
 abbrev pub invariant-loop-number : goal.invariant-loop-number

@@ -1,6 +1,6 @@
 use Rattle.std.proofs.Common.{◌↔◌, IsTrue, sym, subst}
 use Rattle.pssm_model.specs.declared.elements.Owner.{Owner}
-use Rattle.pssm_wellformed.specs.Strays.{StraysFrom}
+use Rattle.pssm_wellformed.specs.inner.Strays.{StraysFrom}
 use Rattle.pssm_wellformed.proofs.outside.strays_from.Goals as goal
 
 pub returns-in-Region : goal.returns-in-Region

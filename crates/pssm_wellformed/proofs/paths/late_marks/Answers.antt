@@ -2,10 +2,10 @@ use Rattle.std.proofs.Common.{◌≡◌, ◌↔◌, ◌<◌, ℕ, length, Bool, 
 use Rattle.pssm_wellformed.specs.declared.survey.End.TheVariants.{Target}
 use Rattle.pssm_wellformed.specs.declared.walks.Walk.TheVariants.{Through}
 use Rattle.pssm_model.specs.declared.ids.VertexId.{VertexId}
-use Rattle.pssm_wellformed.specs.Reach.{IsReached}
-use Rattle.pssm_wellformed.specs.Strays.{IsReachedLate}
-use Rattle.pssm_wellformed.specs.Survey.{vertex_number}
-use Rattle.pssm_wellformed.specs.Walks.{AreArrows, IsLateTarget}
+use Rattle.pssm_wellformed.specs.inner.Reach.{IsReached}
+use Rattle.pssm_wellformed.specs.inner.Strays.{IsReachedLate}
+use Rattle.pssm_wellformed.specs.inner.Survey.{vertex_number}
+use Rattle.pssm_wellformed.specs.inner.Walks.{AreArrows, IsLateTarget}
 use Rattle.pssm_wellformed.proofs.Arrows.{arrows_within}
 use Rattle.pssm_wellformed.proofs.Closures.{late_iff}
 use Rattle.pssm_wellformed.proofs.Places.{end_there}

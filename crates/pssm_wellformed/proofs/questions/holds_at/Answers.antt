@@ -1,4 +1,4 @@
-use Rattle.pssm_wellformed.specs.Survey.{transition_number}
+use Rattle.pssm_wellformed.specs.inner.Survey.{transition_number}
 use Rattle.pssm_wellformed.proofs.questions.holds_at.Goals as goal
 
 pub returns : goal.returns

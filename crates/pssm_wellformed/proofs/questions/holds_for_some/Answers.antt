@@ -2,8 +2,8 @@ use Rattle.std.proofs.Common.{get_or, Contains, subst, sym}
 use Rattle.std.proofs.lemmas.Bool.{false≢true}
 use Rattle.std.proofs.lemmas.List.{take_all}
 use Rattle.std.proofs.lemmas.List.Elements.{Contains-get_or}
-use Rattle.pssm_wellformed.specs.Questions.{Holds}
-use Rattle.pssm_wellformed.specs.Survey.{transition_number}
+use Rattle.pssm_wellformed.specs.inner.Questions.{Holds}
+use Rattle.pssm_wellformed.specs.inner.Survey.{transition_number}
 use Rattle.pssm_wellformed.proofs.Listing.{none_more}
 use Rattle.pssm_wellformed.proofs.questions.holds_for_some.Goals as goal
 

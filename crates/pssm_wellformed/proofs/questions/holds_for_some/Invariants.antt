@@ -1,6 +1,6 @@
 use Rattle.std.proofs.Common.{ℕ, take, Contains}
-use Rattle.pssm_wellformed.specs.Questions.{Holds}
-use Rattle.pssm_wellformed.specs.Survey.{transition_number}
+use Rattle.pssm_wellformed.specs.inner.Questions.{Holds}
+use Rattle.pssm_wellformed.specs.inner.Survey.{transition_number}
 use Rattle.pssm_wellformed.proofs.questions.holds_for_some.Given as goal
 
 abbrev pub invariant-loop-number : goal.invariant-loop-number

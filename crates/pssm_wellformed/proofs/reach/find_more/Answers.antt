@@ -2,7 +2,7 @@
 use Rattle.std.proofs.Common.{◌≡◌, ◌<◌, Bool, length, get_or, refl, ap, sym, subst, ◌∙◌, false, Vec, Global, ℕ}
 use Rattle.std.proofs.lemmas.List.{take_all, get_or_default}
 use Rattle.std.proofs.lemmas.List.Elements.{Contains-get_or}
-use Rattle.pssm_wellformed.specs.Reach.{FindsMore}
+use Rattle.pssm_wellformed.specs.inner.Reach.{FindsMore}
 use Rattle.pssm_wellformed.proofs.Walking.{finds_none, turn_new, turn_again}
 use Rattle.pssm_wellformed.proofs.reach.find_more.Goals as goal
 use Rattle.pssm_wellformed.proofs.reach.find_more.Goals.{then-not-index+in_ok-push, else-not-index}

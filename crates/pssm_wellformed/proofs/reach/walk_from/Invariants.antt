@@ -1,5 +1,5 @@
 use Rattle.std.proofs.Common.{◌-◌, length}
-use Rattle.pssm_wellformed.specs.Reach.{IsWalked}
+use Rattle.pssm_wellformed.specs.inner.Reach.{IsWalked}
 use Rattle.pssm_wellformed.proofs.reach.walk_from.Given as goal
 
 abbrev pub invariant-loop-place : goal.invariant-loop-place

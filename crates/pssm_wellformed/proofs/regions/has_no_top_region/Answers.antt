@@ -1,4 +1,4 @@
-use Rattle.pssm_wellformed.specs.Survey.{region_number}
+use Rattle.pssm_wellformed.specs.inner.Survey.{region_number}
 use Rattle.pssm_wellformed.proofs.Listing.{empty_iff}
 use Rattle.pssm_wellformed.proofs.regions.has_no_top_region.Goals as goal
 

@@ -1,4 +1,4 @@
-use Rattle.pssm_wellformed.specs.Survey.{vertex_number}
+use Rattle.pssm_wellformed.specs.inner.Survey.{vertex_number}
 use Rattle.pssm_wellformed.proofs.Listing.{not_empty_iff}
 use Rattle.pssm_wellformed.proofs.regions.owns_some.Goals as goal
 

@@ -1,7 +1,7 @@
 use Rattle.std.proofs.Common.{ap}
 use Rattle.pssm_model.specs.declared.ids.VertexId.{VertexId}
 use Rattle.pssm_model.proofs.BuiltElements.{same_vertex}
-use Rattle.pssm_wellformed.specs.Survey.{vertex_number}
+use Rattle.pssm_wellformed.specs.inner.Survey.{vertex_number}
 use Rattle.pssm_wellformed.proofs.Listing.{longer_iff}
 use Rattle.pssm_wellformed.proofs.regions.owns_two.Goals as goal
 

@@ -15,4 +15,4 @@ pub returns-in-17 : goal.returns-in-17
 returns-in-17 c = transition_iff_17 c.args.machine.now c.args.transition c.args.rule c.is_bad_else.result c.in-17.is c.is_bad_else.ensures
 
 pub returns-in-21 : goal.returns-in-21
-returns-in-21 c = transition_iff_21 c.args.machine.now c.args.transition c.args.rule c.is_torn.result c.in-21.is c.is_torn.ensures
+returns-in-21 c = transition_iff_21 c.args.machine.now c.args.transition c.args.rule c.connects_badly.result c.in-21.is c.connects_badly.ensures

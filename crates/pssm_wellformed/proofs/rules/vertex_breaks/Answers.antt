@@ -36,7 +36,7 @@ pub returns-in-16 : goal.returns-in-16
 returns-in-16 c = vertex_iff_16 c.args.machine.now c.args.vertex c.args.rule c.is_bad_exit_point.result c.in-16.is c.is_bad_exit_point.ensures
 
 pub returns-in-18 : goal.returns-in-18
-returns-in-18 c = vertex_iff_18 c.args.machine.now c.args.vertex c.args.rule c.may_find_none.result c.in-18.is c.may_find_none.ensures
+returns-in-18 c = vertex_iff_18 c.args.machine.now c.args.vertex c.args.rule c.may_find_no_branch.result c.in-18.is c.may_find_no_branch.ensures
 
 pub returns-in-19 : goal.returns-in-19
 returns-in-19 c = vertex_iff_19 c.args.machine.now c.args.vertex c.args.rule c.is_on_cycle.result c.in-19.is c.is_on_cycle.ensures

@@ -1,6 +1,6 @@
 -- the mark of one vertex after the other is put behind
 use Rattle.std.proofs.Common.{◌+◌, sym, subst}
-use Rattle.pssm_wellformed.specs.Apart.{AreApartMarks}
+use Rattle.pssm_wellformed.specs.inner.Apart.{AreApartMarks}
 use Rattle.pssm_wellformed.proofs.Stamping.{marks_pushed}
 use Rattle.pssm_wellformed.proofs.stamps.apart_marks.Goals as goal
 

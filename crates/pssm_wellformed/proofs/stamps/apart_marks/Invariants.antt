@@ -1,4 +1,4 @@
-use Rattle.pssm_wellformed.specs.Apart.{AreApartMarks, AreStamps}
+use Rattle.pssm_wellformed.specs.inner.Apart.{AreApartMarks, AreStamps}
 use Rattle.pssm_wellformed.proofs.stamps.apart_marks.Given as goal
 
 abbrev pub invariant-loop-number : goal.invariant-loop-number

@@ -1,5 +1,5 @@
 use Rattle.std.proofs.Common.{◌+◌}
-use Rattle.pssm_wellformed.specs.Apart.{AreStamped}
+use Rattle.pssm_wellformed.specs.inner.Apart.{AreStamped}
 use Rattle.pssm_wellformed.proofs.stamps.lie_apart.Given as goal
 
 abbrev pub invariant-loop-number : goal.invariant-loop-number

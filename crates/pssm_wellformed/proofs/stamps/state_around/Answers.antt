@@ -1,5 +1,5 @@
 use Rattle.pssm_model.specs.declared.elements.Owner.TheVariants.{Top, Region, State}
-use Rattle.pssm_wellformed.specs.Apart.{AreEnds}
+use Rattle.pssm_wellformed.specs.inner.Apart.{AreEnds}
 use Rattle.pssm_wellformed.proofs.Places.{owner_at, owner_may}
 use Rattle.pssm_wellformed.proofs.Together.{around_region, around_state}
 use Rattle.pssm_wellformed.proofs.stamps.state_around.Goals as goal

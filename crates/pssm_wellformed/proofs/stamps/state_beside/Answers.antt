@@ -1,6 +1,6 @@
 use Rattle.std.proofs.Common.{not, get_or, ap, arith}
 use Rattle.std.proofs.lemmas.List.Elements.{Contains-get_or}
-use Rattle.pssm_wellformed.specs.Survey.{transition_number}
+use Rattle.pssm_wellformed.specs.inner.Survey.{transition_number}
 use Rattle.pssm_wellformed.proofs.Listing.{not_empty_iff}
 use Rattle.pssm_wellformed.proofs.Together.{fitting_first}
 use Rattle.pssm_wellformed.proofs.stamps.state_beside.Goals as goal

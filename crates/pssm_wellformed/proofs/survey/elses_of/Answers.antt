@@ -2,8 +2,8 @@
 use Rattle.std.proofs.Common.{◌≡◌, ℕ, length, ap, subst, sym, arith, Vec, Global, [], ◌∷◌, ◌++◌, ◌==◌, if◌then◌else◌}
 use Rattle.pssm_model.specs.declared.ids.VertexId.{VertexId}
 use Rattle.pssm_wellformed.specs.declared.survey.End.TheVariants.{Source}
-use Rattle.pssm_wellformed.specs.Lists.{AreListedBelow, list_at}
-use Rattle.pssm_wellformed.specs.Survey.{IsElseOf, vertex_number, transition_number}
+use Rattle.pssm_wellformed.specs.inner.Lists.{AreListedBelow, list_at}
+use Rattle.pssm_wellformed.specs.inner.Survey.{IsElseOf, vertex_number, transition_number}
 use Rattle.pssm_wellformed.proofs.Listing.{lists_put, lists_skip, lists_end}
 use Rattle.pssm_wellformed.proofs.Places.{end_there, end_only}
 use Rattle.pssm_wellformed.proofs.survey.elses_of.Goals as goal

@@ -1,6 +1,6 @@
 use Rattle.std.proofs.Common.{length}
-use Rattle.pssm_wellformed.specs.Lists.{AreListedBelow}
-use Rattle.pssm_wellformed.specs.Survey.{IsElseOf}
+use Rattle.pssm_wellformed.specs.inner.Lists.{AreListedBelow}
+use Rattle.pssm_wellformed.specs.inner.Survey.{IsElseOf}
 use Rattle.pssm_wellformed.proofs.survey.elses_of.Given as goal
 
 abbrev pub invariant-loop-number : goal.invariant-loop-number

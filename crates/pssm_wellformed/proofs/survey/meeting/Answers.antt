@@ -1,7 +1,7 @@
 -- each list of the survey is the one of its end
 use Rattle.std.proofs.Common.{subst, Contains}
 use Rattle.pssm_wellformed.specs.declared.survey.End.TheVariants.{Source, Target}
-use Rattle.pssm_wellformed.specs.Survey.{transition_number}
+use Rattle.pssm_wellformed.specs.inner.Survey.{transition_number}
 use Rattle.pssm_wellformed.proofs.Places.{end_there}
 use Rattle.pssm_wellformed.proofs.survey.meeting.Goals as goal
 

@@ -3,8 +3,8 @@ use Rattle.std.proofs.Common.{◌≡◌, ℕ, length, ap, subst, sym, arith, Vec
 use Rattle.std.proofs.lemmas.Option.{slice_get_within}
 use Rattle.pssm_model.specs.declared.ids.VertexId.{VertexId}
 use Rattle.pssm_model.specs.declared.elements.Owner.TheVariants.{Region, State}
-use Rattle.pssm_wellformed.specs.Lists.{AreListedBelow, list_at}
-use Rattle.pssm_wellformed.specs.Survey.{HasRegion, vertex_number, region_number}
+use Rattle.pssm_wellformed.specs.inner.Lists.{AreListedBelow, list_at}
+use Rattle.pssm_wellformed.specs.inner.Survey.{HasRegion, vertex_number, region_number}
 use Rattle.pssm_wellformed.proofs.Listing.{lists_put, lists_skip, lists_end}
 use Rattle.pssm_wellformed.proofs.Places.{owning_state_there, one_state}
 use Rattle.pssm_wellformed.proofs.survey.regions_of.Goals as goal

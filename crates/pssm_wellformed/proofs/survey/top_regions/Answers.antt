@@ -4,7 +4,7 @@ use Rattle.std.proofs.lemmas.Bool.{false≢true}
 use Rattle.std.proofs.lemmas.Option.{slice_get_within}
 use Rattle.pssm_model.specs.declared.elements.Owner.TheVariants.{Top, Region}
 use Rattle.pssm_model.specs.Forest.{owner_of}
-use Rattle.pssm_wellformed.specs.Survey.{region_number}
+use Rattle.pssm_wellformed.specs.inner.Survey.{region_number}
 use Rattle.pssm_wellformed.proofs.Listing.{kept_more, kept_passed}
 use Rattle.pssm_wellformed.proofs.survey.top_regions.Goals as goal
 use Rattle.pssm_wellformed.proofs.survey.top_regions.Goals.{then-is_top+in_ok-push, else-is_top}

@@ -1,7 +1,7 @@
 use Rattle.std.proofs.Common.{◌≡◌, ◌↔◌, ◌<◌, ℕ, Some, Contains}
 use Rattle.pssm_model.specs.declared.elements.Owner.TheVariants.{Top, Region}
 use Rattle.pssm_model.specs.Forest.{owner_of}
-use Rattle.pssm_wellformed.specs.Survey.{region_number}
+use Rattle.pssm_wellformed.specs.inner.Survey.{region_number}
 use Rattle.pssm_wellformed.proofs.survey.top_regions.Given as goal
 
 abbrev pub invariant-loop-number : goal.invariant-loop-number

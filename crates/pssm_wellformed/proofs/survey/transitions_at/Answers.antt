@@ -1,7 +1,7 @@
 -- each transition is put to the vertex at its end
 use Rattle.std.proofs.Common.{length, ap, arith}
 use Rattle.pssm_model.specs.declared.ids.VertexId.{VertexId}
-use Rattle.pssm_wellformed.specs.Survey.{IsEndOf, vertex_number, transition_number}
+use Rattle.pssm_wellformed.specs.inner.Survey.{IsEndOf, vertex_number, transition_number}
 use Rattle.pssm_wellformed.proofs.Listing.{lists_put, lists_end}
 use Rattle.pssm_wellformed.proofs.Places.{end_there, end_only}
 use Rattle.pssm_wellformed.proofs.survey.transitions_at.Goals as goal

@@ -1,6 +1,6 @@
 use Rattle.std.proofs.Common.{length}
-use Rattle.pssm_wellformed.specs.Lists.{AreListedBelow}
-use Rattle.pssm_wellformed.specs.Survey.{IsEndOf}
+use Rattle.pssm_wellformed.specs.inner.Lists.{AreListedBelow}
+use Rattle.pssm_wellformed.specs.inner.Survey.{IsEndOf}
 use Rattle.pssm_wellformed.proofs.survey.transitions_at.Given as goal
 
 abbrev pub invariant-loop-number : goal.invariant-loop-number

@@ -2,8 +2,8 @@
 use Rattle.std.proofs.Common.{◌≡◌, ℕ, length, ap, subst, sym, arith, Vec, Global, [], ◌∷◌, ◌++◌, ◌==◌, if◌then◌else◌}
 use Rattle.pssm_model.specs.declared.ids.RegionId.{RegionId}
 use Rattle.pssm_model.specs.declared.elements.Owner.TheVariants.{State}
-use Rattle.pssm_wellformed.specs.Lists.{AreListedBelow, list_at}
-use Rattle.pssm_wellformed.specs.Survey.{IsOwnerOf, vertex_number, region_number}
+use Rattle.pssm_wellformed.specs.inner.Lists.{AreListedBelow, list_at}
+use Rattle.pssm_wellformed.specs.inner.Survey.{IsOwnerOf, vertex_number, region_number}
 use Rattle.pssm_wellformed.proofs.Listing.{lists_put, lists_skip, lists_end}
 use Rattle.pssm_wellformed.proofs.Places.{kind_there, owning_region_there, one_region}
 use Rattle.pssm_wellformed.proofs.survey.vertices_of.Goals as goal

@@ -2,7 +2,7 @@ use Rattle.std.proofs.Common.{◌≡◌, refl, subst, sym, inr, ⊎_elim}
 use Rattle.pssm_model.specs.Legs.{Leaves}
 use Rattle.pssm_model.specs.WellFormed.{IsBranch}
 use Rattle.pssm_wellformed.specs.declared.survey.End.TheVariants.{Source}
-use Rattle.pssm_wellformed.specs.Survey.{transition_number}
+use Rattle.pssm_wellformed.specs.inner.Survey.{transition_number}
 use Rattle.pssm_wellformed.proofs.Places.{end_only}
 use Rattle.pssm_wellformed.proofs.transitions.is_bad_else.Goals as goal
 

@@ -1,4 +1,4 @@
-use Rattle.pssm_wellformed.specs.Walks.{AreArrowsBelow}
+use Rattle.pssm_wellformed.specs.inner.Walks.{AreArrowsBelow}
 use Rattle.pssm_wellformed.proofs.walks.arrows_of.Given as goal
 
 abbrev pub invariant-loop-number : goal.invariant-loop-number

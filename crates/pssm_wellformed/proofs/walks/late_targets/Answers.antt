@@ -1,7 +1,7 @@
 -- each transition out of an initial, history or choice vertex is kept
 use Rattle.std.proofs.Common.{◌↔◌, ◌+◌, ℕ, Contains, refl, sym, subst, arith, Vec, Global}
 use Rattle.std.proofs.lemmas.Bool.{false≢true}
-use Rattle.pssm_wellformed.specs.Walks.{IsLateTargetBelow}
+use Rattle.pssm_wellformed.specs.inner.Walks.{IsLateTargetBelow}
 use Rattle.pssm_wellformed.proofs.Arrows.{late_more, late_passed, late_all}
 use Rattle.pssm_wellformed.proofs.walks.late_targets.Goals as goal
 use Rattle.pssm_wellformed.proofs.walks.late_targets.Goals.{then-is_late_origin+in_ok-push, else-is_late_origin}

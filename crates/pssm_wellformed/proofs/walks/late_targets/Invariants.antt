@@ -1,5 +1,5 @@
 use Rattle.std.proofs.Common.{◌↔◌, ℕ, Contains}
-use Rattle.pssm_wellformed.specs.Walks.{IsLateTargetBelow}
+use Rattle.pssm_wellformed.specs.inner.Walks.{IsLateTargetBelow}
 use Rattle.pssm_wellformed.proofs.walks.late_targets.Given as goal
 
 abbrev pub invariant-loop-number : goal.invariant-loop-number

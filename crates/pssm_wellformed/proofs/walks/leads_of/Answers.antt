@@ -1,8 +1,8 @@
 -- the number of each region leads to its initial vertices
 use Rattle.std.proofs.Common.{◌≡◌, ◌+◌, ℕ, length, [], ◌++◌, ◌==◌, if◌then◌else◌, subst, ap, ◌∙◌, arith}
-use Rattle.pssm_wellformed.specs.Lists.{list_at}
-use Rattle.pssm_wellformed.specs.Survey.{region_number}
-use Rattle.pssm_wellformed.specs.Walks.{AreArrowsWith, LeadsOut, LeadsFromRegion}
+use Rattle.pssm_wellformed.specs.inner.Lists.{list_at}
+use Rattle.pssm_wellformed.specs.inner.Survey.{region_number}
+use Rattle.pssm_wellformed.specs.inner.Walks.{AreArrowsWith, LeadsOut, LeadsFromRegion}
 use Rattle.pssm_wellformed.proofs.Arrows.{with_begins, with_more, with_ends, from_region_there, region_leads}
 use Rattle.pssm_wellformed.proofs.walks.leads_of.Goals as goal
 

@@ -1,8 +1,8 @@
 -- each history vertex without transitions leads to the number of its region
 use Rattle.std.proofs.Common.{◌≡◌, ◌+◌, ℕ, refl, length, [], ◌∷◌, ◌++◌, ◌==◌, if◌then◌else◌, sym, subst, ◌∙◌, arith, Vec, Global}
-use Rattle.pssm_wellformed.specs.Lists.{list_at}
-use Rattle.pssm_wellformed.specs.Survey.{vertex_number}
-use Rattle.pssm_wellformed.specs.Walks.{AreArrowsWith, LeadsThrough, LeadsToRegion}
+use Rattle.pssm_wellformed.specs.inner.Lists.{list_at}
+use Rattle.pssm_wellformed.specs.inner.Survey.{vertex_number}
+use Rattle.pssm_wellformed.specs.inner.Walks.{AreArrowsWith, LeadsThrough, LeadsToRegion}
 use Rattle.pssm_wellformed.proofs.Places.{owning_region_there}
 use Rattle.pssm_wellformed.proofs.Arrows.{through_along, with_begins, with_more, with_none, with_ends, only_default, to_region_there}
 use Rattle.pssm_wellformed.proofs.walks.leads_out.Goals as goal

@@ -2,7 +2,7 @@ use Rattle.std.proofs.Common.{◌++◌, ◌∷◌, [], List, Option, suc, take, 
 use Rattle.std.proofs.lemmas.List.{take_more}
 use Rattle.pssm_semantics.specs.declared.line.Line.{Line}
 use Rattle.pssm_judge.specs.declared.run.Stop.{Stop}
-use Rattle.pssm_judge.specs.Following.{Follows, TakesLine, StopsAt}
+use Rattle.pssm_judge.specs.inner.Following.{Follows, TakesLine, StopsAt}
 use Rattle.pssm_judge.proofs.FollowingLaws.{follows_nothing, stops_here, split_there, follows_more}
 use Rattle.pssm_judge.proofs.run.Run.follow.Goals as goal
 

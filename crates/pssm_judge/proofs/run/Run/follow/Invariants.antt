@@ -1,5 +1,5 @@
 use Rattle.std.proofs.Common.{take}
-use Rattle.pssm_judge.specs.Following.{Follows}
+use Rattle.pssm_judge.specs.inner.Following.{Follows}
 use Rattle.pssm_judge.proofs.run.Run.follow.Given as goal
 
 -- The run has taken the entries of the lines so far.

@@ -5,13 +5,13 @@ use Rattle.pssm_semantics.specs.declared.entry.Rule.TheVariants.{A1}
 use Rattle.pssm_semantics.specs.declared.setting.Setting.{Setting}
 use Rattle.pssm_semantics.specs.Pool.{output_count}
 use Rattle.pssm_semantics.specs.Rules.{Holds}
-use Rattle.pssm_semantics.specs.Runs.{MayFollow}
+use Rattle.pssm_semantics.specs.Admissible.{MayFollow}
 use Rattle.pssm_semantics.specs.Verdict.{IsFirstBroken}
 use Rattle.pssm_journal.specs.Entries.{BreaksNames}
 use Rattle.pssm_journal.specs.Judged.{line_output_count, by_entry, by_names}
 use Rattle.pssm_system.specs.History.{History}
 use Rattle.pssm_judge.specs.declared.run.Stop.TheVariants.{Refuse}
-use Rattle.pssm_judge.specs.Following.{TakesLine, StopsAt}
+use Rattle.pssm_judge.specs.inner.Following.{TakesLine, StopsAt}
 use Rattle.pssm_judge.proofs.RunLaws.{keeps_within, found_entry, limits_push, outputs_push, takes_line}
 use Rattle.pssm_judge.proofs.run.Run.take.Goals as goal
 

@@ -1,7 +1,7 @@
 -- One place more is climbed, and at the end something is known of the place above the path.
 use Rattle.std.proofs.Common.{◌≢◌, subst, sym, rules}
 use Rattle.pssm_model.specs.declared.depths.Depth.TheVariants.{Unknown}
-use Rattle.pssm_model.specs.Depths.{noted}
+use Rattle.pssm_model.specs.inner.Depths.{noted}
 use Rattle.pssm_model.proofs.Climbing.{IsClimbing, climbing_goes_on, climbing_ends}
 use Rattle.pssm_model.proofs.depths.Depths.climb.Goals as goal
 

@@ -1,4 +1,4 @@
-use Rattle.pssm_model.specs.Depths.{unknowns}
+use Rattle.pssm_model.specs.inner.Depths.{unknowns}
 use Rattle.pssm_model.proofs.Climbing.{IsClimbing}
 use Rattle.pssm_model.proofs.depths.Depths.climb.Given as goal
 

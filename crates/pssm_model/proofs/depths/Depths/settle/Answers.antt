@@ -1,6 +1,6 @@
 -- The last place of the path has an owner whose depth is noted, and with its own depth noted the rest of the path is settled in the same way.
 use Rattle.std.proofs.Common.{subst}
-use Rattle.pssm_model.specs.Depths.{HasClimbed}
+use Rattle.pssm_model.specs.inner.Depths.{HasClimbed}
 use Rattle.pssm_model.proofs.Climbing.{settled_next, settles}
 use Rattle.pssm_model.proofs.depths.Depths.settle.Goals as goal
 

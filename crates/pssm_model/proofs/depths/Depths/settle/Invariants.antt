@@ -1,5 +1,5 @@
 use Rattle.std.proofs.Common.{vec_len}
-use Rattle.pssm_model.specs.Depths.{HasClimbed, KeepsKnown}
+use Rattle.pssm_model.specs.inner.Depths.{HasClimbed, KeepsKnown}
 use Rattle.pssm_model.proofs.depths.Depths.settle.Given as goal
 
 -- the places that are left

@@ -1,6 +1,6 @@
 use Rattle.std.proofs.Common.{◌≡◌, arith, subst, length}
 use Rattle.std.proofs.lemmas.List.{get_or_default}
-use Rattle.pssm_model.specs.Tables.{IsInnermost}
+use Rattle.pssm_model.specs.inner.Tables.{IsInnermost}
 use Rattle.pssm_model.proofs.Nesting.{level_at}
 use Rattle.pssm_model.proofs.Scopes.{innermost_more, no_scope, innermost_is_scope}
 use Rattle.pssm_model.proofs.forest.Forest.scope.Goals as goal

@@ -1,5 +1,5 @@
 use Rattle.std.proofs.Common.{◌<◌, length}
-use Rattle.pssm_model.specs.Tables.{IsInnermost}
+use Rattle.pssm_model.specs.inner.Tables.{IsInnermost}
 use Rattle.pssm_model.proofs.forest.Forest.scope.Given as goal
 
 -- the innermost region of the vertices so far

@@ -6,7 +6,7 @@ use Rattle.pssm_model.specs.BuiltMachine.{IsBuiltMachine}
 use Rattle.pssm_model.specs.OneRegion.{first_transition}
 use Rattle.pssm_semantics.specs.Built.{ListsSignals}
 use Rattle.pssm_system.specs.declared.progress.Progress.TheVariants.{Unstarted}
-use Rattle.pssm_system.specs.declared.judging.Standing.{Standing}
+use Rattle.pssm_system.specs.declared.judging.Situation.{Situation}
 use Rattle.pssm_system.proofs.Histories.{keeps_new}
 use Rattle.pssm_system.proofs.system.System.new.Goals as goal
 
@@ -23,8 +23,8 @@ first_transition-first-requires c = subst IsBuiltMachine (sym (c.machine_of-2.en
 
 pub invariant_of-result : goal.invariant_of-result
 invariant_of-result c =
-    let standing : Standing = record { progress = Unstarted; signals = c.new-2.result; taken = 0 } in (
-      keeps_new c.args.setting c.requires c.new.result.items standing c.in_ok-reactions.reactions.rows.items c.machine_of.result.now
+    let situation : Situation = record { progress = Unstarted; signals = c.new-2.result; taken = 0 } in (
+      keeps_new c.args.setting c.requires c.new.result.items situation c.in_ok-reactions.reactions.rows.items c.machine_of.result.now
           (c.machine_of.ensures c.requires) c.new.ensures.items refl c.new-2.ensures.items refl c.in_ok-reactions.ensures,
       record { store_is = c.new-3.ensures.items; params_are = c.in_ok-params.ensures },
       λ b. c.first_transition-first.ensures ∙ ap first_transition (c.machine_of-2.ensures b),

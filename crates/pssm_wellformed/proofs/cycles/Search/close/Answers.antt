@@ -2,7 +2,7 @@
 use Rattle.std.proofs.Common.{◌≡◌, ◌≤◌, ◌-◌, ◌++◌, ◌∷◌, [], length, take, drop, Contains, sym, subst, ap, ◌∙◌}
 use Rattle.std.proofs.lemmas.List.{take-append-drop, length-take-le}
 use Rattle.std.proofs.lemmas.List.Elements.{Contains-append_right, Contains-push}
-use Rattle.pssm_wellformed.specs.Cycles.{IsSearch, IsSettled}
+use Rattle.pssm_wellformed.specs.inner.Cycles.{IsSearch, IsSettled}
 use Rattle.pssm_wellformed.proofs.Groups.{without_last}
 use Rattle.pssm_wellformed.proofs.Searching.{opened_there}
 use Rattle.pssm_wellformed.proofs.Closing.{closes}

@@ -3,7 +3,7 @@ use Rattle.std.proofs.Common.{◌≡◌, ◌<◌, sym, subst, ◌∙◌}
 use Rattle.std.proofs.lemmas.List.{get_or_default}
 use Rattle.std.proofs.lemmas.List.Elements.{Contains-push}
 use Rattle.pssm_wellformed.specs.declared.cycles.Stage.TheVariants.{New, Open, Closed}
-use Rattle.pssm_wellformed.specs.Cycles.{stage_at}
+use Rattle.pssm_wellformed.specs.inner.Cycles.{stage_at}
 use Rattle.pssm_wellformed.proofs.Searching.{meets_closed, meets_open}
 use Rattle.pssm_wellformed.proofs.cycles.Search.meet.Goals as goal
 

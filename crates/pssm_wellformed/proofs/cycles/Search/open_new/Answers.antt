@@ -1,7 +1,7 @@
 -- the number is open, and its arrows are ahead
 use Rattle.std.proofs.Common.{◌<◌, [], ◌∷◌, ◌++◌, length, sym, ap, subst, ◌∙◌, arith, length-append}
 use Rattle.std.proofs.lemmas.List.Elements.{Contains-push}
-use Rattle.pssm_wellformed.specs.Lists.{list_at}
+use Rattle.pssm_wellformed.specs.inner.Lists.{list_at}
 use Rattle.pssm_wellformed.proofs.Walking.{list_there}
 use Rattle.pssm_wellformed.proofs.Settling.{new_steps_open}
 use Rattle.pssm_wellformed.proofs.Searching.{meets_new}

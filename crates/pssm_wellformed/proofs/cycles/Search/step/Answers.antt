@@ -2,7 +2,7 @@
 use Rattle.std.proofs.Common.{◌≡◌, ◌∷◌, [], length, Contains, sym, subst, ap, ◌∙◌, arith, length-append}
 use Rattle.std.proofs.lemmas.List.Elements.{Contains-push}
 use Rattle.pssm_wellformed.specs.declared.cycles.Group.{Group}
-use Rattle.pssm_wellformed.specs.Cycles.{IsSearch}
+use Rattle.pssm_wellformed.specs.inner.Cycles.{IsSearch}
 use Rattle.pssm_wellformed.proofs.Groups.{last_there, waits}
 use Rattle.pssm_wellformed.proofs.cycles.Search.step.Goals as goal
 

@@ -1,0 +1,9 @@
+pub mod ActReading
+pub mod ArgumentReading
+pub mod ExprReading
+pub mod GuardReading
+pub mod NumberReading
+pub mod PhraseReading
+pub mod Stacks
+pub mod Readers
+pub mod TextLeft

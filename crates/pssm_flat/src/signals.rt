@@ -1,0 +1,65 @@
+//! Signals by their names.
+ghost use Rattle.std.specs.Prelude.{◌≡◌, ◌≤◌, ◌<◌, length, IfOk, IfSome, position};
+ghost use Rattle.std.specs.Str.{bytes_eq};
+ghost use Rattle.pssm_flat.specs.inner.Outlines.{kept, has_name, next_number, number_from, with_signal};
+
+use crate::rows::push;
+use pssm_model::{Row, SignalId};
+use pssm_semantics::SignalDecl;
+use std::alloc::{AllocError, Global};
+
+/// Whether one of these signals has the name.
+pub(crate) fn is_named(signals: &[SignalDecl], name: &[u8]) -> bool
+    ensures { result ≡ has_name signals.now name.now }
+{
+    signals.iter().any(|s| s.name.as_slice() == name)
+}
+
+// The place of the first of these signals that has the name.
+fn place_of(signals: &[SignalDecl], name: &[u8]) -> Option<usize>
+    ensures gives { result ≡ position (λ s. bytes_eq s.name name.now) signals.now }
+    ensures within { IfSome result (λ k. k < length signals.now) }
+{
+    signals.iter().position(|s| s.name.as_slice() == name)
+}
+
+// The first signal from a number on that has the name.
+fn signal_from(signals: &[SignalDecl], from: usize, name: &[u8]) -> Option<usize>
+    ensures gives { result ≡ number_from signals.now from name.now }
+    ensures known { IfSome result (λ g. g < length signals.now) }
+{
+    if from > signals.len() {
+        return None;
+    }
+    let (_, later) = signals.split_at(from);
+    let place = place_of(later, name)?;
+    Some(place + from)
+}
+
+// The number behind the last of these.
+fn after_last(seen: &[SignalId]) -> usize
+    ensures { result ≡ next_number seen.now }
+{
+    match seen.last() {
+        Some(SignalId(number)) => usize::from(*number) + 1,
+        None => 0,
+    }
+}
+
+/// Puts one more signal, by its name, behind the ones before. False where there is none of the name behind them.
+#[tactic(auto, unfolding(crate::specs::inner::Outlines::with_signal))]
+pub(crate) fn add_signal(
+    alloc: Global,
+    signals: &[SignalDecl],
+    seen: &mut Row<SignalId>,
+    name: &[u8],
+) -> Result<bool, AllocError>
+    requires { length signals.now ≤ 256 }
+    ensures { IfOk result (λ taken. kept taken seen.new ≡ with_signal signals.now seen.old name.now) }
+{
+    let Some(number) = signal_from(signals, after_last(seen.as_slice()), name) else {
+        return Ok(false);
+    };
+    push(alloc, seen, SignalId(number as u16))?;
+    Ok(true)
+}

@@ -1,0 +1,4 @@
+pub mod Depths
+pub mod Found
+pub mod Tables
+pub mod Faultless

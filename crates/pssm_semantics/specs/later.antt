@@ -1,0 +1,3 @@
+pub mod Tasks
+pub mod AllSettings
+pub mod Classes
