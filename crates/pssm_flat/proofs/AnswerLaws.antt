@@ -49,7 +49,7 @@ size_fits bytes b rest n r few =
     let is = is_read r in
     omega (arith, whole_length b, ap length is.0, lines_short r.lines, ap length r.parts, length-append (text_of r.lines) rest)
 
-bad_shape : (bytes : List ℕ) (b : Block) (rest : List ℕ) (n : ℕ) → HasRead bytes (stages.Ended b) rest n → (shape : Shape) (e : Element) → IsNamedBy shape e → IsShapeFault (machine_of b) shape
+pub bad_shape : (bytes : List ℕ) (b : Block) (rest : List ℕ) (n : ℕ) → HasRead bytes (stages.Ended b) rest n → (shape : Shape) (e : Element) → IsNamedBy shape e → IsShapeFault (machine_of b) shape
     → IsBadShape bytes (element_line (length b.signals) (machine_of b) e) shape
 bad_shape bytes b rest n r shape e named fault =
     let w = whole_is bytes b rest n r in
@@ -98,10 +98,10 @@ refused_is_answer bytes b rest n r (Err f) why = elim why [ inl none ↦ inl non
 
 -- ---- what is read
 
-whole_flat : (bytes : List ℕ) (b : Block) (rest : List ℕ) (n : ℕ) → HasRead bytes (stages.Ended b) rest n → HasShape (machine_of b) → (s : Setting) → s ≡ setting_of b → IsFlat s
+pub whole_flat : (bytes : List ℕ) (b : Block) (rest : List ℕ) (n : ℕ) → HasRead bytes (stages.Ended b) rest n → HasShape (machine_of b) → (s : Setting) → s ≡ setting_of b → IsFlat s
 whole_flat bytes b rest n r shape s same = let w = whole_is bytes b rest n r in subst IsFlat (sym same) (record { written = w.written; shape = (shape, tt) })
 
-whole_found : (bytes : List ℕ) (b : Block) (rest : List ℕ) (n : ℕ) → HasRead bytes (stages.Ended b) rest n → rest ≡ [] → (s : Setting) → s ≡ setting_of b → bytes ≡ flat_text s
+pub whole_found : (bytes : List ℕ) (b : Block) (rest : List ℕ) (n : ℕ) → HasRead bytes (stages.Ended b) rest n → rest ≡ [] → (s : Setting) → s ≡ setting_of b → bytes ≡ flat_text s
 unfolding flat_text
 whole_found bytes b rest n r none s same =
     let w = whole_is bytes b rest n r in

@@ -21,3 +21,5 @@ pub mod FaultLaws
 pub mod ReadLaws
 pub mod PlaceLaws
 pub mod AnswerLaws
+pub mod ShapeOrFault
+pub mod EveryText

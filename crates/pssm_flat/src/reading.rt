@@ -1,5 +1,5 @@
 //! A setting from its flat text.
-ghost use Rattle.std.specs.Prelude.{◌≡◌, ◌⊎◌, ◌≤◌, ◌<◌, ◌+◌, ◌∷◌, [], ℕ, List, length, take, IfOk, IfErr, sum_by, Option, Some};
+ghost use Rattle.std.specs.Prelude.{◌≡◌, ◌≢◌, ◌⊎◌, ◌≤◌, ◌<◌, ◌+◌, ◌∷◌, [], ℕ, List, length, take, IfOk, IfErr, sum_by, Option, Some};
 ghost use Rattle.std.specs.List.{prefix_len};
 ghost use Rattle.std.specs.Option.{option_map};
 ghost use Rattle.pssm_model.specs.declared.elements.Vertex.{Vertex};
@@ -119,11 +119,13 @@ pub fn read_flat(alloc: Global, bytes: &[u8]) -> Result<Setting, FlatFault>
     }
 }
 
-/// No two settings have one text, no text has two faults, and no text of a setting has a fault: each text is read in
-/// one way.
+/// Each text is read in one way: no two settings have one text, no text has two faults, no text of a setting has a
+/// fault, and no text is neither that of a setting nor has a fault.
 pub fn one_reading()
     ensures one_setting { (a b : Setting) → IsFlat a → IsFlat b → flat_text a ≡ flat_text b → a ≡ b }
     ensures one_fault { (bytes : List ℕ) (f g : FlatFault)
         → IsFlatFault bytes f → IsFlatFault bytes g → f ≡ g }
     ensures not_both { (s : Setting) (f : FlatFault) → IsFlat s → IsFlatFault (flat_text s) f → ⊥ }
+    ensures some { (bytes : List ℕ) → ((s : Setting) → IsFlat s → bytes ≢ flat_text s)
+        → ((f : FlatFault) → IsFlatFault bytes f → ⊥) → ⊥ }
 {}

@@ -3,3 +3,4 @@ pub mod FollowingLaws
 pub mod JudgingLaws
 pub mod AnswerLaws
 pub mod Samples
+pub mod EveryJournal

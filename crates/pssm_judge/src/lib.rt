@@ -7,6 +7,7 @@
 #![tactic(auto)]
 
 mod judging;
+mod laws;
 mod limits;
 mod run;
 #[cfg(test)]
@@ -14,5 +15,6 @@ mod tests;
 mod verdict;
 
 pub use judging::judge;
+pub use laws::some_judgement;
 pub use pssm_journal::{LineFault, Rule};
 pub use verdict::{JudgeFault, Verdict};

@@ -48,10 +48,10 @@ rule_of_number A10 = refl
 rule_of_number A11 = refl
 rule_of_number A12 = refl
 
-same_rule : (a b : Rule) → number_of a ≡ number_of b → a ≡ b
+pub same_rule : (a b : Rule) → number_of a ≡ number_of b → a ≡ b
 same_rule a b e = sym (rule_of_number a) ∙ ap rule_with e ∙ rule_of_number b
 
-number_below : (rule : Rule) → number_of rule < 13
+pub number_below : (rule : Rule) → number_of rule < 13
 number_below A1 = omega arith
 number_below A2 = omega arith
 number_below A3 = omega arith
@@ -65,7 +65,7 @@ number_below A10 = omega arith
 number_below A11 = omega arith
 number_below A12 = omega arith
 
-number_above : (rule : Rule) → 0 < number_of rule
+pub number_above : (rule : Rule) → 0 < number_of rule
 number_above A1 = omega arith
 number_above A2 = omega arith
 number_above A3 = omega arith

@@ -12,3 +12,6 @@ pub mod DueLaws
 pub mod DueOnce
 pub mod ReplyLaws
 pub mod HeadlineLaws
+pub mod FaultLists
+pub mod FirstNotBuilt
+pub mod AlwaysDue

@@ -7,6 +7,7 @@
 
 mod answer;
 mod commands;
+mod laws;
 mod load;
 mod refusal;
 mod reply;
@@ -20,5 +21,6 @@ mod text;
 mod top;
 mod words;
 
+pub use laws::always_due;
 pub use status::Status;
 pub use top::pssm;

@@ -39,6 +39,24 @@ pub fn pssm<R, I: Inputs, S: Sink, G: Gate + Sync>(
     out: &mut S,
     _gate: &G,
 ) -> Status
+    // ---- What an accepted journal is.
+
+    // The headline: the journal is accepted exactly where its bytes are the text, within the limits, of a prefix of a
+    // complete run of the model, unless reading, writing or memory failed.
+    ensures headline { IsTold (texts words.now) (I.content inputs.old)
+        → AcceptsPrefixes (texts words.now) (I.content inputs.old) result.code }
+
+    // The journal that was accepted is the beginning of a complete run.
+    ensures continued { result.code ≡ 0 → (model journal : List ℕ) → IsJudge (texts words.now) model journal
+        → IsContinued (I.content inputs.old) model journal }
+
+    // The journal that a run writes is accepted as one of its model.
+    ensures accepts_runs { (options : Options) (model : List ℕ) (stimuli : List (List ℕ))
+        → IsRun (texts words.now) options model stimuli → (result.code ≡ 0) ⊎ (result.code ≡ 8)
+        → IsAcceptedText (I.content inputs.old) model (S.taken out.old) (S.taken out.new) }
+
+    // ---- What is written is owed: by status, the reply that was written whole.
+
     // 0: the journal is admissible, and `accept N` says how many entries it has; or the journal was written of a run
     // that ended where nothing more can happen; or the model keeps the rules of models, and `well formed` or its flat
     // text was written.
@@ -51,15 +69,6 @@ pub fn pssm<R, I: Inputs, S: Sink, G: Gate + Sync>(
         (S.taken out.old) (S.taken out.new) (Reply.Line Answer.WellFormed)
         ⊎ ((text : List ℕ) × Gives (texts words.now) (I.content inputs.old)
         (S.taken out.old) (S.taken out.new) (Reply.Flat text)) }
-
-    // The journal that was accepted is the beginning of a complete run.
-    ensures continued { result.code ≡ 0 → (model journal : List ℕ) → IsJudge (texts words.now) model journal
-        → IsContinued (I.content inputs.old) model journal }
-
-    // The headline: the journal is accepted exactly where its bytes are the text, within the limits, of a prefix of a
-    // complete run of the model, unless reading, writing or memory failed.
-    ensures headline { IsTold (texts words.now) (I.content inputs.old)
-        → AcceptsPrefixes (texts words.now) (I.content inputs.old) result.code }
 
     // 1: `refuse N An` names the first entry that breaks a rule, and the first rule that it breaks.
     ensures refused { result.code ≡ 1 → (n : ℕ) × (rule : Rule) × Gives (texts words.now) (I.content inputs.old)
@@ -78,18 +87,6 @@ pub fn pssm<R, I: Inputs, S: Sink, G: Gate + Sync>(
     ensures bad_journal { result.code ≡ 4 → Gives (texts words.now) (I.content inputs.old)
         (S.taken out.old) (S.taken out.new) (Reply.Line Answer.BadJournal) }
 
-    // 5: reading a path that the words name failed in this call. Nothing is written.
-    ensures read_fault { result.code ≡ 5 → ReadFailed (texts words.now) (I.faults inputs.old) (I.faults inputs.new) }
-    ensures read_fault_silent { result.code ≡ 5 → Keeps (S.taken out.old) (S.taken out.new) }
-
-    // 6: writing failed in this call. A front of the text that was owed was taken.
-    ensures write_fault { result.code ≡ 6 → Rose (S.faults out.old) (S.faults out.new) }
-    ensures write_fault_part { result.code ≡ 6 → (reply : Reply) × IsOwed (texts words.now) (I.content inputs.old) reply
-        × TookPart (S.taken out.old) (S.taken out.new) (reply_text reply) }
-
-    // 7: there was not enough memory. Nothing is written.
-    ensures no_memory_silent { result.code ≡ 7 → Keeps (S.taken out.old) (S.taken out.new) }
-
     // 8: `limit N` names the entry by which the journal passes its limits; or the journal was written of a run that
     // ended because it is full.
     ensures limited { result.code ≡ 8
@@ -102,13 +99,7 @@ pub fn pssm<R, I: Inputs, S: Sink, G: Gate + Sync>(
     ensures too_large { result.code ≡ 9 → Gives (texts words.now) (I.content inputs.old)
         (S.taken out.old) (S.taken out.new) (Reply.Line Answer.TooLarge) }
 
-    // There is no other status.
-    ensures no_other { IsStatus result.code }
-
-    // The journal that a run writes is accepted as one of its model.
-    ensures accepts_runs { (options : Options) (model : List ℕ) (stimuli : List (List ℕ))
-        → IsRun (texts words.now) options model stimuli → (result.code ≡ 0) ⊎ (result.code ≡ 8)
-        → IsAcceptedText (I.content inputs.old) model (S.taken out.old) (S.taken out.new) }
+    // ---- What is owed is written, unless reading, writing or memory failed (5, 6, 7).
 
     // Where it is told what the files hold and a line is owed, one is, and its status comes unless reading, writing or
     // memory failed.
@@ -126,6 +117,23 @@ pub fn pssm<R, I: Inputs, S: Sink, G: Gate + Sync>(
     ensures runs { (setting : Setting) (stimuli : List Stimulus) (limit : ℕ) → IsTold (texts words.now) (I.content inputs.old)
         → IsRunDue (texts words.now) (I.content inputs.old) setting stimuli limit
         → (result.code ≡ 0) ⊎ (result.code ≡ 8) ⊎ IsFailure result.code }
+
+    // ---- What a failure leaves, and that there is no other status.
+
+    // 5: reading a path that the words name failed in this call. Nothing is written.
+    ensures read_fault { result.code ≡ 5 → ReadFailed (texts words.now) (I.faults inputs.old) (I.faults inputs.new) }
+    ensures read_fault_silent { result.code ≡ 5 → Keeps (S.taken out.old) (S.taken out.new) }
+
+    // 6: writing failed in this call. A front of the text that was owed was taken.
+    ensures write_fault { result.code ≡ 6 → Rose (S.faults out.old) (S.faults out.new) }
+    ensures write_fault_part { result.code ≡ 6 → (reply : Reply) × IsOwed (texts words.now) (I.content inputs.old) reply
+        × TookPart (S.taken out.old) (S.taken out.new) (reply_text reply) }
+
+    // 7: there was not enough memory. Nothing is written.
+    ensures no_memory_silent { result.code ≡ 7 → Keeps (S.taken out.old) (S.taken out.new) }
+
+    // There is no other status.
+    ensures no_other { IsStatus result.code }
 {
     match owed(alloc, words, inputs) {
         Ok(reply) => tell(alloc, &reply, out),
