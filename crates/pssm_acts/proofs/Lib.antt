@@ -66,3 +66,4 @@ pub mod BlockBegins
 pub mod TextFaultLaws
 pub mod CondFaults
 pub mod OneReading
+pub mod LongestLaws

@@ -10,4 +10,5 @@ pub mod Vocabularies
 pub mod ReadBack
 pub mod Canonical
 pub mod OneReading
+pub mod Longest
 pub mod inner

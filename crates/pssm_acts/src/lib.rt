@@ -27,4 +27,5 @@ pub use pssm_semantics::{
     Program, Rel, Rule, Setting, SignalDecl, Stimulus, Stmt, Task, VarDecl, Worked, run, truth,
 };
 pub use reading::{one_reading, read_act, read_cond, read_steps};
+pub use tokens::longest_token;
 pub use writing::{write_act, write_cond};

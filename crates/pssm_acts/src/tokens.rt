@@ -1,8 +1,9 @@
 //! The tokens of a text, taken one after another.
-ghost use Rattle.std.specs.Prelude.{◌≡◌, ◌≤◌, ℕ, Bool, [], ◌∷◌, false, length, take, MatchOption, slice_index_or};
+ghost use Rattle.std.specs.Prelude.{◌≡◌, ◌≤◌, ℕ, Bool, List, [], ◌∷◌, false, length, take, MatchOption, slice_index_or};
 ghost use Rattle.pssm_acts.specs.inner.ExprReading.{token_of};
 ghost use Rattle.pssm_acts.specs.inner.TextLeft.{IsShort, left};
-ghost use Rattle.pssm_acts.specs.Tokens.{cut, is_blank, tokens_of};
+ghost use Rattle.pssm_acts.specs.Longest.{IsTaken};
+ghost use Rattle.pssm_acts.specs.Tokens.{cut, front, is_blank, tokens_of};
 
 use crate::token::{Piece, blank, closes_operand, token_at};
 
@@ -64,3 +65,11 @@ impl<'a> Tokens<'a> {
         Some(Piece { at, kind, word })
     }
 }
+
+/// What is taken of the front of a text is the longest token that stands there, or one byte of no known kind where none
+/// does (this profile's choice).
+#[tactic(auto, using(crate::proofs::LongestLaws::longest_taken))]
+pub fn longest_token()
+    ensures { (after_operand : Bool) (c : ℕ) (cs : List ℕ)
+        → IsTaken after_operand (c ∷ cs) (front after_operand (c ∷ cs)).0 (front after_operand (c ∷ cs)).1 }
+{}
