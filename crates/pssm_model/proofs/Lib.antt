@@ -16,3 +16,4 @@ pub mod Checked
 pub mod FirstFault
 pub mod Nesting
 pub mod Scopes
+pub mod ListsFilled

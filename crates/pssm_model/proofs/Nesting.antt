@@ -5,10 +5,10 @@ use Rattle.pssm_model.specs.declared.ids.RegionId.{RegionId}
 use Rattle.pssm_model.specs.declared.elements.DraftMachine.{DraftMachine}
 use Rattle.pssm_model.specs.declared.elements.Owner.{Owner}
 use Rattle.pssm_model.specs.declared.elements.Owner.TheVariants.{Top, Region, State}
-use Rattle.pssm_model.specs.Forest.{owner_of, LiesUnder, LiesInRegion, LiesInState, HasRegionsAbove}
+use Rattle.pssm_model.specs.Forest.{owner_of, LiesUnder, LiesInRegion, LiesInState, HasRegionsAbove, IsWithin, IsHome}
 use Rattle.pssm_model.specs.Forest.LiesUnder.{owned, further}
 use Rattle.pssm_model.specs.Forest.HasRegionsAbove.{region, state, machine}
-use Rattle.pssm_model.specs.inner.Tables.{AreTables, IsWithin, IsHome, IsOuter, IsRaised, AreWithin}
+use Rattle.pssm_model.specs.inner.Tables.{AreTables, IsOuter, IsRaised, AreWithin}
 use Rattle.pssm_model.proofs.OwnerChains.{one_owner, one_count, under_further, top_lies_nowhere, region_down}
 
 module _ (m : DraftMachine) where

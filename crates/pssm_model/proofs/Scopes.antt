@@ -6,9 +6,9 @@ use Rattle.pssm_model.specs.declared.ids.RegionId.{RegionId}
 use Rattle.pssm_model.specs.declared.elements.DraftMachine.{DraftMachine}
 use Rattle.pssm_model.specs.declared.elements.Owner.TheVariants.{Region, State}
 use Rattle.pssm_model.specs.declared.elements.Owner.{Owner}
-use Rattle.pssm_model.specs.Forest.{LiesUnder, LiesInRegion, IsScope, HasRegionsAbove}
+use Rattle.pssm_model.specs.Forest.{LiesUnder, LiesInRegion, IsScope, HasRegionsAbove, IsWithin, IsHome}
 use Rattle.pssm_model.specs.Forest.LiesUnder.{owned, further}
-use Rattle.pssm_model.specs.inner.Tables.{IsWithin, IsHome, AreWithin, IsMeet, Encloses, IsInnermost}
+use Rattle.pssm_model.specs.inner.Tables.{AreWithin, IsMeet, Encloses, IsInnermost}
 use Rattle.pssm_model.proofs.OwnerChains.{under_further, circle_is_endless}
 use Rattle.pssm_model.proofs.Nesting.{lies_within, region_cases, under_cases}
 

@@ -34,6 +34,10 @@ owner_of m Top = None
 owner_of m (Region r) = slice_get m.regions r.0
 owner_of m (State v) = option_map (λ x. x.owner) (vertex_at m v)
 
+-- The region owns the vertex, which is of the kind (UML 2.5.1 14.2.3.2, the vertices of a region).
+abbrev pub OwnsOfKind : DraftMachine → RegionId → VertexKind → VertexId → Type 0
+OwnsOfKind m r kind v = HasKind m v kind × (owner_of m (State v) ≡ Some (Region r))
+
 -- The owner chain of the first place passes the second (UML 2.5.1 14.2.3.2, nested regions).
 pub data LiesUnder (m : DraftMachine) : Owner → Owner → Type 0 where
   owned : {p q : Owner} → owner_of m p ≡ Some q → LiesUnder m p q
@@ -51,6 +55,15 @@ LiesInState m v s = (r : RegionId) × (owner_of m (Region r) ≡ Some (State s))
 -- the State itself, or a vertex in it (UML 2.5.1 14.2.3.4, composite States)
 abbrev pub IsOrLiesIn : DraftMachine → VertexId → VertexId → Type 0
 IsOrLiesIn m v s = (v ≡ s) ⊎ LiesInState m v s
+
+-- The region is the other one, or nested in it (UML 2.5.1 14.2.3.2, nested regions).
+abbrev pub IsWithin : DraftMachine → RegionId → RegionId → Type 0
+IsWithin m q r = (q ≡ r) ⊎ LiesUnder m (Region q) (Region r)
+
+-- The region is the innermost one in which the vertex lies (UML 2.5.1 14.2.3.2 and 14.2.3.3, the container of a vertex).
+pub record IsHome (m : DraftMachine) (v : VertexId) (home : RegionId) : Type 0 where
+  pub lies : LiesInRegion m v home
+  pub innermost : (r : RegionId) → LiesInRegion m v r → IsWithin m home r
 
 -- the innermost region in which all of these vertices lie (UML 2.5.1 14.2.3.9, transition execution sequence: the least common ancestor)
 pub record IsScope (m : DraftMachine) (These : VertexId → Type 0) (r : RegionId) : Type 0 where

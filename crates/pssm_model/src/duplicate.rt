@@ -3,7 +3,7 @@ ghost use Rattle.std.specs.Prelude.{◌≡◌, IfOk};
 
 use crate::boxed::Boxed;
 use crate::elements::{DraftMachine, Owner, Transition, Vertex};
-use crate::ids::{ActId, SignalId, TransId};
+use crate::ids::{ActId, RegionId, SignalId, TransId, VertexId};
 use crate::row::Row;
 use crate::steps::{Firing, How, Route};
 use std::alloc::{AllocError as NoMemory, Global};
@@ -46,6 +46,18 @@ impl Duplicate for Owner {
 
 impl Duplicate for TransId {
     fn duplicate(&self, _alloc: Global) -> Result<TransId, NoMemory> {
+        Ok(*self)
+    }
+}
+
+impl Duplicate for RegionId {
+    fn duplicate(&self, _alloc: Global) -> Result<RegionId, NoMemory> {
+        Ok(*self)
+    }
+}
+
+impl Duplicate for VertexId {
+    fn duplicate(&self, _alloc: Global) -> Result<VertexId, NoMemory> {
         Ok(*self)
     }
 }

@@ -4,10 +4,10 @@ ghost use Rattle.pssm_model.specs.declared.elements.Owner.{Owner};
 ghost use Rattle.pssm_model.specs.declared.ids.RegionId.{RegionId};
 ghost use Rattle.pssm_model.specs.declared.ids.VertexId.{VertexId};
 ghost use Rattle.pssm_model.specs.declared.elements.VertexKind.TheVariants as kinds;
-ghost use Rattle.pssm_model.specs.Forest.{owner_of as owner_in, HasKind, IsScope, LiesInRegion, LiesInState};
+ghost use Rattle.pssm_model.specs.Forest.{owner_of as owner_in, HasKind, IsScope, LiesInRegion, LiesInState, IsHome, IsWithin};
 ghost use Rattle.pssm_model.specs.Shapes.{HasShape, IsShapeFault};
 ghost use Rattle.pssm_model.specs.inner.Faultless.{IsShallowBy};
-ghost use Rattle.pssm_model.specs.inner.Tables.{AreTables, AreWithin, IsHome, IsMeet, IsOuter, IsRaised, IsWithin};
+ghost use Rattle.pssm_model.specs.inner.Tables.{AreTables, AreWithin, IsMeet, IsOuter, IsRaised};
 
 use crate::depths::{Depths, owner_of};
 use crate::duplicate::Duplicate;
@@ -38,7 +38,7 @@ fn state_home(draft: &DraftMachine, s: VertexId) -> RegionId
 }
 
 /// The innermost region in which a vertex lies.
-fn home(draft: &DraftMachine, v: VertexId) -> RegionId
+pub fn home(draft: &DraftMachine, v: VertexId) -> RegionId
     requires shape { HasShape draft.now }
     requires inside { v.0 < length draft.now.vertices }
     ensures inside { result.0 < length draft.now.regions }

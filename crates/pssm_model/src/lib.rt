@@ -12,6 +12,8 @@ mod duplicate;
 mod elements;
 mod forest;
 mod ids;
+mod index;
+mod listing;
 mod machine;
 mod row;
 mod same;

@@ -1,15 +1,21 @@
 //! `Machine`: a draft that is known to have the shape of a state machine.
-ghost use Rattle.std.specs.Prelude.{◌≡◌, ◌⊎◌, ◌↔◌, ◌<◌, ◌≤◌, length, slice_get, Some, All, Contains, IsTrue, IfOk, IfErr, IfSome, IfNone, OnOk};
+ghost use Rattle.std.specs.Prelude.{◌≡◌, ◌⊎◌, ◌↔◌, ◌<◌, ◌≤◌, length, slice_get, Some, All, AllPairs, Contains, IsTrue, IfOk, IfErr, IfSome, IfNone, OnOk};
 ghost use Rattle.pssm_model.specs.declared.ids.RegionId.{RegionId};
 ghost use Rattle.pssm_model.specs.declared.ids.VertexId.{VertexId};
 ghost use Rattle.pssm_model.specs.declared.elements.Owner.{Owner};
-ghost use Rattle.pssm_model.specs.Forest.{HasRegionsAbove, IsScope, LiesInRegion, LiesInState};
+ghost use Rattle.pssm_model.specs.declared.ids.TransId.{TransId};
+ghost use Rattle.pssm_model.specs.declared.elements.VertexKind.TheVariants as kinds;
+ghost use Rattle.pssm_model.specs.Forest.{owner_of, OwnsOfKind, HasRegionsAbove, IsHome, IsScope, LiesInRegion, LiesInState};
+ghost use Rattle.pssm_model.specs.Legs.{Leaves, Enters};
+ghost use Rattle.pssm_model.specs.Paths.{IsInitialOf};
 ghost use Rattle.pssm_model.specs.Shapes.{HasShape, IsShapeFault};
 
 use crate::duplicate::Duplicate;
-use crate::elements::{DraftMachine, Owner, Shape, Transition, Vertex};
-use crate::forest::Forest;
+use crate::elements::{DraftMachine, Owner, Shape, Transition, Vertex, VertexKind};
+use crate::forest::{Forest, home};
 use crate::ids::{RegionId, TransId, VertexId};
+use crate::index::Index;
+use crate::listing::{Listing, list_of};
 use std::alloc::{AllocError as NoMemory, Global};
 use std::marker::Model;
 
@@ -18,17 +24,19 @@ use std::marker::Model;
 pub struct Machine {
     draft: DraftMachine,
     forest: Forest,
+    index: Index,
 }
 
 impl Model for Machine {
     ghost use Rattle.pssm_model.specs.declared.elements.DraftMachine.{DraftMachine};
     ghost use Rattle.pssm_model.specs.inner.Tables.{AreTables};
+    ghost use Rattle.pssm_model.specs.inner.Listed.{IsIndex};
 
     ghost Value = { DraftMachine };
 
     ghost view = { λ m. m.draft };
 
-    ghost invariant = { λ m. AreTables m.draft m.forest.regions m.forest.vertices };
+    ghost invariant = { λ m. AreTables m.draft m.forest.regions m.forest.vertices × IsIndex m.draft m.index };
 }
 
 impl Machine {
@@ -44,8 +52,13 @@ impl Machine {
         ensures only_misshapen { HasShape draft.now → IfErr result (λ fault. fault ≡ Shape.NoMemory) }
     {
         let forest = Forest::of(alloc, draft)?;
+        let index = Index::of(alloc, draft)?;
         let draft = draft.duplicate(alloc)?;
-        Ok(Machine { draft, forest })
+        Ok(Machine {
+            draft,
+            forest,
+            index,
+        })
     }
 
     /// How many regions it has, at most 1,024.
@@ -136,6 +149,114 @@ impl Machine {
         self.forest.scope(&self.draft, list)
     }
 
+    /// The innermost region in which a vertex lies (UML 2.5.1, 14.2.3.2 and 14.2.3.3).
+    pub fn home(&self, v: VertexId) -> RegionId
+        requires { v.0 < length self.now.vertices }
+        ensures there { result.0 < length self.now.regions }
+        ensures home { IsHome self.now v result }
+    {
+        home(&self.draft, v)
+    }
+
+    /// The transitions that leave a vertex, ascending (UML 2.5.1, 14.2.3.3, outgoing transitions).
+    pub fn outgoing(&self, v: VertexId) -> &[TransId]
+        requires { v.0 < length self.now.vertices }
+        ensures items { (t : TransId) → Contains result.now t ↔ Leaves self.now t v }
+        ensures there { All (λ t. t.0 < length self.now.transitions) result.now }
+        ensures ascending { AllPairs (λ t u. t.0 < u.0) result.now }
+    {
+        list_of(&self.draft, Listing::Outgoing, &self.index.outgoing, v.0)
+    }
+
+    /// The transitions that enter a vertex, ascending (UML 2.5.1, 14.2.3.3, incoming transitions).
+    pub fn incoming(&self, v: VertexId) -> &[TransId]
+        requires { v.0 < length self.now.vertices }
+        ensures items { (t : TransId) → Contains result.now t ↔ Enters self.now t v }
+        ensures there { All (λ t. t.0 < length self.now.transitions) result.now }
+        ensures ascending { AllPairs (λ t u. t.0 < u.0) result.now }
+    {
+        list_of(&self.draft, Listing::Incoming, &self.index.incoming, v.0)
+    }
+
+    /// The regions of a State, ascending (UML 2.5.1, 14.2.3.4, composite States).
+    pub fn regions_of(&self, s: VertexId) -> &[RegionId]
+        requires { s.0 < length self.now.vertices }
+        ensures items { (r : RegionId) → Contains result.now r ↔ (owner_of self.now (Owner.Region r) ≡ Some (Owner.State s)) }
+        ensures there { All (λ r. r.0 < length self.now.regions) result.now }
+        ensures ascending { AllPairs (λ r q. r.0 < q.0) result.now }
+    {
+        list_of(&self.draft, Listing::Regions, &self.index.regions, s.0)
+    }
+
+    /// The top regions, ascending (UML 2.5.1, 14.2.3.1 and 14.2.3.2).
+    pub fn top_regions(&self) -> &[RegionId]
+        ensures items { (r : RegionId) → Contains result.now r ↔ (owner_of self.now (Owner.Region r) ≡ Some Owner.Top) }
+        ensures there { All (λ r. r.0 < length self.now.regions) result.now }
+        ensures ascending { AllPairs (λ r q. r.0 < q.0) result.now }
+    {
+        list_of(&self.draft, Listing::TopRegions, &self.index.tops, 0)
+    }
+
+    /// The initial vertices that a region owns, ascending (UML 2.5.1, 14.2.3.7, initial).
+    pub fn initials_of(&self, r: RegionId) -> &[VertexId]
+        requires { r.0 < length self.now.regions }
+        ensures items { (v : VertexId) → Contains result.now v ↔ IsInitialOf self.now r v }
+        ensures there { All (λ v. v.0 < length self.now.vertices) result.now }
+        ensures ascending { AllPairs (λ v w. v.0 < w.0) result.now }
+    {
+        list_of(
+            &self.draft,
+            Listing::Vertices(VertexKind::Initial),
+            &self.index.initials,
+            r.0,
+        )
+    }
+
+    /// The shallow history vertices that a region owns, ascending (UML 2.5.1, 14.2.3.7, shallowHistory).
+    pub fn shallow_histories_of(&self, r: RegionId) -> &[VertexId]
+        requires { r.0 < length self.now.regions }
+        ensures items { (v : VertexId) → Contains result.now v ↔ OwnsOfKind self.now r kinds.ShallowHistory v }
+        ensures there { All (λ v. v.0 < length self.now.vertices) result.now }
+        ensures ascending { AllPairs (λ v w. v.0 < w.0) result.now }
+    {
+        list_of(
+            &self.draft,
+            Listing::Vertices(VertexKind::ShallowHistory),
+            &self.index.shallows,
+            r.0,
+        )
+    }
+
+    /// The deep history vertices that a region owns, ascending (UML 2.5.1, 14.2.3.7, deepHistory).
+    pub fn deep_histories_of(&self, r: RegionId) -> &[VertexId]
+        requires { r.0 < length self.now.regions }
+        ensures items { (v : VertexId) → Contains result.now v ↔ OwnsOfKind self.now r kinds.DeepHistory v }
+        ensures there { All (λ v. v.0 < length self.now.vertices) result.now }
+        ensures ascending { AllPairs (λ v w. v.0 < w.0) result.now }
+    {
+        list_of(
+            &self.draft,
+            Listing::Vertices(VertexKind::DeepHistory),
+            &self.index.deeps,
+            r.0,
+        )
+    }
+
+    /// The States that a region owns, ascending (UML 2.5.1, 14.2.3.2 and 14.2.3.4). Those in them are not among them.
+    pub fn states_of(&self, r: RegionId) -> &[VertexId]
+        requires { r.0 < length self.now.regions }
+        ensures items { (v : VertexId) → Contains result.now v ↔ OwnsOfKind self.now r kinds.State v }
+        ensures there { All (λ v. v.0 < length self.now.vertices) result.now }
+        ensures ascending { AllPairs (λ v w. v.0 < w.0) result.now }
+    {
+        list_of(
+            &self.draft,
+            Listing::Vertices(VertexKind::State),
+            &self.index.states,
+            r.0,
+        )
+    }
+
     /// A second machine, equal to this one.
     pub fn copy(&self, alloc: Global) -> Result<Machine, NoMemory>
         ensures { IfOk result (λ other. other ≡ self.now) }
@@ -148,7 +269,12 @@ impl Duplicate for Machine {
     fn duplicate(&self, alloc: Global) -> Result<Machine, NoMemory> {
         let draft = self.draft.duplicate(alloc)?;
         let forest = self.forest.duplicate(alloc)?;
-        Ok(Machine { draft, forest })
+        let index = self.index.duplicate(alloc)?;
+        Ok(Machine {
+            draft,
+            forest,
+            index,
+        })
     }
 }
 

@@ -1,7 +1,8 @@
 //! `Row`: a vector that contracts see as the list of its items.
-ghost use Rattle.std.specs.Prelude.{◌≡◌};
+ghost use Rattle.std.specs.Prelude.{◌≡◌, ◌++◌, ◌∷◌, [], OnOk};
 ghost use Rattle.std.specs.Cmp.Lexicographic.{pointwise, lists_per, lists_equiv};
 
+use std::alloc::AllocError as NoMemory;
 use std::marker::Model;
 
 /// Items in order. A clause sees the list of them, and nothing of memory.
@@ -42,6 +43,16 @@ impl<T> Row<T> {
     {
         let Row { items } = self;
         items
+    }
+}
+
+impl<T: Drop> Row<T> {
+    /// Puts an item at the end.
+    pub fn push(&mut self, item: T) -> Result<(), NoMemory>
+        ensures { OnOk result (self.new ≡ self.old ++ item ∷ []) }
+    {
+        self.items.push(item)?;
+        Ok(())
     }
 }
 

@@ -1,11 +1,11 @@
 -- The tables that a machine keeps beside its draft.
-use Rattle.std.specs.Prelude.{◌≡◌, ◌⊎◌, ◌≤◌, ◌<◌, ℕ, List, length, slice_index_or}
+use Rattle.std.specs.Prelude.{◌≡◌, ◌≤◌, ◌<◌, ℕ, List, length, slice_index_or}
 use Rattle.pssm_model.specs.declared.ids.VertexId.{VertexId}
 use Rattle.pssm_model.specs.declared.ids.RegionId.{RegionId}
 use Rattle.pssm_model.specs.declared.elements.Owner.TheVariants.{Region}
 use Rattle.pssm_model.specs.declared.elements.DraftMachine.{DraftMachine}
 use Rattle.pssm_model.specs.declared.shape.PlaceKind.TheVariants.{Regions, Vertices}
-use Rattle.pssm_model.specs.Forest.{LiesUnder, LiesInRegion, HasRegionsAbove}
+use Rattle.pssm_model.specs.Forest.{LiesUnder, LiesInRegion, IsWithin, HasRegionsAbove}
 use Rattle.pssm_model.specs.Shapes.{HasShape}
 use Rattle.pssm_model.specs.inner.Faultless.{AreDepthsOf}
 
@@ -16,15 +16,6 @@ pub record AreTables (m : DraftMachine) (regions vertices : List ℕ) : Type 0 w
   pub all_vertices : length vertices ≡ length m.vertices
   pub region_depths : AreDepthsOf m Regions regions
   pub vertex_depths : AreDepthsOf m Vertices vertices
-
--- The region is the other one, or nested in it.
-abbrev pub IsWithin : DraftMachine → RegionId → RegionId → Type 0
-IsWithin m q r = (q ≡ r) ⊎ LiesUnder m (Region q) (Region r)
-
--- The region is the innermost one in which the vertex lies.
-pub record IsHome (m : DraftMachine) (v : VertexId) (home : RegionId) : Type 0 where
-  pub lies : LiesInRegion m v home
-  pub innermost : (r : RegionId) → LiesInRegion m v r → IsWithin m home r
 
 -- The region is the innermost one in which the other is nested.
 pub record IsOuter (m : DraftMachine) (q outer : RegionId) : Type 0 where
