@@ -11,10 +11,11 @@ use Rattle.pssm_model.specs.declared.elements.Vertex.{Vertex}
 use Rattle.pssm_model.specs.declared.elements.Transition.{Transition}
 use Rattle.pssm_model.specs.declared.elements.Owner.TheVariants.{Top, Region, State}
 use Rattle.pssm_model.specs.declared.listing.Listing.{Listing}
-use Rattle.pssm_model.specs.declared.listing.Listing.TheVariants.{Outgoing, Incoming, Regions, TopRegions, Vertices}
+use Rattle.pssm_model.specs.declared.listing.Listing.TheVariants.{Outgoing, Incoming, Elses, Regions, TopRegions, Vertices}
 use Rattle.pssm_model.specs.declared.ids.VertexId.{VertexId}
 use Rattle.pssm_model.specs.declared.ids.RegionId.{RegionId}
 use Rattle.pssm_model.specs.Forest.{vertex_at, transition_at, owner_of}
+use Rattle.pssm_model.specs.Legs.{Leaves}
 use Rattle.pssm_model.specs.Shapes.{HasShape, OwnsVertex}
 use Rattle.pssm_model.specs.inner.Listed.{IsListed, AreLists, AreListsBelow, list_at, count_of, width_of, vertex_number, region_number, transition_number}
 use Rattle.pssm_model.proofs.BuiltElements.{mapped_some}
@@ -115,6 +116,11 @@ at_place lists all found out place is at e lt =
 pub listed_once : (m : DraftMachine) (listing : Listing) (k j i : ℕ) → IsListed m listing k i → IsListed m listing j i → k ≡ j
 listed_once m Outgoing k j i h g = let e : vertex_number k ≡ vertex_number j = cc in ap (λ (v : VertexId). v.0) e
 listed_once m Incoming k j i h g = let e : vertex_number k ≡ vertex_number j = cc in ap (λ (v : VertexId). v.0) e
+listed_once m Elses k j i h g =
+    let a = h.0 in
+    let b = g.0 in
+    let e : vertex_number k ≡ vertex_number j = cc in
+    ap (λ (v : VertexId). v.0) e
 listed_once m Regions k j i h g = let e : vertex_number k ≡ vertex_number j = cc in ap (λ (v : VertexId). v.0) e
 listed_once m TopRegions k j i h g = h.0 ∙ sym g.0
 listed_once m (Vertices kind) k j i h g =
@@ -129,14 +135,19 @@ owned_in m shape v r h =
     let at = mapped_some (λ (x : Vertex). x.owner) (vertex_at m v) (Region (region_number r)) h in
     (subst (OwnsVertex m v) at.2 (shape.vertices v at.0 at.1).0).1
 
+-- A transition that leaves a vertex is there, and so is the vertex.
+left_there : (m : DraftMachine) → HasShape m → (v t : ℕ) → Leaves m (transition_number t) (vertex_number v) → (v < length m.vertices) × (t < length m.transitions)
+left_there m shape v t h =
+    let at = mapped_some (λ (x : Transition). x.source) (transition_at m (transition_number t)) (vertex_number v) h in
+    (subst (λ (w : VertexId). w.0 < length m.vertices) at.2 (shape.ends (transition_number t) at.0 at.1).0, slice_get_within m.transitions t at.0 at.1)
+
 -- What is listed is there, and so is its place.
 pub listed_there : (m : DraftMachine) → HasShape m → (listing : Listing) (k i : ℕ) → IsListed m listing k i → (k < width_of m listing) × (i < count_of m listing)
-listed_there m shape Outgoing k i h =
-    let at = mapped_some (λ (x : Transition). x.source) (transition_at m (transition_number i)) (vertex_number k) h in
-    (subst (λ (w : VertexId). w.0 < length m.vertices) at.2 (shape.ends (transition_number i) at.0 at.1).0, slice_get_within m.transitions i at.0 at.1)
+listed_there m shape Outgoing k i h = left_there m shape k i h
 listed_there m shape Incoming k i h =
     let at = mapped_some (λ (x : Transition). x.target) (transition_at m (transition_number i)) (vertex_number k) h in
     (subst (λ (w : VertexId). w.0 < length m.vertices) at.2 (shape.ends (transition_number i) at.0 at.1).1, slice_get_within m.transitions i at.0 at.1)
+listed_there m shape Elses k i h = left_there m shape k i h.0
 listed_there m shape Regions k i h =
     let state = (shape.regions (region_number i) (State (vertex_number k)) h).0 in
     let at = mapped_some (λ (x : Vertex). x.kind) (vertex_at m (vertex_number k)) _ state in

@@ -10,12 +10,13 @@ use crate::listing::{Listing, lists_of};
 use crate::row::Row;
 use std::alloc::{AllocError as NoMemory, Global};
 
-/// By vertex its outgoing and incoming transitions and its regions, at 0 the top regions, and by region the vertices of
+/// By vertex its outgoing and incoming transitions, the outgoing ones with `else` and its regions, at 0 the top regions, and by region the vertices of
 /// four kinds that it owns, each list ascending.
 #[derive(Drop)]
 pub struct Index {
     pub outgoing: Row<Row<TransId>>,
     pub incoming: Row<Row<TransId>>,
+    pub elses: Row<Row<TransId>>,
     pub regions: Row<Row<RegionId>>,
     pub tops: Row<Row<RegionId>>,
     pub initials: Row<Row<VertexId>>,
@@ -33,6 +34,7 @@ impl Index {
         Ok(Index {
             outgoing: lists_of(alloc, draft, Listing::Outgoing)?,
             incoming: lists_of(alloc, draft, Listing::Incoming)?,
+            elses: lists_of(alloc, draft, Listing::Elses)?,
             regions: lists_of(alloc, draft, Listing::Regions)?,
             tops: lists_of(alloc, draft, Listing::TopRegions)?,
             initials: lists_of(alloc, draft, Listing::Vertices(VertexKind::Initial))?,
@@ -48,6 +50,7 @@ impl Duplicate for Index {
         Ok(Index {
             outgoing: self.outgoing.duplicate(alloc)?,
             incoming: self.incoming.duplicate(alloc)?,
+            elses: self.elses.duplicate(alloc)?,
             regions: self.regions.duplicate(alloc)?,
             tops: self.tops.duplicate(alloc)?,
             initials: self.initials.duplicate(alloc)?,

@@ -3,17 +3,18 @@ ghost use Rattle.std.specs.Prelude.{◌≡◌, ◌↔◌, ◌++◌, ◌∷◌, [
 ghost use Rattle.pssm_model.specs.Shapes.{HasShape};
 ghost use Rattle.pssm_model.specs.inner.Listed.{IsListed, AreLists, list_at, count_of as count_in, width_of as width_in};
 
-use crate::elements::{DraftMachine, Owner, VertexKind};
+use crate::elements::{DraftMachine, Guard, Owner, VertexKind};
 use crate::ids::{RegionId, TransId, VertexId};
 use crate::row::Row;
 use std::alloc::{AllocError as NoMemory, Global};
 
-/// What is listed, and where: transitions at their sources or targets, regions at the States that own them, the top
+/// What is listed, and where: transitions at their sources or targets, those with `else` at their sources, regions at the States that own them, the top
 /// regions at 0, and the vertices of a kind at the regions that own them.
 #[derive(Clone, Copy)]
 pub enum Listing {
     Outgoing,
     Incoming,
+    Elses,
     Regions,
     TopRegions,
     Vertices(VertexKind),
@@ -76,7 +77,9 @@ fn count_of(draft: &DraftMachine, listing: Listing) -> u16
     ensures { result ≡ count_in draft.now listing }
 {
     match listing {
-        Listing::Outgoing | Listing::Incoming => draft.transitions.as_slice().len() as u16,
+        Listing::Outgoing | Listing::Incoming | Listing::Elses => {
+            draft.transitions.as_slice().len() as u16
+        }
         Listing::Regions | Listing::TopRegions => draft.regions.as_slice().len() as u16,
         Listing::Vertices(_) => draft.vertices.as_slice().len() as u16,
     }
@@ -87,10 +90,25 @@ fn width_of(draft: &DraftMachine, listing: Listing) -> usize
     ensures { result ≡ width_in draft.now listing }
 {
     match listing {
-        Listing::Outgoing | Listing::Incoming | Listing::Regions => draft.vertices.as_slice().len(),
+        Listing::Outgoing | Listing::Incoming | Listing::Elses | Listing::Regions => {
+            draft.vertices.as_slice().len()
+        }
         Listing::TopRegions => 1,
         Listing::Vertices(_) => draft.regions.as_slice().len(),
     }
+}
+
+/// The source of the transition with the number, where that has `else`.
+fn source_with(draft: &DraftMachine, number: u16) -> Option<u16>
+    requires { number < length draft.now.transitions }
+    ensures { MatchOption result ((k : ℕ) → IsListed draft.now Listing.Elses k number → ⊥)
+        (λ k. IsListed draft.now Listing.Elses k number) }
+{
+    let transition = &draft.transitions.as_slice()[number as usize];
+    if transition.guard == Guard::Otherwise {
+        return Some(transition.source.0);
+    }
+    None
 }
 
 /// The State of the region with the number, where it has one.
@@ -142,6 +160,7 @@ fn place_of(draft: &DraftMachine, listing: Listing, number: u16) -> Option<u16>
     match listing {
         Listing::Outgoing => Some(draft.transitions.as_slice()[number as usize].source.0),
         Listing::Incoming => Some(draft.transitions.as_slice()[number as usize].target.0),
+        Listing::Elses => source_with(draft, number),
         Listing::Regions => state_with(draft, number),
         Listing::TopRegions => top_with(draft, number),
         Listing::Vertices(kind) => region_with(draft, number, kind),

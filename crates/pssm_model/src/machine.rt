@@ -8,6 +8,7 @@ ghost use Rattle.pssm_model.specs.declared.elements.VertexKind.TheVariants as ki
 ghost use Rattle.pssm_model.specs.Forest.{owner_of, OwnsOfKind, HasRegionsAbove, IsHome, IsScope, LiesInRegion, LiesInState};
 ghost use Rattle.pssm_model.specs.Legs.{Leaves, Enters};
 ghost use Rattle.pssm_model.specs.Paths.{IsInitialOf};
+ghost use Rattle.pssm_model.specs.WellFormed.{HasElse};
 ghost use Rattle.pssm_model.specs.Shapes.{HasShape, IsShapeFault};
 
 use crate::duplicate::Duplicate;
@@ -101,6 +102,24 @@ impl Machine {
         &self.draft.transitions.as_slice()[t.0 as usize]
     }
 
+    /// The source of a transition.
+    pub fn source(&self, t: TransId) -> VertexId
+        requires { t.0 < length self.now.transitions }
+        ensures leaves { Leaves self.now t result }
+        ensures there { result.0 < length self.now.vertices }
+    {
+        self.draft.transitions.as_slice()[t.0 as usize].source
+    }
+
+    /// The target of a transition.
+    pub fn target(&self, t: TransId) -> VertexId
+        requires { t.0 < length self.now.transitions }
+        ensures enters { Enters self.now t result }
+        ensures there { result.0 < length self.now.vertices }
+    {
+        self.draft.transitions.as_slice()[t.0 as usize].target
+    }
+
     /// What owns a region.
     pub fn region_owner(&self, r: RegionId) -> Owner
         requires { r.0 < length self.now.regions }
@@ -176,6 +195,16 @@ impl Machine {
         ensures ascending { AllPairs (λ t u. t.0 < u.0) result.now }
     {
         list_of(&self.draft, Listing::Incoming, &self.index.incoming, v.0)
+    }
+
+    /// The transitions that leave a vertex and have `else`, ascending (UML 2.5.1, 14.2.3.7, junction and choice).
+    pub fn elses_of(&self, v: VertexId) -> &[TransId]
+        requires { v.0 < length self.now.vertices }
+        ensures items { (t : TransId) → Contains result.now t ↔ (Leaves self.now t v × HasElse self.now t) }
+        ensures there { All (λ t. t.0 < length self.now.transitions) result.now }
+        ensures ascending { AllPairs (λ t u. t.0 < u.0) result.now }
+    {
+        list_of(&self.draft, Listing::Elses, &self.index.elses, v.0)
     }
 
     /// The regions of a State, ascending (UML 2.5.1, 14.2.3.4, composite States).

@@ -8,9 +8,10 @@ use Rattle.pssm_model.specs.declared.elements.VertexKind.TheVariants as kinds
 use Rattle.pssm_model.specs.declared.elements.Owner.TheVariants.{Top, Region, State}
 use Rattle.pssm_model.specs.declared.index.Index.{Index}
 use Rattle.pssm_model.specs.declared.listing.Listing.{Listing}
-use Rattle.pssm_model.specs.declared.listing.Listing.TheVariants.{Outgoing, Incoming, Regions, TopRegions, Vertices}
+use Rattle.pssm_model.specs.declared.listing.Listing.TheVariants.{Outgoing, Incoming, Elses, Regions, TopRegions, Vertices}
 use Rattle.pssm_model.specs.Forest.{HasKind, owner_of}
 use Rattle.pssm_model.specs.Legs.{Leaves, Enters}
+use Rattle.pssm_model.specs.WellFormed.{HasElse}
 
 -- the vertex, region or transition of a number
 abbrev pub vertex_number : ℕ → VertexId
@@ -26,6 +27,7 @@ transition_number n = record { 0 = n }
 abbrev pub IsListed : DraftMachine → Listing → ℕ → ℕ → Type 0
 IsListed m Outgoing v t = Leaves m (transition_number t) (vertex_number v)
 IsListed m Incoming v t = Enters m (transition_number t) (vertex_number v)
+IsListed m Elses v t = Leaves m (transition_number t) (vertex_number v) × HasElse m (transition_number t)
 IsListed m Regions s r = owner_of m (Region (region_number r)) ≡ Some (State (vertex_number s))
 IsListed m TopRegions k r = (k ≡ 0) × (owner_of m (Region (region_number r)) ≡ Some Top)
 IsListed m (Vertices kind) r v = HasKind m (vertex_number v) kind × (owner_of m (State (vertex_number v)) ≡ Some (Region (region_number r)))
@@ -34,6 +36,7 @@ IsListed m (Vertices kind) r v = HasKind m (vertex_number v) kind × (owner_of m
 abbrev pub count_of : DraftMachine → Listing → ℕ
 count_of m Outgoing = length m.transitions
 count_of m Incoming = length m.transitions
+count_of m Elses = length m.transitions
 count_of m Regions = length m.regions
 count_of m TopRegions = length m.regions
 count_of m (Vertices _) = length m.vertices
@@ -42,6 +45,7 @@ count_of m (Vertices _) = length m.vertices
 abbrev pub width_of : DraftMachine → Listing → ℕ
 width_of m Outgoing = length m.vertices
 width_of m Incoming = length m.vertices
+width_of m Elses = length m.vertices
 width_of m Regions = length m.vertices
 width_of m TopRegions = 1
 width_of m (Vertices _) = length m.regions
@@ -74,6 +78,7 @@ AreVertexLists m listing lists = AreLists (λ v. v.0) (width_of m listing) (IsLi
 pub record IsIndex (m : DraftMachine) (index : Index) : Type 0 where
   pub outgoing : AreTransitionLists m Outgoing index.outgoing
   pub incoming : AreTransitionLists m Incoming index.incoming
+  pub elses : AreTransitionLists m Elses index.elses
   pub regions : AreRegionLists m Regions index.regions
   pub tops : AreRegionLists m TopRegions index.tops
   pub initials : AreVertexLists m (Vertices kinds.Initial) index.initials
