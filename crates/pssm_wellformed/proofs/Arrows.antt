@@ -1,5 +1,6 @@
 -- The arrows of a walk, as they are put into lists.
-use Rattle.std.proofs.Common.{◌≡◌, ◌↔◌, ◌⊎◌, ◌<◌, ◌≤◌, ◌+◌, ◌==◌, ℕ, List, [], ◌∷◌, ◌++◌, if◌then◌else◌, length, Bool, Contains, Vec, Global, refl, sym, ap, subst, ◌∙◌, inl, inr, ⊎_elim, arith, eq-eqb}
+use Rattle.std.proofs.Common.{◌≡◌, ◌↔◌, ◌⊎◌, ◌<◌, ◌≤◌, ◌+◌, ◌==◌, ℕ, List, [], ◌∷◌, ◌++◌, if◌then◌else◌, length, map, Bool, Contains, Vec, Global, refl, sym, ap, subst, ◌∙◌, inl, inr, ⊎_elim, arith, eq-eqb}
+use Rattle.std.proofs.Math.ListN.{get_or-map, length-map}
 use Rattle.std.proofs.lemmas.Bool.{cases_eq, ne_eqb}
 use Rattle.std.proofs.lemmas.List.{append-nil}
 use Rattle.std.proofs.lemmas.List.Elements.{Contains-append_left, Contains-append_right, Contains-append_cases, Contains-push, Contains-push_cases}
@@ -8,14 +9,15 @@ use Rattle.pssm_model.specs.declared.ids.RegionId.{RegionId}
 use Rattle.pssm_model.specs.declared.elements.DraftMachine.{DraftMachine}
 use Rattle.pssm_model.specs.declared.elements.VertexKind.TheVariants as kinds
 use Rattle.pssm_model.specs.declared.elements.Owner.TheVariants.{State}
+use Rattle.pssm_model.specs.Forest.{OwnsOfKind}
 use Rattle.pssm_model.specs.Legs.{Leaves, Enters}
 use Rattle.pssm_model.specs.Shapes.{HasShape}
 use Rattle.pssm_model.specs.FiringSets.{IsHistory, IsLateOrigin}
-use Rattle.pssm_wellformed.specs.declared.survey.End.TheVariants.{Source, Target}
+use Rattle.pssm_wellformed.specs.declared.ends.End.TheVariants.{Source, Target}
 use Rattle.pssm_wellformed.specs.declared.walks.Walk.{Walk}
 use Rattle.pssm_wellformed.specs.declared.walks.Walk.TheVariants.{Through}
 use Rattle.pssm_wellformed.specs.inner.Lists.{list_at}
-use Rattle.pssm_wellformed.specs.inner.Survey.{HasEnd, OwnsOfKind, vertex_number, region_number, transition_number}
+use Rattle.pssm_wellformed.specs.inner.Ends.{HasEnd, vertex_number, region_number, transition_number}
 use Rattle.pssm_wellformed.specs.inner.Walks.{Passes, near_end, far_end, AreArrowsBelow, AreArrows, AreArrowsAlong, AreArrowsWith, IsDefault, number_of_region, LeadsThrough, LeadsToRegion, LeadsFromRegion, AreLeads, IsLateTarget, IsLateTargetBelow}
 use Rattle.pssm_wellformed.specs.inner.Reach.{StaysWithin}
 use Rattle.pssm_wellformed.proofs.Listing.{puts_here, puts_there}
@@ -190,14 +192,25 @@ only_default m v r place is default b = (
   λ d. subst (Contains (place ∷ [])) (is ∙ ap (number_of_region m) (one_region m (State v) r d.0 default.2 d.2.2) ∙ sym d.1) (0, omega arith, refl),
 )
 
+-- the numbers of vertices
+number_in : (items : List VertexId) (b : ℕ) → Contains (map (λ v. v.0) items) b ↔ Contains items (vertex_number b)
+number_in items b = (
+  λ c.
+      let lt : c.0 < length items = let l = c.1 in omega (arith, length-map {A = VertexId} {B = ℕ}) in
+      (c.0, lt, ap vertex_number (sym (get_or-map (λ (v : VertexId). v.0) items c.0 (vertex_number b)) ∙ c.2)),
+  λ c.
+      let lt : c.0 < length (map (λ (v : VertexId). v.0) items) = let l = c.1 in omega (arith, length-map {A = VertexId} {B = ℕ}) in
+      (c.0, lt, get_or-map (λ (v : VertexId). v.0) items c.0 (vertex_number b) ∙ ap (λ (v : VertexId). v.0) c.2),
+)
+
 -- the number of a region leads to the initial vertices of that region alone
-pub region_leads : (m : DraftMachine) (r : RegionId) (items : List ℕ) → ((b : ℕ) → Contains items b ↔ OwnsOfKind m kinds.Initial r (vertex_number b))
-    → (b : ℕ) → Contains items b ↔ LeadsFromRegion m (number_of_region m r) b
+pub region_leads : (m : DraftMachine) (r : RegionId) (items : List VertexId) → ((v : VertexId) → Contains items v ↔ OwnsOfKind m r kinds.Initial v)
+    → (b : ℕ) → Contains (map (λ v. v.0) items) b ↔ LeadsFromRegion m (number_of_region m r) b
 region_leads m r items are b = (
-  λ c. (r, refl, (are b).0 c),
+  λ c. (r, refl, (are (vertex_number b)).0 ((number_in items b).0 c)),
   λ d.
       let same : d.0 ≡ r = ap region_number (let is = d.1 in omega arith) in
-      (are b).1 (subst (λ q. OwnsOfKind m kinds.Initial q (vertex_number b)) same d.2),
+      (number_in items b).1 ((are (vertex_number b)).1 (subst (λ q. OwnsOfKind m q kinds.Initial (vertex_number b)) same d.2)),
 )
 
 -- every arrow ends at a number that has a list

@@ -8,11 +8,11 @@ use Rattle.pssm_model.specs.Forest.{HasKind}
 use Rattle.pssm_model.specs.Legs.{Leaves, Enters}
 use Rattle.pssm_model.specs.Paths.{IsJunctionPath, IsOnPath}
 use Rattle.pssm_model.specs.Paths.IsJunctionPath.{one, more}
-use Rattle.pssm_wellformed.specs.declared.survey.End.TheVariants.{Source, Target}
+use Rattle.pssm_wellformed.specs.declared.ends.End.TheVariants.{Source, Target}
 use Rattle.pssm_wellformed.specs.declared.walks.Walk.TheVariants.{Back}
 use Rattle.pssm_wellformed.specs.inner.Reach.{IsReached}
 use Rattle.pssm_wellformed.specs.inner.Reach.IsReached.{at_first, by_arrow}
-use Rattle.pssm_wellformed.specs.inner.Survey.{vertex_number}
+use Rattle.pssm_wellformed.specs.inner.Ends.{vertex_number}
 use Rattle.pssm_wellformed.specs.inner.Walks.{AreArrows}
 use Rattle.pssm_wellformed.specs.inner.Strays.{IsLast}
 use Rattle.pssm_wellformed.proofs.Walking.{only_first}

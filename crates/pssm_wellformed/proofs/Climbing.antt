@@ -7,16 +7,14 @@ use Rattle.pssm_model.specs.declared.elements.DraftMachine.{DraftMachine}
 use Rattle.pssm_model.specs.declared.elements.VertexKind.TheVariants as kinds
 use Rattle.pssm_model.specs.declared.elements.Owner.{Owner}
 use Rattle.pssm_model.specs.declared.elements.Owner.TheVariants.{Top, Region, State}
-use Rattle.pssm_model.specs.Forest.{HasKind, owner_of, LiesUnder, LiesInRegion, LiesInState, HasRegionsAbove}
+use Rattle.pssm_model.specs.Forest.{HasKind, owner_of, LiesUnder, LiesInRegion, LiesInState, HasRegionsAbove, vertex_at, OwnsOfKind}
 use Rattle.pssm_model.specs.Forest.LiesUnder.{owned, further}
 use Rattle.pssm_model.specs.Forest.HasRegionsAbove.{region, state, machine}
 use Rattle.pssm_model.specs.Legs.{IsPoint}
 use Rattle.pssm_model.specs.Shapes.{HasShape}
 use Rattle.pssm_model.proofs.BuiltElements.{some_at, kind_unique, mapped_at}
 use Rattle.pssm_model.specs.declared.elements.Vertex.{Vertex}
-use Rattle.pssm_model.specs.Forest.{vertex_at}
 use Rattle.pssm_wellformed.specs.inner.Walks.{LiesIn, IsThere}
-use Rattle.pssm_wellformed.specs.inner.Survey.{OwnsOfKind}
 use Rattle.pssm_wellformed.specs.inner.Levels.{IsLevel, IsWithin, IsHome, IsCommonLevel, IsClimbing, IsPartWith, IsSeeking}
 use Rattle.pssm_wellformed.specs.inner.Levels.IsLevel.{top, over}
 use Rattle.pssm_wellformed.proofs.Places.{owner_may, owning_region_there, kind_there}
@@ -364,7 +362,7 @@ region_part m shape v s p None part is = let at = place_of_state m shape p s par
 
 pub state_part : (m : DraftMachine) → HasShape m → (v : VertexId) (r : RegionId) (p : Owner) (found : Option VertexId) → IsPartWith m v (Region r) p
     → MatchOption found ((s : VertexId) → p ≡ State s → ⊥) (λ s. p ≡ State s)
-    → MatchOption found ((s : VertexId) → OwnsOfKind m kinds.State r s → LiesInState m v s → ⊥) (λ s. OwnsOfKind m kinds.State r s × LiesInState m v s)
+    → MatchOption found ((s : VertexId) → OwnsOfKind m r kinds.State s → LiesInState m v s → ⊥) (λ s. OwnsOfKind m r kinds.State s × LiesInState m v s)
 state_part m shape v r p (Some s) part is = (
   (subst (IsThere m) is part.0, subst (λ q. owner_of m q ≡ Some (Region r)) is part.1),
   subst (LiesIn m v) is part.2,
@@ -376,11 +374,11 @@ pub no_region_part : (m : DraftMachine) → HasShape m → (v s : VertexId) → 
 no_region_part m shape v s none lies = none (Region lies.0) (chain_region_there m shape (State v) lies.0 lies.2, lies.1, lies.2)
 
 pub no_state_part : (m : DraftMachine) (v : VertexId) (r : RegionId) → ((p : Owner) → IsPartWith m v (Region r) p → ⊥)
-    → (s : VertexId) → OwnsOfKind m kinds.State r s → LiesInState m v s → ⊥
+    → (s : VertexId) → OwnsOfKind m r kinds.State s → LiesInState m v s → ⊥
 no_state_part m v r none s own lies = none (State s) (own.0, own.1, lies)
 
 -- A vertex lies in one State of a region.
-pub one_state_inside : (m : DraftMachine) → HasShape m → (v : VertexId) (r : RegionId) (s q : VertexId) → OwnsOfKind m kinds.State r s → OwnsOfKind m kinds.State r q
+pub one_state_inside : (m : DraftMachine) → HasShape m → (v : VertexId) (r : RegionId) (s q : VertexId) → OwnsOfKind m r kinds.State s → OwnsOfKind m r kinds.State q
     → LiesInState m v s → LiesInState m v q → s ≡ q
 one_state_inside m shape v r s q own other h g =
     let level = level_there m shape (Region r) (owning_region_there m shape s r own.1) in

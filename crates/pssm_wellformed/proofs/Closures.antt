@@ -16,13 +16,13 @@ use Rattle.pssm_model.specs.Paths.ComesAfter.{end, inner}
 use Rattle.pssm_model.specs.Paths.IsJunctionPath.{one, more}
 use Rattle.pssm_model.specs.Paths.Reaches.{by, on}
 use Rattle.pssm_model.specs.Paths.LeadsOn.{next, after}
-use Rattle.pssm_wellformed.specs.declared.survey.End.TheVariants.{Source, Target}
+use Rattle.pssm_wellformed.specs.declared.ends.End.TheVariants.{Source, Target}
 use Rattle.pssm_wellformed.specs.declared.walks.Walk.TheVariants.{Junctions, Inner, Through}
 use Rattle.pssm_wellformed.specs.inner.Lists.{list_at}
 use Rattle.pssm_wellformed.specs.inner.Reach.{IsReached}
 use Rattle.pssm_wellformed.specs.inner.Reach.IsReached.{at_first, by_arrow}
 use Rattle.pssm_wellformed.specs.inner.Cycles.{GoesRound}
-use Rattle.pssm_wellformed.specs.inner.Survey.{vertex_number, region_number}
+use Rattle.pssm_wellformed.specs.inner.Ends.{vertex_number, region_number}
 use Rattle.pssm_wellformed.specs.inner.Walks.{AreArrows, IsDefault, number_of_region, AreLeads, IsLateTarget}
 use Rattle.pssm_wellformed.specs.inner.Strays.{IsReachedLate}
 use Rattle.pssm_wellformed.proofs.Walking.{only_first}

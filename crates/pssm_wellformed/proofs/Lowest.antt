@@ -7,7 +7,7 @@ use Rattle.pssm_model.specs.declared.ids.VertexId.{VertexId}
 use Rattle.pssm_model.specs.declared.elements.DraftMachine.{DraftMachine}
 use Rattle.pssm_model.specs.declared.elements.Owner.{Owner}
 use Rattle.pssm_wellformed.specs.inner.Lists.{list_at}
-use Rattle.pssm_wellformed.specs.inner.Survey.{vertex_number}
+use Rattle.pssm_wellformed.specs.inner.Ends.{vertex_number}
 use Rattle.pssm_wellformed.specs.inner.Walks.{LiesIn}
 use Rattle.pssm_wellformed.specs.inner.Levels.{IsCommonLevel, SomeLieOutside, IsLowestLevel, AreLevelsBelow, AreLowestLevels}
 use Rattle.pssm_wellformed.proofs.Pushing.{get_pushed}

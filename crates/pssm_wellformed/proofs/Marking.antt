@@ -13,7 +13,7 @@ use Rattle.pssm_wellformed.specs.declared.walks.Walk.{Walk}
 use Rattle.pssm_wellformed.specs.inner.Lists.{list_at}
 use Rattle.pssm_wellformed.specs.inner.Reach.{IsReached, StaysWithin}
 use Rattle.pssm_wellformed.specs.inner.Reach.IsReached.{at_first, by_arrow}
-use Rattle.pssm_wellformed.specs.inner.Survey.{vertex_number}
+use Rattle.pssm_wellformed.specs.inner.Ends.{vertex_number}
 use Rattle.pssm_wellformed.specs.inner.Walks.{AreArrows, LiesIn, Strays}
 use Rattle.pssm_wellformed.specs.inner.Levels.{IsLevel, AreLevelsBelow, AreLowestLevels}
 use Rattle.pssm_wellformed.specs.inner.Marks.{AreTurnedBelow, AreTurned, IsPutToEach, marks_at, AreMarksOf, AreMarksBelow, AreStrayMarks}

@@ -15,9 +15,9 @@ use Rattle.pssm_model.specs.declared.elements.Owner.TheVariants.{Region, State}
 use Rattle.pssm_model.specs.Forest.{transition_at, vertex_at, owner_of, HasKind}
 use Rattle.pssm_model.specs.Shapes.{HasShape, OwnsVertex}
 use Rattle.pssm_model.proofs.BuiltElements.{mapped_some, mapped_at, some_at, kind_unique}
-use Rattle.pssm_wellformed.specs.declared.survey.End.{End}
-use Rattle.pssm_wellformed.specs.declared.survey.End.TheVariants.{Source, Target}
-use Rattle.pssm_wellformed.specs.inner.Survey.{HasEnd}
+use Rattle.pssm_wellformed.specs.declared.ends.End.{End}
+use Rattle.pssm_wellformed.specs.declared.ends.End.TheVariants.{Source, Target}
+use Rattle.pssm_wellformed.specs.inner.Ends.{HasEnd}
 
 -- Both the transition and the vertex at its end are there.
 pub end_there : (m : DraftMachine) → HasShape m → (end : End) (t : TransId) (v : VertexId) → HasEnd m end t v → (t.0 < length m.transitions) × (v.0 < length m.vertices)

@@ -11,10 +11,9 @@ use Rattle.pssm_model.specs.declared.elements.DraftMachine.{DraftMachine}
 use Rattle.pssm_model.specs.Forest.{LiesInRegion, LiesInState}
 use Rattle.pssm_model.specs.Shapes.{HasShape}
 use Rattle.pssm_model.specs.WellFormed.{LieApart}
-use Rattle.pssm_model.proofs.BuiltElements.{same_transition}
-use Rattle.pssm_wellformed.specs.declared.survey.End.{End}
-use Rattle.pssm_wellformed.specs.inner.Survey.{HasEnd, HasRegion, vertex_number, region_number, transition_number}
-use Rattle.pssm_wellformed.specs.inner.Apart.{EndLiesIn, EndLiesInside, AreEnds, LieApartAround, AreApartMarks, AreStamps, EndLiesInOneOf, AreStamped}
+use Rattle.pssm_wellformed.specs.declared.ends.End.{End}
+use Rattle.pssm_wellformed.specs.inner.Ends.{HasEnd, HasRegion, vertex_number, region_number, transition_number}
+use Rattle.pssm_wellformed.specs.inner.Apart.{EndLiesIn, EndLiesInside, AreEnds, LieApartAround, AreApartMarks, AreStamps, EndLiesInOneOf, placed, AreStamped}
 use Rattle.pssm_wellformed.proofs.Listing.{placed_apart}
 use Rattle.pssm_wellformed.proofs.Places.{end_only}
 use Rattle.pssm_wellformed.proofs.Chains.{one_region_inside}
@@ -43,12 +42,12 @@ region_of m end s w t None has none = λ h. none (subst (λ v. LiesInState m v s
 
 module _ {m : DraftMachine} (shape : HasShape m) (end : End) (s : VertexId) where
   -- an end lies in one region of the State
-  one_region_of_end : (t q r : ℕ) → EndLiesInOneOf m end s q t → EndLiesInOneOf m end s r t → q ≡ r
+  one_region_of_end : (t : TransId) (q r : ℕ) → EndLiesInOneOf m end s q t → EndLiesInOneOf m end s r t → q ≡ r
   one_region_of_end t q r h g =
-      let same : h.1.0 ≡ g.1.0 = end_only m end (transition_number t) h.1.0 g.1.0 h.1.1 g.1.1 in
+      let same : h.1.0 ≡ g.1.0 = end_only m end t h.1.0 g.1.0 h.1.1 g.1.1 in
       ap (λ (x : RegionId). x.0) (one_region_inside m shape g.1.0 s (region_number q) (region_number r) h.0 g.0 (subst (λ v. LiesInRegion m v (region_number q)) same h.1.2) g.1.2)
 
-  module _ (ts : List ℕ) where
+  module _ (ts : List TransId) where
     pub stamps_begin : (last : ℕ) (stamps : List ℕ) → AreStamps m last stamps → AreStamped m end s ts 0 (last + 1) stamps
     stamps_begin last stamps h = record {
       are = stamps_later m last stamps h;
@@ -57,27 +56,27 @@ module _ {m : DraftMachine} (shape : HasShape m) (end : End) (s : VertexId) wher
       apart = λ j k r lt below a b. omega arith;
     }
 
-    pub stamps_go_on : (i stamp r : ℕ) (old new : List ℕ) → AreStamped m end s ts i stamp old → EndLiesInOneOf m end s r (get_or ts i 0) → (get_or old r 0 ≡ stamp → ⊥)
+    pub stamps_go_on : (i stamp r : ℕ) (old new : List ℕ) → AreStamped m end s ts i stamp old → EndLiesInOneOf m end s r (placed ts i) → (get_or old r 0 ≡ stamp → ⊥)
         → length new ≡ length old → get_or new r 0 ≡ stamp → ((q : ℕ) → (q ≡ r → ⊥) → get_or new q 0 ≡ get_or old q 0) → AreStamped m end s ts (i + 1) stamp new
     stamps_go_on i stamp r old new h lies fresh width here elsewhere = record {
       are = stamps_put m r stamp old new width here elsewhere h.are;
       stamped = λ q. ⊎_elim
           (λ (same : q ≡ r). (
-            λ e. (i, omega arith, subst (λ x. EndLiesInOneOf m end s x (get_or ts i 0)) (sym same) lies),
+            λ e. (i, omega arith, subst (λ x. EndLiesInOneOf m end s x (placed ts i)) (sym same) lies),
             λ w. ap (λ k. get_or new k 0) same ∙ here,
           ))
           (λ (other : q ≡ r → ⊥). (
             λ e. let w = (h.stamped q).0 (sym (elsewhere q other) ∙ e) in (w.0, (let lt = w.1 in omega arith), w.2),
             λ w. ⊎_elim
-                (λ (last : w.0 ≡ i). absurd (other (one_region_of_end (get_or ts i 0) q r (subst (λ k. EndLiesInOneOf m end s q (get_or ts k 0)) last w.2) lies)))
+                (λ (last : w.0 ≡ i). absurd (other (one_region_of_end (placed ts i) q r (subst (λ k. EndLiesInOneOf m end s q (placed ts k)) last w.2) lies)))
                 (λ (before : w.0 ≡ i → ⊥). elsewhere q other ∙ (h.stamped q).1 (w.0, (let lt = w.1 in omega arith), w.2)) (cases_eq w.0 i),
           )) (cases_eq q r);
       inside = λ k lt. ⊎_elim
-          (λ (last : k ≡ i). subst (λ n. EndLiesInside m end s (transition_number (get_or ts n 0))) (sym last) (lies.1.0, lies.1.1, (region_number r, lies.0, lies.1.2)))
+          (λ (last : k ≡ i). subst (λ n. EndLiesInside m end s (placed ts n)) (sym last) (lies.1.0, lies.1.1, (region_number r, lies.0, lies.1.2)))
           (λ (before : k ≡ i → ⊥). h.inside k (omega arith)) (cases_eq k i);
       apart = λ j k q lt below a b. ⊎_elim
           (λ (last : k ≡ i).
-          let same = one_region_of_end (get_or ts i 0) q r (subst (λ n. EndLiesInOneOf m end s q (get_or ts n 0)) last b) lies in
+          let same = one_region_of_end (placed ts i) q r (subst (λ n. EndLiesInOneOf m end s q (placed ts n)) last b) lies in
           fresh (subst (λ x. get_or old x 0 ≡ stamp) same ((h.stamped q).1 (j, omega arith, a))))
           (λ (before : k ≡ i → ⊥). h.apart j k q lt (omega arith) a b) (cases_eq k i);
     }
@@ -85,35 +84,35 @@ module _ {m : DraftMachine} (shape : HasShape m) (end : End) (s : VertexId) wher
     pub stamps_end : (n stamp : ℕ) (stamps : List ℕ) → AreStamped m end s ts n stamp stamps → length ts ≤ n → LieApart m s (AreEnds m end ts)
     stamps_end n stamp stamps h all = record {
       inside = λ t w e.
-          let at : get_or ts e.0.0 0 ≡ t.0 = get_or_default ts e.0.0 0 t.0 e.0.1 ∙ e.0.2 in
+          let at : placed ts e.0.0 ≡ t = get_or_default ts e.0.0 (transition_number 0) t e.0.1 ∙ e.0.2 in
           let a = h.inside e.0.0 (let lt = e.0.1 in omega arith) in
-          let a' : EndLiesInside m end s t = subst (λ k. EndLiesInside m end s (transition_number k)) at a in
+          let a' : EndLiesInside m end s t = subst (EndLiesInside m end s) at a in
           subst (λ v. LiesInState m v s) (end_only m end t a'.0 w a'.1 e.1) a'.2;
       apart = λ t u v w r ne e f owner lv lw.
           let j = e.0.0 in let k = f.0.0 in
           let j_within : j < length ts = e.0.1 in
           let k_within : k < length ts = f.0.1 in
-          let at_j : get_or ts j 0 ≡ t.0 = get_or_default ts j 0 t.0 e.0.1 ∙ e.0.2 in
-          let at_k : get_or ts k 0 ≡ u.0 = get_or_default ts k 0 u.0 f.0.1 ∙ f.0.2 in
-          let first : EndLiesInOneOf m end s r.0 (get_or ts j 0) = subst (EndLiesInOneOf m end s r.0) (sym at_j) (owner, (v, e.1, lv)) in
-          let second : EndLiesInOneOf m end s r.0 (get_or ts k 0) = subst (EndLiesInOneOf m end s r.0) (sym at_k) (owner, (w, f.1, lw)) in
-          ⊎_elim (λ (same : j ≡ k). ne (same_transition t u (sym at_j ∙ ap (λ n. get_or ts n 0) same ∙ at_k)))
+          let at_j : placed ts j ≡ t = get_or_default ts j (transition_number 0) t e.0.1 ∙ e.0.2 in
+          let at_k : placed ts k ≡ u = get_or_default ts k (transition_number 0) u f.0.1 ∙ f.0.2 in
+          let first : EndLiesInOneOf m end s r.0 (placed ts j) = subst (EndLiesInOneOf m end s r.0) (sym at_j) (owner, (v, e.1, lv)) in
+          let second : EndLiesInOneOf m end s r.0 (placed ts k) = subst (EndLiesInOneOf m end s r.0) (sym at_k) (owner, (w, f.1, lw)) in
+          ⊎_elim (λ (same : j ≡ k). ne (sym at_j ∙ ap (placed ts) same ∙ at_k))
           (⊎_elim
           (λ (lt : j < k). h.apart j k r.0 lt (omega arith) first second)
           (λ (gt : k < j). h.apart k j r.0 gt (omega arith) second first))
           (cases_order j k);
     }
 
-    pub stamped_twice : (i stamp r : ℕ) (stamps : List ℕ) → AllPairs (λ t u. t < u) ts → i < length ts → AreStamped m end s ts i stamp stamps
-        → EndLiesInOneOf m end s r (get_or ts i 0) → get_or stamps r 0 ≡ stamp → LieApart m s (AreEnds m end ts) → ⊥
+    pub stamped_twice : (i stamp r : ℕ) (stamps : List ℕ) → AllPairs (λ t u. t.0 < u.0) ts → i < length ts → AreStamped m end s ts i stamp stamps
+        → EndLiesInOneOf m end s r (placed ts i) → get_or stamps r 0 ≡ stamp → LieApart m s (AreEnds m end ts) → ⊥
     stamped_twice i stamp r stamps up within h second e apart =
         let w = (h.stamped r).0 e in
         let j = w.0 in
         let lt : j < i = w.1 in
         let first = w.2 in
-        apart.apart (transition_number (get_or ts j 0)) (transition_number (get_or ts i 0)) first.1.0 second.1.0 (region_number r)
-        (λ same. placed_apart ts up j i lt within (ap (λ (t : TransId). t.0) same))
-        (Contains-get_or ts j 0 (omega arith), first.1.1) (Contains-get_or ts i 0 within, second.1.1) first.0 first.1.2 second.1.2
+        apart.apart (placed ts j) (placed ts i) first.1.0 second.1.0 (region_number r)
+        (placed_apart ts up j i lt within)
+        (Contains-get_or ts j (transition_number 0) (omega arith), first.1.1) (Contains-get_or ts i (transition_number 0) within, second.1.1) first.0 first.1.2 second.1.2
 
 -- the mark of one vertex more
 pub marks_pushed : (m : DraftMachine) (near far : End) (n : ℕ) (b : Bool) (marks : List Bool) → (IsTrue b ↔ LieApartAround m near far (vertex_number n))

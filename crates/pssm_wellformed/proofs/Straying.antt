@@ -19,11 +19,11 @@ use Rattle.pssm_model.specs.Legs.{IsPoint}
 use Rattle.pssm_model.specs.declared.elements.VertexKind.{VertexKind}
 use Rattle.pssm_model.specs.WellFormed.{LeavesLocally, IsBadLocal, LeavesRegion, GoesOutside, StaysInside}
 use Rattle.pssm_model.proofs.BuiltElements.{same_vertex, kind_unique}
-use Rattle.pssm_wellformed.specs.declared.survey.End.TheVariants.{Source}
+use Rattle.pssm_wellformed.specs.declared.ends.End.TheVariants.{Source}
 use Rattle.pssm_wellformed.specs.declared.walks.Walk.TheVariants.{Junctions, Inner, Back}
 use Rattle.pssm_wellformed.specs.inner.Reach.{IsReached}
 use Rattle.pssm_wellformed.specs.inner.Reach.IsReached.{at_first, by_arrow}
-use Rattle.pssm_wellformed.specs.inner.Survey.{vertex_number}
+use Rattle.pssm_wellformed.specs.inner.Ends.{vertex_number}
 use Rattle.pssm_wellformed.specs.inner.Walks.{AreArrows, LiesIn, Strays}
 use Rattle.pssm_wellformed.specs.inner.Strays.{StraysFrom, ComesFromAfar, IsLast}
 use Rattle.pssm_wellformed.proofs.Walking.{reached_within, only_first}

@@ -1,11 +1,11 @@
 pub mod Apart
 pub mod Checked
 pub mod Cycles
+pub mod Ends
 pub mod Levels
 pub mod Lists
 pub mod Marks
 pub mod Questions
 pub mod Reach
 pub mod Strays
-pub mod Survey
 pub mod Walks

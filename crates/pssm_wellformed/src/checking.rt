@@ -2,7 +2,6 @@
 ghost use Rattle.std.specs.Prelude.{◌≡◌, ◌↔◌, ◌<◌, ◌+◌, [], Contains, AllPairs, length, IfOk, OnOk};
 ghost use Rattle.pssm_model.specs.Shapes.{HasShape};
 ghost use Rattle.pssm_model.specs.WellFormed.{Breaks, KeepsModelRules};
-ghost use Rattle.pssm_wellformed.specs.inner.Survey.{IsSurvey};
 ghost use Rattle.pssm_wellformed.specs.inner.Strays.{AreVertexMarks};
 ghost use Rattle.pssm_wellformed.specs.Faults.{IsEarlierFault};
 ghost use Rattle.pssm_wellformed.specs.inner.Checked.{IsPlace, place_number, IsCheckedBelow};
@@ -10,7 +9,6 @@ ghost use Rattle.pssm_wellformed.specs.inner.Checked.{IsPlace, place_number, IsC
 use crate::fault::Fault;
 use crate::paths::VertexMarks;
 use crate::rules::breaks;
-use crate::survey::Survey;
 use pssm_model::{Element, FaultPlace, Machine, RegionId, TransId, VertexId};
 use std::alloc::{AllocError as NoMemory, Global};
 
@@ -48,19 +46,17 @@ fn place_at(machine: &Machine, number: u16) -> FaultPlace
 /// Lists the faults at one place more.
 fn list_faults(
     machine: &Machine,
-    survey: &Survey,
     marks: &VertexMarks,
     place: FaultPlace,
     faults: &mut Vec<Fault>,
 ) -> Result<(), NoMemory>
-    requires survey { IsSurvey machine.now survey.now }
     requires marks { AreVertexMarks machine.now marks.now }
     requires there { IsPlace machine.now place }
     requires before { IsCheckedBelow machine.now (place_number machine.now place) 1 faults.old.items }
     ensures { OnOk result (IsCheckedBelow machine.now (place_number machine.now place + 1) 1 faults.new.items) }
 {
     for rule in 1..LAST_RULE + 1 {
-        if breaks(machine, survey, marks, place, rule) {
+        if breaks(machine, marks, place, rule) {
             let element = place;
             faults.push(Fault { element, rule })?;
         }
@@ -80,12 +76,11 @@ pub fn check(alloc: Global, machine: &Machine) -> Result<Vec<Fault>, NoMemory>
     ensures keeps_rules { IfOk result (λ list. (list.items ≡ []) ↔ KeepsModelRules machine.now) }
 {
     let places = places(machine);
-    let survey = Survey::of(alloc, machine)?;
-    let marks = VertexMarks::of(alloc, machine, &survey)?;
+    let marks = VertexMarks::of(alloc, machine)?;
     let mut faults = Vec::new(alloc);
     for number in 0..places {
         let place = place_at(machine, number);
-        list_faults(machine, &survey, &marks, place, &mut faults)?;
+        list_faults(machine, &marks, place, &mut faults)?;
     }
     Ok(faults)
 }

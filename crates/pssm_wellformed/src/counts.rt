@@ -1,33 +1,33 @@
 //! How many transitions meet at a vertex.
-ghost use Rattle.std.specs.Prelude.{◌≢◌, ◌↔◌, ◌⊎◌, IsTrue};
-ghost use Rattle.pssm_wellformed.specs.inner.Survey.{HasEnd, IsSurvey};
+ghost use Rattle.std.specs.Prelude.{◌≢◌, ◌↔◌, ◌⊎◌, ◌<◌, length, IsTrue};
+ghost use Rattle.pssm_wellformed.specs.inner.Ends.{HasEnd};
 
-use crate::survey::{End, Survey, meeting};
+use crate::ends::{End, meeting};
 use pssm_model::{Machine, TransId, VertexId};
 
 /// Whether some transition has the vertex at this end.
-pub fn meets_some(machine: &Machine, survey: &Survey, vertex: VertexId, end: End) -> bool
-    requires { IsSurvey machine.now survey.now }
+pub fn meets_some(machine: &Machine, vertex: VertexId, end: End) -> bool
+    requires { vertex.0 < length machine.now.vertices }
     ensures { IsTrue result ↔ ((t : TransId) × HasEnd machine.now end t vertex) }
 {
-    !meeting(machine, survey, vertex, end).is_empty()
+    !meeting(machine, vertex, end).is_empty()
 }
 
 /// Whether at least two transitions have the vertex at this end.
-pub fn meets_two(machine: &Machine, survey: &Survey, vertex: VertexId, end: End) -> bool
-    requires { IsSurvey machine.now survey.now }
+pub fn meets_two(machine: &Machine, vertex: VertexId, end: End) -> bool
+    requires { vertex.0 < length machine.now.vertices }
     ensures { IsTrue result
         ↔ ((t u : TransId) × (t ≢ u) × HasEnd machine.now end t vertex × HasEnd machine.now end u vertex) }
 {
-    meeting(machine, survey, vertex, end).len() > 1
+    meeting(machine, vertex, end).len() > 1
 }
 
 /// Whether not exactly one transition has the vertex at this end.
-pub fn lacks_one(machine: &Machine, survey: &Survey, vertex: VertexId, end: End) -> bool
-    requires { IsSurvey machine.now survey.now }
+pub fn lacks_one(machine: &Machine, vertex: VertexId, end: End) -> bool
+    requires { vertex.0 < length machine.now.vertices }
     ensures { IsTrue result
         ↔ ((((t : TransId) × HasEnd machine.now end t vertex) → ⊥)
         ⊎ ((t u : TransId) × (t ≢ u) × HasEnd machine.now end t vertex × HasEnd machine.now end u vertex)) }
 {
-    !meets_some(machine, survey, vertex, end) || meets_two(machine, survey, vertex, end)
+    !meets_some(machine, vertex, end) || meets_two(machine, vertex, end)
 }

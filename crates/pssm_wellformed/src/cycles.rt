@@ -7,14 +7,13 @@
 //! closed to what is not, so no cycle goes through two groups. (This is the path-based search for
 //! strong components.)
 ghost use Rattle.std.specs.Prelude.{◌≡◌, ◌↔◌, ◌≤◌, ◌<◌, ◌+◌, ℕ, true, false, AllPairs, Contains, length, slice_index_or, IfOk, OnOk, IsTrue, MatchOption};
+ghost use Rattle.pssm_model.specs.Shapes.{HasShape};
 ghost use Rattle.pssm_model.specs.WellFormed.{IsOnCycle};
 ghost use Rattle.pssm_wellformed.specs.inner.Reach.{StaysWithin};
-ghost use Rattle.pssm_wellformed.specs.inner.Survey.{IsSurvey};
 ghost use Rattle.pssm_wellformed.specs.inner.Strays.{AreVertexMarks};
 ghost use Rattle.pssm_wellformed.specs.inner.Cycles.{GoesRound, stage_at, IsEarlierGroup, IsLastGroup, IsSearching, IsMeeting, steps_left, IsJoined, IsWalkedGroup, IsSettled};
 
 use crate::paths::VertexMarks;
-use crate::survey::Survey;
 use crate::walks::leads_of;
 use pssm_model::{Machine, VertexId};
 use std::alloc::{AllocError as NoMemory, Global};
@@ -212,18 +211,14 @@ fn cyclic_numbers(alloc: Global, onward: &[Vec<u16>]) -> Result<Vec<bool>, NoMem
 
 /// A mark for each vertex that lies on a cycle of pseudostates. The numbers behind those of the
 /// vertices stand for regions.
-pub fn cyclic_marks(
-    alloc: Global,
-    machine: &Machine,
-    survey: &Survey,
-) -> Result<Vec<bool>, NoMemory>
-    requires { IsSurvey machine.now survey.now }
+pub fn cyclic_marks(alloc: Global, machine: &Machine) -> Result<Vec<bool>, NoMemory>
+    requires { HasShape machine.now }
     ensures width { IfOk result (λ marks. length marks.items ≡ length machine.now.vertices) }
     ensures marks { IfOk result
         (λ marks. (v : VertexId) → (slice_index_or marks.items v.0 false ≡ true)
         ↔ IsOnCycle machine.now v) }
 {
-    let leads = leads_of(alloc, machine, survey)?;
+    let leads = leads_of(alloc, machine)?;
     let mut marks = cyclic_numbers(alloc, leads.as_slice())?;
     marks.truncate(machine.vertices() as usize);
     Ok(marks)

@@ -1,13 +1,10 @@
 //! What is asked of one vertex or transition.
 ghost use Rattle.std.specs.Prelude.{◌↔◌, ◌<◌, length, IsTrue};
 ghost use Rattle.pssm_model.specs.Forest.{HasKind, IsStateOrFinal};
-ghost use Rattle.pssm_model.specs.Shapes.{HasShape};
-ghost use Rattle.pssm_wellformed.specs.inner.Survey.{HasEnd};
 ghost use Rattle.pssm_model.specs.FiringSets.{IsHistory, IsLateOrigin};
 ghost use Rattle.pssm_model.specs.Paths.{IsPseudostate, IsPseudostateKind, IsInner};
 ghost use Rattle.pssm_model.specs.WellFormed.{HasGuard, HasElse, HasTrigger, IsBranch, IsUnguardedKind};
 
-use crate::survey::End;
 use pssm_model::{Guard, Machine, TransId, VertexId, VertexKind};
 
 /// Whether the vertex is of the kind.
@@ -117,18 +114,4 @@ pub fn has_trigger(machine: &Machine, transition: TransId) -> bool
         .triggers
         .as_slice()
         .is_empty()
-}
-
-/// The vertex at an end of the transition.
-pub fn end_of(machine: &Machine, transition: TransId, end: End) -> VertexId
-    requires shape { HasShape machine.now }
-    requires there { transition.0 < length machine.now.transitions }
-    ensures is { HasEnd machine.now end transition result }
-    ensures there { result.0 < length machine.now.vertices }
-{
-    let found = machine.transition(transition);
-    match end {
-        End::Source => found.source,
-        End::Target => found.target,
-    }
 }

@@ -1,32 +1,31 @@
 //! The rule of exit points, E16.
-ghost use Rattle.std.specs.Prelude.{◌≡◌, ◌↔◌, ◌<◌, ℕ, Some, Contains, length, IsTrue};
+ghost use Rattle.std.specs.Prelude.{◌≡◌, ◌↔◌, ◌<◌, Some, All, Contains, length, IsTrue};
+ghost use Rattle.pssm_model.specs.declared.ids.TransId.{TransId};
 ghost use Rattle.pssm_model.specs.declared.elements.Owner.TheVariants.{State};
 ghost use Rattle.pssm_model.specs.Forest.{HasKind, owner_of};
 ghost use Rattle.pssm_model.specs.Legs.{Enters};
+ghost use Rattle.pssm_model.specs.Shapes.{HasShape};
 ghost use Rattle.pssm_model.specs.WellFormed.{StaysInside, HasStrayPathIn, IsBadExitPoint};
-ghost use Rattle.pssm_wellformed.specs.inner.Survey.{IsSurvey, transition_number};
 ghost use Rattle.pssm_wellformed.specs.inner.Strays.{AreVertexMarks, ComesFromAfar};
 
 use crate::counts::lacks_one;
-use crate::elements::{end_of, has_kind};
+use crate::elements::has_kind;
+use crate::ends::{End, end_of, meeting};
 use crate::inside::region_inside;
 use crate::marks::strays;
 use crate::paths::VertexMarks;
 use crate::questions::{Question, holds_at};
-use crate::survey::{End, Survey, meeting, regions_in};
 use pssm_model::{Machine, Owner, TransId, VertexId, VertexKind};
 
 /// Whether the other vertices of some junction path to the vertex that ends with the transition do
 /// not all lie in one region of the State.
 fn comes_from_afar(
     machine: &Machine,
-    survey: &Survey,
     marks: &VertexMarks,
     transition: TransId,
     vertex: VertexId,
     state: VertexId,
 ) -> bool
-    requires survey { IsSurvey machine.now survey.now }
     requires marks { AreVertexMarks machine.now marks.now }
     requires there { transition.0 < length machine.now.transitions }
     requires enters { Enters machine.now transition vertex }
@@ -39,7 +38,7 @@ fn comes_from_afar(
     // A path that ends with a transition from the exit point to itself has no other vertex, so any
     // region of the State holds it.
     if source.0 == vertex.0 {
-        return regions_in(machine, survey, state).is_empty();
+        return machine.regions_of(state).is_empty();
     }
     match region_inside(machine, source, state) {
         Some(region) => strays(
@@ -55,25 +54,22 @@ fn comes_from_afar(
 /// Whether that is so for one of these transitions.
 fn some_come_from_afar(
     machine: &Machine,
-    survey: &Survey,
     marks: &VertexMarks,
-    transitions: &[u16],
+    transitions: &[TransId],
     vertex: VertexId,
     state: VertexId,
 ) -> bool
-    requires survey { IsSurvey machine.now survey.now }
     requires marks { AreVertexMarks machine.now marks.now }
-    requires there { (t : ℕ) → Contains transitions.now t → t < length machine.now.transitions }
-    requires enter { (t : ℕ) → Contains transitions.now t → Enters machine.now (transition_number t) vertex }
+    requires there { All (λ t. t.0 < length machine.now.transitions) transitions.now }
+    requires enter { (t : TransId) → Contains transitions.now t → Enters machine.now t vertex }
     requires point { HasKind machine.now vertex VertexKind.ExitPoint }
     requires owner { owner_of machine.now (State vertex) ≡ Some (State state) }
     requires leaves { StaysInside machine.now vertex → ⊥ }
     ensures { IsTrue result
-        ↔ ((t : ℕ) × Contains transitions.now t × ComesFromAfar machine.now vertex state
-        (transition_number t)) }
+        ↔ ((t : TransId) × Contains transitions.now t × ComesFromAfar machine.now vertex state t) }
 {
-    for number in transitions {
-        if comes_from_afar(machine, survey, marks, TransId(*number), vertex, state) {
+    for transition in transitions {
+        if comes_from_afar(machine, marks, *transition, vertex, state) {
             return true;
         }
     }
@@ -81,13 +77,7 @@ fn some_come_from_afar(
 }
 
 /// Whether the other vertices of some junction path to the exit point do not all lie in one region of its State.
-fn has_stray_path_in(
-    machine: &Machine,
-    survey: &Survey,
-    marks: &VertexMarks,
-    vertex: VertexId,
-) -> bool
-    requires survey { IsSurvey machine.now survey.now }
+fn has_stray_path_in(machine: &Machine, marks: &VertexMarks, vertex: VertexId) -> bool
     requires marks { AreVertexMarks machine.now marks.now }
     requires point { HasKind machine.now vertex VertexKind.ExitPoint }
     requires there { vertex.0 < length machine.now.vertices }
@@ -97,9 +87,8 @@ fn has_stray_path_in(
     match machine.vertex(vertex).owner {
         Owner::State(state) => some_come_from_afar(
             machine,
-            survey,
             marks,
-            meeting(machine, survey, vertex, End::Target),
+            meeting(machine, vertex, End::Target),
             vertex,
             state,
         ),
@@ -108,19 +97,13 @@ fn has_stray_path_in(
 }
 
 /// Whether a transition out of the exit point ends in its State.
-fn stays_inside(machine: &Machine, survey: &Survey, vertex: VertexId) -> bool
-    requires survey { IsSurvey machine.now survey.now }
+fn stays_inside(machine: &Machine, vertex: VertexId) -> bool
+    requires shape { HasShape machine.now }
     requires there { vertex.0 < length machine.now.vertices }
     ensures { IsTrue result ↔ StaysInside machine.now vertex }
 {
     match machine.vertex(vertex).owner {
-        Owner::State(state) => holds_at(
-            machine,
-            survey,
-            vertex,
-            End::Source,
-            Question::EndsInside(state),
-        ),
+        Owner::State(state) => holds_at(machine, vertex, End::Source, Question::EndsInside(state)),
         _ => false,
     }
 }
@@ -128,13 +111,7 @@ fn stays_inside(machine: &Machine, survey: &Survey, vertex: VertexId) -> bool
 /// E16: whether it is an exit point with not exactly one transition out, or with one that ends in
 /// its State, or to which some junction path comes from more than one region of its State, or from
 /// outside.
-pub fn is_bad_exit_point(
-    machine: &Machine,
-    survey: &Survey,
-    marks: &VertexMarks,
-    vertex: VertexId,
-) -> bool
-    requires survey { IsSurvey machine.now survey.now }
+pub fn is_bad_exit_point(machine: &Machine, marks: &VertexMarks, vertex: VertexId) -> bool
     requires marks { AreVertexMarks machine.now marks.now }
     requires there { vertex.0 < length machine.now.vertices }
     ensures { IsTrue result ↔ IsBadExitPoint machine.now vertex }
@@ -142,8 +119,8 @@ pub fn is_bad_exit_point(
     if !has_kind(machine, vertex, VertexKind::ExitPoint) {
         return false;
     }
-    if lacks_one(machine, survey, vertex, End::Source) || stays_inside(machine, survey, vertex) {
+    if lacks_one(machine, vertex, End::Source) || stays_inside(machine, vertex) {
         return true;
     }
-    has_stray_path_in(machine, survey, marks, vertex)
+    has_stray_path_in(machine, marks, vertex)
 }

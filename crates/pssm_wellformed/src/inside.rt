@@ -1,9 +1,8 @@
 //! Where vertices lie, as the rules ask of it.
 ghost use Rattle.std.specs.Prelude.{◌≡◌, ◌↔◌, ◌<◌, Some, length, IsTrue, MatchOption};
 ghost use Rattle.pssm_model.specs.declared.elements.Owner.TheVariants.{Region, State};
-ghost use Rattle.pssm_model.specs.Forest.{owner_of, LiesInRegion, LiesInState};
+ghost use Rattle.pssm_model.specs.Forest.{owner_of, LiesInRegion, LiesInState, OwnsOfKind};
 ghost use Rattle.pssm_model.specs.Shapes.{HasShape};
-ghost use Rattle.pssm_wellformed.specs.inner.Survey.{OwnsOfKind};
 ghost use Rattle.pssm_wellformed.specs.inner.Levels.{IsPartWith};
 
 use crate::levels::{common_level, home, level, owner};
@@ -67,9 +66,9 @@ pub fn state_inside(machine: &Machine, vertex: VertexId, region: RegionId) -> Op
     requires shape { HasShape machine.now }
     requires there { vertex.0 < length machine.now.vertices }
     ensures { MatchOption result
-        ((s : VertexId) → OwnsOfKind machine.now VertexKind.State region s
+        ((s : VertexId) → OwnsOfKind machine.now region VertexKind.State s
         → LiesInState machine.now vertex s → ⊥)
-        (λ s. OwnsOfKind machine.now VertexKind.State region s × LiesInState machine.now vertex s) }
+        (λ s. OwnsOfKind machine.now region VertexKind.State s × LiesInState machine.now vertex s) }
 {
     match part_inside(machine, vertex, Owner::Region(region)) {
         Some(part) => as_state(part),

@@ -1,7 +1,8 @@
 //! Lists of numbers, one for each number below a count.
-ghost use Rattle.std.specs.Prelude.{◌≡◌, ◌<◌, ◌+◌, ◌++◌, ◌==◌, ◌∷◌, [], ℕ, if◌then◌else◌, length, IfOk, OnOk};
+ghost use Rattle.std.specs.Prelude.{◌≡◌, ◌<◌, ◌+◌, ◌++◌, ◌==◌, ◌∷◌, [], ℕ, if◌then◌else◌, length, map, IfOk, OnOk};
 ghost use Rattle.pssm_wellformed.specs.inner.Lists.{list_at};
 
+use pssm_model::VertexId;
 use std::alloc::{AllocError as NoMemory, Global};
 
 /// An empty list for each number.
@@ -38,15 +39,17 @@ pub fn list_of(lists: &Vec<Vec<u16>>, key: u16) -> &[u16]
     }
 }
 
-/// Puts a list of these items behind the others.
-pub fn put_behind(alloc: Global, lists: &mut Vec<Vec<u16>>, items: &[u16]) -> Result<(), NoMemory>
+/// Puts a list of the numbers of these vertices behind the others.
+pub fn put_behind(
+    alloc: Global,
+    lists: &mut Vec<Vec<u16>>,
+    vertices: &[VertexId],
+) -> Result<(), NoMemory>
     ensures width { OnOk result (length lists.new.items ≡ length lists.old.items + 1) }
     ensures puts { OnOk result
         ((k : ℕ) → list_at lists.new.items k ≡ list_at lists.old.items k
-        ++ (if k == length lists.old.items then items.now else [])) }
+        ++ (if k == length lists.old.items then map (λ v. v.0) vertices.now else [])) }
 {
-    let mut list = Vec::with_capacity(alloc, items.len())?;
-    list.extend_from_slice(items)?;
-    lists.push(list)?;
+    lists.push(vertices.iter().map(|vertex| vertex.0).collect(alloc)?)?;
     Ok(())
 }

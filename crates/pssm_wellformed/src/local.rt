@@ -1,20 +1,17 @@
 //! The rule of local transitions, E14.
 ghost use Rattle.std.specs.Prelude.{◌↔◌, ◌<◌, length, IsTrue, MatchOption};
-ghost use Rattle.pssm_model.specs.Shapes.{HasShape};
 ghost use Rattle.pssm_model.specs.WellFormed.{LeavesLocally, IsBadLocal};
 ghost use Rattle.pssm_wellformed.specs.inner.Strays.{AreVertexMarks};
 
-use crate::elements::end_of;
+use crate::ends::{End, end_of};
 use crate::marks::strays;
 use crate::paths::VertexMarks;
-use crate::survey::End;
 use crate::transitions::goes;
 use pssm_model::{Machine, Owner, TransId, TransKind, VertexId, VertexKind};
 
 /// The State from which the transition may go locally: its source, or the State of the entry point that it leaves.
 fn local_state(machine: &Machine, transition: TransId) -> Option<VertexId>
-    requires shape { HasShape machine.now }
-    requires there { transition.0 < length machine.now.transitions }
+    requires { transition.0 < length machine.now.transitions }
     ensures { MatchOption result ((s : VertexId) → LeavesLocally machine.now transition s → ⊥)
         (λ s. LeavesLocally machine.now transition s) }
 {
@@ -30,7 +27,6 @@ fn local_state(machine: &Machine, transition: TransId) -> Option<VertexId>
 /// E14: whether it is local, and leaves neither a State nor an entry point, or a junction path that
 /// begins with it comes to a vertex outside the State.
 pub fn is_bad_local(machine: &Machine, marks: &VertexMarks, transition: TransId) -> bool
-    requires shape { HasShape machine.now }
     requires marks { AreVertexMarks machine.now marks.now }
     requires there { transition.0 < length machine.now.transitions }
     ensures { IsTrue result ↔ IsBadLocal machine.now transition }

@@ -1,18 +1,17 @@
 //! The rule of paths that stay inside, E20.
-ghost use Rattle.std.specs.Prelude.{◌↔◌, ◌⊎◌, ◌<◌, ℕ, Contains, length, IsTrue};
+ghost use Rattle.std.specs.Prelude.{◌↔◌, ◌⊎◌, ◌<◌, All, Contains, length, IsTrue};
 ghost use Rattle.pssm_model.specs.Forest.{HasKind};
 ghost use Rattle.pssm_model.specs.FiringSets.{IsLateOrigin};
-ghost use Rattle.pssm_model.specs.Shapes.{HasShape};
+ghost use Rattle.pssm_model.specs.declared.ids.TransId.{TransId};
 ghost use Rattle.pssm_model.specs.WellFormed.{LeavesRegion, GoesOutside};
-ghost use Rattle.pssm_wellformed.specs.inner.Survey.{IsSurvey, transition_number};
 ghost use Rattle.pssm_wellformed.specs.inner.Walks.{IsThere};
 ghost use Rattle.pssm_wellformed.specs.inner.Strays.{AreVertexMarks, LeavesItsRegion, StraysFrom};
 
-use crate::elements::{end_of, has_kind, is_late_origin};
+use crate::elements::{has_kind, is_late_origin};
+use crate::ends::{End, end_of, meeting};
 use crate::inside::region_inside;
 use crate::marks::strays;
 use crate::paths::VertexMarks;
-use crate::survey::{End, Survey, meeting};
 use pssm_model::{Machine, Owner, RegionId, TransId, VertexId, VertexKind};
 
 /// Whether an inner path that begins with the transition leaves the region.
@@ -22,7 +21,6 @@ fn leaves_region(
     transition: TransId,
     region: RegionId,
 ) -> bool
-    requires shape { HasShape machine.now }
     requires marks { AreVertexMarks machine.now marks.now }
     requires there { transition.0 < length machine.now.transitions }
     requires region { region.0 < length machine.now.regions }
@@ -44,7 +42,6 @@ fn leaves_its_region(
     transition: TransId,
     state: VertexId,
 ) -> bool
-    requires shape { HasShape machine.now }
     requires marks { AreVertexMarks machine.now marks.now }
     requires there { transition.0 < length machine.now.transitions }
     ensures { IsTrue result ↔ LeavesItsRegion machine.now transition state }
@@ -58,7 +55,6 @@ fn leaves_its_region(
 
 /// Whether an inner path that begins with the transition strays from what owns its source.
 fn strays_from(machine: &Machine, marks: &VertexMarks, transition: TransId, owner: Owner) -> bool
-    requires shape { HasShape machine.now }
     requires marks { AreVertexMarks machine.now marks.now }
     requires there { transition.0 < length machine.now.transitions }
     requires owner { IsThere machine.now owner }
@@ -75,18 +71,17 @@ fn strays_from(machine: &Machine, marks: &VertexMarks, transition: TransId, owne
 fn some_stray_from(
     machine: &Machine,
     marks: &VertexMarks,
-    transitions: &[u16],
+    transitions: &[TransId],
     owner: Owner,
 ) -> bool
-    requires shape { HasShape machine.now }
     requires marks { AreVertexMarks machine.now marks.now }
-    requires there { (t : ℕ) → Contains transitions.now t → t < length machine.now.transitions }
+    requires there { All (λ t. t.0 < length machine.now.transitions) transitions.now }
     requires owner { IsThere machine.now owner }
     ensures { IsTrue result
-        ↔ ((t : ℕ) × Contains transitions.now t × StraysFrom machine.now owner (transition_number t)) }
+        ↔ ((t : TransId) × Contains transitions.now t × StraysFrom machine.now owner t) }
 {
-    for number in transitions {
-        if strays_from(machine, marks, TransId(*number), owner) {
+    for transition in transitions {
+        if strays_from(machine, marks, *transition, owner) {
             return true;
         }
     }
@@ -104,13 +99,7 @@ fn is_bound(machine: &Machine, vertex: VertexId) -> bool
 
 /// E20: whether an inner path from an initial, history or choice vertex leaves its region, or one
 /// from an entry point the region of its State in which the path's first transition ends.
-pub fn goes_outside(
-    machine: &Machine,
-    survey: &Survey,
-    marks: &VertexMarks,
-    vertex: VertexId,
-) -> bool
-    requires survey { IsSurvey machine.now survey.now }
+pub fn goes_outside(machine: &Machine, marks: &VertexMarks, vertex: VertexId) -> bool
     requires marks { AreVertexMarks machine.now marks.now }
     requires there { vertex.0 < length machine.now.vertices }
     ensures { IsTrue result ↔ GoesOutside machine.now vertex }
@@ -119,10 +108,5 @@ pub fn goes_outside(
         return false;
     }
     let owner = machine.vertex(vertex).owner;
-    some_stray_from(
-        machine,
-        marks,
-        meeting(machine, survey, vertex, End::Source),
-        owner,
-    )
+    some_stray_from(machine, marks, meeting(machine, vertex, End::Source), owner)
 }

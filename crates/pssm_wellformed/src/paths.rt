@@ -3,16 +3,15 @@
 ghost use Rattle.std.specs.Prelude.{◌≡◌, ◌↔◌, ◌<◌, true, false, length, slice_index_or, IfOk, IsTrue};
 ghost use Rattle.pssm_model.specs.Shapes.{HasShape};
 ghost use Rattle.pssm_model.specs.WellFormed.{MayFindNoBranch};
-ghost use Rattle.pssm_wellformed.specs.inner.Survey.{IsSurvey};
 ghost use Rattle.pssm_wellformed.specs.inner.Strays.{IsReachedLate, AreVertexMarks};
 
 use crate::cycles::cyclic_marks;
 use crate::elements::has_kind;
+use crate::ends::End;
 use crate::marks::stray_marks;
 use crate::questions::{Question, holds_at};
 use crate::reach::walk_from;
 use crate::stamps::apart_marks;
-use crate::survey::{End, Survey};
 use crate::walks::{Walk, arrows_of, late_targets};
 use pssm_model::{Machine, VertexId, VertexKind};
 use std::alloc::{AllocError as NoMemory, Global};
@@ -46,8 +45,8 @@ fn late_marks(alloc: Global, machine: &Machine) -> Result<Vec<bool>, NoMemory>
 
 impl VertexMarks {
     /// The marks of a machine.
-    pub fn of(alloc: Global, machine: &Machine, survey: &Survey) -> Result<VertexMarks, NoMemory>
-        requires { IsSurvey machine.now survey.now }
+    pub fn of(alloc: Global, machine: &Machine) -> Result<VertexMarks, NoMemory>
+        requires { HasShape machine.now }
         ensures { IfOk result (λ marks. AreVertexMarks machine.now marks) }
     {
         Ok(VertexMarks {
@@ -55,9 +54,9 @@ impl VertexMarks {
             inner: stray_marks(alloc, machine, Walk::Inner)?,
             back: stray_marks(alloc, machine, Walk::Back)?,
             late: late_marks(alloc, machine)?,
-            cyclic: cyclic_marks(alloc, machine, survey)?,
-            sources_apart: apart_marks(alloc, machine, survey, End::Target, End::Source)?,
-            targets_apart: apart_marks(alloc, machine, survey, End::Source, End::Target)?,
+            cyclic: cyclic_marks(alloc, machine)?,
+            sources_apart: apart_marks(alloc, machine, End::Target, End::Source)?,
+            targets_apart: apart_marks(alloc, machine, End::Source, End::Target)?,
         })
     }
 }
@@ -73,18 +72,12 @@ fn is_reached_late(machine: &Machine, marks: &VertexMarks, vertex: VertexId) -> 
 
 /// E18: whether it is a choice, or a junction that an initial, history or choice vertex reaches
 /// through pseudostates, and has neither `else` nor a branch without guard.
-pub fn may_find_no_branch(
-    machine: &Machine,
-    survey: &Survey,
-    marks: &VertexMarks,
-    vertex: VertexId,
-) -> bool
-    requires survey { IsSurvey machine.now survey.now }
+pub fn may_find_no_branch(machine: &Machine, marks: &VertexMarks, vertex: VertexId) -> bool
     requires marks { AreVertexMarks machine.now marks.now }
     requires there { vertex.0 < length machine.now.vertices }
     ensures { IsTrue result ↔ MayFindNoBranch machine.now vertex }
 {
-    !holds_at(machine, survey, vertex, End::Source, Question::IsFallback)
+    !holds_at(machine, vertex, End::Source, Question::IsFallback)
         && (has_kind(machine, vertex, VertexKind::Choice)
             || (has_kind(machine, vertex, VertexKind::Junction)
                 && is_reached_late(machine, marks, vertex)))

@@ -1,11 +1,11 @@
 //! What is asked of the transitions that meet at a vertex.
-ghost use Rattle.std.specs.Prelude.{◌↔◌, ◌<◌, ℕ, Contains, length, IsTrue};
-ghost use Rattle.pssm_model.specs.Shapes.{HasShape};
-ghost use Rattle.pssm_wellformed.specs.inner.Survey.{HasEnd, IsSurvey, transition_number};
+ghost use Rattle.std.specs.Prelude.{◌↔◌, ◌<◌, All, Contains, length, IsTrue};
+ghost use Rattle.pssm_model.specs.declared.ids.TransId.{TransId};
+ghost use Rattle.pssm_wellformed.specs.inner.Ends.{HasEnd};
 ghost use Rattle.pssm_wellformed.specs.inner.Questions.{Holds, IsAbout};
 
-use crate::elements::{end_of, has_else, has_guard, has_kind, has_trigger, is_state_or_final};
-use crate::survey::{End, Survey, meeting};
+use crate::elements::{has_else, has_guard, has_kind, has_trigger, is_state_or_final};
+use crate::ends::{End, end_of, meeting};
 use pssm_model::{Machine, TransId, VertexId, VertexKind};
 
 /// A question about a transition.
@@ -23,7 +23,6 @@ pub enum Question {
 
 /// The answer to the question.
 fn holds(machine: &Machine, transition: TransId, question: Question) -> bool
-    requires shape { HasShape machine.now }
     requires there { transition.0 < length machine.now.transitions }
     requires named { IsAbout machine.now question }
     ensures { IsTrue result ↔ Holds machine.now question transition }
@@ -44,15 +43,14 @@ fn holds(machine: &Machine, transition: TransId, question: Question) -> bool
 }
 
 /// Whether the answer is yes for one of these transitions.
-fn holds_for_some(machine: &Machine, transitions: &[u16], question: Question) -> bool
-    requires shape { HasShape machine.now }
-    requires there { (t : ℕ) → Contains transitions.now t → t < length machine.now.transitions }
+fn holds_for_some(machine: &Machine, transitions: &[TransId], question: Question) -> bool
+    requires there { All (λ t. t.0 < length machine.now.transitions) transitions.now }
     requires named { IsAbout machine.now question }
     ensures { IsTrue result
-        ↔ ((t : ℕ) × Contains transitions.now t × Holds machine.now question (transition_number t)) }
+        ↔ ((t : TransId) × Contains transitions.now t × Holds machine.now question t) }
 {
-    for number in transitions {
-        if holds(machine, TransId(*number), question) {
+    for transition in transitions {
+        if holds(machine, *transition, question) {
             return true;
         }
     }
@@ -60,16 +58,10 @@ fn holds_for_some(machine: &Machine, transitions: &[u16], question: Question) ->
 }
 
 /// Whether the answer is yes for a transition that has the vertex at this end.
-pub fn holds_at(
-    machine: &Machine,
-    survey: &Survey,
-    vertex: VertexId,
-    end: End,
-    question: Question,
-) -> bool
-    requires survey { IsSurvey machine.now survey.now }
+pub fn holds_at(machine: &Machine, vertex: VertexId, end: End, question: Question) -> bool
+    requires there { vertex.0 < length machine.now.vertices }
     requires named { IsAbout machine.now question }
     ensures { IsTrue result ↔ ((t : TransId) × HasEnd machine.now end t vertex × Holds machine.now question t) }
 {
-    holds_for_some(machine, meeting(machine, survey, vertex, end), question)
+    holds_for_some(machine, meeting(machine, vertex, end), question)
 }

@@ -1,52 +1,33 @@
 //! The rules of regions: E01 and E02.
 ghost use Rattle.std.specs.Prelude.{◌↔◌, ◌<◌, length, IsTrue};
-ghost use Rattle.pssm_model.specs.WellFormed.{HasNoTopRegion, IsTopWithoutInitial, OwnsTwo, OwnsTwoOfAKind};
-ghost use Rattle.pssm_wellformed.specs.inner.Survey.{IsListedKind, OwnsOfKind, IsSurvey};
+ghost use Rattle.pssm_model.specs.WellFormed.{HasNoTopRegion, IsTopWithoutInitial, OwnsTwoOfAKind};
 
-use crate::survey::{Survey, is_top, owned, tops};
-use pssm_model::{Machine, RegionId, VertexId, VertexKind};
-
-/// Whether the region owns a vertex of the kind.
-pub fn owns_some(machine: &Machine, survey: &Survey, region: RegionId, kind: VertexKind) -> bool
-    requires survey { IsSurvey machine.now survey.now }
-    requires listed { IsListedKind kind }
-    ensures { IsTrue result ↔ ((v : VertexId) × OwnsOfKind machine.now kind region v) }
-{
-    !owned(machine, survey, region, kind).is_empty()
-}
-
-/// Whether the region owns two vertices of the kind.
-fn owns_two(machine: &Machine, survey: &Survey, region: RegionId, kind: VertexKind) -> bool
-    requires survey { IsSurvey machine.now survey.now }
-    requires listed { IsListedKind kind }
-    ensures { IsTrue result ↔ OwnsTwo machine.now region kind }
-{
-    owned(machine, survey, region, kind).len() > 1
-}
+use pssm_model::{Machine, Owner, RegionId};
 
 /// E01: whether the machine has no top region.
-pub fn has_no_top_region(machine: &Machine, survey: &Survey) -> bool
-    requires { IsSurvey machine.now survey.now }
+pub fn has_no_top_region(machine: &Machine) -> bool
     ensures { IsTrue result ↔ HasNoTopRegion machine.now }
 {
-    tops(machine, survey).is_empty()
+    machine.top_regions().is_empty()
 }
 
 /// E01: whether the region is a top region without an initial vertex.
-pub fn is_top_without_initial(machine: &Machine, survey: &Survey, region: RegionId) -> bool
-    requires survey { IsSurvey machine.now survey.now }
-    requires there { region.0 < length machine.now.regions }
+pub fn is_top_without_initial(machine: &Machine, region: RegionId) -> bool
+    requires { region.0 < length machine.now.regions }
     ensures { IsTrue result ↔ IsTopWithoutInitial machine.now region }
 {
-    is_top(machine, region) && !owns_some(machine, survey, region, VertexKind::Initial)
+    match machine.region_owner(region) {
+        Owner::Top => machine.initials_of(region).is_empty(),
+        Owner::Region(_) | Owner::State(_) => false,
+    }
 }
 
 /// E02: whether the region owns two initial, two shallow history or two deep history vertices.
-pub fn owns_two_entries(machine: &Machine, survey: &Survey, region: RegionId) -> bool
-    requires survey { IsSurvey machine.now survey.now }
+pub fn owns_two_entries(machine: &Machine, region: RegionId) -> bool
+    requires { region.0 < length machine.now.regions }
     ensures { IsTrue result ↔ OwnsTwoOfAKind machine.now region }
 {
-    owns_two(machine, survey, region, VertexKind::Initial)
-        || owns_two(machine, survey, region, VertexKind::ShallowHistory)
-        || owns_two(machine, survey, region, VertexKind::DeepHistory)
+    machine.initials_of(region).len() > 1
+        || machine.shallow_histories_of(region).len() > 1
+        || machine.deep_histories_of(region).len() > 1
 }

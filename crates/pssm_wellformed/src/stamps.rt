@@ -4,15 +4,15 @@
 //! Each region has a stamp: one more than the number of the last vertex across which an end was
 //! found in it, and 0 before there is one. So an end that comes to a region with its own vertex's
 //! stamp comes to it second, and each transition is looked at once.
-ghost use Rattle.std.specs.Prelude.{◌≡◌, ◌↔◌, ◌<◌, ◌+◌, ℕ, AllPairs, Contains, length, slice_index_or, IfOk, IsTrue, MatchOption};
+ghost use Rattle.std.specs.Prelude.{◌≡◌, ◌↔◌, ◌<◌, ◌+◌, ℕ, All, AllPairs, Contains, length, slice_index_or, IfOk, IsTrue, MatchOption};
 ghost use Rattle.pssm_model.specs.Shapes.{HasShape};
 ghost use Rattle.pssm_model.specs.WellFormed.{LieApart};
-ghost use Rattle.pssm_wellformed.specs.inner.Survey.{OwnsOfKind, HasRegion, IsSurvey};
+ghost use Rattle.pssm_model.specs.Forest.{OwnsOfKind};
+ghost use Rattle.pssm_wellformed.specs.inner.Ends.{HasRegion};
 ghost use Rattle.pssm_wellformed.specs.inner.Apart.{EndLiesIn, EndLiesInside, AreEnds, IsAround, LieApartAround, IsFitting, AreApartMarks, AreStamps};
 
-use crate::elements::end_of;
+use crate::ends::{End, end_of, meeting};
 use crate::inside::{region_inside, state_inside};
-use crate::survey::{End, Survey, meeting, owned};
 use pssm_model::{Machine, Owner, RegionId, TransId, VertexId, VertexKind};
 use std::alloc::{AllocError as NoMemory, Global};
 
@@ -49,22 +49,22 @@ fn put_stamp(stamps: &mut Vec<u16>, region: RegionId, stamp: u16) -> bool
 /// a stamp later than the last.
 fn lie_apart(
     machine: &Machine,
-    transitions: &[u16],
+    transitions: &[TransId],
     end: End,
     state: VertexId,
     stamps: &mut Vec<u16>,
     last: u16,
 ) -> bool
     requires shape { HasShape machine.now }
-    requires there { (t : ℕ) → Contains transitions.now t → t < length machine.now.transitions }
-    requires ascending { AllPairs (λ t u. t < u) transitions.now }
+    requires there { All (λ t. t.0 < length machine.now.transitions) transitions.now }
+    requires ascending { AllPairs (λ t u. t.0 < u.0) transitions.now }
     requires stamps { AreStamps machine.now last stamps.old.items }
     requires few { last < 65535 }
     ensures apart { IsTrue result ↔ LieApart machine.now state (AreEnds machine.now end transitions.now) }
     ensures stamps { AreStamps machine.now (last + 1) stamps.new.items }
 {
-    for number in transitions {
-        match region_of_end(machine, TransId(*number), end, state) {
+    for transition in transitions {
+        match region_of_end(machine, *transition, end, state) {
             Some(region) => {
                 if put_stamp(stamps, region, last + 1) {
                     return false;
@@ -77,53 +77,49 @@ fn lie_apart(
 }
 
 /// A State that the region owns, where it owns any.
-fn some_state(machine: &Machine, survey: &Survey, region: RegionId) -> Option<VertexId>
-    requires { IsSurvey machine.now survey.now }
+fn some_state(machine: &Machine, region: RegionId) -> Option<VertexId>
+    requires { region.0 < length machine.now.regions }
     ensures { MatchOption result
-        ((s : VertexId) → OwnsOfKind machine.now VertexKind.State region s → ⊥)
-        (λ s. OwnsOfKind machine.now VertexKind.State region s) }
+        ((s : VertexId) → OwnsOfKind machine.now region VertexKind.State s → ⊥)
+        (λ s. OwnsOfKind machine.now region VertexKind.State s) }
 {
-    match owned(machine, survey, region, VertexKind::State).get(0) {
-        Some(number) => Some(VertexId(*number)),
-        None => None,
-    }
+    machine.states_of(region).get(0).copied()
 }
 
 /// A State that the region owns, and in whose regions the ends of these transitions lie apart, if
 /// they do so in those of any.
 fn state_beside(
     machine: &Machine,
-    survey: &Survey,
     region: RegionId,
-    transitions: &[u16],
+    transitions: &[TransId],
     end: End,
 ) -> Option<VertexId>
-    requires survey { IsSurvey machine.now survey.now }
-    requires there { (t : ℕ) → Contains transitions.now t → t < length machine.now.transitions }
+    requires shape { HasShape machine.now }
+    requires region { region.0 < length machine.now.regions }
+    requires there { All (λ t. t.0 < length machine.now.transitions) transitions.now }
     ensures { MatchOption result
-        ((s : VertexId) → OwnsOfKind machine.now VertexKind.State region s → LieApart machine.now s
+        ((s : VertexId) → OwnsOfKind machine.now region VertexKind.State s → LieApart machine.now s
         (AreEnds machine.now end transitions.now) → ⊥)
-        (λ s. IsFitting machine.now (λ q. OwnsOfKind machine.now VertexKind.State region q)
+        (λ s. IsFitting machine.now (λ q. OwnsOfKind machine.now region VertexKind.State q)
         (AreEnds machine.now end transitions.now) s) }
 {
     if transitions.is_empty() {
-        return some_state(machine, survey, region);
+        return some_state(machine, region);
     }
-    let first = end_of(machine, TransId(transitions[0]), end);
+    let first = end_of(machine, transitions[0], end);
     state_inside(machine, first, region)
 }
 
 /// A State around the vertex, in whose regions the ends of these transitions lie apart, if they do so in those of any.
 fn state_around(
     machine: &Machine,
-    survey: &Survey,
     vertex: VertexId,
-    transitions: &[u16],
+    transitions: &[TransId],
     end: End,
 ) -> Option<VertexId>
-    requires survey { IsSurvey machine.now survey.now }
+    requires shape { HasShape machine.now }
     requires vertex { vertex.0 < length machine.now.vertices }
-    requires there { (t : ℕ) → Contains transitions.now t → t < length machine.now.transitions }
+    requires there { All (λ t. t.0 < length machine.now.transitions) transitions.now }
     ensures { MatchOption result
         ((s : VertexId) → IsAround machine.now vertex s → LieApart machine.now s
         (AreEnds machine.now end transitions.now) → ⊥)
@@ -131,7 +127,7 @@ fn state_around(
         (AreEnds machine.now end transitions.now) s) }
 {
     match machine.vertex(vertex).owner {
-        Owner::Region(region) => state_beside(machine, survey, region, transitions, end),
+        Owner::Region(region) => state_beside(machine, region, transitions, end),
         Owner::State(state) => Some(state),
         Owner::Top => None,
     }
@@ -140,20 +136,19 @@ fn state_around(
 /// Whether the ends across the vertex lie in different regions of a State around it.
 fn lie_apart_around(
     machine: &Machine,
-    survey: &Survey,
     vertex: VertexId,
     near: End,
     far: End,
     stamps: &mut Vec<u16>,
 ) -> bool
-    requires survey { IsSurvey machine.now survey.now }
+    requires shape { HasShape machine.now }
     requires there { vertex.0 < length machine.now.vertices }
     requires stamps { AreStamps machine.now vertex.0 stamps.old.items }
     ensures apart { IsTrue result ↔ LieApartAround machine.now near far vertex }
     ensures stamps { AreStamps machine.now (vertex.0 + 1) stamps.new.items }
 {
-    let transitions = meeting(machine, survey, vertex, near);
-    match state_around(machine, survey, vertex, transitions, far) {
+    let transitions = meeting(machine, vertex, near);
+    match state_around(machine, vertex, transitions, far) {
         Some(state) => lie_apart(machine, transitions, far, state, stamps, vertex.0),
         None => false,
     }
@@ -163,17 +158,16 @@ fn lie_apart_around(
 pub fn apart_marks(
     alloc: Global,
     machine: &Machine,
-    survey: &Survey,
     near: End,
     far: End,
 ) -> Result<Vec<bool>, NoMemory>
-    requires { IsSurvey machine.now survey.now }
+    requires { HasShape machine.now }
     ensures { IfOk result (λ marks. AreApartMarks machine.now near far (length machine.now.vertices) marks.items) }
 {
     let mut stamps = vec![in alloc; 0; machine.regions() as usize]?;
     let mut marks = Vec::new(alloc);
     for number in 0..machine.vertices() {
-        let apart = lie_apart_around(machine, survey, VertexId(number), near, far, &mut stamps);
+        let apart = lie_apart_around(machine, VertexId(number), near, far, &mut stamps);
         marks.push(apart)?;
     }
     Ok(marks)

@@ -1,15 +1,15 @@
 //! The rules of single transitions: E10, E13, E17 and E21.
-ghost use Rattle.std.specs.Prelude.{◌↔◌, ◌<◌, ℕ, AllPairs, Contains, length, IsTrue};
+ghost use Rattle.std.specs.Prelude.{◌↔◌, ◌<◌, AllPairs, Contains, length, IsTrue};
+ghost use Rattle.pssm_model.specs.declared.ids.TransId.{TransId};
 ghost use Rattle.pssm_model.specs.Legs.{Goes};
+ghost use Rattle.pssm_model.specs.Shapes.{HasShape};
 ghost use Rattle.pssm_model.specs.WellFormed.{IsTriggeredWrongly, IsBadInternal, IsBadElse, ConnectsBadly};
-ghost use Rattle.pssm_wellformed.specs.inner.Survey.{IsSurvey};
 
 use crate::elements::{
-    end_of, has_else, has_guard, has_kind, has_trigger, is_branch, is_pseudostate,
-    is_unguarded_kind,
+    has_else, has_guard, has_kind, has_trigger, is_branch, is_pseudostate, is_unguarded_kind,
 };
+use crate::ends::{End, end_of};
 use crate::inside::share_region;
-use crate::survey::{End, Survey, elses_at};
 use pssm_model::{Machine, TransId, TransKind, VertexKind};
 
 /// Whether the transition is of the kind.
@@ -22,9 +22,8 @@ pub fn goes(machine: &Machine, transition: TransId, kind: TransKind) -> bool
 
 /// E10: whether it leaves a pseudostate and has a trigger, or leaves an initial, history or entry
 /// point and has a guard.
-pub fn is_triggered_wrongly(machine: &Machine, survey: &Survey, transition: TransId) -> bool
-    requires survey { IsSurvey machine.now survey.now }
-    requires there { transition.0 < length machine.now.transitions }
+pub fn is_triggered_wrongly(machine: &Machine, transition: TransId) -> bool
+    requires { transition.0 < length machine.now.transitions }
     ensures { IsTrue result ↔ IsTriggeredWrongly machine.now transition }
 {
     let source = end_of(machine, transition, End::Source);
@@ -33,9 +32,8 @@ pub fn is_triggered_wrongly(machine: &Machine, survey: &Survey, transition: Tran
 }
 
 /// E13: whether it is internal, and its source is no State or is not its target.
-pub fn is_bad_internal(machine: &Machine, survey: &Survey, transition: TransId) -> bool
-    requires survey { IsSurvey machine.now survey.now }
-    requires there { transition.0 < length machine.now.transitions }
+pub fn is_bad_internal(machine: &Machine, transition: TransId) -> bool
+    requires { transition.0 < length machine.now.transitions }
     ensures { IsTrue result ↔ IsBadInternal machine.now transition }
 {
     let source = end_of(machine, transition, End::Source);
@@ -45,31 +43,29 @@ pub fn is_bad_internal(machine: &Machine, survey: &Survey, transition: TransId) 
 }
 
 /// Whether one of these transitions is earlier.
-fn some_earlier(transitions: &[u16], transition: TransId) -> bool
-    requires { AllPairs (λ t u. t < u) transitions.now }
-    ensures { IsTrue result ↔ ((t : ℕ) × Contains transitions.now t × (t < transition.0)) }
+fn some_earlier(transitions: &[TransId], transition: TransId) -> bool
+    requires { AllPairs (λ t u. t.0 < u.0) transitions.now }
+    ensures { IsTrue result ↔ ((t : TransId) × Contains transitions.now t × (t.0 < transition.0)) }
 {
     match transitions.get(0) {
-        Some(first) => *first < transition.0,
+        Some(first) => first.0 < transition.0,
         None => false,
     }
 }
 
 /// E17: whether it has `else` and leaves no junction or choice, or is not the first such of its source.
-pub fn is_bad_else(machine: &Machine, survey: &Survey, transition: TransId) -> bool
-    requires survey { IsSurvey machine.now survey.now }
-    requires there { transition.0 < length machine.now.transitions }
+pub fn is_bad_else(machine: &Machine, transition: TransId) -> bool
+    requires { transition.0 < length machine.now.transitions }
     ensures { IsTrue result ↔ IsBadElse machine.now transition }
 {
     let source = end_of(machine, transition, End::Source);
     has_else(machine, transition)
-        && (!is_branch(machine, source)
-            || some_earlier(elses_at(machine, survey, source), transition))
+        && (!is_branch(machine, source) || some_earlier(machine.elses_of(source), transition))
 }
 
 /// E21: whether its ends lie in no common region, or it ends on a join and leaves no State.
-pub fn connects_badly(machine: &Machine, survey: &Survey, transition: TransId) -> bool
-    requires survey { IsSurvey machine.now survey.now }
+pub fn connects_badly(machine: &Machine, transition: TransId) -> bool
+    requires shape { HasShape machine.now }
     requires there { transition.0 < length machine.now.transitions }
     ensures { IsTrue result ↔ ConnectsBadly machine.now transition }
 {

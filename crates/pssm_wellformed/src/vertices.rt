@@ -1,64 +1,55 @@
 //! The rules of single vertices and what meets at them: E03 to E06, E09, E11 and E12.
 ghost use Rattle.std.specs.Prelude.{◌↔◌, ◌<◌, length, IsTrue};
+ghost use Rattle.pssm_model.specs.Shapes.{HasShape};
 ghost use Rattle.pssm_model.specs.WellFormed.{IsBadInitial, IsBadHistory, IsBadJoin, IsBadFork, IsOpenEnded, Behaves, IsBadFinal, IsBadTerminate};
-ghost use Rattle.pssm_wellformed.specs.inner.Survey.{IsSurvey};
 
 use crate::counts::{lacks_one, meets_some, meets_two};
 use crate::elements::{has_kind, is_branch, is_history};
-use crate::survey::{End, Survey};
+use crate::ends::End;
 use pssm_model::{Machine, VertexId, VertexKind};
 
 /// E03: whether it is an initial vertex with not exactly one transition out, or with one in.
-pub fn is_bad_initial(machine: &Machine, survey: &Survey, vertex: VertexId) -> bool
-    requires survey { IsSurvey machine.now survey.now }
-    requires there { vertex.0 < length machine.now.vertices }
+pub fn is_bad_initial(machine: &Machine, vertex: VertexId) -> bool
+    requires { vertex.0 < length machine.now.vertices }
     ensures { IsTrue result ↔ IsBadInitial machine.now vertex }
 {
     has_kind(machine, vertex, VertexKind::Initial)
-        && (lacks_one(machine, survey, vertex, End::Source)
-            || meets_some(machine, survey, vertex, End::Target))
+        && (lacks_one(machine, vertex, End::Source) || meets_some(machine, vertex, End::Target))
 }
 
 /// E04: whether it is a history vertex with two transitions out.
-pub fn is_bad_history(machine: &Machine, survey: &Survey, vertex: VertexId) -> bool
-    requires survey { IsSurvey machine.now survey.now }
-    requires there { vertex.0 < length machine.now.vertices }
+pub fn is_bad_history(machine: &Machine, vertex: VertexId) -> bool
+    requires { vertex.0 < length machine.now.vertices }
     ensures { IsTrue result ↔ IsBadHistory machine.now vertex }
 {
-    is_history(machine, vertex) && meets_two(machine, survey, vertex, End::Source)
+    is_history(machine, vertex) && meets_two(machine, vertex, End::Source)
 }
 
 /// E05: whether it is a join with fewer than two transitions in, or not exactly one out.
-pub fn is_bad_join(machine: &Machine, survey: &Survey, vertex: VertexId) -> bool
-    requires survey { IsSurvey machine.now survey.now }
-    requires there { vertex.0 < length machine.now.vertices }
+pub fn is_bad_join(machine: &Machine, vertex: VertexId) -> bool
+    requires { vertex.0 < length machine.now.vertices }
     ensures { IsTrue result ↔ IsBadJoin machine.now vertex }
 {
     has_kind(machine, vertex, VertexKind::Join)
-        && (!meets_two(machine, survey, vertex, End::Target)
-            || lacks_one(machine, survey, vertex, End::Source))
+        && (!meets_two(machine, vertex, End::Target) || lacks_one(machine, vertex, End::Source))
 }
 
 /// E06: whether it is a fork with not exactly one transition in, or fewer than two out.
-pub fn is_bad_fork(machine: &Machine, survey: &Survey, vertex: VertexId) -> bool
-    requires survey { IsSurvey machine.now survey.now }
-    requires there { vertex.0 < length machine.now.vertices }
+pub fn is_bad_fork(machine: &Machine, vertex: VertexId) -> bool
+    requires { vertex.0 < length machine.now.vertices }
     ensures { IsTrue result ↔ IsBadFork machine.now vertex }
 {
     has_kind(machine, vertex, VertexKind::Fork)
-        && (lacks_one(machine, survey, vertex, End::Target)
-            || !meets_two(machine, survey, vertex, End::Source))
+        && (lacks_one(machine, vertex, End::Target) || !meets_two(machine, vertex, End::Source))
 }
 
 /// E09: whether it is a junction or choice without a transition in, or without one out.
-pub fn is_open_ended(machine: &Machine, survey: &Survey, vertex: VertexId) -> bool
-    requires survey { IsSurvey machine.now survey.now }
-    requires there { vertex.0 < length machine.now.vertices }
+pub fn is_open_ended(machine: &Machine, vertex: VertexId) -> bool
+    requires { vertex.0 < length machine.now.vertices }
     ensures { IsTrue result ↔ IsOpenEnded machine.now vertex }
 {
     is_branch(machine, vertex)
-        && (!meets_some(machine, survey, vertex, End::Target)
-            || !meets_some(machine, survey, vertex, End::Source))
+        && (!meets_some(machine, vertex, End::Target) || !meets_some(machine, vertex, End::Source))
 }
 
 /// Whether the vertex has an entry, exit or do behaviour or a deferred signal.
@@ -75,21 +66,19 @@ fn behaves(machine: &Machine, vertex: VertexId) -> bool
 
 /// E11: whether it is final and has a transition out, a behaviour or a deferred signal. (It owns
 /// nothing, by its shape.)
-pub fn is_bad_final(machine: &Machine, survey: &Survey, vertex: VertexId) -> bool
-    requires survey { IsSurvey machine.now survey.now }
+pub fn is_bad_final(machine: &Machine, vertex: VertexId) -> bool
+    requires shape { HasShape machine.now }
     requires there { vertex.0 < length machine.now.vertices }
     ensures { IsTrue result ↔ IsBadFinal machine.now vertex }
 {
     has_kind(machine, vertex, VertexKind::Final)
-        && (meets_some(machine, survey, vertex, End::Source) || behaves(machine, vertex))
+        && (meets_some(machine, vertex, End::Source) || behaves(machine, vertex))
 }
 
 /// E12: whether it is a terminate vertex with a transition out.
-pub fn is_bad_terminate(machine: &Machine, survey: &Survey, vertex: VertexId) -> bool
-    requires survey { IsSurvey machine.now survey.now }
-    requires there { vertex.0 < length machine.now.vertices }
+pub fn is_bad_terminate(machine: &Machine, vertex: VertexId) -> bool
+    requires { vertex.0 < length machine.now.vertices }
     ensures { IsTrue result ↔ IsBadTerminate machine.now vertex }
 {
-    has_kind(machine, vertex, VertexKind::Terminate)
-        && meets_some(machine, survey, vertex, End::Source)
+    has_kind(machine, vertex, VertexKind::Terminate) && meets_some(machine, vertex, End::Source)
 }

@@ -1,13 +1,12 @@
 //! The arrows that the rules of paths follow.
 ghost use Rattle.std.specs.Prelude.{◌≡◌, ◌↔◌, ◌<◌, ℕ, Contains, length, IfOk, IsTrue, MatchOption};
 ghost use Rattle.pssm_model.specs.Shapes.{HasShape};
-ghost use Rattle.pssm_wellformed.specs.inner.Survey.{IsSurvey};
 ghost use Rattle.pssm_wellformed.specs.inner.Walks.{Passes, near_end, far_end, AreArrows, IsDefault, number_of_region, AreLeadsOut, AreLeads, IsLateTarget};
 
 use crate::counts::meets_some;
-use crate::elements::{end_of, has_kind, is_history, is_inner, is_late_origin, is_pseudostate};
+use crate::elements::{has_kind, is_history, is_inner, is_late_origin, is_pseudostate};
+use crate::ends::{End, end_of};
 use crate::lists::{empty_lists, put, put_behind};
-use crate::survey::{End, Survey, owned};
 use pssm_model::{Machine, Owner, RegionId, TransId, VertexId, VertexKind};
 use std::alloc::{AllocError as NoMemory, Global};
 
@@ -71,13 +70,12 @@ pub fn arrows_of(alloc: Global, machine: &Machine, walk: Walk) -> Result<Vec<Vec
 
 /// The region to whose initial vertices the vertex leads by default: its own, where it is a history
 /// vertex without transitions.
-fn default_region(machine: &Machine, survey: &Survey, vertex: VertexId) -> Option<RegionId>
-    requires survey { IsSurvey machine.now survey.now }
-    requires there { vertex.0 < length machine.now.vertices }
+fn default_region(machine: &Machine, vertex: VertexId) -> Option<RegionId>
+    requires { vertex.0 < length machine.now.vertices }
     ensures { MatchOption result ((r : RegionId) → IsDefault machine.now vertex r → ⊥)
         (λ r. IsDefault machine.now vertex r) }
 {
-    if !is_history(machine, vertex) || meets_some(machine, survey, vertex, End::Source) {
+    if !is_history(machine, vertex) || meets_some(machine, vertex, End::Source) {
         return None;
     }
     match machine.vertex(vertex).owner {
@@ -97,13 +95,13 @@ fn number_behind(machine: &Machine, region: RegionId) -> u16
 
 /// The arrows out of vertices: through pseudostates, and from each history vertex without
 /// transitions to the number of its region.
-fn leads_out(alloc: Global, machine: &Machine, survey: &Survey) -> Result<Vec<Vec<u16>>, NoMemory>
-    requires { IsSurvey machine.now survey.now }
+fn leads_out(alloc: Global, machine: &Machine) -> Result<Vec<Vec<u16>>, NoMemory>
+    requires { HasShape machine.now }
     ensures { IfOk result (λ onward. AreLeadsOut machine.now onward.items) }
 {
     let mut onward = arrows_of(alloc, machine, Walk::Through)?;
     for number in 0..machine.vertices() {
-        match default_region(machine, survey, VertexId(number)) {
+        match default_region(machine, VertexId(number)) {
             Some(region) => put(&mut onward, number, number_behind(machine, region))?,
             None => {}
         }
@@ -114,21 +112,13 @@ fn leads_out(alloc: Global, machine: &Machine, survey: &Survey) -> Result<Vec<Ve
 /// The arrows through pseudostates, and those of history vertices without transitions. Each of
 /// these leads to the number of its region, and that to the region's initial vertices, so that
 /// there are no more arrows than vertices and transitions.
-pub fn leads_of(
-    alloc: Global,
-    machine: &Machine,
-    survey: &Survey,
-) -> Result<Vec<Vec<u16>>, NoMemory>
-    requires { IsSurvey machine.now survey.now }
+pub fn leads_of(alloc: Global, machine: &Machine) -> Result<Vec<Vec<u16>>, NoMemory>
+    requires { HasShape machine.now }
     ensures { IfOk result (λ onward. AreLeads machine.now onward.items) }
 {
-    let mut onward = leads_out(alloc, machine, survey)?;
+    let mut onward = leads_out(alloc, machine)?;
     for number in 0..machine.regions() {
-        put_behind(
-            alloc,
-            &mut onward,
-            owned(machine, survey, RegionId(number), VertexKind::Initial),
-        )?;
+        put_behind(alloc, &mut onward, machine.initials_of(RegionId(number)))?;
     }
     Ok(onward)
 }

@@ -6,10 +6,10 @@ use Rattle.pssm_model.specs.declared.ids.TransId.{TransId}
 use Rattle.pssm_model.specs.declared.elements.DraftMachine.{DraftMachine}
 use Rattle.pssm_model.specs.declared.elements.VertexKind.TheVariants as kinds
 use Rattle.pssm_model.specs.declared.elements.Owner.TheVariants.{Region, State}
-use Rattle.pssm_model.specs.Forest.{owner_of, LiesInRegion, LiesInState}
+use Rattle.pssm_model.specs.Forest.{owner_of, LiesInRegion, LiesInState, OwnsOfKind}
 use Rattle.pssm_model.specs.WellFormed.{Ends, LieApart}
-use Rattle.pssm_wellformed.specs.declared.survey.End.{End}
-use Rattle.pssm_wellformed.specs.inner.Survey.{HasEnd, HasRegion, OwnsOfKind, region_number, transition_number}
+use Rattle.pssm_wellformed.specs.declared.ends.End.{End}
+use Rattle.pssm_wellformed.specs.inner.Ends.{HasEnd, HasRegion, region_number, transition_number}
 
 -- The transition's end lies in the region.
 abbrev pub EndLiesIn : DraftMachine → End → RegionId → TransId → Type 0
@@ -20,12 +20,12 @@ abbrev pub EndLiesInside : DraftMachine → End → VertexId → TransId → Typ
 EndLiesInside m end s t = (w : VertexId) × HasEnd m end t w × LiesInState m w s
 
 -- the ends of these transitions
-abbrev pub AreEnds : DraftMachine → End → List ℕ → Ends
-AreEnds m end ts t w = Contains ts t.0 × HasEnd m end t w
+abbrev pub AreEnds : DraftMachine → End → List TransId → Ends
+AreEnds m end ts t w = Contains ts t × HasEnd m end t w
 
 -- The State owns the vertex, or stands beside it.
 abbrev pub IsAround : DraftMachine → VertexId → VertexId → Type 0
-IsAround m v s = (owner_of m (State v) ≡ Some (State s)) ⊎ ((r : RegionId) × OwnsOfKind m kinds.State r s × (owner_of m (State v) ≡ Some (Region r)))
+IsAround m v s = (owner_of m (State v) ≡ Some (State s)) ⊎ ((r : RegionId) × OwnsOfKind m r kinds.State s × (owner_of m (State v) ≡ Some (Region r)))
 
 -- the far ends of the transitions that meet at a vertex
 abbrev pub AreOtherEnds : DraftMachine → End → End → VertexId → Ends
@@ -50,12 +50,16 @@ pub record AreStamps (m : DraftMachine) (most : ℕ) (stamps : List ℕ) : Type 
   pub low : (r : ℕ) → slice_index_or stamps r 0 ≤ most
 
 -- The transition's end lies in the region, which is one of the State.
-abbrev pub EndLiesInOneOf : DraftMachine → End → VertexId → ℕ → ℕ → Type 0
-EndLiesInOneOf m end s r t = HasRegion m s.0 r × EndLiesIn m end (region_number r) (transition_number t)
+abbrev pub EndLiesInOneOf : DraftMachine → End → VertexId → ℕ → TransId → Type 0
+EndLiesInOneOf m end s r t = HasRegion m s.0 r × EndLiesIn m end (region_number r) t
+
+-- the transition at a place of a list
+abbrev pub placed : List TransId → ℕ → TransId
+placed ts k = slice_index_or ts k (transition_number 0)
 
 -- The ends of the first so many transitions lie in different regions of the State, and these regions have the stamp.
-pub record AreStamped (m : DraftMachine) (end : End) (s : VertexId) (ts : List ℕ) (count stamp : ℕ) (stamps : List ℕ) : Type 0 where
+pub record AreStamped (m : DraftMachine) (end : End) (s : VertexId) (ts : List TransId) (count stamp : ℕ) (stamps : List ℕ) : Type 0 where
   pub are : AreStamps m stamp stamps
-  pub stamped : (r : ℕ) → (slice_index_or stamps r 0 ≡ stamp) ↔ ((k : ℕ) × (k < count) × EndLiesInOneOf m end s r (slice_index_or ts k 0))
-  pub inside : (k : ℕ) → k < count → EndLiesInside m end s (transition_number (slice_index_or ts k 0))
-  pub apart : (j k r : ℕ) → j < k → k < count → EndLiesInOneOf m end s r (slice_index_or ts j 0) → EndLiesInOneOf m end s r (slice_index_or ts k 0) → ⊥
+  pub stamped : (r : ℕ) → (slice_index_or stamps r 0 ≡ stamp) ↔ ((k : ℕ) × (k < count) × EndLiesInOneOf m end s r (placed ts k))
+  pub inside : (k : ℕ) → k < count → EndLiesInside m end s (placed ts k)
+  pub apart : (j k r : ℕ) → j < k → k < count → EndLiesInOneOf m end s r (placed ts j) → EndLiesInOneOf m end s r (placed ts k) → ⊥

@@ -7,7 +7,7 @@ use Rattle.pssm_model.specs.declared.elements.Owner.{Owner}
 use Rattle.pssm_model.specs.declared.elements.Owner.TheVariants.{Top}
 use Rattle.pssm_model.specs.Forest.{owner_of, LiesUnder}
 use Rattle.pssm_wellformed.specs.inner.Lists.{list_at}
-use Rattle.pssm_wellformed.specs.inner.Survey.{vertex_number}
+use Rattle.pssm_wellformed.specs.inner.Ends.{vertex_number}
 use Rattle.pssm_wellformed.specs.inner.Walks.{LiesIn, IsThere}
 
 -- how many places stand over a place: none over the machine, and one more than over its owner over any other

@@ -8,12 +8,13 @@ use Rattle.pssm_model.specs.declared.elements.Owner.{Owner}
 use Rattle.pssm_model.specs.declared.elements.Owner.TheVariants.{Top, Region, State}
 use Rattle.pssm_model.specs.Forest.{owner_of, LiesInRegion}
 use Rattle.pssm_model.specs.Legs.{Enters}
+use Rattle.pssm_model.specs.Shapes.{HasShape}
 use Rattle.pssm_model.specs.FiringSets.{IsLateOrigin}
 use Rattle.pssm_model.specs.Paths.{IsJunctionPath, Reaches}
 use Rattle.pssm_model.specs.WellFormed.{IsOnCycle, LeavesRegion, HoldsRestOfPath}
 use Rattle.pssm_wellformed.specs.declared.paths.VertexMarks.{VertexMarks}
 use Rattle.pssm_wellformed.specs.declared.walks.Walk.TheVariants.{Junctions, Inner, Back}
-use Rattle.pssm_wellformed.specs.declared.survey.End.TheVariants.{Source, Target}
+use Rattle.pssm_wellformed.specs.declared.ends.End.TheVariants.{Source, Target}
 use Rattle.pssm_wellformed.specs.inner.Apart.{AreApartMarks}
 use Rattle.pssm_wellformed.specs.inner.Marks.{AreStrayMarks}
 
@@ -23,6 +24,7 @@ IsReachedLate m v = (w : VertexId) × IsLateOrigin m w × Reaches m w v
 
 -- the marks of a machine
 pub record AreVertexMarks (m : DraftMachine) (marks : VertexMarks) : Type 0 where
+  pub shape : HasShape m
   pub junctions : AreStrayMarks m Junctions marks.junctions.items
   pub inner : AreStrayMarks m Inner marks.inner.items
   pub back : AreStrayMarks m Back marks.back.items

@@ -12,13 +12,13 @@ use Rattle.pssm_model.specs.Forest.{HasKind, owner_of, LiesInRegion, LiesInState
 use Rattle.pssm_model.specs.Legs.{Leaves, Enters}
 use Rattle.pssm_model.specs.FiringSets.{IsHistory, IsLateOrigin}
 use Rattle.pssm_model.specs.Paths.{HasOut, IsPseudostate, IsInner, IsInitialOf}
-use Rattle.pssm_wellformed.specs.declared.survey.End.{End}
-use Rattle.pssm_wellformed.specs.declared.survey.End.TheVariants.{Source, Target}
+use Rattle.pssm_wellformed.specs.declared.ends.End.{End}
+use Rattle.pssm_wellformed.specs.declared.ends.End.TheVariants.{Source, Target}
 use Rattle.pssm_wellformed.specs.declared.walks.Walk.{Walk}
 use Rattle.pssm_wellformed.specs.declared.walks.Walk.TheVariants.{Junctions, Inner, Back, Through}
 use Rattle.pssm_wellformed.specs.inner.Lists.{list_at}
 use Rattle.pssm_wellformed.specs.inner.Reach.{IsReached}
-use Rattle.pssm_wellformed.specs.inner.Survey.{HasEnd, vertex_number, transition_number}
+use Rattle.pssm_wellformed.specs.inner.Ends.{HasEnd, vertex_number, transition_number}
 
 -- A walk goes on from the vertex.
 abbrev pub Passes : DraftMachine → Walk → VertexId → Type 0

@@ -1,6 +1,6 @@
 use Rattle.std.proofs.Common.{length, sym, ◌∙◌, false, inl}
 use Rattle.std.proofs.lemmas.List.{get_or_default}
-use Rattle.pssm_wellformed.specs.declared.survey.End.TheVariants.{Source, Target}
+use Rattle.pssm_wellformed.specs.declared.ends.End.TheVariants.{Source, Target}
 use Rattle.pssm_wellformed.proofs.Together.{point_iff}
 use Rattle.pssm_wellformed.proofs.Stamping.{looked_up}
 use Rattle.pssm_wellformed.proofs.apart.entries_lie_together.Goals as goal
@@ -11,5 +11,5 @@ returns c =
     let v = c.args.vertex in
     let b = c.index.result.now in
     let marks = c.args.marks.now.targets_apart.items in
-    point_iff m c.requires.shape Source Target v b (inl c.requires.point)
+    point_iff m c.requires.marks.shape Source Target v b (inl c.requires.point)
     (looked_up m Source Target (length m.vertices) marks v b c.requires.marks.targets_apart c.requires.there (λ there. get_or_default marks v.0 false b there ∙ sym c.index.ensures))

@@ -1,7 +1,7 @@
 use Rattle.std.proofs.Common.{length, sym, ◌∙◌, false}
 use Rattle.std.proofs.lemmas.List.{get_or_default}
 use Rattle.pssm_model.specs.declared.elements.VertexKind.TheVariants as kinds
-use Rattle.pssm_wellformed.specs.declared.survey.End.TheVariants.{Source, Target}
+use Rattle.pssm_wellformed.specs.declared.ends.End.TheVariants.{Source, Target}
 use Rattle.pssm_wellformed.proofs.Together.{plain_kind, nowhere_iff}
 use Rattle.pssm_wellformed.proofs.Stamping.{looked_up}
 use Rattle.pssm_wellformed.proofs.apart.sources_lie_together.Goals as goal
@@ -12,5 +12,5 @@ returns c =
     let v = c.args.vertex in
     let b = c.index.result.now in
     let marks = c.args.marks.now.sources_apart.items in
-    nowhere_iff m c.requires.shape Target Source v b (plain_kind m v kinds.Join c.requires.join (λ e. cc) (λ e. cc))
+    nowhere_iff m c.requires.marks.shape Target Source v b (plain_kind m v kinds.Join c.requires.join (λ e. cc) (λ e. cc))
     (looked_up m Target Source (length m.vertices) marks v b c.requires.marks.sources_apart c.requires.there (λ there. get_or_default marks v.0 false b there ∙ sym c.index.ensures))

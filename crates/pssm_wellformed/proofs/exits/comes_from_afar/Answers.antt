@@ -3,7 +3,6 @@ use Rattle.std.proofs.lemmas.Option.{slice_get_within}
 use Rattle.pssm_model.specs.declared.ids.VertexId.{VertexId}
 use Rattle.pssm_model.specs.declared.elements.Owner.TheVariants.{State}
 use Rattle.pssm_model.proofs.BuiltElements.{same_vertex}
-use Rattle.pssm_wellformed.specs.inner.Survey.{region_number}
 use Rattle.pssm_wellformed.specs.inner.Marks.{MarkStrays}
 use Rattle.pssm_wellformed.proofs.Listing.{empty_iff}
 use Rattle.pssm_wellformed.proofs.Straying.{afar_itself, afar_outside, afar_iff, point_aside}
@@ -15,10 +14,10 @@ returns-then-source-vertex c =
     let x = c.end_of-source.result in
     let same : x ≡ c.args.vertex = same_vertex x c.args.vertex c.if-source-vertex.true in
     let iff = afar_itself m c.requires.marks.back.onward c.requires.marks.back.arrows c.args.transition x c.args.vertex c.args.state c.end_of-source.ensures.is c.requires.enters same c.requires.point in
-    let is = c.regions_in.ensures in
-    let empty = empty_iff c.regions_in.result.now c.is_empty.result c.is_empty.ensures in (
-      λ t. iff.0 (λ r owner. empty.0 t r.0 ((is r.0).1 owner)),
-      λ far. empty.1 (λ r h. iff.1 far (region_number r) ((is r).0 h)),
+    let is = c.regions_of.ensures.items in
+    let empty = empty_iff c.regions_of.result.now c.is_empty.result c.is_empty.ensures in (
+      λ t. iff.0 (λ r owner. empty.0 t r ((is r).1 owner)),
+      λ far. empty.1 (λ r h. iff.1 far r ((is r).0 h)),
     )
 
 pub strays-requires-clause-room : goal.strays-requires-clause-room
@@ -38,7 +37,7 @@ returns-in-Some c =
     let says = c.strays.ensures back.onward marks in
     let other : x ≡ v → ⊥ = λ e. c.if-source-vertex.false (ap (λ (w : VertexId). w.0) e) in
     let aside = point_aside back.arrows x v c.args.state r other c.requires.point c.requires.owner c.in-Some.ensures.0 c.requires.leaves in
-    afar_iff m c.requires.survey.shape back.onward back.arrows c.args.transition x v c.args.state r c.end_of-source.ensures.is c.requires.enters other c.requires.point
+    afar_iff m c.requires.marks.shape back.onward back.arrows c.args.transition x v c.args.state r c.end_of-source.ensures.is c.requires.enters other c.requires.point
     c.in-Some.ensures.0 c.in-Some.ensures.1 c.strays.result (λ t. aside.0 (says.0 t), λ s. says.1 (aside.1 s))
 
 pub returns-in-None : goal.returns-in-None

@@ -1,8 +1,6 @@
-use Rattle.std.proofs.Common.{◌≡◌, Some, subst}
+use Rattle.std.proofs.Common.{subst}
 use Rattle.pssm_model.specs.declared.ids.VertexId.{VertexId}
-use Rattle.pssm_model.specs.declared.elements.Owner.TheVariants.{Region, State}
-use Rattle.pssm_model.specs.declared.ids.RegionId.{RegionId}
-use Rattle.pssm_model.specs.Forest.{owner_of}
+use Rattle.pssm_model.specs.declared.elements.Owner.TheVariants.{State}
 use Rattle.pssm_model.specs.WellFormed.{KeepsToOneRegion}
 use Rattle.pssm_wellformed.proofs.Places.{owner_at, one_state}
 use Rattle.pssm_wellformed.proofs.Straying.{last_enters}
@@ -21,8 +19,8 @@ returns-in-State c =
           let same = one_state m (State v) far.0 s far.2 owner in
           let last = last_enters m far.1 v far.3 in
           says.1 (
-            last.0.0,
-            (is last.0.0).1 last.2,
+            last.0,
+            (is last.0).1 last.2,
             (
               far.1,
               last.1,

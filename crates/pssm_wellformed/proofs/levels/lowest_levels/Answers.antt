@@ -1,6 +1,6 @@
 -- the level of one vertex after the other is put behind
 use Rattle.std.proofs.Common.{◌<◌, ◌+◌, Contains, sym, subst}
-use Rattle.pssm_wellformed.specs.inner.Survey.{vertex_number}
+use Rattle.pssm_wellformed.specs.inner.Ends.{vertex_number}
 use Rattle.pssm_wellformed.specs.inner.Levels.{IsLowestLevel, AreLowestLevels}
 use Rattle.pssm_wellformed.proofs.Lowest.{levels_pushed}
 use Rattle.pssm_wellformed.proofs.levels.lowest_levels.Goals as goal

@@ -10,7 +10,7 @@ strays-requires-clause-room c = rw c.as_slice.ensures.value c.requires.marks.jun
 
 pub strays-requires-clause-place : goal.strays-requires-clause-place
 strays-requires-clause-place c =
-    ⊎_elim (λ s. s.1) (λ p. (owner_may c.args.machine.now c.requires.shape p.0 (State c.in-Some.state) p.3).1) c.in-Some.ensures
+    ⊎_elim (λ s. s.1) (λ p. (owner_may c.args.machine.now c.requires.marks.shape p.0 (State c.in-Some.state) p.3).1) c.in-Some.ensures
 
 pub returns-in-Some : goal.returns-in-Some
 returns-in-Some c =
@@ -18,6 +18,6 @@ returns-in-Some c =
     let junctions = c.requires.marks.junctions in
     let marks : MarkStrays m junctions.onward c.as_slice.result.now = rw c.as_slice.ensures.value junctions.marks in
     let says = c.strays.ensures junctions.onward marks in
-    let iff = local_iff m c.requires.shape junctions.onward junctions.arrows c.args.transition c.end_of-target.result c.in-Some.state c.end_of-target.ensures.is
+    let iff = local_iff m c.requires.marks.shape junctions.onward junctions.arrows c.args.transition c.end_of-target.result c.in-Some.state c.end_of-target.ensures.is
     (c.if-not-goes.ensures.0 refl) c.in-Some.ensures in
     (λ t. iff.0 (says.0 t), λ l. says.1 (iff.1 l))

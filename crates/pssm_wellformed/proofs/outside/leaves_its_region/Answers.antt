@@ -2,7 +2,7 @@ use Rattle.std.proofs.Common.{subst}
 use Rattle.pssm_model.specs.declared.ids.VertexId.{VertexId}
 use Rattle.pssm_model.specs.Forest.{LiesInRegion}
 use Rattle.pssm_model.specs.WellFormed.{LeavesRegion}
-use Rattle.pssm_wellformed.specs.declared.survey.End.TheVariants.{Target}
+use Rattle.pssm_wellformed.specs.declared.ends.End.TheVariants.{Target}
 use Rattle.pssm_wellformed.proofs.Chains.{one_region_inside}
 use Rattle.pssm_wellformed.proofs.Places.{end_only}
 use Rattle.pssm_wellformed.proofs.outside.leaves_its_region.Goals as goal
@@ -15,6 +15,6 @@ returns-in-Some c =
     let r = c.in-Some.region in
     let says = c.leaves_region.ensures in (
       λ e. (v, r, c.end_of-target.ensures.is, c.in-Some.ensures.0, c.in-Some.ensures.1, says.0 e),
-      λ l. says.1 (subst (LeavesRegion m t) (one_region_inside m c.requires.shape v c.args.state l.1 r l.3 c.in-Some.ensures.0
+      λ l. says.1 (subst (LeavesRegion m t) (one_region_inside m c.requires.marks.shape v c.args.state l.1 r l.3 c.in-Some.ensures.0
           (subst (λ (w : VertexId). LiesInRegion m w l.1) (end_only m Target t l.0 v l.2 c.end_of-target.ensures.is) l.4) c.in-Some.ensures.1) l.5),
     )

@@ -1,10 +1,10 @@
 use Rattle.std.proofs.Common.{◌≡◌, ◌↔◌, ◌<◌, ℕ, length, Bool, true, false, get_or, Contains, subst, sym, Vec, Global, List}
-use Rattle.pssm_wellformed.specs.declared.survey.End.TheVariants.{Target}
+use Rattle.pssm_wellformed.specs.declared.ends.End.TheVariants.{Target}
 use Rattle.pssm_wellformed.specs.declared.walks.Walk.TheVariants.{Through}
 use Rattle.pssm_model.specs.declared.ids.VertexId.{VertexId}
 use Rattle.pssm_wellformed.specs.inner.Reach.{IsReached}
 use Rattle.pssm_wellformed.specs.inner.Strays.{IsReachedLate}
-use Rattle.pssm_wellformed.specs.inner.Survey.{vertex_number}
+use Rattle.pssm_wellformed.specs.inner.Ends.{vertex_number}
 use Rattle.pssm_wellformed.specs.inner.Walks.{AreArrows, IsLateTarget}
 use Rattle.pssm_wellformed.proofs.Arrows.{arrows_within}
 use Rattle.pssm_wellformed.proofs.Closures.{late_iff}

@@ -1,7 +1,7 @@
-use Rattle.std.proofs.Common.{ℕ, take, Contains}
+use Rattle.std.proofs.Common.{take, Contains}
 use Rattle.pssm_wellformed.specs.inner.Questions.{Holds}
-use Rattle.pssm_wellformed.specs.inner.Survey.{transition_number}
+use Rattle.pssm_model.specs.declared.ids.TransId.{TransId}
 use Rattle.pssm_wellformed.proofs.questions.holds_for_some.Given as goal
 
-abbrev pub invariant-loop-number : goal.invariant-loop-number
-invariant-loop-number l = (t : ℕ) → Contains (take l.number-index l.transitions) t → Holds l.machine l.question (transition_number t) → ⊥
+abbrev pub invariant-loop-transition : goal.invariant-loop-transition
+invariant-loop-transition l = (t : TransId) → Contains (take l.transition-index l.transitions) t → Holds l.machine l.question t → ⊥

@@ -19,4 +19,4 @@ returns-in-State c =
 pub returns-in-Top : goal.returns-in-Top
 returns-in-Top c =
     let m = c.args.machine.now in
-    λ s around h. absurd (owner_may m c.requires.survey.shape c.args.vertex Top (owner_at m c.args.vertex c.vertex.result.now Top c.vertex.ensures c.in-Top.is))
+    λ s around h. absurd (owner_may m c.requires.shape c.args.vertex Top (owner_at m c.args.vertex c.vertex.result.now Top c.vertex.ensures c.in-Top.is))

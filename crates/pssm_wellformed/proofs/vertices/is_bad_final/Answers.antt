@@ -8,5 +8,5 @@ returns-else-meets_some c =
     let final = c.if-has_kind.ensures.0 refl in (
       λ t. (final, inr (inr (c.behaves.ensures.0 t))),
       λ h. ⊎_elim (λ out. absurd (false≢true (c.if-meets_some.ensures.1 out)))
-          (⊎_elim (λ owns. absurd (final_owns_none c.args.machine.now c.requires.survey.shape c.args.vertex final owns)) (λ b. c.behaves.ensures.1 b)) h.1,
+          (⊎_elim (λ owns. absurd (final_owns_none c.args.machine.now c.requires.shape c.args.vertex final owns)) (λ b. c.behaves.ensures.1 b)) h.1,
     )

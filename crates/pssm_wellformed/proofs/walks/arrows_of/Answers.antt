@@ -1,9 +1,9 @@
 -- each transition that leads the walk on is put to the vertex from which it does
 use Rattle.std.proofs.Common.{◌≡◌, ◌+◌, ℕ, length, [], ◌∷◌, ◌++◌, ◌==◌, if◌then◌else◌, refl, sym, subst, arith, Vec, Global}
 use Rattle.std.proofs.lemmas.Bool.{false≢true}
-use Rattle.pssm_wellformed.specs.declared.survey.End.{End}
+use Rattle.pssm_wellformed.specs.declared.ends.End.{End}
 use Rattle.pssm_wellformed.specs.inner.Lists.{list_at}
-use Rattle.pssm_wellformed.specs.inner.Survey.{HasEnd, transition_number}
+use Rattle.pssm_wellformed.specs.inner.Ends.{HasEnd, transition_number}
 use Rattle.pssm_wellformed.specs.inner.Walks.{AreArrowsBelow}
 use Rattle.pssm_wellformed.proofs.Arrows.{arrows_put, arrows_skip, arrows_end}
 use Rattle.pssm_wellformed.proofs.walks.arrows_of.Goals as goal

@@ -1,7 +1,7 @@
 -- each history vertex without transitions leads to the number of its region
 use Rattle.std.proofs.Common.{◌≡◌, ◌+◌, ℕ, refl, length, [], ◌∷◌, ◌++◌, ◌==◌, if◌then◌else◌, sym, subst, ◌∙◌, arith, Vec, Global}
 use Rattle.pssm_wellformed.specs.inner.Lists.{list_at}
-use Rattle.pssm_wellformed.specs.inner.Survey.{vertex_number}
+use Rattle.pssm_wellformed.specs.inner.Ends.{vertex_number}
 use Rattle.pssm_wellformed.specs.inner.Walks.{AreArrowsWith, LeadsThrough, LeadsToRegion}
 use Rattle.pssm_wellformed.proofs.Places.{owning_region_there}
 use Rattle.pssm_wellformed.proofs.Arrows.{through_along, with_begins, with_more, with_none, with_ends, only_default, to_region_there}
@@ -16,7 +16,7 @@ loop-number-init c =
 
 pub number_behind-requires-clause-there : goal.number_behind-requires-clause-there
 number_behind-requires-clause-there c =
-    owning_region_there c.args.machine.now c.requires.shape (vertex_number c.loop-number.number) c.in-Some.region c.in-Some.ensures.2
+    owning_region_there c.args.machine.now c.requires (vertex_number c.loop-number.number) c.in-Some.region c.in-Some.ensures.2
 
 pub loop-number-preserved : goal.loop-number-preserved
 loop-number-preserved c =
@@ -39,5 +39,5 @@ pub returns : goal.returns
 returns c =
     let m = c.args.machine.now in
     with_ends (length m.vertices) (length m.vertices) c.loop-number.number (LeadsThrough m) (LeadsToRegion m) c.loop-number.onward.items
-    (λ a b d. let lt = (to_region_there m c.requires.shape a b d).0 in let last = c.loop-number-test.false in let is = c.vertices-number-end.ensures in omega arith)
+    (λ a b d. let lt = (to_region_there m c.requires a b d).0 in let last = c.loop-number-test.false in let is = c.vertices-number-end.ensures in omega arith)
     refl c.loop-number.invariant
