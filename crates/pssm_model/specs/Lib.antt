@@ -3,6 +3,7 @@ pub mod Limits
 pub mod Shapes
 pub mod Legs
 pub mod Configuration
+pub mod Changes
 pub mod Routes
 pub mod FiringSets
 pub mod Paths
