@@ -17,3 +17,4 @@ pub mod FirstFault
 pub mod Nesting
 pub mod Scopes
 pub mod ListsFilled
+pub mod Agreeing
