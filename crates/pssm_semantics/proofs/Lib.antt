@@ -19,3 +19,4 @@ pub mod Blocks
 pub mod ArgumentLaws
 pub mod BuiltSettings
 pub mod ProperSettings
+pub mod Configurations
