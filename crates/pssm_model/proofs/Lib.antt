@@ -18,3 +18,6 @@ pub mod Nesting
 pub mod Scopes
 pub mod ListsFilled
 pub mod Agreeing
+pub mod SingleLegs
+pub mod SingleItems
+pub mod NestedRoutes

@@ -3,3 +3,4 @@ pub mod Found
 pub mod Tables
 pub mod Listed
 pub mod Faultless
+pub mod Single

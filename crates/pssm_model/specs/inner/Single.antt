@@ -1,0 +1,89 @@
+-- What a step calls that goes by routes of one transition each, and in which order, in plain words.
+use Rattle.std.specs.Prelude.{◌≡◌, ◌⊎◌, Some}
+use Rattle.pssm_model.specs.declared.ids.VertexId.{VertexId}
+use Rattle.pssm_model.specs.declared.ids.RegionId.{RegionId}
+use Rattle.pssm_model.specs.declared.ids.TransId.{TransId}
+use Rattle.pssm_model.specs.declared.elements.DraftMachine.{DraftMachine}
+use Rattle.pssm_model.specs.declared.elements.Owner.TheVariants.{Region, State}
+use Rattle.pssm_model.specs.declared.elements.TransKind.{TransKind}
+use Rattle.pssm_model.specs.declared.elements.TransKind.TheVariants.{External}
+use Rattle.pssm_model.specs.declared.elements.VertexKind.TheVariants as kinds
+use Rattle.pssm_model.specs.declared.steps.Route.{Route}
+use Rattle.pssm_model.specs.declared.steps.Mode.{Mode}
+use Rattle.pssm_model.specs.declared.steps.Mode.TheVariants.{Plain}
+use Rattle.pssm_model.specs.declared.steps.Item.{Item}
+use Rattle.pssm_model.specs.declared.steps.Item.TheVariants as items
+use Rattle.pssm_model.specs.Forest.{HasKind, owner_of, IsScope, LiesInRegion, LiesInState}
+use Rattle.pssm_model.specs.Legs.{Leaves, Enters, Goes}
+use Rattle.pssm_model.specs.Course.{Course, FiresBy, HasGoneBy, HasRun, HasRestored}
+use Rattle.pssm_model.specs.Items.{StartOpens}
+use Rattle.pssm_model.specs.OneRegion.{single_route}
+
+-- The transition is external, leaves no entry point and ends on a State.
+pub record IsDirectTransition (m : DraftMachine) (t : TransId) : Type 0 where
+  pub external : (kind : TransKind) → Goes m t kind → kind ≡ External
+  pub from_no_point : (v : VertexId) → Leaves m t v → HasKind m v kinds.EntryPoint → ⊥
+  pub to_state : (v : VertexId) → Enters m t v → HasKind m v kinds.State
+
+-- a route of one such transition
+abbrev pub IsDirectRoute : DraftMachine → Route → Type 0
+IsDirectRoute m route = (t : TransId) × (route ≡ single_route t) × IsDirectTransition m t
+
+-- A step that goes by such routes alone, and restores nothing.
+pub record GoesDirectly (m : DraftMachine) (course : Course) : Type 0 where
+  pub routes : (route : Route) → FiresBy course.head route ⊎ HasGoneBy course route → IsDirectRoute m route
+  pub restores : (mode : Mode) (s : VertexId) → HasRestored course mode s → ⊥
+
+-- the source or the target of the transition
+abbrev pub IsEndOf : DraftMachine → TransId → VertexId → Type 0
+IsEndOf m t v = Leaves m t v ⊎ Enters m t v
+
+-- the innermost region in which both ends of the transition lie
+abbrev pub IsSpan : DraftMachine → TransId → RegionId → Type 0
+IsSpan m t r = IsScope m (IsEndOf m t) r
+
+-- The vertex lies in that region.
+abbrev pub LiesInSpan : DraftMachine → TransId → VertexId → Type 0
+LiesInSpan m t s = (r : RegionId) × IsSpan m t r × LiesInRegion m s r
+
+-- The transition enters the State: its target, or a State of that region in which the target lies.
+abbrev pub IsEnteredBy : DraftMachine → TransId → VertexId → Type 0
+IsEnteredBy m t s = (v : VertexId) × Enters m t v × ((v ≡ s) ⊎ (LiesInSpan m t s × LiesInState m v s))
+
+-- The target of the transition lies in the region.
+abbrev pub EndsIn : DraftMachine → TransId → RegionId → Type 0
+EndsIn m t r = (v : VertexId) × Enters m t v × LiesInRegion m v r
+
+-- The step goes by the route of the transition.
+abbrev pub GoesOver : Course → TransId → Type 0
+GoesOver course t = FiresBy course.head (single_route t) ⊎ HasGoneBy course (single_route t)
+
+-- The transition fires at the head and exits the State.
+abbrev pub IsExitedOver : DraftMachine → Course → TransId → VertexId → Type 0
+IsExitedOver m course t s = FiresBy course.head (single_route t) × course.at_head.Active s × LiesInSpan m t s
+
+-- The step goes by the transition, which enters the State.
+abbrev pub IsEnteredOver : DraftMachine → Course → TransId → VertexId → Type 0
+IsEnteredOver m course t s = GoesOver course t × IsEnteredBy m t s
+
+-- The entry of the State has run, which owns the region, and a transition that enters the State ends outside of the region.
+abbrev pub OpensAfterEntry : DraftMachine → Course → VertexId → RegionId → Type 0
+OpensAfterEntry m course s r =
+    HasRun course (items.Enter s) × (owner_of m (Region r) ≡ Some (State s))
+    × ((t : TransId) × IsEnteredOver m course t s × (EndsIn m t r → ⊥))
+
+-- the items that such a step calls
+abbrev pub IsCalledOver : DraftMachine → Course → Item → Type 0
+IsCalledOver m course (items.Exit s) = (t : TransId) × IsExitedOver m course t s
+IsCalledOver m course (items.Effect t) = GoesOver course t
+IsCalledOver m course (items.Enter s) = (t : TransId) × IsEnteredOver m course t s
+IsCalledOver m course (items.Opened r Plain) = StartOpens m course.head (items.Opened r Plain) ⊎ ((s : VertexId) × OpensAfterEntry m course s r)
+IsCalledOver m course _ = ⊥
+
+-- and which of them come before which
+abbrev pub IsOrderedOver : DraftMachine → Course → Item → Item → Type 0
+IsOrderedOver m course (items.Exit s) (items.Exit q) = LiesInState m s q
+IsOrderedOver m course (items.Exit s) (items.Effect t) = IsExitedOver m course t s
+IsOrderedOver m course (items.Effect t) (items.Enter s) = IsEnteredOver m course t s
+IsOrderedOver m course (items.Enter s) (items.Enter q) = LiesInState m q s
+IsOrderedOver m course _ _ = ⊥
