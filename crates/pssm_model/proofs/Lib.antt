@@ -21,3 +21,5 @@ pub mod Agreeing
 pub mod SingleLegs
 pub mod SingleItems
 pub mod NestedRoutes
+pub mod Ranks
+pub mod ReadyItems
