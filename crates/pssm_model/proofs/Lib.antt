@@ -21,5 +21,6 @@ pub mod Agreeing
 pub mod SingleLegs
 pub mod SingleItems
 pub mod NestedRoutes
+pub mod MoreItems
 pub mod Ranks
 pub mod ReadyItems

@@ -11,6 +11,8 @@ use Rattle.pssm_model.specs.declared.elements.VertexKind.TheVariants as kinds
 use Rattle.pssm_model.specs.declared.steps.Route.{Route}
 use Rattle.pssm_model.specs.declared.steps.Mode.{Mode}
 use Rattle.pssm_model.specs.declared.steps.Mode.TheVariants.{Plain}
+use Rattle.pssm_model.specs.declared.steps.How.{How}
+use Rattle.pssm_model.specs.declared.steps.How.TheVariants.{By}
 use Rattle.pssm_model.specs.declared.steps.Item.{Item}
 use Rattle.pssm_model.specs.declared.steps.Item.TheVariants as items
 use Rattle.pssm_model.specs.Forest.{HasKind, owner_of, IsScope, LiesInRegion, LiesInState}
@@ -87,3 +89,18 @@ IsOrderedOver m course (items.Exit s) (items.Effect t) = IsExitedOver m course t
 IsOrderedOver m course (items.Effect t) (items.Enter s) = IsEnteredOver m course t s
 IsOrderedOver m course (items.Enter s) (items.Enter q) = LiesInState m q s
 IsOrderedOver m course _ _ = ⊥
+
+-- Once the item has run in this way, the region opens: the item is the entry of its State, or a transition by which it went enters a State
+-- whose entry has run.
+abbrev pub OpensNext : DraftMachine → Course → Item → How → VertexId → TransId → Type 0
+OpensNext m course item how s t =
+    ((items.Enter s ≡ item) × IsEnteredOver m course t s)
+    ⊎ ((HasRun course (items.Enter s) ⊎ (items.Enter s ≡ item)) × (how ≡ By (single_route t)) × IsEnteredBy m t s)
+
+-- what an item calls once it has run in this way
+abbrev pub IsCalledNext : DraftMachine → Course → Item → How → Item → Type 0
+IsCalledNext m course item how (items.Effect t) = how ≡ By (single_route t)
+IsCalledNext m course item how (items.Enter s) = (t : TransId) × (how ≡ By (single_route t)) × IsEnteredBy m t s
+IsCalledNext m course item how (items.Opened r Plain) =
+    (s : VertexId) × (t : TransId) × (owner_of m (Region r) ≡ Some (State s)) × OpensNext m course item how s t × (EndsIn m t r → ⊥)
+IsCalledNext m course item how _ = ⊥
