@@ -21,6 +21,9 @@ pub mod Agreeing
 pub mod SingleLegs
 pub mod SingleItems
 pub mod NestedRoutes
+pub mod Known
+pub mod KnownPlaces
+pub mod KnownItems
 pub mod MoreItems
 pub mod Ranks
 pub mod ReadyItems
