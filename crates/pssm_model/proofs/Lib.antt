@@ -25,5 +25,6 @@ pub mod Known
 pub mod KnownPlaces
 pub mod KnownItems
 pub mod MoreItems
+pub mod NestedSteps
 pub mod Ranks
 pub mod ReadyItems
