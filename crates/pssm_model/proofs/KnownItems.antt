@@ -1,5 +1,5 @@
 -- What a step of routes of one transition calls is known where the configuration at its head is, and so is on which item another waits.
-use Rattle.std.proofs.Common.{◌≡◌, ◌⊎◌, ◌<◌, ℕ, length, Contains, Some, refl, sym, ap, subst, inl, inr, ⊎_elim, ◌∙◌}
+use Rattle.std.proofs.Common.{List, Bool, true, false, IsTrue, ◌≡◌, ◌⊎◌, ◌<◌, ℕ, length, Contains, Some, refl, sym, ap, subst, inl, inr, ⊎_elim, ◌∙◌}
 use Rattle.std.proofs.lemmas.Option.{slice_get_within}
 use Rattle.pssm_model.specs.declared.ids.VertexId.{VertexId}
 use Rattle.pssm_model.specs.declared.ids.RegionId.{RegionId}
@@ -18,9 +18,8 @@ use Rattle.pssm_model.specs.Forest.{vertex_at, HasKind, owner_of, LiesUnder, Lie
 use Rattle.pssm_model.specs.Shapes.{HasShape}
 use Rattle.pssm_model.specs.Course.{Head, Course, FiresBy, HasGoneBy, HasRun}
 use Rattle.pssm_model.specs.Course.Head.{Starts, Fires}
-use Rattle.pssm_model.specs.Items.{Before, IsWaiting, IsCleared}
-use Rattle.pssm_model.specs.Order.{IsAtOrBefore}
-use Rattle.pssm_model.specs.later.Plans.{IsReady}
+use Rattle.pssm_model.specs.Items.{HasRunOut, Before, IsWaiting, IsCleared}
+use Rattle.pssm_model.specs.Order.{IsReady, IsAtOrBefore, HasReadyAtOrBefore, Tests, tested, tested_course, IsNestedStep}
 use Rattle.pssm_model.specs.OneRegion.{single_route}
 use Rattle.pssm_model.specs.inner.Single.{IsDirectRoute, GoesDirectly, LiesInSpan, GoesOver, IsEnteredBy, IsExitedOver, IsEnteredOver, IsCalledOver, IsOrderedOver}
 use Rattle.pssm_model.proofs.BuiltElements.{mapped_some}
@@ -29,7 +28,8 @@ use Rattle.pssm_model.proofs.BuiltRoutes.{single_route_same}
 use Rattle.pssm_model.proofs.SingleItems.{called_is, called_of, before_is, before_of}
 use Rattle.pssm_model.proofs.Known.{Known, known_as, known_both, known_either, known_not, known_below, known_among, known_transition}
 use Rattle.pssm_model.proofs.KnownPlaces.{known_in_state, known_in_span, known_entered}
-use Rattle.pssm_model.proofs.ReadyItems.{run_known, ready_at_or_before}
+use Rattle.pssm_model.proofs.NestedSteps.{gone_directly}
+use Rattle.pssm_model.proofs.ReadyItems.{run_known, ready_at_or_before, nothing_ready}
 
 -- an opening or a pick, which is in no order with the others
 abbrev IsUnordered : Item → Type 0
@@ -307,3 +307,16 @@ module _ {m : DraftMachine} (shape : HasShape m) (course : Course) (g : GoesDire
   -- a called item that has not run has a ready item at or before it
   pub some_ready : (item : Item) → IsWaiting m course item → (x : Item) × IsReady m course x × IsAtOrBefore m course x item
   some_ready item waits = ready_at_or_before shape course g (λ x is. cleared_or_waits x) item waits
+
+-- and so it is in the steps of a machine of States in regions
+known_test : (b : Bool) → Known (IsTrue b)
+known_test true = inl refl
+known_test false = inr (λ h. cc)
+
+pub nested_ready : (m : DraftMachine) (head : Head) (now : Tests) (ran : List (Item × How)) (item : Item) → IsNestedStep m (tested_course head now ran)
+    → IsWaiting m (tested_course head now ran) item → HasReadyAtOrBefore m (tested_course head now ran) item
+nested_ready m head now ran item h waits =
+    some_ready h.shape (tested_course head now ran) (gone_directly h.nested head (tested now) ran h.gone) (λ s. known_test (now.is_active s)) item waits
+
+pub nested_finished : (m : DraftMachine) (course : Course) → IsNestedStep m course → ((item : Item) → IsReady m course item → ⊥) → HasRunOut m course
+nested_finished m course h none = nothing_ready h.shape course (gone_directly h.nested course.head course.at_head course.ran h.gone) none

@@ -1,9 +1,8 @@
 -- The steps of a machine of States in regions: they go by routes of one transition, and restore nothing.
-use Rattle.std.proofs.Common.{◌≡◌, ◌⊎◌, ◌++◌, ◌<◌, ℕ, zero, suc, List, [], ◌∷◌, length, Contains, refl, sym, ap, subst, inl, inr, ⊎_elim, arith, ◌∙◌}
+use Rattle.std.proofs.Common.{◌≡◌, List, subst}
 use Rattle.pssm_model.specs.declared.ids.VertexId.{VertexId}
 use Rattle.pssm_model.specs.declared.elements.DraftMachine.{DraftMachine}
 use Rattle.pssm_model.specs.declared.steps.Route.{Route}
-use Rattle.pssm_model.specs.declared.steps.Mode.{Mode}
 use Rattle.pssm_model.specs.declared.steps.Mode.TheVariants.{Plain, Shallow, Deep}
 use Rattle.pssm_model.specs.declared.steps.How.{How}
 use Rattle.pssm_model.specs.declared.steps.How.TheVariants.{By, Restore, Nothing}
@@ -11,9 +10,11 @@ use Rattle.pssm_model.specs.declared.steps.Item.{Item}
 use Rattle.pssm_model.specs.declared.steps.Item.TheVariants as items
 use Rattle.pssm_model.specs.Configuration.{Configuration}
 use Rattle.pssm_model.specs.Routes.{Truth, IsStateRoute}
-use Rattle.pssm_model.specs.Course.{Head, Course, FiresBy}
+use Rattle.pssm_model.specs.Course.{Head, Course, FiresBy, RemembersSoFar}
 use Rattle.pssm_model.specs.Items.{Called}
 use Rattle.pssm_model.specs.Ways.{Memory, IsWay}
+use Rattle.pssm_model.specs.Order.{HasGone, course_by}
+use Rattle.pssm_model.specs.Order.HasGone.{begun as gone_begun, more as gone_more}
 use Rattle.pssm_model.specs.Nested.{IsPlainlyNested}
 use Rattle.pssm_model.specs.inner.Single.{IsDirectRoute, GoesDirectly, IsCalledOver}
 use Rattle.pssm_model.proofs.NestedRoutes.{route_is_direct}
@@ -59,3 +60,9 @@ module _ {m : DraftMachine} (b : IsPlainlyNested m) where
       let is = called_is m course g item called in
       goes_on_directly course item how m g (way_is_direct course truth memory item how is way)
       (way_restores_nothing course truth memory item how is way)
+
+  pub gone_directly : (head : Head) (now : Configuration) (ran : List (Item × How)) → HasGone m head now ran → GoesDirectly m (course_by head now ran)
+  gone_directly head now _ (gone_begun fires) = starts_directly head now fires
+  gone_directly head now _ (gone_more {ran = ran} item how before ready truth way) =
+      runs_directly (course_by head now ran) truth (RemembersSoFar m (course_by head now ran)) item how
+      (gone_directly head now ran before) ready.waiting.called way

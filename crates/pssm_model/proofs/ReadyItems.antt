@@ -6,9 +6,8 @@ use Rattle.pssm_model.specs.declared.steps.Item.{Item}
 use Rattle.pssm_model.specs.Shapes.{HasShape}
 use Rattle.pssm_model.specs.Course.{Course, HasRun}
 use Rattle.pssm_model.specs.Items.{Before, IsWaiting, IsCleared, HasRunOut}
-use Rattle.pssm_model.specs.Order.{IsAtOrBefore}
+use Rattle.pssm_model.specs.Order.{IsReady, IsAtOrBefore}
 use Rattle.pssm_model.specs.Order.IsAtOrBefore.{at, before}
-use Rattle.pssm_model.specs.later.Plans.{IsReady}
 use Rattle.pssm_model.specs.inner.Single.{GoesDirectly}
 use Rattle.pssm_model.proofs.Known.{Known, known_as, known_among, known_item}
 use Rattle.pssm_model.proofs.Ranks.{HasRank, rank_of_called, rank_of_earlier}

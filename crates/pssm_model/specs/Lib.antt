@@ -11,8 +11,8 @@ pub mod Course
 pub mod Items
 pub mod Ways
 pub mod WellFormed
-pub mod Order
 pub mod Nested
+pub mod Order
 pub mod BuiltMachine
 pub mod Silent
 pub mod NotBuilt

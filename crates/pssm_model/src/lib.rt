@@ -13,6 +13,7 @@ mod elements;
 mod forest;
 mod ids;
 mod index;
+mod laws;
 mod listing;
 mod machine;
 mod row;
@@ -29,6 +30,7 @@ pub use elements::{
     VertexKind,
 };
 pub use ids::{ActId, GuardId, MarkId, RegionId, SignalId, TransId, VertexId};
+pub use laws::ready_items;
 pub use machine::Machine;
 pub use row::Row;
 pub use same::Same;
