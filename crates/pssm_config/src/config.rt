@@ -85,12 +85,12 @@ impl Config {
         ensures fits { Fits machine.now self.new }
         ensures exited { Agree (configuration_of self.new) (exited machine.now (configuration_of self.old) s) }
     {
-        let home = home_of(machine, s);
+        let left = home_of(machine, s);
         self.active[s.0 as usize] = false;
-        self.held[home.0 as usize] = None;
-        self.ended[home.0 as usize] = false;
-        self.remembered[home.0 as usize] = Some(s);
-        self.empty[home.0 as usize] = false;
+        self.held[left.0 as usize] = None;
+        self.ended[left.0 as usize] = false;
+        self.remembered[left.0 as usize] = Some(s);
+        self.empty[left.0 as usize] = false;
     }
 
     /// A region is opened, and left empty.

@@ -9,5 +9,5 @@ pub returns-clause-fits : goal.returns-clause-fits
 returns-clause-fits c =
     let Old : Tables → Type 0 = λ t. Fits c.args.machine.now t in
     let Active : Tables → Type 0 = λ t. (configuration_of t).Active c.args.s in
-    fits_with_exit c.args.machine.now _ c.args.s c.home_of-home.result _ (subst Old (sym c.self.view_is) c.requires.fits) c.home_of-home.ensures.owner
-    (subst Active (sym c.self.view_is) c.requires.active) c.home_of-home.ensures.within (length-set _ _ _)
+    fits_with_exit c.args.machine.now _ c.args.s c.home_of-left.result _ (subst Old (sym c.self.view_is) c.requires.fits) c.home_of-left.ensures.owner
+    (subst Active (sym c.self.view_is) c.requires.active) c.home_of-left.ensures.within (length-set _ _ _)
