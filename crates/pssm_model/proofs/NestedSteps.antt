@@ -1,5 +1,5 @@
 -- The steps of a machine of States in regions: they go by routes of one transition, and restore nothing.
-use Rattle.std.proofs.Common.{◌≡◌, List, subst}
+use Rattle.std.proofs.Common.{◌≡◌, ◌↔◌, ◌<◌, List, length, refl, sym, subst, inl, ⊎_elim, ◌∙◌}
 use Rattle.pssm_model.specs.declared.ids.VertexId.{VertexId}
 use Rattle.pssm_model.specs.declared.elements.DraftMachine.{DraftMachine}
 use Rattle.pssm_model.specs.declared.steps.Route.{Route}
@@ -10,16 +10,24 @@ use Rattle.pssm_model.specs.declared.steps.Item.{Item}
 use Rattle.pssm_model.specs.declared.steps.Item.TheVariants as items
 use Rattle.pssm_model.specs.Configuration.{Configuration}
 use Rattle.pssm_model.specs.Routes.{Truth, IsStateRoute}
-use Rattle.pssm_model.specs.Course.{Head, Course, FiresBy, RemembersSoFar}
+use Rattle.pssm_model.specs.Course.{Head, Course, FiresBy, HasGoneBy, HasRun, RemembersSoFar}
 use Rattle.pssm_model.specs.Items.{Called}
 use Rattle.pssm_model.specs.Ways.{Memory, IsWay}
 use Rattle.pssm_model.specs.Order.{HasGone, course_by}
 use Rattle.pssm_model.specs.Order.HasGone.{begun as gone_begun, more as gone_more}
 use Rattle.pssm_model.specs.Nested.{IsPlainlyNested}
-use Rattle.pssm_model.specs.inner.Single.{IsDirectRoute, GoesDirectly, IsCalledOver}
-use Rattle.pssm_model.proofs.NestedRoutes.{route_is_direct}
+use Rattle.pssm_model.specs.inner.Single.{IsDirectRoute, GoesDirectly, LiesInSpan, GoesOver, IsExitedOver, IsCalledOver}
+use Rattle.pssm_model.specs.OneRegion.{single_route}
+use Rattle.pssm_model.specs.declared.elements.VertexKind.TheVariants as kinds
+use Rattle.pssm_model.specs.declared.ids.TransId.{TransId}
+use Rattle.pssm_model.specs.Forest.{HasKind}
+use Rattle.pssm_model.specs.Legs.{Leaves}
+use Rattle.pssm_model.proofs.BuiltElements.{some_at, kind_unique}
+use Rattle.pssm_model.proofs.BuiltTransitions.{nothing_in_nil, leaves_one, leaves_at}
+use Rattle.pssm_model.proofs.BuiltRoutes.{single_source, single_route_same}
+use Rattle.pssm_model.proofs.NestedRoutes.{route_is_direct, late_route_is}
 use Rattle.pssm_model.proofs.SingleItems.{called_is}
-use Rattle.pssm_model.proofs.MoreItems.{gone_on, goes_on_directly, begun, begins_directly}
+use Rattle.pssm_model.proofs.MoreItems.{gone_on, goes_on_directly, begun, begins_directly, gone_by_more, called_more, run_more}
 
 module _ {m : DraftMachine} (b : IsPlainlyNested m) where
   -- a way of a called item is a direct route or none
@@ -66,3 +74,74 @@ module _ {m : DraftMachine} (b : IsPlainlyNested m) where
   gone_directly head now _ (gone_more {ran = ran} item how before ready truth way) =
       runs_directly (course_by head now ran) truth (RemembersSoFar m (course_by head now ran)) item how
       (gone_directly head now ran before) ready.waiting.called way
+
+  -- the routes that fire leave States, and the late ones initial vertices
+  pub fires_from_state : (head : Head) (now : Configuration) (ran : List (Item × How)) → HasGone m head now ran
+      → (t : TransId) → FiresBy head (single_route t) → (s : VertexId) → Leaves m t s → HasKind m s kinds.State
+  fires_from_state head now _ (gone_begun fires) t is s l = (fires (single_route t) is).1 s (single_source m t s l)
+  fires_from_state head now _ (gone_more {ran = ran} item how before ready truth way) t is s l = fires_from_state head now ran before t is s l
+
+  late_way : (course : Course) (truth : Truth) (memory : Memory) (item : Item) (how : How) → IsCalledOver m course item → IsWay m truth memory item how
+      → (t : TransId) → how ≡ By (single_route t) → (v : VertexId) × Leaves m t v × HasKind m v kinds.Initial
+  late_way course truth memory (items.Exit s) how called way t e = let clash = way in absurd (cc)
+  late_way course truth memory (items.Effect u) how called way t e = let clash = way in absurd (cc)
+  late_way course truth memory (items.Enter s) how called way t e = let clash = way in absurd (cc)
+  late_way course truth memory (items.Opened r Plain) (By other) called way t e =
+      let is = late_route_is b truth way.0 other way.2 in
+      let same : is.0 ≡ t = single_route_same is.0 t (sym is.1 ∙ same_way other (single_route t) e) in
+      (way.0, subst (λ u. Leaves m u way.0) same is.2, is.3)
+    where
+      same_way : (p q : Route) → By p ≡ By q → p ≡ q
+      same_way p q f = cc
+  late_way course truth memory (items.Opened r Plain) (Restore s) called way t e = absurd way
+  late_way course truth memory (items.Opened r Plain) Nothing called way t e = absurd (cc)
+  late_way course truth memory (items.Opened r Shallow) how called way t e = absurd called
+  late_way course truth memory (items.Opened r Deep) how called way t e = absurd called
+  late_way course truth memory (items.Pick c) how called way t e = absurd called
+
+  pub late_from_initial : (head : Head) (now : Configuration) (ran : List (Item × How)) → HasGone m head now ran
+      → (t : TransId) → HasGoneBy (course_by head now ran) (single_route t) → (v : VertexId) × Leaves m t v × HasKind m v kinds.Initial
+  late_from_initial head now _ (gone_begun fires) t h = absurd (nothing_in_nil (h.0, By (single_route t)) h.1)
+  late_from_initial head now _ (gone_more {ran = ran} item how before ready truth way) t h =
+      let course = course_by head now ran in
+      ⊎_elim
+      (λ was. late_from_initial head now ran before t was)
+      (λ is. late_way course truth (RemembersSoFar m course) item how
+      (called_is m course (gone_directly head now ran before) item ready.waiting.called) way t is)
+      ((gone_by_more course item how (single_route t)).0 h)
+
+  -- so a transition out of a State by which the step goes is one that fires
+  pub over_from_state : (head : Head) (now : Configuration) (ran : List (Item × How)) → HasGone m head now ran
+      → (t : TransId) (s : VertexId) → GoesOver (course_by head now ran) t → Leaves m t s → HasKind m s kinds.State → FiresBy head (single_route t)
+  over_from_state head now ran h t s over l k =
+      ⊎_elim
+      (λ fires. fires)
+      (λ gone. (
+      let from = late_from_initial head now ran h t gone in
+      let same = leaves_one m t from.0 s from.1 l in
+      let clash = kind_unique m s kinds.Initial kinds.State (subst (λ v. HasKind m v kinds.Initial) same from.2) k in
+      absurd (cc)
+      ))
+      over
+
+  -- a called exit comes before a called effect where the transition leaves a State and the exited State lies in its span
+  pub exit_before_effect : (head : Head) (now : Configuration) (ran : List (Item × How)) → HasGone m head now ran → (s : VertexId) (t : TransId)
+      → IsCalledOver m (course_by head now ran) (items.Exit s) → GoesOver (course_by head now ran) t → t.0 < length m.transitions
+      → IsExitedOver m (course_by head now ran) t s ↔ (((v : VertexId) × Leaves m t v × HasKind m v kinds.State) × LiesInSpan m t s)
+  exit_before_effect head now ran h s t called over lt = (
+    λ e. (let at = some_at m.transitions t.0 lt in
+        let l : Leaves m t at.0.source = (leaves_at m t at.0 at.0.source at.1).1 refl in
+        ((at.0.source, l, fires_from_state head now ran h t e.0 at.0.source l), e.2)),
+    λ e. (over_from_state head now ran h t e.0.0 over e.0.1 e.0.2, called.1.1, e.1),
+  )
+
+  -- what has run was called
+  pub ran_was_called : (head : Head) (now : Configuration) (ran : List (Item × How)) → HasGone m head now ran
+      → (x : Item) → HasRun (course_by head now ran) x → IsCalledOver m (course_by head now ran) x
+  ran_was_called head now _ (gone_begun fires) x h = absurd (nothing_in_nil (x, h.0) h.1)
+  ran_was_called head now _ (gone_more {ran = ran} item how before ready truth way) x h =
+      let course = course_by head now ran in
+      (called_more course item how m x).1 (inl (⊎_elim
+      (λ was. ran_was_called head now ran before x was)
+      (λ is. subst (λ y. IsCalledOver m course y) (sym is) (called_is m course (gone_directly head now ran before) item ready.waiting.called))
+      ((run_more course item how x).0 h)))
