@@ -46,7 +46,7 @@ one_top (p ∷ []) each some two = ap (λ q. q ∷ []) (each 0 p refl)
 one_top (p ∷ q ∷ rest) each some two = absurd (two (ap Some (each 0 p refl)) (ap Some (each 1 q refl)))
 
 -- what a kind or a list may be
-kind_split : (k : VertexKind) → (k ≡ kinds.State) ⊎ (k ≡ kinds.Initial) ⊎ ((k ≢ kinds.State) × (k ≢ kinds.Initial))
+pub kind_split : (k : VertexKind) → (k ≡ kinds.State) ⊎ (k ≡ kinds.Initial) ⊎ ((k ≢ kinds.State) × (k ≢ kinds.Initial))
 kind_split kinds.State = inl refl
 kind_split kinds.Initial = inr (inl refl)
 kind_split kinds.Final = inr (inr (λ e. cc, λ e. cc))
@@ -64,7 +64,7 @@ initial_kind : (k : VertexKind) → is_initial_kind k ≡ true → k ≡ kinds.I
 initial_kind kinds.Initial e = refl
 initial_kind other e = absurd (cc)
 
-external_split : (k : TransKind) → (k ≡ External) ⊎ (k ≢ External)
+pub external_split : (k : TransKind) → (k ≡ External) ⊎ (k ≢ External)
 external_split External = inl refl
 external_split Local = inr (λ e. cc)
 external_split Internal = inr (λ e. cc)

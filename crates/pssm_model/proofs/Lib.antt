@@ -21,6 +21,7 @@ pub mod Agreeing
 pub mod SingleLegs
 pub mod SingleItems
 pub mod NestedRoutes
+pub mod NestedFrom
 pub mod Known
 pub mod KnownPlaces
 pub mod KnownItems
