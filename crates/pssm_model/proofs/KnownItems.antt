@@ -19,7 +19,7 @@ use Rattle.pssm_model.specs.Shapes.{HasShape}
 use Rattle.pssm_model.specs.Course.{Head, Course, FiresBy, HasGoneBy, HasRun}
 use Rattle.pssm_model.specs.Course.Head.{Starts, Fires}
 use Rattle.pssm_model.specs.Items.{HasRunOut, Before, IsWaiting, IsCleared}
-use Rattle.pssm_model.specs.Order.{IsReady, IsAtOrBefore, HasReadyAtOrBefore, Tests, tested, tested_course, IsNestedStep}
+use Rattle.pssm_model.specs.Order.{IsReady, IsAtOrBefore, HasReadyAtOrBefore, Tests, tested_course, IsNestedStep}
 use Rattle.pssm_model.specs.OneRegion.{single_route}
 use Rattle.pssm_model.specs.inner.Single.{IsDirectRoute, GoesDirectly, LiesInSpan, GoesOver, IsEnteredBy, IsExitedOver, IsEnteredOver, IsCalledOver, IsOrderedOver}
 use Rattle.pssm_model.proofs.BuiltElements.{mapped_some}
@@ -308,15 +308,20 @@ module _ {m : DraftMachine} (shape : HasShape m) (course : Course) (g : GoesDire
   pub some_ready : (item : Item) → IsWaiting m course item → (x : Item) × IsReady m course x × IsAtOrBefore m course x item
   some_ready item waits = ready_at_or_before shape course g (λ x is. cleared_or_waits x) item waits
 
--- and so it is in the steps of a machine of States in regions
-known_test : (b : Bool) → Known (IsTrue b)
+-- so it is in the steps of a machine of States in regions
+pub step_ready : (m : DraftMachine) (course : Course) → IsNestedStep m course → ((s : VertexId) → Known (course.at_head.Active s))
+    → (item : Item) → IsWaiting m course item → HasReadyAtOrBefore m course item
+step_ready m course h active item waits =
+    some_ready h.shape course (gone_directly h.nested course.head course.at_head course.ran h.gone) active item waits
+
+pub step_finished : (m : DraftMachine) (course : Course) → IsNestedStep m course → ((item : Item) → IsReady m course item → ⊥) → HasRunOut m course
+step_finished m course h none = nothing_ready h.shape course (gone_directly h.nested course.head course.at_head course.ran h.gone) none
+
+-- and where what is active at the head can be tested, it is known
+pub known_test : (b : Bool) → Known (IsTrue b)
 known_test true = inl refl
 known_test false = inr (λ h. cc)
 
-pub nested_ready : (m : DraftMachine) (head : Head) (now : Tests) (ran : List (Item × How)) (item : Item) → IsNestedStep m (tested_course head now ran)
+pub tested_ready : (m : DraftMachine) (head : Head) (now : Tests) (ran : List (Item × How)) (item : Item) → IsNestedStep m (tested_course head now ran)
     → IsWaiting m (tested_course head now ran) item → HasReadyAtOrBefore m (tested_course head now ran) item
-nested_ready m head now ran item h waits =
-    some_ready h.shape (tested_course head now ran) (gone_directly h.nested head (tested now) ran h.gone) (λ s. known_test (now.is_active s)) item waits
-
-pub nested_finished : (m : DraftMachine) (course : Course) → IsNestedStep m course → ((item : Item) → IsReady m course item → ⊥) → HasRunOut m course
-nested_finished m course h none = nothing_ready h.shape course (gone_directly h.nested course.head course.at_head course.ran h.gone) none
+tested_ready m head now ran item h waits = step_ready m (tested_course head now ran) h (λ s. known_test (now.is_active s)) item waits
