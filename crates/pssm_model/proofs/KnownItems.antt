@@ -19,7 +19,7 @@ use Rattle.pssm_model.specs.Shapes.{HasShape}
 use Rattle.pssm_model.specs.Course.{Head, Course, FiresBy, HasGoneBy, HasRun}
 use Rattle.pssm_model.specs.Course.Head.{Starts, Fires}
 use Rattle.pssm_model.specs.Items.{HasRunOut, Before, IsWaiting, IsCleared}
-use Rattle.pssm_model.specs.Order.{IsReady, IsAtOrBefore, HasReadyAtOrBefore, Tests, tested_course, IsNestedStep}
+use Rattle.pssm_model.specs.Order.{IsReady, IsAtOrBefore, HasReadyAtOrBefore, KnownConfiguration, known_course, IsNestedStep}
 use Rattle.pssm_model.specs.OneRegion.{single_route}
 use Rattle.pssm_model.specs.inner.Single.{IsDirectRoute, GoesDirectly, LiesInSpan, GoesOver, IsEnteredBy, IsExitedOver, IsEnteredOver, IsCalledOver, IsOrderedOver}
 use Rattle.pssm_model.proofs.BuiltElements.{mapped_some}
@@ -317,11 +317,11 @@ step_ready m course h active item waits =
 pub step_finished : (m : DraftMachine) (course : Course) → IsNestedStep m course → ((item : Item) → IsReady m course item → ⊥) → HasRunOut m course
 step_finished m course h none = nothing_ready h.shape course (gone_directly h.nested course.head course.at_head course.ran h.gone) none
 
--- and where what is active at the head can be tested, it is known
-pub known_test : (b : Bool) → Known (IsTrue b)
-known_test true = inl refl
-known_test false = inr (λ h. cc)
+-- and where the configuration at the head is known
+pub known_true : (b : Bool) → Known (IsTrue b)
+known_true true = inl refl
+known_true false = inr (λ h. cc)
 
-pub tested_ready : (m : DraftMachine) (head : Head) (now : Tests) (ran : List (Item × How)) (item : Item) → IsNestedStep m (tested_course head now ran)
-    → IsWaiting m (tested_course head now ran) item → HasReadyAtOrBefore m (tested_course head now ran) item
-tested_ready m head now ran item h waits = step_ready m (tested_course head now ran) h (λ s. known_test (now.is_active s)) item waits
+pub known_ready : (m : DraftMachine) (head : Head) (now : KnownConfiguration) (ran : List (Item × How)) (item : Item) → IsNestedStep m (known_course head now ran)
+    → IsWaiting m (known_course head now ran) item → HasReadyAtOrBefore m (known_course head now ran) item
+known_ready m head now ran item h waits = step_ready m (known_course head now ran) h (λ s. known_true (now.is_active s)) item waits

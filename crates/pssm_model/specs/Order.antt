@@ -44,25 +44,25 @@ pub data HasGone (m : DraftMachine) (head : Head) (now : Configuration) : List (
   more : {ran : List (Item × How)} (item : Item) (how : How) → HasGone m head now ran → IsReady m (course_by head now ran) item
       → (truth : Truth) → IsWayNow m truth (course_by head now ran) item how → HasGone m head now (ran ++ (item, how) ∷ [])
 
--- a configuration of which it can be tested what holds in it (this profile's choice)
-pub record Tests : Type 0 where
+-- a configuration of which it is known what holds in it and what does not (this profile's choice)
+pub record KnownConfiguration : Type 0 where
   pub is_active : VertexId → Bool
   pub remembers : RegionId → VertexId → Bool
   pub has_done_step : VertexId → ℕ → Bool
   pub left_empty : RegionId → Bool
 
--- the configuration of the tests (UML 2.5.1 14.2.3.4, State configurations)
-abbrev pub tested : Tests → Configuration
-tested tests = record {
-  Active = λ s. IsTrue (tests.is_active s);
-  Remembers = λ r s. IsTrue (tests.remembers r s);
-  HasDoneStep = λ s k. IsTrue (tests.has_done_step s k);
-  LeftEmpty = λ r. IsTrue (tests.left_empty r);
+-- the configuration of which this is known (UML 2.5.1 14.2.3.4, State configurations)
+abbrev pub configuration_by : KnownConfiguration → Configuration
+configuration_by known = record {
+  Active = λ s. IsTrue (known.is_active s);
+  Remembers = λ r s. IsTrue (known.remembers r s);
+  HasDoneStep = λ s k. IsTrue (known.has_done_step s k);
+  LeftEmpty = λ r. IsTrue (known.left_empty r);
 }
 
--- the step with this head, these tests at its head, and items that have run
-abbrev pub tested_course : Head → Tests → List (Item × How) → Course
-tested_course head tests ran = course_by head (tested tests) ran
+-- the step with this head, such a configuration at its head, and items that have run
+abbrev pub known_course : Head → KnownConfiguration → List (Item × How) → Course
+known_course head known ran = course_by head (configuration_by known) ran
 
 -- A step of a machine of States in regions has come so far (UML 2.5.1 14.2.3.9, run to completion).
 pub record IsNestedStep (m : DraftMachine) (course : Course) : Type 0 where
