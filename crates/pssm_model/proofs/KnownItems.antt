@@ -42,7 +42,7 @@ abbrev vertex_of : ℕ → VertexId
 vertex_of k = record { 0 = k }
 
 -- what lies somewhere, or owns a region, is one of the machine
-lying_there : {m : DraftMachine} → HasShape m → (v : VertexId) (q : Owner) → LiesUnder m (State v) q → v.0 < length m.vertices
+pub lying_there : {m : DraftMachine} → HasShape m → (v : VertexId) (q : Owner) → LiesUnder m (State v) q → v.0 < length m.vertices
 lying_there {m} shape v q h =
     let up = owner_under m (State v) q h in
     let at = mapped_some (λ (x : Vertex). x.owner) (vertex_at m v) up.0 up.1 in

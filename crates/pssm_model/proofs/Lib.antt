@@ -29,3 +29,4 @@ pub mod MoreItems
 pub mod NestedSteps
 pub mod Ranks
 pub mod ReadyItems
+pub mod StepLengths

@@ -1,5 +1,5 @@
 -- The steps of a machine of States in regions: they go by routes of one transition, and restore nothing.
-use Rattle.std.proofs.Common.{◌≡◌, ◌↔◌, ◌<◌, List, length, refl, sym, subst, inl, ⊎_elim, ◌∙◌}
+use Rattle.std.proofs.Common.{◌≡◌, ◌⊎◌, ◌↔◌, ◌<◌, List, length, refl, sym, subst, inl, ⊎_elim, ◌∙◌}
 use Rattle.pssm_model.specs.declared.ids.VertexId.{VertexId}
 use Rattle.pssm_model.specs.declared.elements.DraftMachine.{DraftMachine}
 use Rattle.pssm_model.specs.declared.steps.Route.{Route}
@@ -9,7 +9,7 @@ use Rattle.pssm_model.specs.declared.steps.How.TheVariants.{By, Restore, Nothing
 use Rattle.pssm_model.specs.declared.steps.Item.{Item}
 use Rattle.pssm_model.specs.declared.steps.Item.TheVariants as items
 use Rattle.pssm_model.specs.Configuration.{Configuration}
-use Rattle.pssm_model.specs.Routes.{Truth, IsStateRoute}
+use Rattle.pssm_model.specs.Routes.{Truth, IsRoute, IsStateRoute}
 use Rattle.pssm_model.specs.Course.{Head, Course, FiresBy, HasGoneBy, HasRun, RemembersSoFar}
 use Rattle.pssm_model.specs.Items.{Called}
 use Rattle.pssm_model.specs.Ways.{Memory, IsWay}
@@ -25,7 +25,7 @@ use Rattle.pssm_model.specs.Legs.{Leaves}
 use Rattle.pssm_model.proofs.BuiltElements.{some_at, kind_unique}
 use Rattle.pssm_model.proofs.BuiltTransitions.{nothing_in_nil, leaves_one, leaves_at}
 use Rattle.pssm_model.proofs.BuiltRoutes.{single_source, single_route_same}
-use Rattle.pssm_model.proofs.NestedRoutes.{route_is_direct, late_route_is}
+use Rattle.pssm_model.proofs.NestedRoutes.{route_is_direct, late_route_is, route_is_single}
 use Rattle.pssm_model.proofs.SingleItems.{called_is}
 use Rattle.pssm_model.proofs.MoreItems.{gone_on, goes_on_directly, begun, begins_directly, gone_by_more, called_more, run_more}
 
@@ -145,3 +145,48 @@ module _ {m : DraftMachine} (b : IsPlainlyNested m) where
       (λ was. ran_was_called head now ran before x was)
       (λ is. subst (λ y. IsCalledOver m course y) (sym is) (called_is m course (gone_directly head now ran before) item ready.waiting.called))
       ((run_more course item how x).0 h)))
+
+  -- it goes by routes alone
+  way_is_route : (course : Course) (truth : Truth) (memory : Memory) (item : Item) (how : How) → IsCalledOver m course item
+      → IsWay m truth memory item how → (route : Route) → how ≡ By route → IsRoute m route
+  way_is_route course truth memory (items.Exit s) how called way route e = let clash = way in absurd (cc)
+  way_is_route course truth memory (items.Effect t) how called way route e = let clash = way in absurd (cc)
+  way_is_route course truth memory (items.Enter s) how called way route e = let clash = way in absurd (cc)
+  way_is_route course truth memory (items.Opened r Plain) (By other) called way route e =
+      let same : other ≡ route = cc in
+      subst (IsRoute m) same way.2.route_is
+  way_is_route course truth memory (items.Opened r Plain) (Restore s) called way route e = absurd way
+  way_is_route course truth memory (items.Opened r Plain) Nothing called way route e = absurd (cc)
+  way_is_route course truth memory (items.Opened r Shallow) how called way route e = absurd called
+  way_is_route course truth memory (items.Opened r Deep) how called way route e = absurd called
+  way_is_route course truth memory (items.Pick c) how called way route e = absurd called
+
+  fires_route : (head : Head) (now : Configuration) (ran : List (Item × How)) → HasGone m head now ran
+      → (route : Route) → FiresBy head route → IsRoute m route
+  fires_route head now _ (gone_begun fires) route is = (fires route is).0
+  fires_route head now _ (gone_more {ran = ran} item how before ready truth way) route is = fires_route head now ran before route is
+
+  late_route : (head : Head) (now : Configuration) (ran : List (Item × How)) → HasGone m head now ran
+      → (route : Route) → HasGoneBy (course_by head now ran) route → IsRoute m route
+  late_route head now _ (gone_begun fires) route h = absurd (nothing_in_nil (h.0, By route) h.1)
+  late_route head now _ (gone_more {ran = ran} item how before ready truth way) route h =
+      let course = course_by head now ran in
+      ⊎_elim
+      (λ was. late_route head now ran before route was)
+      (λ is. way_is_route course truth (RemembersSoFar m course) item how
+      (called_is m course (gone_directly head now ran before) item ready.waiting.called) way route is)
+      ((gone_by_more course item how route).0 h)
+
+  pub over_route : (head : Head) (now : Configuration) (ran : List (Item × How)) → HasGone m head now ran
+      → (route : Route) → FiresBy head route ⊎ HasGoneBy (course_by head now ran) route → IsRoute m route
+  over_route head now ran h route over = ⊎_elim (fires_route head now ran h route) (late_route head now ran h route) over
+
+  -- the transitions by which it goes are there
+  pub over_in_range : (head : Head) (now : Configuration) (ran : List (Item × How)) → HasGone m head now ran
+      → (t : TransId) → GoesOver (course_by head now ran) t → t.0 < length m.transitions
+  over_in_range head now ran h t over = single_in_range (single_route t) t refl (over_route head now ran h (single_route t) over)
+    where
+      single_in_range : (route : Route) (u : TransId) → route ≡ single_route u → IsRoute m route → u.0 < length m.transitions
+      single_in_range route u e is =
+          let one = route_is_single b route is in
+          subst (λ w. w.0 < length m.transitions) (single_route_same one.0 u (sym one.1 ∙ e)) one.2

@@ -1,5 +1,5 @@
 -- Which items of a step are ready, by which ways they may go, and which stand at or before another; and how a step goes on.
-use Rattle.std.specs.Prelude.{List, [], ◌∷◌, ◌++◌, Bool, IsTrue, ℕ}
+use Rattle.std.specs.Prelude.{◌+◌, ◌*◌, length, List, [], ◌∷◌, ◌++◌, Bool, IsTrue, ℕ}
 use Rattle.pssm_model.specs.declared.ids.VertexId.{VertexId}
 use Rattle.pssm_model.specs.declared.ids.RegionId.{RegionId}
 use Rattle.pssm_model.specs.declared.elements.DraftMachine.{DraftMachine}
@@ -69,3 +69,8 @@ pub record IsNestedStep (m : DraftMachine) (course : Course) : Type 0 where
   pub shape : HasShape m
   pub nested : IsPlainlyNested m
   pub gone : HasGone m course.head course.at_head course.ran
+
+-- how many further entries an open step of the machine can need: an exit and an entry for each vertex, an opening for each region,
+-- an effect for each transition (this profile's choice)
+abbrev pub entries_at_most : DraftMachine → ℕ
+entries_at_most m = 2 * length m.vertices + length m.regions + length m.transitions

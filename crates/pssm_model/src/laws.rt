@@ -1,11 +1,11 @@
-//! A law of the order in which the items of a step run: a function that does nothing, and whose contract is the law.
-ghost use Rattle.std.specs.Prelude.{List};
+//! Laws of the items of a step: functions that do nothing, and whose contracts are the laws.
+ghost use Rattle.std.specs.Prelude.{◌≤◌, List, length};
 ghost use Rattle.pssm_model.specs.declared.elements.DraftMachine.{DraftMachine};
 ghost use Rattle.pssm_model.specs.declared.steps.How.{How};
 ghost use Rattle.pssm_model.specs.declared.steps.Item.{Item};
 ghost use Rattle.pssm_model.specs.Course.{Head};
 ghost use Rattle.pssm_model.specs.Items.{IsWaiting, HasRunOut};
-ghost use Rattle.pssm_model.specs.Order.{KnownConfiguration, known_course, IsReady, HasReadyAtOrBefore, IsNestedStep};
+ghost use Rattle.pssm_model.specs.Order.{KnownConfiguration, known_course, IsReady, HasReadyAtOrBefore, IsNestedStep, entries_at_most};
 
 /// In a step of a machine of States in regions, a called item that has not run has a ready item at or before it; so where no
 /// item is ready, everything called has run (UML 2.5.1, 14.2.3.9, transition execution sequence).
@@ -16,4 +16,11 @@ pub fn ready_items()
     ensures finished { (m : DraftMachine) (head : Head) (now : KnownConfiguration) (ran : List (Item × How))
         → IsNestedStep m (known_course head now ran) → ((item : Item) → IsReady m (known_course head now ran) item → ⊥)
         → HasRunOut m (known_course head now ran) }
+{}
+
+/// A step of a machine of States in regions has at most an exit and an entry for each vertex, an opening for each region and
+/// an effect for each transition (UML 2.5.1, 14.2.3.9, run to completion).
+pub fn step_length()
+    ensures { (m : DraftMachine) (head : Head) (now : KnownConfiguration) (ran : List (Item × How))
+        → IsNestedStep m (known_course head now ran) → length ran ≤ entries_at_most m }
 {}

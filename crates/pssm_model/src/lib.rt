@@ -30,7 +30,7 @@ pub use elements::{
     VertexKind,
 };
 pub use ids::{ActId, GuardId, MarkId, RegionId, SignalId, TransId, VertexId};
-pub use laws::ready_items;
+pub use laws::{ready_items, step_length};
 pub use machine::Machine;
 pub use row::Row;
 pub use same::Same;
