@@ -1,0 +1,11 @@
+pub mod Taken
+pub mod Spans
+pub mod Rosters
+pub mod Extending
+pub mod Growing
+pub mod Rewriting
+pub mod Leading
+pub mod Courses
+pub mod StandingItems
+pub mod Making
+pub mod Running

@@ -1,0 +1,96 @@
+-- A list of calls that is gone through, each call in its place becoming another.
+use Rattle.std.proofs.Common.{◌≡◌, ◌≢◌, ◌+◌, ◌<◌, ◌≤◌, ℕ, List, length, get_or, set, IsTrue, Bool, arith, sym, subst, ap, refl, ◌∙◌, ⊎_elim}
+use Rattle.std.proofs.lemmas.Bool.{cases_lt}
+use Rattle.std.proofs.lemmas.List.{get_or-set_same, get_or-set_other, length-set, get_or_default}
+use Rattle.pssm_model.specs.declared.steps.Item.{Item}
+use Rattle.pssm_plan.specs.declared.roster.Call.{Call}
+use Rattle.pssm_plan.specs.declared.roster.Pair.{Pair}
+use Rattle.pssm_plan.specs.inner.Marks.{IsListed, IsMarked, IsBlocked, IsSettled, ArePairwise}
+use Rattle.pssm_plan.proofs.Growing.{lower_or_same}
+
+-- the calls below a number are rewritten, and the others are as they were
+pub record IsRewritten (Is : Call → Call → Type 0) (old new : List Call) (i : ℕ) : Type 0 where
+  pub same_length : length new ≡ length old
+  pub done : (k : ℕ) (d : Call) → k < i → Is (get_or old k d) (get_or new k d)
+  pub rest : (k : ℕ) (d : Call) → i ≤ k → get_or new k d ≡ get_or old k d
+
+pub rewritten_none : (Is : Call → Call → Type 0) (old : List Call) → IsRewritten Is old old 0
+rewritten_none Is old = record { same_length = refl; done = λ k d lt. absurd (omega arith); rest = λ k d le. refl }
+
+module _ (Is : Call → Call → Type 0) (old now : List Call) (i : ℕ) (c e : Call) (h : IsRewritten Is old now i) (lt : i < length now) (is : Is (get_or now i e) c) where
+  here_rewritten : (k : ℕ) (d : Call) → k ≡ i → Is (get_or old k d) (get_or (set now i c) k d)
+  here_rewritten k d same =
+      let first : get_or now i e ≡ get_or old i d = get_or_default now i e d lt ∙ h.rest i d (omega arith) in
+      let second : get_or (set now i c) i d ≡ c = get_or-set_same now i c d lt in
+      subst (λ (n : ℕ). Is (get_or old n d) (get_or (set now i c) n d)) (sym same)
+      (subst (λ (b : Call). Is (get_or old i d) b) (sym second) (subst (λ (a : Call). Is a c) first is))
+
+  pub rewritten_more : IsRewritten Is old (set now i c) (i + 1)
+  rewritten_more = record {
+    same_length = length-set now i c ∙ h.same_length;
+    done = λ k d less. ⊎_elim
+        (λ below. let other : k ≢ i = omega arith in
+        subst (λ (b : Call). Is (get_or old k d) b) (sym (get_or-set_other now i k c d other)) (h.done k d below))
+        (λ same. here_rewritten k d same)
+        (lower_or_same k i less);
+    rest = λ k d le. let other : k ≢ i = omega arith in get_or-set_other now i k c d other ∙ h.rest k d (omega arith);
+  }
+
+pub rewritten_all : (Is : Call → Call → Type 0) (old now : List Call) (i : ℕ) → IsRewritten Is old now i → length old ≤ i → ArePairwise Is old now
+rewritten_all Is old now i h le = (h.same_length, λ k d lt. h.done k d (omega arith))
+
+-- lists of the same items, of which the same have run
+abbrev pub AreAlike : List Call → List Call → Type 0
+AreAlike a b =
+    (length b ≡ length a)
+    × ((k : ℕ) (d : Call) → k < length a → ((get_or b k d).item ≡ (get_or a k d).item) × ((get_or b k d).ran ≡ (get_or a k d).ran))
+
+pub alike_back : (a b : List Call) → AreAlike a b → AreAlike b a
+alike_back a b h = (sym h.0, λ k d lt. let is = h.1 k d (omega (arith, h.0)) in (sym is.0, sym is.1))
+
+pub marked_along : (a b : List Call) (x : Item) → AreAlike a b → IsMarked a x → IsMarked b x
+marked_along a b x h marked =
+    let k = marked.1.0 in
+    let lt : k < length b = omega (arith, h.0, marked.1.1) in
+    let at = get_or b k marked.0 in
+    let is = h.1 k marked.0 marked.1.1 in (
+      at,
+      (k, lt, get_or_default b k at marked.0 lt),
+      is.0 ∙ ap (λ (c : Call). c.item) marked.1.2 ∙ marked.2,
+      subst (λ (v : Bool). IsTrue v) (sym (is.1 ∙ ap (λ (c : Call). c.ran) marked.1.2)) marked.3,
+    )
+
+pub listed_along : (a b : List Call) (x : Item) → length b ≡ length a → ((k : ℕ) (d : Call) → k < length a → (get_or b k d).item ≡ (get_or a k d).item)
+    → IsListed a x → IsListed b x
+listed_along a b x long same listed =
+    let k = listed.1.0 in
+    let lt : k < length b = omega (arith, long, listed.1.1) in
+    let at = get_or b k listed.0 in
+    (at, (k, lt, get_or_default b k at listed.0 lt), same k listed.0 listed.1.1 ∙ ap (λ (c : Call). c.item) listed.1.2 ∙ listed.2)
+
+-- what blocks an item in the one list blocks it in the other
+pub blocked_along : (a b : List Call) (order : List Pair) (x : Item) → AreAlike a b → IsBlocked a order x → IsBlocked b order x
+blocked_along a b order x h blocked = (blocked.0, blocked.1, λ marked. blocked.2 (marked_along b a blocked.0 (alike_back a b h) marked))
+
+-- while calls are settled, items and what has run stay
+pub settling_alike : (old now : List Call) (order : List Pair) (i : ℕ) → IsRewritten (IsSettled old order) old now i → AreAlike old now
+settling_alike old now order i h = (
+  h.same_length,
+  λ k d lt. ⊎_elim
+      (λ below. let s = h.done k d below in (s.item_is, s.ran))
+      (λ above. let e = h.rest k d above in (ap (λ (c : Call). c.item) e, ap (λ (c : Call). c.ran) e))
+      (cases_lt k i),
+)
+
+pub settled_by_old : (old now : List Call) (order : List Pair) (i : ℕ) (a b : Call) → IsRewritten (IsSettled old order) old now i
+    → IsSettled now order a b → IsSettled old order a b
+settled_by_old old now order i a b h s =
+    let alike = settling_alike old now order i h in
+    record {
+      item_is = s.item_is;
+      ran = s.ran;
+      blocked = (
+        λ true. blocked_along now old order a.item (alike_back old now alike) (s.blocked.0 true),
+        λ is. s.blocked.1 (blocked_along old now order a.item alike is),
+      );
+    }

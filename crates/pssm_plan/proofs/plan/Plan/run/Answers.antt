@@ -1,0 +1,65 @@
+use Rattle.std.proofs.Common.{◌∙◌, ◌++◌, ◌∷◌, [], List, ap, subst, sym}
+use Rattle.std.proofs.lemmas.Result.{on_ok_weaker}
+use Rattle.std.proofs.lemmas.List.{map-append}
+use Rattle.pssm_model.specs.declared.steps.How.{How}
+use Rattle.pssm_model.specs.declared.steps.Item.{Item}
+use Rattle.pssm_model.specs.Order.{IsReady, IsWayNow}
+use Rattle.pssm_plan.specs.declared.plan.Step.{Step}
+use Rattle.pssm_plan.specs.Agenda.{Agenda, course_of}
+use Rattle.pssm_plan.specs.Plans.{IsPlanOf}
+use Rattle.pssm_plan.specs.inner.Marks.{IsListed}
+use Rattle.pssm_plan.specs.inner.Sequence.{IsRoster}
+use Rattle.pssm_plan.specs.inner.Views.{head_of, tables_of, steps_of}
+use Rattle.pssm_plan.proofs.Courses.{plan_roster}
+use Rattle.pssm_plan.proofs.Running.{way_is_single, run_plan}
+use Rattle.pssm_plan.proofs.plan.Plan.run.Goals as goal
+
+pub run-outcome-requires-clause-roster : goal.run-outcome-requires-clause-roster
+run-outcome-requires-clause-roster c =
+    subst (λ (p : Agenda). IsRoster c.args.machine.now p.calls p.order) (sym c.self.view_is)
+    (plan_roster c.args.machine.now c.requires.nested c.regions-shaped.ensures.shaped c.args.self.now c.requires.plan)
+
+pub run-outcome-requires-clause-item : goal.run-outcome-requires-clause-item
+run-outcome-requires-clause-item c =
+    (plan_roster c.args.machine.now c.requires.nested c.regions-shaped.ensures.shaped c.args.self.now c.requires.plan).items c.args.item
+    ((c.requires.plan.called c.args.item).1 c.requires.ready.waiting.called)
+
+pub run-outcome-requires-clause-listed : goal.run-outcome-requires-clause-listed
+run-outcome-requires-clause-listed c =
+    subst (λ (p : Agenda). IsListed p.calls c.args.item) (sym c.self.view_is) ((c.requires.plan.called c.args.item).1 c.requires.ready.waiting.called)
+
+pub run-outcome-requires-clause-single : goal.run-outcome-requires-clause-single
+run-outcome-requires-clause-single c =
+    way_is_single c.requires.nested c.requires.way.0 _ c.args.item c.args.how.now c.requires.way.1
+
+pub returns-else-is_err-clause-plan : goal.returns-else-is_err-clause-plan
+returns-else-is_err-clause-plan c =
+    let m = c.args.machine.now in
+    let old : Agenda = record {
+      head = head_of c.self.inside.beginning;
+      at_head = tables_of c.self.inside.beginning;
+      ran = steps_of c.self.inside.ran.items;
+      calls = c.self.inside.roster.calls.items;
+      order = c.self.inside.roster.order.items;
+    } in
+    let back = sym c.self.view_is in
+    let plan = subst (λ (p : Agenda). IsPlanOf m p) back c.requires.plan in
+    let ready = subst (λ (p : Agenda). IsReady m (course_of p) c.args.item) back c.requires.ready in
+    let way = subst (λ (p : Agenda). IsWayNow m c.requires.way.0 (course_of p) c.args.item c.args.how.now) back c.requires.way.1 in
+    let step : Step → Item × How = (λ s. (s.item, s.how.value)) in
+    let longer = ap (λ (l : List Step). steps_of l) c.in_ok-push.ensures.items
+    ∙ map-append step c.self.inside.ran.items _
+    ∙ ap (λ (h : How). steps_of c.self.inside.ran.items ++ (c.args.item, h) ∷ []) c.of.ensures in
+    on_ok_weaker c.run-outcome.result
+    (λ ran. subst
+    (λ (l : List (Item × How)). IsPlanOf m (record {
+      head = head_of c.self.inside.beginning;
+      at_head = tables_of c.self.inside.beginning;
+      ran = l;
+      calls = c.run-outcome.new.self.calls.items;
+      order = c.run-outcome.new.self.order.items;
+    }))
+    (sym longer)
+    (run_plan c.requires.nested c.regions-shaped.ensures.shaped old c.args.item c.args.how.now c.run-outcome.new.self.calls.items
+    c.run-outcome.new.self.order.items plan ready c.requires.way.0 way ran))
+    c.run-outcome.ensures.ran

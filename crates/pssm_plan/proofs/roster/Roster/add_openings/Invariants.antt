@@ -1,0 +1,13 @@
+use Rattle.std.proofs.Common.{◌≡◌, take}
+use Rattle.pssm_model.specs.declared.steps.Item.TheVariants.{Opened}
+use Rattle.pssm_model.specs.declared.steps.Mode.TheVariants.{Plain}
+use Rattle.pssm_model.specs.inner.Single.{EndsIn}
+use Rattle.pssm_plan.proofs.Growing.{HasGrown, AddedBy}
+use Rattle.pssm_plan.proofs.roster.Roster.add_openings.Given as goal
+
+-- the openings of the regions so far are listed
+abbrev pub invariant-loop-r : goal.invariant-loop-r
+invariant-loop-r l =
+    HasGrown l.machine l.fn.self.calls.items l.fn.self.order.items
+    (AddedBy (λ r x. (x ≡ Opened r Plain) × (EndsIn l.machine l.t r → ⊥)) (take l.r-index l.r-items))
+    l.self.calls.items l.self.order.items

@@ -1,0 +1,4 @@
+pub mod Agenda
+pub mod Plans
+pub mod Standings
+pub mod inner

@@ -1,0 +1,33 @@
+-- How an item stands in a step, and which items are ready.
+use Rattle.std.specs.Prelude.{◌≢◌, ◌↔◌, Bool, List, Contains, AllPairs, map, ◌&&◌, not}
+use Rattle.std.specs.List.{filter}
+use Rattle.pssm_model.specs.declared.elements.DraftMachine.{DraftMachine}
+use Rattle.pssm_model.specs.declared.steps.Item.{Item}
+use Rattle.pssm_model.specs.Course.{Course, HasRun}
+use Rattle.pssm_model.specs.Items.{Called, Before, IsWaiting}
+use Rattle.pssm_model.specs.Order.{IsReady}
+use Rattle.pssm_plan.specs.declared.roster.Call.{Call}
+use Rattle.pssm_plan.specs.declared.standing.Standing.{Standing}
+use Rattle.pssm_plan.specs.declared.standing.Standing.TheVariants.{Ready, NotCalled, Ran, Waits}
+use Rattle.pssm_plan.specs.Agenda.{Agenda}
+
+-- The item stands so in the step: it is ready, it is not called, it is called and has run, or it waits for one that is called, comes before it and has
+-- not run (UML 2.5.1 14.2.3.9, transition execution sequence).
+abbrev pub StandsAs : DraftMachine → Course → Item → Standing → Type 0
+StandsAs m course item Ready = IsReady m course item
+StandsAs m course item NotCalled = Called m course item → ⊥
+StandsAs m course item Ran = Called m course item × HasRun course item
+StandsAs m course item (Waits on) = IsWaiting m course item × IsWaiting m course on × Before m course on item
+
+-- whether the call stands as one of an item that is ready
+abbrev pub stands_ready : Call → Bool
+stands_ready call = not call.ran && not call.blocked
+
+-- the items that stand as ready in the plan, in the order in which they were called
+abbrev pub ready_items : Agenda → List Item
+ready_items plan = map (λ (call : Call). call.item) (filter stands_ready plan.calls)
+
+-- The list has exactly the ready items, each once (UML 2.5.1 14.2.3.9, transition execution sequence).
+pub record ListsReady (m : DraftMachine) (course : Course) (items : List Item) : Type 0 where
+  pub ready : (item : Item) → Contains items item ↔ IsReady m course item
+  pub once : AllPairs (λ x y. x ≢ y) items

@@ -1,0 +1,4 @@
+pub mod Marks
+pub mod Sequence
+pub mod Calling
+pub mod Views

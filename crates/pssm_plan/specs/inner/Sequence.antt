@@ -1,0 +1,56 @@
+-- Which of the items that a step calls come before which: it is seen from the items alone.
+use Rattle.std.specs.Prelude.{◌≡◌, ◌⊎◌, ◌<◌, ◌↔◌, ◌≢◌, List, length, Contains, AllPairs}
+use Rattle.pssm_model.specs.declared.ids.VertexId.{VertexId}
+use Rattle.pssm_model.specs.declared.ids.TransId.{TransId}
+use Rattle.pssm_model.specs.declared.elements.DraftMachine.{DraftMachine}
+use Rattle.pssm_model.specs.declared.elements.VertexKind.TheVariants as kinds
+use Rattle.pssm_model.specs.declared.steps.Item.{Item}
+use Rattle.pssm_model.specs.declared.steps.Item.TheVariants.{Exit, Effect, Enter, Opened, Pick}
+use Rattle.pssm_model.specs.Forest.{HasKind, LiesInState}
+use Rattle.pssm_model.specs.Legs.{Leaves}
+use Rattle.pssm_model.specs.inner.Single.{LiesInSpan, IsEnteredBy}
+use Rattle.pssm_plan.specs.declared.roster.Call.{Call}
+use Rattle.pssm_plan.specs.declared.roster.Pair.{Pair}
+use Rattle.pssm_plan.specs.inner.Marks.{IsListed, IsMarked}
+
+-- What the item names is there.
+abbrev pub IsItemOf : DraftMachine → Item → Type 0
+IsItemOf m (Exit s) = s.0 < length m.vertices
+IsItemOf m (Effect t) = t.0 < length m.transitions
+IsItemOf m (Enter s) = s.0 < length m.vertices
+IsItemOf m (Opened r mode) = r.0 < length m.regions
+IsItemOf m (Pick c) = c.0 < length m.vertices
+
+-- The transition leaves a State, and so no late route goes by it.
+abbrev pub LeavesState : DraftMachine → TransId → Type 0
+LeavesState m t = (s : VertexId) × Leaves m t s × HasKind m s kinds.State
+
+-- The first of two called items comes before the second.
+abbrev pub IsSequence : DraftMachine → Item → Item → Type 0
+IsSequence m (Exit s) (Exit q) = LiesInState m s q
+IsSequence m (Exit s) (Effect t) = LeavesState m t × LiesInSpan m t s
+IsSequence m (Effect t) (Enter s) = IsEnteredBy m t s
+IsSequence m (Enter s) (Enter q) = LiesInState m q s
+IsSequence m _ _ = ⊥
+
+-- the item and a listed one, of which one comes before the other
+abbrev pub IsLink : DraftMachine → List Call → Item → Pair → Type 0
+IsLink m calls item p =
+    IsSequence m p.first p.second
+    × ((IsListed calls p.first × (p.second ≡ item)) ⊎ (IsListed calls p.second × (p.first ≡ item)))
+
+-- What each listed item names is there.
+abbrev pub AreItemsOf : DraftMachine → List Call → Type 0
+AreItemsOf m calls = (item : Item) → IsListed calls item → IsItemOf m item
+
+-- The lists are those of a roster: no item twice, and exactly the pairs of which the first comes before the second.
+pub record IsRoster (m : DraftMachine) (calls : List Call) (order : List Pair) : Type 0 where
+  pub items : AreItemsOf m calls
+  pub once : AllPairs (λ a b. a.item ≢ b.item) calls
+  pub sequenced : (p : Pair) → Contains order p ↔ (IsListed calls p.first × IsListed calls p.second × IsSequence m p.first p.second)
+
+-- The lists are those of a roster that has besides the items that these calls have those that are added, which have not run.
+pub record IsExtended (m : DraftMachine) (old : List Call) (Added : Item → Type 0) (calls : List Call) (order : List Pair) : Type 0 where
+  pub roster : IsRoster m calls order
+  pub listed : (x : Item) → IsListed calls x ↔ (IsListed old x ⊎ Added x)
+  pub marked : (x : Item) → IsMarked calls x ↔ IsMarked old x

@@ -1,0 +1,15 @@
+//! The items that a step calls, and their order (UML 2.5.1, 14.2.3.9).
+//!
+//! A `Plan` lists what a step calls as far as it has come, and says of each item whether it is ready.
+//! This crate knows nothing of behaviours, journals or objects.
+#![tactic(auto)]
+
+mod arrows;
+mod calling;
+mod plan;
+mod roster;
+mod standing;
+
+pub use plan::Plan;
+pub use pssm_model::{How, Item, Mode};
+pub use standing::Standing;

@@ -1,0 +1,150 @@
+//! `Plan`: the items that a step calls, which of them have run, and which are ready.
+ghost use Rattle.std.specs.Prelude.{◌≡◌, ◌↔◌, ◌<◌, ◌++◌, ◌∷◌, [], length, slice_get, Some, IsTrue, IfOk, OnOk, OnErr, Contains};
+ghost use Rattle.pssm_model.specs.declared.elements.DraftMachine.{DraftMachine};
+ghost use Rattle.pssm_model.specs.Nested.{IsPlainlyNested};
+ghost use Rattle.pssm_model.specs.Course.Head.{Starts, Fires};
+ghost use Rattle.pssm_model.specs.Items.{HasRunOut};
+ghost use Rattle.pssm_model.specs.Routes.{Truth, IsStateRoute};
+ghost use Rattle.pssm_model.specs.declared.steps.Route.{Route};
+ghost use Rattle.pssm_model.specs.Order.{IsReady, IsWayNow};
+ghost use Rattle.pssm_config.specs.Tables.{Fits, configuration_of};
+ghost use Rattle.pssm_plan.specs.Agenda.{course_of};
+ghost use Rattle.pssm_plan.specs.Plans.{IsPlanOf};
+ghost use Rattle.pssm_plan.specs.Standings.{StandsAs, ready_items, ListsReady};
+
+use crate::roster::{Roster, has_run, have_all_run, is_listed, obstacle};
+use crate::standing::Standing;
+use pssm_config::Config;
+use pssm_model::{Firing, How, Item, Machine};
+use std::alloc::{AllocError as NoMemory, Global};
+use std::marker::Model;
+use std::snapshot::Snapshot;
+
+/// How the step began; what is only for clauses takes no memory.
+#[derive(Drop)]
+enum Beginning {
+    Start,
+    Firing(Snapshot<Firing>, Snapshot<Config>),
+}
+
+/// An item that has run, and its way, which is only for clauses and takes no memory.
+#[derive(Drop)]
+struct Step {
+    item: Item,
+    how: Snapshot<How>,
+}
+
+/// The plan of a step (UML 2.5.1, 14.2.3.9, run to completion): the items that it calls, which of them have run, and
+/// which wait for others.
+///
+/// A clause sees the step as far as it has come, and the tables. `IsPlanOf` says that they are those of a machine.
+#[derive(Drop)]
+pub struct Plan {
+    beginning: Beginning,
+    ran: Vec<Step>,
+    roster: Roster,
+}
+
+impl Model for Plan {
+    ghost use Rattle.pssm_plan.specs.Agenda.{Agenda};
+
+    ghost Value = { Agenda };
+
+    ghost use Rattle.pssm_plan.specs.inner.Views.{head_of, tables_of, steps_of};
+
+    ghost view = { λ p. record { head = head_of p.beginning; at_head = tables_of p.beginning; ran = steps_of p.ran.items; calls = p.roster.calls.items; order = p.roster.order.items } };
+}
+
+impl Plan {
+    /// How an item stands: not called, run, ready, or waiting for a called item that comes before it and has not run.
+    pub fn standing(&self, item: Item) -> Standing
+        ensures { (m : DraftMachine) → IsPlanOf m self.now → StandsAs m (course_of self.now) item result }
+    {
+        let calls = self.roster.calls.as_slice();
+        if !is_listed(calls, item) {
+            return Standing::NotCalled;
+        }
+        if has_run(calls, item) {
+            return Standing::Ran;
+        }
+        match obstacle(calls, self.roster.order.as_slice(), item) {
+            Some(on) => Standing::Waits { on },
+            None => Standing::Ready,
+        }
+    }
+
+    /// Whether every called item has run.
+    pub fn finished(&self) -> bool
+        ensures { (m : DraftMachine) → IsPlanOf m self.now → (IsTrue result ↔ HasRunOut m (course_of self.now)) }
+    {
+        have_all_run(self.roster.calls.as_slice())
+    }
+
+    /// The plan of a start, which opens the top regions.
+    pub fn of_start(alloc: Global, machine: &Machine) -> Result<Plan, NoMemory>
+        requires { IsPlainlyNested machine.now }
+        ensures head { IfOk result (λ plan. plan.head ≡ Starts) }
+        ensures none_ran { IfOk result (λ plan. plan.ran ≡ []) }
+        ensures plan { IfOk result (IsPlanOf machine.now) }
+    {
+        let _shaped = machine.regions();
+        let roster = Roster::of_start(alloc, machine)?;
+        Ok(Plan {
+            beginning: Beginning::Start,
+            ran: Vec::new(alloc),
+            roster,
+        })
+    }
+
+    /// The plan of routes that fire in a configuration.
+    pub fn of_firing(
+        alloc: Global,
+        machine: &Machine,
+        config: &Config,
+        firing: &Firing,
+    ) -> Result<Plan, NoMemory>
+        requires nested { IsPlainlyNested machine.now }
+        requires fits { Fits machine.now config.now }
+        requires routes { (route : Route) → Contains firing.now.routes route → IsStateRoute machine.now route }
+        ensures head { IfOk result (λ plan. plan.head ≡ Fires firing.now.routes) }
+        ensures at_head { IfOk result (λ plan. plan.at_head ≡ config.now) }
+        ensures none_ran { IfOk result (λ plan. plan.ran ≡ []) }
+        ensures plan { IfOk result (IsPlanOf machine.now) }
+    {
+        let _shaped = machine.regions();
+        let roster = Roster::of_routes(alloc, machine, config, firing.routes.as_slice())?;
+        Ok(Plan {
+            beginning: Beginning::Firing(Snapshot::of(firing), Snapshot::of(config)),
+            ran: Vec::new(alloc),
+            roster,
+        })
+    }
+
+    /// Runs a ready item in one of its ways.
+    ///
+    /// `NoMemory`: memory ran out; the plan is as before.
+    pub fn run(&mut self, machine: &Machine, item: Item, how: &How) -> Result<(), NoMemory>
+        requires nested { IsPlainlyNested machine.now }
+        requires plan { IsPlanOf machine.now self.old }
+        requires ready { IsReady machine.now (course_of self.old) item }
+        requires way { (truth : Truth) × IsWayNow machine.now truth (course_of self.old) item how.now }
+        ensures head { self.new.head ≡ self.old.head }
+        ensures at_head { self.new.at_head ≡ self.old.at_head }
+        ensures ran { OnOk result (self.new.ran ≡ self.old.ran ++ (item, how.now) ∷ []) }
+        ensures plan { OnOk result (IsPlanOf machine.now self.new) }
+        ensures refused { OnErr result (self.new ≡ self.old) }
+    {
+        let _shaped = machine.regions();
+        let ran = self.ran.len();
+        let step = Step {
+            item,
+            how: Snapshot::of(how),
+        };
+        self.ran.push(step)?;
+        let outcome = self.roster.run(machine, item, how);
+        if outcome.is_err() {
+            self.ran.truncate(ran);
+        }
+        outcome
+    }
+}
