@@ -9,3 +9,4 @@ pub mod Courses
 pub mod StandingItems
 pub mod Making
 pub mod Running
+pub mod ReadyCalls

@@ -1,5 +1,5 @@
 -- How an item stands in a step, and which items are ready.
-use Rattle.std.specs.Prelude.{◌≢◌, ◌↔◌, Bool, List, Contains, AllPairs, map, ◌&&◌, not}
+use Rattle.std.specs.Prelude.{◌≡◌, ◌≢◌, ◌↔◌, ℕ, Bool, List, AllPairs, ◌&&◌, not, slice_index_or}
 use Rattle.std.specs.List.{filter}
 use Rattle.pssm_model.specs.declared.elements.DraftMachine.{DraftMachine}
 use Rattle.pssm_model.specs.declared.steps.Item.{Item}
@@ -10,6 +10,7 @@ use Rattle.pssm_plan.specs.declared.roster.Call.{Call}
 use Rattle.pssm_plan.specs.declared.standing.Standing.{Standing}
 use Rattle.pssm_plan.specs.declared.standing.Standing.TheVariants.{Ready, NotCalled, Ran, Waits}
 use Rattle.pssm_plan.specs.Agenda.{Agenda}
+use Rattle.pssm_plan.specs.Plans.{IsOfCall}
 
 -- The item stands so in the step: it is ready, it is not called, it is called and has run, or it waits for one that is called, comes before it and has
 -- not run (UML 2.5.1 14.2.3.9, transition execution sequence).
@@ -23,11 +24,15 @@ StandsAs m course item (Waits on) = IsWaiting m course item × IsWaiting m cours
 abbrev pub stands_ready : Call → Bool
 stands_ready call = not call.ran && not call.blocked
 
--- the items that stand as ready in the plan, in the order in which they were called
-abbrev pub ready_items : Agenda → List Item
-ready_items plan = map (λ (call : Call). call.item) (filter stands_ready plan.calls)
+-- the calls of the plan that stand so, in the order in which they were made (UML 2.5.1 14.2.3.9, transition execution sequence)
+abbrev pub ready_calls : Agenda → List Call
+ready_calls plan = filter stands_ready plan.calls
 
--- The list has exactly the ready items, each once (UML 2.5.1 14.2.3.9, transition execution sequence).
-pub record ListsReady (m : DraftMachine) (course : Course) (items : List Item) : Type 0 where
-  pub ready : (item : Item) → Contains items item ↔ IsReady m course item
-  pub once : AllPairs (λ x y. x ≢ y) items
+-- The item is that of the call with this number.
+abbrev pub IsItemAt : List Call → ℕ → Item → Type 0
+IsItemAt calls i item = (call : Call) → (slice_index_or calls i call).item ≡ item
+
+-- The calls are exactly those of the ready items, each once (UML 2.5.1 14.2.3.9, transition execution sequence).
+pub record ListsReady (m : DraftMachine) (course : Course) (calls : List Call) : Type 0 where
+  pub ready : (item : Item) → IsOfCall calls item ↔ IsReady m course item
+  pub once : AllPairs (λ a b. a.item ≢ b.item) calls

@@ -1,5 +1,5 @@
 //! Which items the parts of a step call.
-ghost use Rattle.std.specs.Prelude.{◌≡◌, ◌⊎◌, ◌↔◌, ◌<◌, length, OnOk, OnErr, IfOk, IsOk, IsTrue, Contains, ◌∷◌, []};
+ghost use Rattle.std.specs.Prelude.{◌^◌, ◌≡◌, ◌⊎◌, ◌↔◌, ◌<◌, length, OnOk, OnErr, IfOk, IsOk, IsTrue, Contains, ◌∷◌, []};
 ghost use Rattle.pssm_model.specs.declared.ids.VertexId.{VertexId};
 ghost use Rattle.pssm_model.specs.declared.ids.TransId.{TransId};
 ghost use Rattle.pssm_model.specs.declared.steps.Item.{Item};
@@ -34,6 +34,9 @@ fn is_left(machine: &Machine, config: &Config, t: TransId, s: VertexId) -> bool
 {
     config.is_active(s) && lies_in_span(machine, t, s)
 }
+
+/// The most items that a plan lists; for more there is no memory.
+const MOST_CALLS: usize = 4_294_967_295;
 
 /// Whether a transition does not end in a region.
 fn passes_by(machine: &Machine, t: TransId, r: RegionId) -> bool
@@ -261,22 +264,25 @@ impl Roster {
         requires item { IsItemOf machine.now item }
         requires single { (route : Route) → how.now ≡ How.By route → IsSingle machine.now route }
         ensures added { OnOk result (IsExtended machine.now self.old.calls.items (IsFollowing machine.now self.old.calls.items item how.now) self.new.calls.items self.new.order.items) }
+        ensures few { OnOk result (length self.new.calls.items < 2 ^ 32) }
         ensures calls { OnErr result (self.new.calls.items ≡ self.old.calls.items) }
         ensures order { OnErr result (self.new.order.items ≡ self.old.order.items) }
     {
         let calls = self.calls.len();
         let order = self.order.len();
         let outcome = self.follow(machine, item, how);
-        if outcome.is_err() {
-            self.calls.truncate(calls);
-            self.order.truncate(order);
+        if outcome.is_ok() && self.calls.as_slice().len() <= MOST_CALLS {
+            return Ok(());
         }
-        outcome
+        self.calls.truncate(calls);
+        self.order.truncate(order);
+        Err(NoMemory)
     }
 
     /// The roster of a start.
     pub fn of_start(alloc: Global, machine: &Machine) -> Result<Roster, NoMemory>
-        ensures { IfOk result (λ roster. IsMadeOf machine.now (IsTopOpening machine.now) roster.calls.items roster.order.items) }
+        ensures few { IfOk result (λ roster. length roster.calls.items < 2 ^ 32) }
+        ensures made { IfOk result (λ roster. IsMadeOf machine.now (IsTopOpening machine.now) roster.calls.items roster.order.items) }
     {
         let mut roster = Roster::new(alloc);
         let outcome = roster.add_tops(machine);
@@ -293,7 +299,8 @@ impl Roster {
     ) -> Result<Roster, NoMemory>
         requires fits { Fits machine.now config.now }
         requires single { (route : Route) → Contains routes.now route → IsSingle machine.now route }
-        ensures { IfOk result (λ roster. IsMadeOf machine.now (IsOfRoutes machine.now (configuration_of config.now) [] routes.now) roster.calls.items roster.order.items) }
+        ensures few { IfOk result (λ roster. length roster.calls.items < 2 ^ 32) }
+        ensures made { IfOk result (λ roster. IsMadeOf machine.now (IsOfRoutes machine.now (configuration_of config.now) [] routes.now) roster.calls.items roster.order.items) }
     {
         let mut roster = Roster::new(alloc);
         let outcome = roster.add_routes(machine, config, routes);
@@ -308,6 +315,7 @@ impl Roster {
         requires listed { IsListed self.old.calls.items item }
         requires single { (route : Route) → how.now ≡ How.By route → IsSingle machine.now route }
         ensures ran { OnOk result (IsRunIn machine.now self.old.calls.items item how.now self.new.calls.items self.new.order.items) }
+        ensures few { OnOk result (length self.new.calls.items < 2 ^ 32) }
         ensures calls { OnErr result (self.new.calls.items ≡ self.old.calls.items) }
         ensures order { OnErr result (self.new.order.items ≡ self.old.order.items) }
     {
@@ -322,9 +330,11 @@ impl Roster {
 fn made(roster: Roster, outcome: Result<(), NoMemory>) -> Result<Roster, NoMemory>
     ensures ok { IfOk result (λ other. (other.calls.items ≡ roster.calls.items) × (other.order.items ≡ roster.order.items)) }
     ensures made { IsOk result → IsOk outcome }
+    ensures few { IfOk result (λ other. length other.calls.items < 2 ^ 32) }
 {
-    match outcome {
-        Ok(()) => Ok(roster),
-        Err(refused) => Err(refused),
+    if outcome.is_ok() && roster.calls.as_slice().len() <= MOST_CALLS {
+        Ok(roster)
+    } else {
+        Err(NoMemory)
     }
 }

@@ -7,6 +7,7 @@
 mod arrows;
 mod calling;
 mod plan;
+mod ready;
 mod roster;
 mod standing;
 

@@ -10,8 +10,9 @@ ghost use Rattle.pssm_model.specs.Order.{IsReady, IsWayNow};
 ghost use Rattle.pssm_config.specs.Tables.{Fits, configuration_of};
 ghost use Rattle.pssm_plan.specs.Agenda.{course_of};
 ghost use Rattle.pssm_plan.specs.Plans.{IsPlanOf};
-ghost use Rattle.pssm_plan.specs.Standings.{StandsAs, ready_items, ListsReady};
+ghost use Rattle.pssm_plan.specs.Standings.{StandsAs, ListsReady, IsItemAt, ready_calls};
 
+use crate::ready::{count_ready, ready_item};
 use crate::roster::{Roster, has_run, have_all_run, is_listed, obstacle};
 use crate::standing::Standing;
 use pssm_config::Config;
@@ -51,8 +52,11 @@ impl Model for Plan {
     ghost Value = { Agenda };
 
     ghost use Rattle.pssm_plan.specs.inner.Views.{head_of, tables_of, steps_of};
+    ghost use Rattle.std.specs.Prelude.{◌<◌, ◌^◌, length};
 
     ghost view = { λ p. record { head = head_of p.beginning; at_head = tables_of p.beginning; ran = steps_of p.ran.items; calls = p.roster.calls.items; order = p.roster.order.items } };
+
+    ghost invariant = { λ p. length p.roster.calls.items < 2 ^ 32 };
 }
 
 impl Plan {
@@ -78,6 +82,23 @@ impl Plan {
         ensures { (m : DraftMachine) → IsPlanOf m self.now → (IsTrue result ↔ HasRunOut m (course_of self.now)) }
     {
         have_all_run(self.roster.calls.as_slice())
+    }
+
+    /// How many items are ready.
+    pub fn ready_count(&self) -> u32
+        ensures count { result ≡ length (ready_calls self.now) }
+        ensures listed { (m : DraftMachine) → IsPlanOf m self.now → ListsReady m (course_of self.now) (ready_calls self.now) }
+    {
+        count_ready(self.roster.calls.as_slice())
+    }
+
+    /// The ready item with a number, in the order in which they were called.
+    pub fn ready_at(&self, i: u32) -> Item
+        requires { i < length (ready_calls self.now) }
+        ensures listed { IsItemAt (ready_calls self.now) i result }
+        ensures ready { (m : DraftMachine) → IsPlanOf m self.now → IsReady m (course_of self.now) result }
+    {
+        ready_item(self.roster.calls.as_slice(), i)
     }
 
     /// The plan of a start, which opens the top regions.

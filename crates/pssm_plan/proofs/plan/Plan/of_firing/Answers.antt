@@ -16,4 +16,4 @@ returns-clause-plan c =
     (made_plan c.requires.nested c.regions-shaped.ensures.shaped (Fires c.args.firing.now.routes) c.args.config.now
     (IsOfRoutes c.args.machine.now (configuration_of c.args.config.now) [] c.args.firing.now.routes)
     c.in_ok-roster.roster.calls.items c.in_ok-roster.roster.order.items c.requires.routes
-    (firing_calls c.args.machine.now (configuration_of c.args.config.now) c.args.firing.now.routes) (rw c.as_slice.ensures at c.in_ok-roster.ensures))
+    (firing_calls c.args.machine.now (configuration_of c.args.config.now) c.args.firing.now.routes) (rw c.as_slice.ensures at c.in_ok-roster.ensures.made))
