@@ -1,5 +1,5 @@
 -- Words that are spelled as stimuli, and what they name.
-use Rattle.std.proofs.Common.{◌≡◌, ◌<◌, ◌+◌, ◌↔◌, ℕ, zero, suc, get_or, List, [], ◌∷◌, ◌++◌, length, take, codes, Option, Some, None, refl, sym, ap, subst, ◌∙◌, arith, String, string_bytes, Bor, IsNone, is_some, true, false, add-one, slice_get, IfSome, IfNone}
+use Rattle.std.proofs.Common.{◌≡◌, ◌<◌, ◌+◌, ℕ, zero, suc, get_or, List, [], ◌∷◌, ◌++◌, length, take, codes, Option, Some, None, refl, sym, ap, subst, ◌∙◌, arith, String, string_bytes, Bor, IsNone, is_some, true, add-one, slice_get, IfSome, IfNone}
 use Rattle.std.specs.declared.alloc.Global.{Global}
 use Rattle.std.specs.List.{AllByRecursion}
 use Rattle.std.specs.Option.{option_map}
@@ -9,19 +9,18 @@ use Rattle.pssm_semantics.specs.declared.entry.Entry.TheVariants as entries
 use Rattle.pssm_semantics.specs.declared.entry.ObjectId.{ObjectId}
 use Rattle.pssm_model.specs.declared.ids.SignalId.{SignalId}
 use Rattle.pssm_semantics.specs.Pool.{posts_of_entry}
-use Rattle.pssm_semantics.specs.declared.line.Line.{Line}
 use Rattle.pssm_semantics.specs.declared.line.Line.TheVariants.{Post}
 use Rattle.pssm_semantics.specs.declared.setting.Setting.{Setting}
 use Rattle.pssm_semantics.specs.declared.stimulus.Stimulus.{Stimulus}
 use Rattle.pssm_spelling.specs.SpellingReading.{stripped}
-use Rattle.pssm_journal.specs.LineText.{line_text, call_text}
+use Rattle.pssm_journal.specs.LineText.{call_text}
 use Rattle.pssm_journal.specs.inner.LineReading.{post_taken, line_taken, ◌>>=◌}
 use Rattle.pssm_journal.specs.Entries.{IsEntryOf, KeepsNames, BreaksNames, entry_named, entry_at, object_named, signal_named}
 use Rattle.pssm_journal.specs.Grammar.{IsTakenLine}
 use Rattle.pssm_journal.proofs.LineLaws.{line_takes, line_again}
 use Rattle.pssm_tool.specs.Words.{texts, IsCall, IsStimulusText}
-use Rattle.pssm_tool.specs.inner.Running.{IsKnown}
-use Rattle.pssm_tool.specs.Stimuli.{post_of, Names, AreStimuli, NameNoStimuli}
+use Rattle.pssm_tool.specs.inner.Running.{IsKnown, NameNoStimuli}
+use Rattle.pssm_tool.specs.Stimuli.{post_of, Names, AreStimuli}
 
 -- ---- one word
 

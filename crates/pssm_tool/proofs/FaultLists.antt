@@ -1,7 +1,8 @@
 -- The rules that a machine breaks can be listed.
 use Rattle.std.proofs.Common.{◌≡◌, ◌<◌, ◌≤◌, ◌+◌, ◌-◌, ℕ, zero, suc, List, [], ◌∷◌, ◌++◌, length, refl, sym, subst, inl, inr, arith}
 use Rattle.std.proofs.lemmas.Bool.{cases_lt}
-use Rattle.std.specs.List.{AllByRecursion, flat_map}
+use Rattle.std.specs.Prelude.{map}
+use Rattle.std.specs.List.{AllByRecursion}
 use Rattle.pssm_model.specs.declared.ids.VertexId.{VertexId}
 use Rattle.pssm_model.specs.declared.ids.RegionId.{RegionId}
 use Rattle.pssm_model.specs.declared.ids.TransId.{TransId}
@@ -15,7 +16,8 @@ use Rattle.pssm_semantics.specs.declared.setting.Class.{Class}
 use Rattle.pssm_wellformed.specs.declared.fault.Fault.{Fault}
 use Rattle.pssm_wellformed.specs.inner.Checked.{IsPlace, place_number, IsCheckedBelow}
 use Rattle.pssm_wellformed.proofs.Order.{none_checked, fault_listed, fault_passed, place_done, all_checked}
-use Rattle.pssm_tool.specs.Refusals.{fault_line, AreFaults, AreFaultLines}
+use Rattle.pssm_tool.specs.declared.load.ClassFault.{ClassFault}
+use Rattle.pssm_tool.specs.Loads.{AreFaults, in_class, AreClassFaults}
 
 module _ (m : DraftMachine) where
   -- how many places there are
@@ -60,8 +62,8 @@ module _ (m : DraftMachine) where
     faults_listed never =
         places_listed place_count (omega arith) (λ faults checked. never faults (record { exact = all_checked shape place_count faults (omega arith) checked; ascending = checked.ascending }))
 
--- There are lines on the rules that machines of these classes break.
-pub fault_lines : (classes : List Class) → AllByRecursion (λ (x : Class). HasShape x.machine) classes → ((text : List ℕ) → AreFaultLines classes text → ⊥) → ⊥
-fault_lines [] shapes never = never [] refl
-fault_lines (x ∷ xs) shapes never =
-    faults_listed x.machine shapes.0 (λ faults are. fault_lines xs shapes.1 (λ rest lines. never (flat_map (fault_line x.name) faults ++ rest) (faults, rest, are, lines, refl)))
+-- There is a list of the rules that machines of these classes break.
+pub class_faults_listed : (classes : List Class) → AllByRecursion (λ (x : Class). HasShape x.machine) classes → ((list : List ClassFault) → AreClassFaults classes list → ⊥) → ⊥
+class_faults_listed [] shapes never = never [] refl
+class_faults_listed (x ∷ xs) shapes never =
+    faults_listed x.machine shapes.0 (λ faults are. class_faults_listed xs shapes.1 (λ rest list. never (map (in_class x.name) faults ++ rest) (faults, rest, are, list, refl)))

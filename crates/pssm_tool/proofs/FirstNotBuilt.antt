@@ -9,7 +9,7 @@ use Rattle.pssm_model.specs.declared.elements.Element.TheVariants.{Region, Verte
 use Rattle.pssm_model.specs.Shapes.{IsEarlier}
 use Rattle.pssm_model.specs.NotBuilt.{IsNotBuilt, IsFirstNotBuilt}
 use Rattle.pssm_semantics.specs.declared.setting.Class.{Class}
-use Rattle.pssm_tool.specs.Refusals.{not_built_line, AreBuilt, IsNotBuiltLine}
+use Rattle.pssm_tool.specs.Loads.{AreBuilt, IsFirstUnbuilt}
 
 module _ (m : DraftMachine) (no_first : (e : Element) → IsFirstNotBuilt m e → ⊥) where
   before_region : (r : RegionId) → ((q : RegionId) → q.0 < r.0 → IsNotBuilt m (Region q) → ⊥) → (d : Element) → IsEarlier d (Region r) → IsNotBuilt m d → ⊥
@@ -50,9 +50,9 @@ module _ (m : DraftMachine) (no_first : (e : Element) → IsFirstNotBuilt m e �
   all_built (Vertex v) wrong = vertex_built v wrong
   all_built (Transition t) wrong = transitions_below (suc t.0) t (omega arith) wrong
 
--- The code runs every machine of these classes, or there is a line on the first element that it does not.
-pub built_or_line : (classes : List Class) → (AreBuilt classes → ⊥) → ((text : List ℕ) → IsNotBuiltLine classes text → ⊥) → ⊥
-built_or_line [] not_built no_line = not_built tt
-built_or_line (x ∷ xs) not_built no_line =
-    let whole : (e : Element) → IsNotBuilt x.machine e → ⊥ = all_built x.machine (λ e first. no_line (not_built_line x.name e) (inl (e, first, refl))) in
-    built_or_line xs (λ rest. not_built (whole, rest)) (λ text line. no_line text (inr (whole, line)))
+-- The code runs every machine of these classes, or there is a first element that it does not.
+pub built_or_first : (classes : List Class) → (AreBuilt classes → ⊥) → ((name : List ℕ) (e : Element) → IsFirstUnbuilt classes name e → ⊥) → ⊥
+built_or_first [] not_built no_first = not_built tt
+built_or_first (x ∷ xs) not_built no_first =
+    let whole : (e : Element) → IsNotBuilt x.machine e → ⊥ = all_built x.machine (λ e first. no_first x.name e (inl (first, refl))) in
+    built_or_first xs (λ rest. not_built (whole, rest)) (λ name e first. no_first name e (inr (whole, first)))

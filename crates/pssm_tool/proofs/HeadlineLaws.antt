@@ -1,5 +1,5 @@
 -- A journal is accepted exactly where it is a prefix of a complete run.
-use Rattle.std.proofs.Common.{◌≡◌, ◌≢◌, ◌⊎◌, ◌++◌, ℕ, List, length, refl, sym, subst, ◌∙◌, inl, inr}
+use Rattle.std.proofs.Common.{◌≡◌, ◌≢◌, ◌⊎◌, ℕ, List, length, refl, subst, inl, inr}
 use Rattle.pssm_base.specs.Reading.{Contents}
 use Rattle.pssm_semantics.specs.declared.entry.Entry.{Entry}
 use Rattle.pssm_semantics.specs.declared.setting.Setting.{Setting}
@@ -7,62 +7,57 @@ use Rattle.pssm_semantics.specs.Rules.{Holds}
 use Rattle.pssm_semantics.specs.Admissible.{IsAdmissibleIn, IsPrefixOfRun}
 use Rattle.pssm_semantics.proofs.Admissible.{IsAdmissible-front}
 use Rattle.pssm_journal.specs.Judged.{IsJudged, Accepted}
+use Rattle.pssm_tool.specs.declared.answer.Answer.{Answer}
 use Rattle.pssm_tool.specs.declared.answer.Answer.TheVariants.{Accept}
-use Rattle.pssm_tool.specs.declared.reply.Reply.{Reply}
-use Rattle.pssm_tool.specs.Words.{Meaning, Judges, Means, IsJudge}
-use Rattle.pssm_tool.specs.Answers.{IsFailure, reply_code}
-use Rattle.pssm_tool.specs.Due.{HasBuiltModel, IsContinued, IsDueForJournal, judged, IsDue, judge, IsOwed, IsTold}
-use Rattle.pssm_tool.specs.Headline.{HoldsPrefix, AcceptsPrefixes}
-use Rattle.pssm_tool.proofs.DueOnce.{told_bytes, model_once}
-use Rattle.pssm_tool.proofs.ReplyLaws.{exactly_due}
+use Rattle.pssm_tool.specs.Words.{Judges, Means}
+use Rattle.pssm_tool.specs.Answers.{code_of, IsFailure}
+use Rattle.pssm_tool.specs.Due.{HasBuiltModel, judged, IsOwed, on_model, IsTold}
+use Rattle.pssm_tool.specs.Headline.{HoldsPrefix, AcceptsPrefixes, IsContinued}
+use Rattle.pssm_tool.proofs.DueLaws.{model_named}
+use Rattle.pssm_tool.proofs.DueOnce.{IsJournal, told_bytes, model_once}
+use Rattle.pssm_tool.proofs.AnswerLaws.{exactly_owed}
 
 -- A journal that continues to a complete run is admissible.
 pub prefix_admissible : (setting : Setting) (J : List Entry) → IsPrefixOfRun setting J → IsAdmissibleIn setting J
 prefix_admissible setting J (more, run) = IsAdmissible-front (Holds setting) J more run.admissible
 
 module _ (words : List (List ℕ)) (contents : Contents) (known : IsTold words contents) (model journal : List ℕ) (setting : Setting)
-    (is : IsJudge words model journal) (has : HasBuiltModel contents model setting) where
+    (is : Means words (Judges model journal)) (has : HasBuiltModel contents model setting) where
   -- An accepted journal is a prefix of a complete run.
   continued_is_prefix : IsContinued contents model journal → HoldsPrefix contents journal setting
   continued_is_prefix h =
-      let held = told_bytes (contents model) (known (Judges model journal) model is (inl refl)) in
-      let same : h.setting ≡ setting = model_once contents model held.0 held.1 h.setting setting h.model_is has.loads.reads in
-      subst (λ s. HoldsPrefix contents journal s) same (record {
-        entries = h.prefix.journal;
-        holds = record {
-          bytes = h.bytes;
-          lines = h.prefix.lines;
-          reads = h.journal_is;
-          text = h.prefix.text;
-          lines_are = h.prefix.kept.lines_are;
-          entries_are = h.prefix.kept.entries_are;
-          limits = h.prefix.kept.limits;
-        };
-        prefix = (h.prefix.completes.more, h.prefix.completes.run);
-      })
+      let held = told_bytes (contents model) (known model (model_named words (Judges model journal) is)) in
+      let same : h.setting ≡ setting = model_once contents model held.0 held.1 h.setting setting h.model_is has.0 in
+      subst (λ s. HoldsPrefix contents journal s) same (h.entries, h.holds, (h.completes.more, h.completes.run))
 
   -- A prefix of a complete run is owed its acceptance.
-  prefix_is_due : (h : HoldsPrefix contents journal setting) → IsDue words contents (Accept (length h.entries))
-  prefix_is_due h =
-      let accepted : IsJudged setting h.holds.bytes (Accepted (length h.entries)) = record {
-        lines = h.holds.lines;
-        journal = h.entries;
-        text = h.holds.text;
+  prefix_is_owed : (h : HoldsPrefix contents journal setting) → IsOwed words contents (Accept (length h.0))
+  prefix_is_owed h =
+      let accepted : IsJudged setting h.1.bytes (Accepted (length h.0)) = record {
+        lines = h.1.lines;
+        journal = h.0;
+        text = h.1.text;
         kept = record {
-          lines_are = h.holds.lines_are;
-          entries_are = h.holds.entries_are;
-          admissible = prefix_admissible setting h.entries h.prefix;
-          limits = h.holds.limits;
+          lines_are = h.1.lines_are;
+          entries_are = h.1.entries_are;
+          admissible = prefix_admissible setting h.0 h.2;
+          limits = h.1.limits;
         };
         entries_are = refl;
       } in
-      judge model journal setting is has (judged h.holds.bytes h.holds.reads accepted)
+      on_model (Judges model journal) setting is has.0 (has.1, judged h.1.bytes (Accepted (length h.0)) h.1.reads accepted refl)
+
+-- An acceptance is no journal of a run.
+no_journal : (n code : ℕ) → (code ≡ 0) ⊎ IsFailure code ⊎ IsJournal (Accept n) → (code ≡ 0) ⊎ IsFailure code
+no_journal n code (inl zero) = inl zero
+no_journal n code (inr (inl failure)) = inr failure
+no_journal n code (inr (inr journal)) = let e = journal.2 in absurd cc
 
 -- What comes is exact in both directions.
-pub accepts_prefixes : {P : Type 0} (words : List (List ℕ)) (contents : Contents) (code : ℕ) (reply : Reply) → IsTold words contents → IsOwed words contents reply
-    → (code ≢ 6 → code ≢ 7 → (code ≡ reply_code reply) × P)
-    → (code ≡ 0 → (model journal : List ℕ) → IsJudge words model journal → IsContinued contents model journal) → AcceptsPrefixes words contents code
-accepts_prefixes words contents code reply known owed told continued model journal setting is has = (
+pub accepts_prefixes : {P : Type 0} (words : List (List ℕ)) (contents : Contents) (code : ℕ) (came : Answer) → IsTold words contents → IsOwed words contents came
+    → (code ≢ 6 → code ≢ 7 → (code ≡ code_of came) × P)
+    → (code ≡ 0 → (model journal : List ℕ) → Means words (Judges model journal) → IsContinued contents model journal) → AcceptsPrefixes words contents code
+accepts_prefixes words contents code came known owed told continued model journal setting is has = (
   λ zero. continued_is_prefix words contents known model journal setting is has (continued zero model journal is),
-  λ h. exactly_due words contents code reply (Accept (length h.entries)) known owed told (prefix_is_due words contents known model journal setting is has h),
+  λ h. no_journal (length h.0) code (exactly_owed words contents code came (Accept (length h.0)) known owed told (prefix_is_owed words contents known model journal setting is has h)),
 )

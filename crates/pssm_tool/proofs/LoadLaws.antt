@@ -1,43 +1,125 @@
 -- How a model that is not there is told.
-use Rattle.std.proofs.Common.{◌≡◌, ◌≢◌, ◌⊎◌, ℕ, List, Result, Ok, Err, IfOk, IfErr, refl, sym, subst, ⊎_elim}
+use Rattle.std.proofs.Common.{◌≡◌, ◌≢◌, ◌⊎◌, ℕ, List, [], Result, Ok, Err, IfOk, IfErr, refl, sym, subst, inl, inr, ⊎_elim}
 use Rattle.std.proofs.lemmas.List.Elements.{All-from_recursion}
 use Rattle.pssm_base.specs.Reading.{Contents, ReadsWhole}
 use Rattle.pssm_model.specs.WellFormed.{KeepsModelRules}
 use Rattle.pssm_semantics.specs.declared.setting.Setting.{Setting}
 use Rattle.pssm_semantics.specs.Proper.{IsProper, IsWellFormed}
 use Rattle.pssm_flat.specs.declared.fault.FlatFault.{FlatFault}
-use Rattle.pssm_flat.specs.declared.fault.FlatFault.TheVariants as faults
+use Rattle.pssm_flat.specs.declared.fault.FlatFault.TheVariants as texts
+use Rattle.pssm_flat.specs.Flat.{IsFlat}
+use Rattle.pssm_flat.specs.Text.{flat_text}
 use Rattle.pssm_flat.specs.Faults.{IsFlatFault}
-use Rattle.pssm_tool.specs.declared.reply.Reply.{Reply}
-use Rattle.pssm_tool.specs.declared.reply.Reply.TheVariants.{BadModel}
-use Rattle.pssm_tool.specs.declared.stop.Stop.{Stop}
-use Rattle.pssm_tool.specs.declared.stop.Stop.TheVariants.{Answered, ReadFault, NoMemory}
-use Rattle.pssm_tool.specs.Refusals.{flat_fault_line, KeepRules}
-use Rattle.pssm_tool.specs.Due.{ReadsModel, bad_text, broken}
-use Rattle.pssm_tool.specs.inner.Stops.{LacksModel, is_refused, no_model, StopsRules, StopsModel, StopsBuiltModel}
+use Rattle.pssm_tool.specs.declared.load.LoadFault.{LoadFault}
+use Rattle.pssm_tool.specs.declared.load.LoadFault.TheVariants.{Flat, Faults, NotBuilt, NoMemory}
+use Rattle.pssm_tool.specs.declared.answer.Answer.{Answer}
+use Rattle.pssm_tool.specs.declared.answer.Answer.TheVariants.{BadModel}
+use Rattle.pssm_tool.specs.declared.failure.Failure.{Failure}
+use Rattle.pssm_tool.specs.declared.failure.Failure.TheVariants as failures
+use Rattle.pssm_tool.specs.Loads.{ReadsSetting, AreClassFaults, AreBuilt, IsLoadFault}
+use Rattle.pssm_tool.specs.Due.{HasModel, HasBuiltModel}
+use Rattle.pssm_tool.specs.inner.Loading.{BreakRules, NamesUnbuilt}
+use Rattle.pssm_tool.specs.inner.Failures.{LacksModel, has_fault, LacksBuiltModel, not_built, FailedAt, IsFound}
+use Rattle.pssm_tool.proofs.LoadFaults.{rules_kept}
 
--- The machines of a model that was read break rules.
-pub stops_by_rules : (contents : Contents) (before after : ℕ) (path : List ℕ) (s : Setting) (r : Result Setting Stop) → ReadsModel contents path s → IfErr r (StopsRules s.classes)
-    → IfErr r (StopsModel contents before after path)
-stops_by_rules contents before after path s (Ok t) reads stops = tt
-stops_by_rules contents before after path s (Err (Answered reply)) reads stops = is_refused stops.0 (broken s reads stops.1 stops.2) stops.3
-stops_by_rules contents before after path s (Err ReadFault) reads stops = absurd stops
-stops_by_rules contents before after path s (Err NoMemory) reads stops = tt
+-- ---- the bytes
+
+-- The setting that the bytes spell, kept as it was, breaks no rule.
+pub loads_kept : (bytes : List ℕ) (s : Setting) (r : Result Setting LoadFault) → IsFlat s → bytes ≡ flat_text s → IfOk r (λ kept. kept ≡ s) → IfOk r (λ _. AreClassFaults s.classes [])
+    → IfOk r (λ setting. ReadsSetting bytes setting [])
+loads_kept bytes s (Ok kept) flat spelled same none = subst (λ (x : Setting). ReadsSetting bytes x []) (sym same) (record { flat = flat; spelled = spelled; faults = none })
+loads_kept bytes s (Err fault) flat spelled same none = tt
 
 -- A proper setting that is kept as it was, because its machines keep the rules, is well formed.
-pub keeps_rules : (s : Setting) (r : Result Setting Stop) → IsProper s → IfOk r (λ kept. kept ≡ s) → IfOk r (λ _. KeepRules s.classes) → IfOk r IsWellFormed
-keeps_rules s (Ok kept) proper same rules =
-    subst IsWellFormed (sym same) (record { proper = proper; rules = All-from_recursion (λ c. KeepsModelRules c.machine) s.classes rules })
-keeps_rules s (Err stop) proper same rules = tt
+pub well_formed_kept : (s : Setting) (r : Result Setting LoadFault) → IsProper s → IfOk r (λ kept. kept ≡ s) → IfOk r (λ _. AreClassFaults s.classes []) → IfOk r IsWellFormed
+well_formed_kept s (Ok kept) proper same none =
+    subst IsWellFormed (sym same) (record { proper = proper; rules = All-from_recursion (λ c. KeepsModelRules c.machine) s.classes (rules_kept s.classes none) })
+well_formed_kept s (Err fault) proper same none = tt
+
+-- What is wrong with bytes.
+abbrev pub IsWrong : List ℕ → LoadFault → Type 0
+IsWrong bytes fault = (fault ≡ NoMemory) ⊎ IsLoadFault bytes fault
+
+-- Its machines break rules.
+pub breaks_rules : (bytes : List ℕ) (s : Setting) (r : Result Setting LoadFault) → IsFlat s → bytes ≡ flat_text s → IfErr r (BreakRules s.classes) → IfErr r (IsWrong bytes)
+breaks_rules bytes s (Ok kept) flat spelled broken = tt
+breaks_rules bytes s (Err (Flat fault)) flat spelled broken = absurd broken
+breaks_rules bytes s (Err (Faults list)) flat spelled broken = inr (s, record { flat = flat; spelled = spelled; faults = broken.0 }, broken.1)
+breaks_rules bytes s (Err (NotBuilt class e)) flat spelled broken = absurd broken
+breaks_rules bytes s (Err NoMemory) flat spelled broken = inl refl
 
 -- The text has a fault.
-pub lacks_by_text : (contents : Contents) (path bytes text : List ℕ) (fault : FlatFault) → ReadsWhole contents path 16777216 bytes → (fault ≡ faults.NoMemory) ⊎ IsFlatFault bytes fault
-    → fault ≢ faults.NoMemory → text ≡ flat_fault_line fault → LacksModel contents path (BadModel text)
-lacks_by_text contents path bytes text fault reads which named is =
-    is_refused text (bad_text bytes fault reads (⊎_elim (λ none. absurd (named none)) (λ wrong. wrong) which) is) refl
+pub text_wrong : (bytes : List ℕ) (text : FlatFault) (fault : LoadFault) → (text ≡ texts.NoMemory) ⊎ IsFlatFault bytes text → (fault ≡ NoMemory) ⊎ ((fault ≡ Flat text) × (text ≢ texts.NoMemory)) → IsWrong bytes fault
+text_wrong bytes text fault wrong (inl none) = inl none
+text_wrong bytes text fault wrong (inr is) =
+    inr (subst (λ (f : LoadFault). IsLoadFault bytes f) (sym is.0) (⊎_elim (λ none. absurd (is.1 none)) (λ w. w) wrong))
 
--- Where there is no model there is none that the code runs.
-pub stops_before_forms : (contents : Contents) (before after : ℕ) (path : List ℕ) (stop : Stop) → StopsModel contents before after path stop → StopsBuiltModel contents before after path stop
-stops_before_forms contents before after path (Answered reply) stops = no_model stops
-stops_before_forms contents before after path ReadFault stops = stops
-stops_before_forms contents before after path NoMemory stops = tt
+-- ---- the path
+
+-- What is wrong with the bytes of the path, where it is not want of memory.
+pub lacks_by_fault : (contents : Contents) (path bytes : List ℕ) (fault : LoadFault) → ReadsWhole contents path 16777216 bytes → IsWrong bytes fault → fault ≢ NoMemory → LacksModel contents path (BadModel fault)
+lacks_by_fault contents path bytes fault reads (inl none) other = absurd (other none)
+lacks_by_fault contents path bytes fault reads (inr wrong) other = has_fault bytes fault reads wrong refl
+
+-- An element of the path's model is not built.
+pub lacks_by_form : (contents : Contents) (path : List ℕ) (s : Setting) (fault : LoadFault) → HasModel contents path s → (fault ≡ NoMemory) ⊎ NamesUnbuilt s.classes fault → fault ≢ NoMemory
+    → LacksBuiltModel contents path (BadModel fault)
+lacks_by_form contents path s fault has (inl none) other = absurd (other none)
+lacks_by_form contents path s (Flat text) has (inr names) other = absurd names
+lacks_by_form contents path s (Faults list) has (inr names) other = absurd names
+lacks_by_form contents path s (NotBuilt class e) has (inr names) other = not_built s class e has names refl
+lacks_by_form contents path s NoMemory has (inr names) other = absurd names
+
+-- what comes of a setting that was loaded, of want of memory, and of any other fault
+by_found : (P : Result (Result Setting Answer) Failure → Type 0) (loaded : Result Setting LoadFault) (told : Result (Result Setting Answer) Failure) → IfOk loaded (λ s. P (Ok (Ok s)))
+    → IfErr loaded (λ fault. fault ≢ NoMemory → P (Ok (Err (BadModel fault)))) → P (Err failures.NoMemory) → IsFound loaded told → P told
+by_found P (Ok s) told of_setting of_fault of_want is = subst P (sym is) of_setting
+by_found P (Err fault) told of_setting of_fault of_want (inl both) = subst P (sym both.1) of_want
+by_found P (Err fault) told of_setting of_fault of_want (inr both) = subst P (sym both.1) (of_fault both.0)
+
+if_ok : {X E : Type 0} {P Q : X → Type 0} (r : Result X E) → ((x : X) → P x → Q x) → IfOk r P → IfOk r Q
+if_ok (Ok x) f p = f x p
+if_ok (Err e) f p = tt
+
+if_err : {X E : Type 0} {P Q : E → Type 0} (r : Result X E) → ((e : E) → P e → Q e) → IfErr r P → IfErr r Q
+if_err (Ok x) f p = tt
+if_err (Err e) f p = f e p
+
+no_fault : {X E : Type 0} (r : Result X E) → IfErr r (λ e. Unit {0})
+no_fault (Ok x) = tt
+no_fault (Err e) = tt
+
+no_setting : {X E : Type 0} (r : Result X E) → IfOk r (λ x. Unit {0})
+no_setting (Ok x) = tt
+no_setting (Err e) = tt
+
+-- where the setting is found it is one with this, and nothing is said of another end
+pub found_with : (P : Setting → Type 0) (loaded : Result Setting LoadFault) (told : Result (Result Setting Answer) Failure) → IfOk loaded P → IsFound loaded told → IfOk told (λ found. IfOk found P)
+found_with P loaded told holds is =
+    by_found (λ r. IfOk r (λ found. IfOk found P)) loaded told (if_ok loaded (λ s p. p) holds) (if_err loaded (λ e u. λ other. tt) (no_fault loaded)) tt is
+
+pub found_lacks : (P : Answer → Type 0) (loaded : Result Setting LoadFault) (told : Result (Result Setting Answer) Failure) → IfErr loaded (λ fault. fault ≢ NoMemory → P (BadModel fault)) → IsFound loaded told
+    → IfOk told (λ found. IfErr found P)
+found_lacks P loaded told lacks is =
+    by_found (λ r. IfOk r (λ found. IfErr found P)) loaded told (if_ok loaded (λ s u. tt) (no_setting loaded)) lacks tt is
+
+pub found_failed : (before after : ℕ) (loaded : Result Setting LoadFault) (told : Result (Result Setting Answer) Failure) → IsFound loaded told → IfErr told (FailedAt before after)
+found_failed before after loaded told is =
+    by_found (λ r. IfErr r (FailedAt before after)) loaded told (if_ok loaded (λ s u. tt) (no_setting loaded)) (if_err loaded (λ e u. λ other. tt) (no_fault loaded)) tt is
+
+-- ---- what the functions say of a path
+
+pub path_loads : (contents : Contents) (path bytes : List ℕ) (loaded : Result Setting LoadFault) → ReadsWhole contents path 16777216 bytes → IfOk loaded (λ s. ReadsSetting bytes s []) → IfOk loaded (HasModel contents path)
+path_loads contents path bytes loaded reads loads = if_ok loaded (λ s p. let has : HasModel contents path s = record { bytes = bytes; reads = reads; loads = p } in has) loads
+
+pub path_lacks : (contents : Contents) (path bytes : List ℕ) (loaded : Result Setting LoadFault) → ReadsWhole contents path 16777216 bytes → IfErr loaded (IsWrong bytes)
+    → IfErr loaded (λ fault. fault ≢ NoMemory → LacksModel contents path (BadModel fault))
+path_lacks contents path bytes loaded reads wrong = if_err loaded (λ fault w. lacks_by_fault contents path bytes fault reads w) wrong
+
+pub path_built : (contents : Contents) (path : List ℕ) (s : Setting) (kept : Result Setting LoadFault) → HasModel contents path s → IfOk kept (λ x. x ≡ s) → IfOk kept (λ _. AreBuilt s.classes) → IfOk kept (HasBuiltModel contents path)
+path_built contents path s (Ok x) has same built = subst (λ (y : Setting). HasBuiltModel contents path y) (sym same) (has, built)
+path_built contents path s (Err fault) has same built = tt
+
+pub path_unbuilt : (contents : Contents) (path : List ℕ) (s : Setting) (kept : Result Setting LoadFault) → HasModel contents path s → IfErr kept (λ fault. (fault ≡ NoMemory) ⊎ NamesUnbuilt s.classes fault)
+    → IfErr kept (λ fault. fault ≢ NoMemory → LacksBuiltModel contents path (BadModel fault))
+path_unbuilt contents path s kept has wrong = if_err kept (λ fault w. lacks_by_form contents path s fault has w) wrong

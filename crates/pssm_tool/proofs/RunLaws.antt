@@ -1,6 +1,6 @@
 -- How a run goes on entry by entry, and what it comes to.
-use Rattle.std.proofs.Common.{◌≡◌, ◌≢◌, ◌<◌, ◌≤◌, ◌+◌, ◌⊎◌, ℕ, zero, suc, List, [], ◌∷◌, ◌++◌, length, take, drop, get_or, Option, Some, None, IfSome, slice_get, refl, sym, ap, subst, ◌∙◌, arith, inl, inr, add-one, append-nil, length-append, Bor, MatchOption}
-use Rattle.std.specs.List.{AllByRecursion, flat_map, sum_by}
+use Rattle.std.proofs.Common.{◌≡◌, ◌≢◌, ◌<◌, ◌≤◌, ◌+◌, ℕ, zero, suc, List, [], ◌∷◌, ◌++◌, length, take, drop, get_or, Option, Some, None, IfSome, slice_get, refl, sym, ap, subst, ◌∙◌, arith, inl, inr, add-one, append-nil, length-append, Bor, MatchOption}
+use Rattle.std.specs.List.{AllByRecursion}
 use Rattle.std.proofs.lemmas.Grind.{flat_map-append}
 use Rattle.std.proofs.lemmas.List.{take-append-drop}
 use Rattle.std.proofs.lemmas.List.Sums.{sum_by-append}
@@ -17,7 +17,7 @@ use Rattle.pssm_semantics.specs.Built.{IsBuilt, IsPlainClass}
 use Rattle.pssm_semantics.specs.Journal.{object_of}
 use Rattle.pssm_semantics.specs.Pool.{told_by, posts_of_entry, outs_of, posts_of, output_count}
 use Rattle.pssm_semantics.specs.Behaviours.{store_of}
-use Rattle.pssm_semantics.specs.Admissible.{MayFollow, IsQuiet, IsFull, KeepsJournalLimits, FitsStimuli, HasEndedQuietly}
+use Rattle.pssm_semantics.specs.Admissible.{MayFollow, IsQuiet, IsFull, KeepsJournalLimits, FitsStimuli}
 use Rattle.pssm_system.specs.History.{History}
 use Rattle.pssm_system.proofs.Kept.{class_is}
 use Rattle.pssm_system.proofs.Rules.{outs_are_none}

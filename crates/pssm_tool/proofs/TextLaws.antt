@@ -1,7 +1,7 @@
 -- How the text of a journal is written line by line.
 use Rattle.std.specs.declared.alloc.Global.{Global}
-use Rattle.std.proofs.Common.{◌≡◌, ◌<◌, ◌+◌, ℕ, zero, suc, Result, Ok, Err, IfOk, Vec, List, [], ◌∷◌, ◌++◌, length, take, drop, get_or, refl, sym, ap, subst, ◌∙◌, arith, add-one, append-nil, append_assoc}
-use Rattle.std.specs.List.{AllByRecursion, flat_map}
+use Rattle.std.proofs.Common.{◌≡◌, ◌<◌, ◌+◌, ℕ, zero, suc, Result, Ok, Err, IfOk, Vec, List, [], ◌∷◌, ◌++◌, length, take, drop, get_or, sym, ap, subst, ◌∙◌, arith, add-one, append-nil, append_assoc}
+use Rattle.std.specs.List.{AllByRecursion}
 use Rattle.std.proofs.lemmas.Grind.{flat_map-append}
 use Rattle.std.proofs.Math.Seq.{take-length}
 use Rattle.pssm_semantics.specs.declared.entry.Entry.{Entry}
@@ -16,7 +16,10 @@ use Rattle.pssm_journal.specs.Grammar.{IsTakenLine, IsBuiltLine, IsLine}
 use Rattle.pssm_journal.specs.Entries.{IsEntryOf, KeepsNames, AreEntries}
 use Rattle.pssm_journal.specs.Naming.{HasSpelledNames, IsSpelledEntry}
 use Rattle.pssm_journal.proofs.BuiltNames.{built_names_spelled, plain_is_spelled}
-use Rattle.pssm_tool.specs.RunTexts.{IsTextOf}
+use Rattle.pssm_semantics.specs.declared.stimulus.Stimulus.{Stimulus}
+use Rattle.pssm_tool.specs.declared.run.Ended.{Ended}
+use Rattle.pssm_tool.specs.RunTexts.{EndsRun, IsRunText}
+use Rattle.pssm_tool.specs.inner.Running.{IsTextOf}
 use Rattle.pssm_tool.specs.inner.Running.{IsLineOf}
 
 -- The bytes are the first line and lines of the grammar that write these entries.
@@ -94,3 +97,10 @@ pub text_of_line : {E : Type 0} (setting : Setting) (e : Entry) (line : Line) (r
     → (HasSpelledNames setting → IsSpelledEntry e → IsLine line) → IfOk r (λ bytes. bytes.items ≡ line_text line ++ 10 ∷ []) → IfOk r (λ bytes. IsLineOf setting e bytes.items)
 text_of_line setting e line (Err fault) writes plain spelled text = tt
 text_of_line setting e line (Ok bytes) writes plain spelled text = record { line = line; writes = writes; plain = plain; spelled = spelled; text = text }
+
+-- What was written is the text of a run's journal.
+pub run_text : (setting own : Setting) (stimuli given : List Stimulus) (limit : ℕ) (J : List Entry) (bytes : List ℕ) (ended : Ended) → own ≡ setting → given ≡ stimuli → IsTextOf own J bytes
+    → EndsRun setting given limit J ended → IsRunText setting stimuli limit bytes ended
+run_text setting own stimuli given limit J bytes ended same are text run =
+    let here : IsTextOf setting J bytes = subst (λ (s : Setting). IsTextOf s J bytes) same text in
+    record { journal = J; lines = here.lines; text = here.text; kept = here.kept; run = subst (λ (t : List Stimulus). EndsRun setting t limit J ended) are run }

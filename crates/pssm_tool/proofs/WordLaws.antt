@@ -1,10 +1,10 @@
 -- How words are read from left to right, and that they mean one thing at most.
-use Rattle.std.proofs.Common.{◌≡◌, ◌<◌, ◌≤◌, ◌-◌, ◌^◌, ℕ, zero, suc, get_or, List, [], ◌∷◌, length, take, drop, codes, refl, sym, ap, subst, ◌∙◌, arith, String, string_bytes, Bool, true, false, Option, Some, None, IfNone}
+use Rattle.std.proofs.Common.{◌≡◌, ◌<◌, ◌≤◌, ◌-◌, ◌^◌, ℕ, get_or, List, [], ◌∷◌, length, take, drop, codes, refl, sym, ap, subst, ◌∙◌, arith, String, string_bytes, Bool, true, false, Option, Some, None, IfNone}
 use Rattle.std.specs.declared.alloc.Global.{Global}
 use Rattle.std.specs.List.{AllByRecursion}
 use Rattle.pssm_tool.specs.declared.words.Options.{Options}
 use Rattle.pssm_spelling.specs.Numbers.{IsNumber}
-use Rattle.pssm_tool.specs.Words.{texts, BeginWith, HasOption, given, left_out, BeginsWithDashes, IsStimulusText, IsJudge, IsRun, IsCheck, IsPrint, Meaning, Judges, Runs, Checks, Prints, Means, IsUsage}
+use Rattle.pssm_tool.specs.Words.{texts, BeginWith, HasOption, given, left_out, BeginsWithDashes, IsStimulusText, IsRun, Meaning, Judges, Runs, Checks, Prints, Means, IsUsage}
 use Rattle.pssm_spelling.proofs.WordNumbers.{one_number}
 
 all_taken : {X : Type 0} (xs : List X) → take (length xs) xs ≡ xs
@@ -236,5 +236,5 @@ limit_low words options model stimuli run = by_option run.limit where
   by_option (left_out apart e is) = omega arith
 
 -- Words of a run are none of a judgement.
-pub not_both_commands : (words : List (List ℕ)) (options : Options) (m j n : List ℕ) (stimuli : List (List ℕ)) → IsJudge words m j → IsRun words options n stimuli → ⊥
+pub not_both_commands : (words : List (List ℕ)) (options : Options) (m j n : List ℕ) (stimuli : List (List ℕ)) → Means words (Judges m j) → IsRun words options n stimuli → ⊥
 not_both_commands words options m j n stimuli p q = let e : Judges m j ≡ Runs options n stimuli = one_meaning words (Judges m j) (Runs options n stimuli) p q in cc

@@ -1,17 +1,21 @@
 -- The headline: which journals are accepted.
-use Rattle.std.specs.Prelude.{◌≡◌, ◌⊎◌, ℕ, List}
+use Rattle.std.specs.Prelude.{◌≡◌, ◌⊎◌, ℕ, List, Option}
 use Rattle.std.specs.List.{AllByRecursion}
+use Rattle.std.specs.Io.KnownBytes.{Appends}
 use Rattle.pssm_base.specs.Reading.{Contents, ReadsWhole}
 use Rattle.pssm_semantics.specs.declared.entry.Entry.{Entry}
 use Rattle.pssm_semantics.specs.declared.line.Line.{Line}
 use Rattle.pssm_semantics.specs.declared.setting.Setting.{Setting}
 use Rattle.pssm_semantics.specs.Admissible.{KeepsJournalLimits, IsPrefixOfRun}
+use Rattle.pssm_semantics.specs.Built.{entries_to_complete}
+use Rattle.pssm_semantics.specs.Laws.{CompletesWithin}
 use Rattle.pssm_journal.specs.LineText.{journal_text}
 use Rattle.pssm_journal.specs.Grammar.{IsTakenLine}
 use Rattle.pssm_journal.specs.Entries.{AreEntries}
-use Rattle.pssm_tool.specs.Words.{IsJudge}
+use Rattle.pssm_journal.specs.Judged.{Accepted, IsJudged}
+use Rattle.pssm_tool.specs.Words.{Judges, Means}
 use Rattle.pssm_tool.specs.Answers.{IsFailure}
-use Rattle.pssm_tool.specs.Due.{most_bytes, HasBuiltModel}
+use Rattle.pssm_tool.specs.Due.{most_bytes, HasModel, HasBuiltModel}
 
 -- The path has the text of a journal of these entries, whose names are the setting's, within the limits.
 pub record HoldsJournal (contents : Contents) (path : List ℕ) (setting : Setting) (J : List Entry) : Type 0 where
@@ -24,13 +28,28 @@ pub record HoldsJournal (contents : Contents) (path : List ℕ) (setting : Setti
   pub limits : KeepsJournalLimits J
 
 -- It has such a text, and the entries are a prefix of a complete run of the setting.
-pub record HoldsPrefix (contents : Contents) (path : List ℕ) (setting : Setting) : Type 0 where
-  pub entries : List Entry
-  pub holds : HoldsJournal contents path setting entries
-  pub prefix : IsPrefixOfRun setting entries
+abbrev pub HoldsPrefix : Contents → List ℕ → Setting → Type 0
+HoldsPrefix contents path setting = (J : List Entry) × HoldsJournal contents path setting J × IsPrefixOfRun setting J
 
 -- The journal is accepted exactly where its path has the text of a prefix of a complete run of the model, unless reading, writing or memory failed.
 abbrev pub AcceptsPrefixes : List (List ℕ) → Contents → ℕ → Type 0
 AcceptsPrefixes words contents code =
-    (model journal : List ℕ) (setting : Setting) → IsJudge words model journal → HasBuiltModel contents model setting
+    (model journal : List ℕ) (setting : Setting) → Means words (Judges model journal) → HasBuiltModel contents model setting
     → (code ≡ 0 → HoldsPrefix contents journal setting) × (HoldsPrefix contents journal setting → (code ≡ 0) ⊎ IsFailure code)
+
+-- The journal is a prefix of a complete run of the model, which at most so many further entries reach as an open step needs.
+pub record IsContinued (contents : Contents) (model journal : List ℕ) : Type 0 where
+  pub setting : Setting
+  pub entries : List Entry
+  pub model_is : HasModel contents model setting
+  pub holds : HoldsJournal contents journal setting entries
+  pub completes : CompletesWithin setting entries entries_to_complete
+
+-- A text was written that the judge accepts as a journal of the model.
+pub record IsAcceptedText (contents : Contents) (model : List ℕ) (before after : Option (List ℕ)) : Type 0 where
+  pub setting : Setting
+  pub text : List ℕ
+  pub entries : ℕ
+  pub model_is : HasModel contents model setting
+  pub written : Appends before after text
+  pub accepted : IsJudged setting text (Accepted entries)

@@ -1,9 +1,9 @@
 pub mod Words
 pub mod Stimuli
 pub mod RunTexts
-pub mod Answers
-pub mod Verdicts
-pub mod Due
+pub mod Loads
 pub mod Refusals
+pub mod Answers
+pub mod Due
 pub mod Headline
 pub mod inner

@@ -21,14 +21,10 @@ pub record EndsRun (setting : Setting) (stimuli : List Stimulus) (limit : ℕ) (
   pub few : length J ≤ limit
   pub ends : EndsAs setting stimuli limit J ended
 
--- The bytes are the text of a journal: its lines are lines of the grammar, and its entries break no rule and keep the limits.
-pub record IsTextOf (setting : Setting) (J : List Entry) (bytes : List ℕ) : Type 0 where
-  pub lines : List Line
-  pub text : bytes ≡ journal_text lines
-  pub kept : IsKept setting lines J
-
--- The bytes are the text of a journal of a run of the setting with these stimuli and this limit, which ends so.
+-- The bytes are the text of a journal of a run of the setting with these stimuli and this limit, which ends so: its lines are lines of the grammar, and its entries break no rule and keep the limits.
 pub record IsRunText (setting : Setting) (stimuli : List Stimulus) (limit : ℕ) (bytes : List ℕ) (ended : Ended) : Type 0 where
   pub journal : List Entry
-  pub text : IsTextOf setting journal bytes
+  pub lines : List Line
+  pub text : bytes ≡ journal_text lines
+  pub kept : IsKept setting lines journal
   pub run : EndsRun setting stimuli limit journal ended

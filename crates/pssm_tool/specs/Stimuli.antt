@@ -25,7 +25,3 @@ abbrev pub AreStimuli : Setting → List (List ℕ) → List Stimulus → Type 0
 AreStimuli setting [] [] = Unit {0}
 AreStimuli setting (word ∷ words) (x ∷ stimuli) = Names setting word x × AreStimuli setting words stimuli
 AreStimuli setting _ _ = ⊥
-
--- Some word names no stimulus of the setting.
-abbrev pub NameNoStimuli : Setting → List (List ℕ) → Type 0
-NameNoStimuli setting words = (stimuli : List Stimulus) → AreStimuli setting words stimuli → ⊥

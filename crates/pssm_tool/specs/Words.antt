@@ -1,5 +1,5 @@
 -- The words of the command line, and the command that they mean.
-use Rattle.std.specs.Prelude.{◌≡◌, ◌≤◌, ℕ, List, [], ◌∷◌, ◌++◌, map, codes, String, string_bytes}
+use Rattle.std.specs.Prelude.{◌≡◌, ℕ, List, [], ◌∷◌, ◌++◌, map, codes, String, string_bytes}
 use Rattle.std.specs.List.{AllByRecursion}
 use Rattle.std.specs.declared.alloc.Global.{Global}
 use Rattle.pssm_spelling.specs.Spelling.{IsName}
@@ -36,10 +36,6 @@ pub record IsCall (word object signal : List ℕ) : Type 0 where
 abbrev pub IsStimulusText : List ℕ → Type 0
 IsStimulusText word = (object signal : List ℕ) × IsCall word object signal
 
--- `judge MODEL JOURNAL`
-abbrev pub IsJudge : List (List ℕ) → List ℕ → List ℕ → Type 0
-IsJudge words model journal = words ≡ codes "judge" ∷ model ∷ journal ∷ []
-
 -- `run [--seed N] [--workers W] [--limit L] MODEL STIMULUS*`, with the options in this order
 pub record IsRun (words : List (List ℕ)) (options : Options) (model : List ℕ) (stimuli : List (List ℕ)) : Type 0 where
   pub after_run : List (List ℕ)
@@ -52,14 +48,6 @@ pub record IsRun (words : List (List ℕ)) (options : Options) (model : List ℕ
   pub no_option : BeginsWithDashes model → ⊥
   pub spelled : AllByRecursion IsStimulusText stimuli
 
--- `check MODEL`
-abbrev pub IsCheck : List (List ℕ) → List ℕ → Type 0
-IsCheck words model = words ≡ codes "check" ∷ model ∷ []
-
--- `flat MODEL`
-abbrev pub IsPrint : List (List ℕ) → List ℕ → Type 0
-IsPrint words model = words ≡ codes "flat" ∷ model ∷ []
-
 -- what words can mean: to judge a journal of a model, to run a model with stimuli, to check a model, or to print its flat text
 pub data Meaning : Type 0 where
   Judges : (model journal : List ℕ) → Meaning
@@ -67,11 +55,12 @@ pub data Meaning : Type 0 where
   Checks : (model : List ℕ) → Meaning
   Prints : (model : List ℕ) → Meaning
 
+-- `judge MODEL JOURNAL`, the words of a run, `check MODEL` or `flat MODEL`
 abbrev pub Means : List (List ℕ) → Meaning → Type 0
-Means words (Judges model journal) = IsJudge words model journal
+Means words (Judges model journal) = words ≡ codes "judge" ∷ model ∷ journal ∷ []
 Means words (Runs options model stimuli) = IsRun words options model stimuli
-Means words (Checks model) = IsCheck words model
-Means words (Prints model) = IsPrint words model
+Means words (Checks model) = words ≡ codes "check" ∷ model ∷ []
+Means words (Prints model) = words ≡ codes "flat" ∷ model ∷ []
 
 -- The words mean nothing.
 abbrev pub IsUsage : List (List ℕ) → Type 0

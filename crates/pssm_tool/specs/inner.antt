@@ -1,2 +1,4 @@
 pub mod Running
-pub mod Stops
+pub mod Loading
+pub mod Verdicts
+pub mod Failures

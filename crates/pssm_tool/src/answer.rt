@@ -1,13 +1,20 @@
-//! The answers of one line: what is written, and the status.
-ghost use Rattle.std.specs.Prelude.{◌≡◌, IfOk, string_bytes};
-ghost use Rattle.pssm_tool.specs.Answers.{text_of, code_of, number_of_rule, refusal_line};
+//! What the program answers: a text, and the status that goes with it.
+ghost use Rattle.std.specs.Prelude.{◌≡◌, ◌++◌, IfOk, codes, string_bytes};
+ghost use Rattle.std.specs.Fmt.{decimal};
+ghost use Rattle.pssm_semantics.specs.Verdict.{number_of};
+ghost use Rattle.pssm_flat.specs.Text.{line};
+ghost use Rattle.pssm_tool.specs.Answers.{text_of, code_of};
 
+use crate::load::LoadFault;
+use crate::refusal::fault_text;
+use crate::run::Ended;
 use crate::status::Status;
+use pssm_model::Text;
 use pssm_semantics::Rule;
 use std::alloc::{AllocError as NoMemory, Global};
 
-/// An answer to the words. Each is one line on standard output.
-#[derive(Clone, Copy, PartialEq, Eq, Debug)]
+/// An answer to the words.
+#[derive(Drop)]
 pub enum Answer {
     /// The journal is admissible, and has so many entries.
     Accept { entries: u32 },
@@ -23,6 +30,12 @@ pub enum Answer {
     BadJournal,
     /// A file has more than 16,777,216 bytes.
     TooLarge,
+    /// The text of a run's journal, and how the run ended.
+    Journal { text: Text, ended: Ended },
+    /// The flat text of a model.
+    Flat(Text),
+    /// Why the model is refused.
+    BadModel(LoadFault),
 }
 
 impl Answer {
@@ -31,9 +44,18 @@ impl Answer {
         ensures { result.code ≡ code_of self.now }
     {
         let code = match self {
-            Answer::Accept { .. } | Answer::WellFormed => 0,
+            Answer::Accept { .. } | Answer::WellFormed | Answer::Flat(_) => 0,
+            Answer::Journal {
+                ended: Ended::Quiet,
+                ..
+            } => 0,
+            Answer::Journal {
+                ended: Ended::Limit,
+                ..
+            } => 8,
             Answer::Refuse { .. } => 1,
             Answer::Usage => 2,
+            Answer::BadModel(_) => 3,
             Answer::BadJournal => 4,
             Answer::Limit { .. } => 8,
             Answer::TooLarge => 9,
@@ -41,32 +63,42 @@ impl Answer {
         Status { code }
     }
 
-    /// The line that is written.
-    pub fn text(&self, alloc: Global) -> Result<String, NoMemory>
-        ensures { IfOk result (λ text. string_bytes text ≡ text_of self.now) }
+    /// The text that is written.
+    pub fn into_text(self, alloc: Global) -> Result<Text, NoMemory>
+        ensures { IfOk result (λ text. text ≡ text_of self) }
     {
-        match *self {
-            Answer::Accept { entries } => format!(in alloc; "accept {entries}\n"),
-            Answer::Refuse { entry, rule } => refusal(alloc, entry, number(rule)),
-            Answer::Limit { entry } => format!(in alloc; "limit {entry}\n"),
-            Answer::WellFormed => String::from_str(alloc, "well formed\n"),
-            Answer::Usage => String::from_str(alloc, "usage\n"),
-            Answer::BadJournal => String::from_str(alloc, "bad journal\n"),
-            Answer::TooLarge => String::from_str(alloc, "too large\n"),
+        match self {
+            Answer::Accept { entries } => Ok(bytes_of(format!(in alloc; "accept {entries}\n")?)),
+            Answer::Refuse { entry, rule } => Ok(bytes_of(refusal(alloc, entry, number(rule))?)),
+            Answer::Limit { entry } => Ok(bytes_of(format!(in alloc; "limit {entry}\n")?)),
+            Answer::WellFormed => Ok(Text::from_vec(b"well formed\n".to_vec(alloc)?)),
+            Answer::Usage => Ok(Text::from_vec(b"usage\n".to_vec(alloc)?)),
+            Answer::BadJournal => Ok(Text::from_vec(b"bad journal\n".to_vec(alloc)?)),
+            Answer::TooLarge => Ok(Text::from_vec(b"too large\n".to_vec(alloc)?)),
+            Answer::Journal { text, .. } | Answer::Flat(text) => Ok(text),
+            Answer::BadModel(fault) => fault_text(alloc, &fault),
         }
     }
 }
 
+/// The bytes of a string.
+pub fn bytes_of(string: String) -> Text
+    ensures { result ≡ string_bytes string }
+{
+    Text::from_vec(string.into_bytes())
+}
+
 // The line on a refused entry and the number of the rule that it breaks.
 fn refusal(alloc: Global, entry: u32, rule: u8) -> Result<String, NoMemory>
-    ensures { IfOk result (λ text. string_bytes text ≡ refusal_line entry rule) }
+    ensures { IfOk result (λ text. string_bytes text
+        ≡ line (codes "refuse " ++ decimal entry ++ codes " A" ++ decimal rule)) }
 {
     format!(in alloc; "refuse {entry} A{rule}\n")
 }
 
 // The number in a rule's name.
 fn number(rule: Rule) -> u8
-    ensures { result ≡ number_of_rule rule }
+    ensures { result ≡ number_of rule }
 {
     match rule {
         Rule::A1 => 1,

@@ -1,16 +1,15 @@
-//! What each command does, up to its reply.
+//! What each command does, up to its answer.
 ghost use Rattle.std.specs.Prelude.{◌≡◌, ◌≤◌, List, ℕ, IfOk, IfErr};
-ghost use Rattle.pssm_tool.specs.Words.{texts, IsJudge, IsRun, IsCheck, IsPrint};
-ghost use Rattle.pssm_tool.specs.Verdicts.{said};
+ghost use Rattle.pssm_tool.specs.Words.{texts, Means, Judges, Runs, Checks, Prints};
 ghost use Rattle.pssm_tool.specs.Due.{IsOwed};
-ghost use Rattle.pssm_tool.specs.inner.Stops.{StopsAll, GoesOn};
+ghost use Rattle.pssm_tool.specs.inner.Verdicts.{said};
+ghost use Rattle.pssm_tool.specs.inner.Failures.{FailedFor, GoesOn};
 
 use crate::answer::Answer;
-use crate::load::{built_model, model};
-use crate::reply::Reply;
+use crate::failure::Failure;
+use crate::model::{built_model, model};
 use crate::run::run;
 use crate::stimuli::stimuli_of;
-use crate::stop::Stop;
 use crate::text::text_of;
 use crate::words::Options;
 use pssm_base::Inputs;
@@ -25,26 +24,24 @@ pub fn judge_journal<I: Inputs>(
     inputs: &mut I,
     path: &str,
     journal: &str,
-) -> Result<Reply, Stop>
-    ensures owed { IfOk result (λ reply. (words : List (List ℕ)) → IsJudge words path.now journal.now
-        → IsOwed words (I.content inputs.old) reply) }
-    ensures goes_on { IfOk result (λ reply. (words : List (List ℕ)) → IsJudge words path.now journal.now
-        → GoesOn words (I.content inputs.old) reply) }
-    ensures stops { IfErr result (λ stop. (words : List (List ℕ)) → IsJudge words path.now journal.now
-        → StopsAll words (I.content inputs.old) (I.faults inputs.old) (I.faults inputs.new) stop) }
+) -> Result<Answer, Failure>
+    ensures owed { IfOk result (λ answer. (words : List (List ℕ)) → Means words (Judges path.now journal.now)
+        → IsOwed words (I.content inputs.old) answer) }
+    ensures goes_on { IfOk result (λ answer. (words : List (List ℕ)) → Means words (Judges path.now journal.now)
+        → GoesOn words (I.content inputs.old) answer) }
+    ensures failed { IfErr result (λ failure. (words : List (List ℕ)) → Means words (Judges path.now journal.now)
+        → FailedFor words (I.faults inputs.old) (I.faults inputs.new) failure) }
 {
     let setting = match built_model(alloc, inputs, path) {
-        Ok(setting) => setting,
-        Err(stop) => return Err(stop),
+        Ok(Ok(setting)) => setting,
+        Ok(Err(answer)) => return Ok(answer),
+        Err(failure) => return Err(failure),
     };
-    match answer_of(judge(alloc, setting, inputs, journal)) {
-        Ok(answer) => Ok(Reply::Line(answer)),
-        Err(stop) => Err(stop),
-    }
+    answer_of(judge(alloc, setting, inputs, journal))
 }
 
 // The answer that says what the judge says.
-fn answer_of(judged: Result<Verdict, JudgeFault>) -> Result<Answer, Stop>
+fn answer_of(judged: Result<Verdict, JudgeFault>) -> Result<Answer, Failure>
     ensures { result ≡ said judged }
 {
     match judged {
@@ -53,8 +50,8 @@ fn answer_of(judged: Result<Verdict, JudgeFault>) -> Result<Answer, Stop>
         Err(JudgeFault::Text(_)) => Ok(Answer::BadJournal),
         Err(JudgeFault::Limit { entry }) => Ok(Answer::Limit { entry }),
         Err(JudgeFault::TooLarge) => Ok(Answer::TooLarge),
-        Err(JudgeFault::ReadFault) => Err(Stop::ReadFault),
-        Err(JudgeFault::NoMemory) => Err(Stop::NoMemory),
+        Err(JudgeFault::ReadFault) => Err(Failure::ReadFault),
+        Err(JudgeFault::NoMemory) => Err(Failure::NoMemory),
     }
 }
 
@@ -65,21 +62,22 @@ pub fn run_model<I: Inputs>(
     options: Options,
     path: &str,
     stimuli: &[String],
-) -> Result<Reply, Stop>
+) -> Result<Answer, Failure>
     requires { options.limit ≤ 1000000 }
-    ensures owed { IfOk result (λ reply. (words : List (List ℕ)) → IsRun words options path.now (texts stimuli.now)
-        → IsOwed words (I.content inputs.old) reply) }
-    ensures goes_on { IfOk result (λ reply. (words : List (List ℕ)) → IsRun words options path.now (texts stimuli.now)
-        → GoesOn words (I.content inputs.old) reply) }
-    ensures stops { IfErr result (λ stop. (words : List (List ℕ)) → IsRun words options path.now (texts stimuli.now)
-        → StopsAll words (I.content inputs.old) (I.faults inputs.old) (I.faults inputs.new) stop) }
+    ensures owed { IfOk result (λ answer. (words : List (List ℕ)) → Means words (Runs options path.now (texts stimuli.now))
+        → IsOwed words (I.content inputs.old) answer) }
+    ensures goes_on { IfOk result (λ answer. (words : List (List ℕ)) → Means words (Runs options path.now (texts stimuli.now))
+        → GoesOn words (I.content inputs.old) answer) }
+    ensures failed { IfErr result (λ failure. (words : List (List ℕ)) → Means words (Runs options path.now (texts stimuli.now))
+        → FailedFor words (I.faults inputs.old) (I.faults inputs.new) failure) }
 {
     let setting = match built_model(alloc, inputs, path) {
-        Ok(setting) => setting,
-        Err(stop) => return Err(stop),
+        Ok(Ok(setting)) => setting,
+        Ok(Err(answer)) => return Ok(answer),
+        Err(failure) => return Err(failure),
     };
     let Some(stimuli) = stimuli_of(alloc, &setting, stimuli)? else {
-        return Ok(Reply::Line(Answer::Usage));
+        return Ok(Answer::Usage);
     };
     let (system, ended) = run(
         alloc,
@@ -90,37 +88,39 @@ pub fn run_model<I: Inputs>(
     )?;
     let text = text_of(alloc, &system);
     drop(system);
-    Ok(Reply::Journal { text: text?, ended })
+    Ok(Answer::Journal { text: text?, ended })
 }
 
 /// Says that the model that stands under the path is well formed.
-pub fn check_model<I: Inputs>(alloc: Global, inputs: &mut I, path: &str) -> Result<Reply, Stop>
-    ensures owed { IfOk result (λ reply. (words : List (List ℕ)) → IsCheck words path.now
-        → IsOwed words (I.content inputs.old) reply) }
-    ensures goes_on { IfOk result (λ reply. (words : List (List ℕ)) → IsCheck words path.now
-        → GoesOn words (I.content inputs.old) reply) }
-    ensures stops { IfErr result (λ stop. (words : List (List ℕ)) → IsCheck words path.now
-        → StopsAll words (I.content inputs.old) (I.faults inputs.old) (I.faults inputs.new) stop) }
+pub fn check_model<I: Inputs>(alloc: Global, inputs: &mut I, path: &str) -> Result<Answer, Failure>
+    ensures owed { IfOk result (λ answer. (words : List (List ℕ)) → Means words (Checks path.now)
+        → IsOwed words (I.content inputs.old) answer) }
+    ensures goes_on { IfOk result (λ answer. (words : List (List ℕ)) → Means words (Checks path.now)
+        → GoesOn words (I.content inputs.old) answer) }
+    ensures failed { IfErr result (λ failure. (words : List (List ℕ)) → Means words (Checks path.now)
+        → FailedFor words (I.faults inputs.old) (I.faults inputs.new) failure) }
 {
     match model(alloc, inputs, path) {
-        Ok(_setting) => Ok(Reply::Line(Answer::WellFormed)),
-        Err(stop) => Err(stop),
+        Ok(Ok(_setting)) => Ok(Answer::WellFormed),
+        Ok(Err(answer)) => Ok(answer),
+        Err(failure) => Err(failure),
     }
 }
 
 /// The flat text of the model that stands under the path.
-pub fn print_model<I: Inputs>(alloc: Global, inputs: &mut I, path: &str) -> Result<Reply, Stop>
-    ensures owed { IfOk result (λ reply. (words : List (List ℕ)) → IsPrint words path.now
-        → IsOwed words (I.content inputs.old) reply) }
-    ensures goes_on { IfOk result (λ reply. (words : List (List ℕ)) → IsPrint words path.now
-        → GoesOn words (I.content inputs.old) reply) }
-    ensures stops { IfErr result (λ stop. (words : List (List ℕ)) → IsPrint words path.now
-        → StopsAll words (I.content inputs.old) (I.faults inputs.old) (I.faults inputs.new) stop) }
+pub fn print_model<I: Inputs>(alloc: Global, inputs: &mut I, path: &str) -> Result<Answer, Failure>
+    ensures owed { IfOk result (λ answer. (words : List (List ℕ)) → Means words (Prints path.now)
+        → IsOwed words (I.content inputs.old) answer) }
+    ensures goes_on { IfOk result (λ answer. (words : List (List ℕ)) → Means words (Prints path.now)
+        → GoesOn words (I.content inputs.old) answer) }
+    ensures failed { IfErr result (λ failure. (words : List (List ℕ)) → Means words (Prints path.now)
+        → FailedFor words (I.faults inputs.old) (I.faults inputs.new) failure) }
 {
     let setting = match model(alloc, inputs, path) {
-        Ok(setting) => setting,
-        Err(stop) => return Err(stop),
+        Ok(Ok(setting)) => setting,
+        Ok(Err(answer)) => return Ok(answer),
+        Err(failure) => return Err(failure),
     };
     let text = write_flat(alloc, &setting)?;
-    Ok(Reply::Flat(Text::from_vec(text)))
+    Ok(Answer::Flat(Text::from_vec(text)))
 }

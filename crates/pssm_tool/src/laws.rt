@@ -1,19 +1,21 @@
-//! A law of replies: something is always owed.
-ghost use Rattle.std.specs.Prelude.{ℕ, List};
+//! A law of answers: something is always owed.
+ghost use Rattle.std.specs.Prelude.{List, ℕ};
 ghost use Rattle.pssm_base.specs.Reading.{Contents};
 ghost use Rattle.pssm_semantics.specs.declared.setting.Setting.{Setting};
 ghost use Rattle.pssm_semantics.specs.declared.stimulus.Stimulus.{Stimulus};
 ghost use Rattle.pssm_tool.specs.declared.answer.Answer.{Answer};
-ghost use Rattle.pssm_tool.specs.Due.{IsDue, IsDueRefusal, IsDueText, IsRunDue, IsTold};
+ghost use Rattle.pssm_tool.specs.declared.words.Options.{Options};
+ghost use Rattle.pssm_tool.specs.Words.{Means, Runs};
+ghost use Rattle.pssm_tool.specs.Stimuli.{AreStimuli};
+ghost use Rattle.pssm_tool.specs.Due.{HasBuiltModel, IsOwed, IsTold};
 
-/// Where it is told what the files hold that words name, something is owed: a line, lines on what is wrong with the
-/// model, its flat text, or a run. So one of the clauses `exactly`, `refuses`, `prints` and `runs` of [`crate::pssm`]
-/// speaks of each call.
+/// Where it is told what the files hold that words name, something is owed: an answer, or a run. So one of the clauses
+/// `exactly` and `runs` of [`crate::pssm`] speaks of each call.
 #[tactic(auto, using(crate::proofs::AlwaysDue::always_due))]
 pub fn always_due()
     ensures { (words : List (List ℕ)) (contents : Contents) → IsTold words contents
-        → ((answer : Answer) → IsDue words contents answer → ⊥)
-        → ((text : List ℕ) → IsDueRefusal words contents text → ⊥)
-        → ((text : List ℕ) → IsDueText words contents text → ⊥)
-        → ((setting : Setting) (stimuli : List Stimulus) (limit : ℕ) → IsRunDue words contents setting stimuli limit → ⊥) → ⊥ }
+        → ((answer : Answer) → IsOwed words contents answer → ⊥)
+        → ((options : Options) (model : List ℕ) (names : List (List ℕ)) (setting : Setting) (stimuli : List Stimulus)
+        → Means words (Runs options model names) → HasBuiltModel contents model setting
+        → AreStimuli setting names stimuli → ⊥) → ⊥ }
 {}

@@ -7,14 +7,14 @@
 
 mod answer;
 mod commands;
+mod failure;
 mod laws;
 mod load;
+mod model;
 mod refusal;
-mod reply;
 mod run;
 mod status;
 mod stimuli;
-mod stop;
 #[cfg(test)]
 mod tests;
 mod text;

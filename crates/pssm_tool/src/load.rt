@@ -1,85 +1,145 @@
-//! The model that the words name.
-ghost use Rattle.std.specs.Prelude.{◌≡◌, ◌≢◌, ◌≤◌, List, ℕ, IfOk, IfErr, []};
-ghost use Rattle.pssm_base.specs.Faults.{NoneFell};
-ghost use Rattle.pssm_base.specs.Reading.{SameContent};
+//! The setting that the bytes of a model spell, or what is wrong with them.
+ghost use Rattle.std.specs.Prelude.{◌≡◌, ◌≢◌, ◌⊎◌, ◌≤◌, ◌++◌, [], length, map, IfOk, IfErr, OnOk};
 ghost use Rattle.pssm_semantics.specs.Proper.{IsWellFormed};
-ghost use Rattle.pssm_tool.specs.Refusals.{KeepRules};
-ghost use Rattle.pssm_tool.specs.Due.{LoadsModel, HasBuiltModel};
-ghost use Rattle.pssm_tool.specs.inner.Stops.{StopsModel, StopsBuiltModel, StopsRules};
+ghost use Rattle.pssm_tool.specs.declared.load.LoadFault.TheVariants.{NoMemory as Memory};
+ghost use Rattle.pssm_tool.specs.Loads.{ReadsSetting, IsLoadFault, in_class, AreClassFaults, AreBuilt};
+ghost use Rattle.pssm_tool.specs.inner.Loading.{BreakRules, NamesUnbuilt};
 
-use crate::answer::Answer;
-use crate::refusal::{fault_text, flat_fault_text, not_built_text};
-use crate::reply::Reply;
-use crate::stop::Stop;
-use pssm_base::{Inputs, WholeFault, read_whole};
-use pssm_flat::read_flat;
-use pssm_model::Text;
-use pssm_semantics::Setting;
-use std::alloc::Global;
+use pssm_flat::{FlatFault, read_flat};
+use pssm_model::{Element, Row, Text, first_not_built};
+use pssm_semantics::{Class, Setting};
+use pssm_wellformed::{Fault, check};
+use std::alloc::{AllocError, Global};
 
-// The most bytes that a model may have.
-const LIMIT: u64 = 16_777_216;
+/// A rule that the machine of a class breaks. `class` is the name of the class.
+#[derive(Drop)]
+pub struct ClassFault {
+    pub class: Text,
+    pub fault: Fault,
+}
 
-/// The setting of a model's file, whose machines keep the rules of models.
-pub fn model<I: Inputs>(alloc: Global, inputs: &mut I, path: &str) -> Result<Setting, Stop>
-    ensures loads { IfOk result (LoadsModel (I.content inputs.old) path.now) }
-    ensures well_formed { IfOk result IsWellFormed }
-    ensures stops { IfErr result (StopsModel (I.content inputs.old)
-        (I.faults inputs.old path.now) (I.faults inputs.new path.now) path.now) }
-    ensures counts { NoneFell (I.faults inputs.old) (I.faults inputs.new) }
-    ensures same { SameContent (I.content inputs.old) (I.content inputs.new) }
-{
-    let bytes = match read_whole(alloc, inputs, path, LIMIT) {
-        Ok(bytes) => bytes,
-        Err(WholeFault::TooLarge) => return Err(Stop::Answered(Reply::Line(Answer::TooLarge))),
-        Err(WholeFault::ReadFault) => return Err(Stop::ReadFault),
-        Err(WholeFault::NoMemory) => return Err(Stop::NoMemory),
-    };
-    match read_flat(alloc, bytes.as_slice()) {
-        Ok(setting) => well_formed(alloc, setting),
-        Err(fault) => match flat_fault_text(alloc, fault) {
-            Ok(text) => Err(refused(text)),
-            Err(_) => Err(Stop::NoMemory),
-        },
+/// Why the bytes of a model give no setting, or none that the code runs (this profile's choice).
+///
+/// `Flat`: they are no flat text. `Faults`: its machines break these rules of models, in the order of the classes and of
+/// [`check`]. `NotBuilt`: this element of the machine of the class is the first that the code does not run yet; only a
+/// judgement and a run ask for that. `NoMemory`: memory ran out; no other variant carries it.
+#[derive(Drop)]
+pub enum LoadFault {
+    Flat(FlatFault),
+    Faults { list: Row<ClassFault> },
+    NotBuilt { class: Text, element: Element },
+    NoMemory,
+}
+
+impl From<AllocError> for LoadFault {
+    ghost from_gives = { λ _ e. e ≡ Memory };
+
+    fn from(_: AllocError) -> LoadFault {
+        LoadFault::NoMemory
     }
 }
 
-/// The setting of a model's file that the code runs whole.
-pub fn built_model<I: Inputs>(alloc: Global, inputs: &mut I, path: &str) -> Result<Setting, Stop>
-    ensures built { IfOk result (HasBuiltModel (I.content inputs.old) path.now) }
-    ensures stops { IfErr result (StopsBuiltModel (I.content inputs.old)
-        (I.faults inputs.old path.now) (I.faults inputs.new path.now) path.now) }
-    ensures counts { NoneFell (I.faults inputs.old) (I.faults inputs.new) }
-    ensures same { SameContent (I.content inputs.old) (I.content inputs.new) }
+/// The setting that the bytes of a model spell, whose machines break no rule of models.
+pub fn load(alloc: Global, bytes: &[u8]) -> Result<Setting, LoadFault>
+    requires { length bytes.now ≤ 16777216 }
+    ensures loads { IfOk result (λ setting. ReadsSetting bytes.now setting []) }
+    ensures well_formed { IfOk result IsWellFormed }
+    // A refusal has its cause.
+    ensures fault { IfErr result (λ fault. (fault ≡ LoadFault.NoMemory) ⊎ IsLoadFault bytes.now fault) }
 {
-    match model(alloc, inputs, path) {
-        Ok(setting) => match not_built_text(alloc, setting.classes.as_slice()) {
-            Ok(None) => Ok(setting),
-            Ok(Some(text)) => Err(refused(text)),
-            Err(_) => Err(Stop::NoMemory),
-        },
-        Err(stop) => Err(stop),
+    match read_flat(alloc, bytes) {
+        Ok(setting) => well_formed(alloc, setting),
+        Err(fault) => Err(flat_fault(fault)),
+    }
+}
+
+// The fault of a flat text; want of memory is one of its own.
+fn flat_fault(fault: FlatFault) -> LoadFault
+    ensures { (result ≡ LoadFault.NoMemory) ⊎ ((result ≡ LoadFault.Flat fault) × (fault ≢ FlatFault.NoMemory)) }
+{
+    match fault {
+        FlatFault::NoMemory => LoadFault::NoMemory,
+        other => LoadFault::Flat(other),
     }
 }
 
 // The setting, where its machines keep the rules of models.
-fn well_formed(alloc: Global, setting: Setting) -> Result<Setting, Stop>
+fn well_formed(alloc: Global, setting: Setting) -> Result<Setting, LoadFault>
     ensures same { IfOk result (λ kept. kept ≡ setting) }
-    ensures rules { IfOk result (λ _. KeepRules setting.classes) }
-    ensures stops { IfErr result (StopsRules setting.classes) }
+    ensures rules { IfOk result (λ _. AreClassFaults setting.classes []) }
+    ensures broken { IfErr result (BreakRules setting.classes) }
 {
-    let text = fault_text(alloc, setting.classes.as_slice())?;
-    if text.as_slice().is_empty() {
+    let list = class_faults(alloc, setting.classes.as_slice())?;
+    if list.is_empty() {
+        drop(list);
         Ok(setting)
     } else {
         drop(setting);
-        Err(refused(text))
+        Err(LoadFault::Faults {
+            list: Row::from_vec(list),
+        })
     }
 }
 
-// The model is refused with these lines.
-fn refused(text: Text) -> Stop
-    ensures { result ≡ Stop.Answered (Reply.BadModel text) }
+// The rules of models that the machines of these classes break.
+fn class_faults(alloc: Global, classes: &[Class]) -> Result<Vec<ClassFault>, AllocError>
+    ensures { IfOk result (λ list. AreClassFaults classes.now list.items) }
 {
-    Stop::Answered(Reply::BadModel(text))
+    let mut list = Vec::new(alloc);
+    for class in classes {
+        let faults = check(alloc, &class.machine)?;
+        put_faults(alloc, &mut list, class.name.as_slice(), faults.as_slice())?;
+    }
+    Ok(list)
+}
+
+// Adds the faults of the machine of the class with this name.
+fn put_faults(
+    alloc: Global,
+    list: &mut Vec<ClassFault>,
+    class: &[u8],
+    faults: &[Fault],
+) -> Result<(), AllocError>
+    ensures { OnOk result (list.new.items ≡ list.old.items ++ map (in_class class.now) faults.now) }
+{
+    for fault in faults {
+        let class = Text::from_vec(class.to_vec(alloc)?);
+        list.push(ClassFault {
+            class,
+            fault: *fault,
+        })?;
+    }
+    Ok(())
+}
+
+/// The setting, where the code runs every element of its machines.
+pub fn built(alloc: Global, setting: Setting) -> Result<Setting, LoadFault>
+    ensures same { IfOk result (λ kept. kept ≡ setting) }
+    ensures built { IfOk result (λ _. AreBuilt setting.classes) }
+    ensures fault { IfErr result (λ fault. (fault ≡ LoadFault.NoMemory) ⊎ NamesUnbuilt setting.classes fault) }
+{
+    match first_unbuilt(alloc, setting.classes.as_slice()) {
+        Ok(()) => Ok(setting),
+        Err(fault) => {
+            drop(setting);
+            Err(fault)
+        }
+    }
+}
+
+// The code runs every element of the machines of these classes, or this is the first that it does not run yet.
+fn first_unbuilt(alloc: Global, classes: &[Class]) -> Result<(), LoadFault>
+    ensures built { OnOk result (AreBuilt classes.now) }
+    ensures fault { IfErr result (λ fault. (fault ≡ LoadFault.NoMemory) ⊎ NamesUnbuilt classes.now fault) }
+{
+    for class in classes {
+        if let Some(element) = first_not_built(&class.machine) {
+            let name = class.name.copy(alloc)?;
+            return Err(LoadFault::NotBuilt {
+                class: name,
+                element,
+            });
+        }
+    }
+    Ok(())
 }

@@ -1,38 +1,41 @@
 //! What is wrong with a model, as the lines that the program writes.
-ghost use Rattle.std.specs.Prelude.{◌≡◌, ◌≢◌, ◌++◌, ℕ, List, IfOk, IfSome, IfNone, OnOk, codes, string_bytes};
+ghost use Rattle.std.specs.Prelude.{◌≡◌, ◌++◌, IfOk, OnOk, codes, string_bytes};
 ghost use Rattle.std.specs.List.{flat_map};
 ghost use Rattle.std.specs.Fmt.{decimal};
-ghost use Rattle.pssm_semantics.specs.declared.setting.Class.{Class};
-ghost use Rattle.pssm_tool.specs.Refusals.{element_text, place_text, rule_text, fault_line, shape_word, flat_fault_line, not_built_line, AreFaultLines, AreBuilt, IsNotBuiltLine};
+ghost use Rattle.pssm_tool.specs.Refusals.{element_text, place_text, rule_text, fault_line, shape_word, load_fault_text};
 
+use crate::answer::bytes_of;
+use crate::load::{ClassFault, LoadFault};
 use pssm_flat::FlatFault;
-use pssm_model::{Element, FaultPlace, Shape, Text, first_not_built};
-use pssm_semantics::Class;
+use pssm_model::{Element, FaultPlace, Shape, Text};
 use pssm_spelling::put_number;
-use pssm_wellformed::{Fault, check};
 use std::alloc::{AllocError as NoMemory, Global};
 
-/// The line on a fault of a flat text. Want of memory has no line.
-pub fn flat_fault_text(alloc: Global, fault: FlatFault) -> Result<Text, NoMemory>
-    ensures line { IfOk result (λ text. text ≡ flat_fault_line fault) }
-    ensures named { IfOk result (λ _. fault ≢ FlatFault.NoMemory) }
+/// The lines on a fault. Want of memory has no line.
+pub fn fault_text(alloc: Global, fault: &LoadFault) -> Result<Text, NoMemory>
+    ensures { IfOk result (λ text. text ≡ load_fault_text fault.now) }
 {
     match fault {
-        FlatFault::BadLine { line } => Ok(text_of(bad_line(alloc, line)?)),
-        FlatFault::Shape { line, shape } => Ok(text_of(shape_line(
+        LoadFault::Flat(flat) => flat_fault_text(alloc, *flat),
+        LoadFault::Faults { list } => list_text(alloc, list.as_slice()),
+        LoadFault::NotBuilt { class, element } => not_built(alloc, class.as_slice(), *element),
+        LoadFault::NoMemory => Err(NoMemory),
+    }
+}
+
+// The line on a fault of a flat text.
+fn flat_fault_text(alloc: Global, fault: FlatFault) -> Result<Text, NoMemory>
+    ensures { IfOk result (λ text. text ≡ load_fault_text (LoadFault.Flat fault)) }
+{
+    match fault {
+        FlatFault::BadLine { line } => Ok(bytes_of(bad_line(alloc, line)?)),
+        FlatFault::Shape { line, shape } => Ok(bytes_of(shape_line(
             alloc,
             line,
             shape_name(shape),
         )?)),
         FlatFault::NoMemory => Err(NoMemory),
     }
-}
-
-// The bytes of a string.
-fn text_of(string: String) -> Text
-    ensures { result ≡ string_bytes string }
-{
-    Text::from_vec(string.into_bytes())
 }
 
 // The line on a line that cannot stand where it does.
@@ -62,42 +65,26 @@ fn shape_name(shape: Shape) -> &'static str
     }
 }
 
-/// The rules of models that the machines of these classes break, a line for each; empty where they break none.
-pub fn fault_text(alloc: Global, classes: &[Class]) -> Result<Text, NoMemory>
-    ensures { IfOk result (AreFaultLines classes.now) }
+// A line for each fault.
+fn list_text(alloc: Global, faults: &[ClassFault]) -> Result<Text, NoMemory>
+    ensures { IfOk result (λ text. text ≡ flat_map fault_line faults.now) }
 {
     let mut text = Vec::new(alloc);
-    for class in classes {
-        let faults = check(alloc, &class.machine)?;
-        put_faults(alloc, &mut text, class.name.as_slice(), faults.as_slice())?;
+    for fault in faults {
+        put_fault(alloc, &mut text, fault)?;
     }
     Ok(Text::from_vec(text))
 }
 
-// Writes a line for each fault of a class.
-fn put_faults(
-    alloc: Global,
-    text: &mut Vec<u8>,
-    class: &[u8],
-    faults: &[Fault],
-) -> Result<(), NoMemory>
-    ensures { OnOk result (text.new.items ≡ text.old.items ++ flat_map (fault_line class.now) faults.now) }
-{
-    for fault in faults {
-        put_fault(alloc, text, class, *fault)?;
-    }
-    Ok(())
-}
-
 // Writes the line on a fault.
-fn put_fault(alloc: Global, text: &mut Vec<u8>, class: &[u8], fault: Fault) -> Result<(), NoMemory>
-    ensures { OnOk result (text.new.items ≡ text.old.items ++ fault_line class.now fault) }
+fn put_fault(alloc: Global, text: &mut Vec<u8>, fault: &ClassFault) -> Result<(), NoMemory>
+    ensures { OnOk result (text.new.items ≡ text.old.items ++ fault_line fault.now) }
 {
-    put_rule(alloc, text, fault.rule)?;
+    put_rule(alloc, text, fault.fault.rule)?;
     text.push(b' ')?;
-    text.extend_from_slice(class)?;
+    text.extend_from_slice(fault.class.as_slice())?;
     text.push(b' ')?;
-    put_place(alloc, text, fault.element)?;
+    put_place(alloc, text, fault.fault.element)?;
     text.extend_from_slice(b"\n")
 }
 
@@ -143,22 +130,9 @@ fn put_element(alloc: Global, text: &mut Vec<u8>, element: Element) -> Result<()
     }
 }
 
-/// The line on the first element of these classes' machines that the code does not run yet, if there is one.
-pub fn not_built_text(alloc: Global, classes: &[Class]) -> Result<Option<Text>, NoMemory>
-    ensures line { IfOk result (λ o. IfSome o (IsNotBuiltLine classes.now)) }
-    ensures none { IfOk result (λ o. IfNone o (AreBuilt classes.now)) }
-{
-    for class in classes {
-        if let Some(element) = first_not_built(&class.machine) {
-            return Ok(Some(not_built(alloc, class.name.as_slice(), element)?));
-        }
-    }
-    Ok(None)
-}
-
 // The line on an element that the code does not run yet.
 fn not_built(alloc: Global, class: &[u8], element: Element) -> Result<Text, NoMemory>
-    ensures { IfOk result (λ text. text ≡ not_built_line class.now element) }
+    ensures { IfOk result (λ text. text ≡ load_fault_text (LoadFault.NotBuilt class.now element)) }
 {
     let mut text = b"not built ".to_vec(alloc)?;
     text.extend_from_slice(class)?;

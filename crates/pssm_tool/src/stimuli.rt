@@ -8,7 +8,8 @@ ghost use Rattle.pssm_semantics.specs.Pool.{posts_of_entry};
 ghost use Rattle.pssm_journal.specs.Entries.{IsEntryOf, KeepsNames, BreaksNames};
 ghost use Rattle.pssm_journal.specs.inner.LineReading.{post_taken};
 ghost use Rattle.pssm_tool.specs.Words.{texts, IsStimulusText};
-ghost use Rattle.pssm_tool.specs.Stimuli.{Names, AreStimuli, NameNoStimuli};
+ghost use Rattle.pssm_tool.specs.Stimuli.{Names, AreStimuli};
+ghost use Rattle.pssm_tool.specs.inner.Running.{NameNoStimuli};
 
 use pssm_journal::entry_of;
 use pssm_model::Text;

@@ -3,8 +3,7 @@ ghost use Rattle.std.specs.Prelude.{IfOk};
 ghost use Rattle.pssm_semantics.specs.Built.{IsBuilt};
 ghost use Rattle.pssm_journal.specs.Entries.{KeepsNames};
 ghost use Rattle.pssm_journal.specs.Naming.{NamesDiffer};
-ghost use Rattle.pssm_tool.specs.RunTexts.{IsTextOf};
-ghost use Rattle.pssm_tool.specs.inner.Running.{IsLineOf};
+ghost use Rattle.pssm_tool.specs.inner.Running.{IsLineOf, IsTextOf};
 
 use pssm_journal::{line_of, write_line};
 use pssm_model::Text;

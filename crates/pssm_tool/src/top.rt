@@ -1,26 +1,26 @@
 //! The top call: from words to a status.
-ghost use Rattle.std.specs.Prelude.{◌≡◌, ◌≢◌, ◌⊎◌, ℕ, List, IfOk, IfErr, IsErrOf};
+ghost use Rattle.std.specs.Prelude.{◌≡◌, ◌≢◌, ◌≤◌, ◌⊎◌, ℕ, List, IfOk, IfErr};
 ghost use Rattle.std.specs.Io.KnownBytes.{Appends, Keeps};
 ghost use Rattle.pssm_semantics.specs.declared.entry.Rule.{Rule};
 ghost use Rattle.pssm_semantics.specs.declared.setting.Setting.{Setting};
 ghost use Rattle.pssm_semantics.specs.declared.stimulus.Stimulus.{Stimulus};
 ghost use Rattle.pssm_tool.specs.declared.answer.Answer.{Answer};
-ghost use Rattle.pssm_tool.specs.declared.reply.Reply.{Reply};
+ghost use Rattle.pssm_tool.specs.declared.load.LoadFault.{LoadFault};
 ghost use Rattle.pssm_tool.specs.declared.run.Ended.{Ended};
 ghost use Rattle.pssm_tool.specs.declared.words.Options.{Options};
 ghost use Rattle.pssm_base.specs.Faults.{Rose};
 ghost use Rattle.pssm_base.specs.Putting.{TookPart};
-ghost use Rattle.pssm_tool.specs.Words.{texts, IsJudge, IsRun};
-ghost use Rattle.pssm_tool.specs.Answers.{reply_text, reply_code, code_of, IsStatus, IsFailure};
-ghost use Rattle.pssm_tool.specs.Due.{IsDue, IsDueRefusal, IsDueText, IsRunDue, IsOwed, IsTold, Gives, IsContinued, IsAcceptedText, ReadFailed};
-ghost use Rattle.pssm_tool.specs.Headline.{AcceptsPrefixes};
-ghost use Rattle.pssm_tool.specs.inner.Stops.{StopsAll, GoesOn};
+ghost use Rattle.pssm_tool.specs.Words.{texts, Means, Judges, Runs};
+ghost use Rattle.pssm_tool.specs.Stimuli.{AreStimuli};
+ghost use Rattle.pssm_tool.specs.Answers.{text_of, code_of, IsFailure};
+ghost use Rattle.pssm_tool.specs.Due.{HasBuiltModel, IsOwed, IsTold, Gives, ReadFailed};
+ghost use Rattle.pssm_tool.specs.Headline.{AcceptsPrefixes, IsContinued, IsAcceptedText};
+ghost use Rattle.pssm_tool.specs.inner.Failures.{FailedFor, GoesOn};
 
 use crate::answer::Answer;
 use crate::commands::{check_model, judge_journal, print_model, run_model};
-use crate::reply::Reply;
+use crate::failure::Failure;
 use crate::status::Status;
-use crate::stop::{Failure, Stop};
 use crate::words::{Command, command_of};
 use pssm_base::{Gate, Inputs, Sink, put_all};
 use std::alloc::Global;
@@ -47,75 +47,70 @@ pub fn pssm<R, I: Inputs, S: Sink, G: Gate + Sync>(
         → AcceptsPrefixes (texts words.now) (I.content inputs.old) result.code }
 
     // The journal that was accepted is the beginning of a complete run.
-    ensures continued { result.code ≡ 0 → (model journal : List ℕ) → IsJudge (texts words.now) model journal
+    ensures continued { result.code ≡ 0 → (model journal : List ℕ) → Means (texts words.now) (Judges model journal)
         → IsContinued (I.content inputs.old) model journal }
 
     // The journal that a run writes is accepted as one of its model.
     ensures accepts_runs { (options : Options) (model : List ℕ) (stimuli : List (List ℕ))
-        → IsRun (texts words.now) options model stimuli → (result.code ≡ 0) ⊎ (result.code ≡ 8)
+        → Means (texts words.now) (Runs options model stimuli) → (result.code ≡ 0) ⊎ (result.code ≡ 8)
         → IsAcceptedText (I.content inputs.old) model (S.taken out.old) (S.taken out.new) }
 
-    // ---- What is written is owed: by status, the reply that was written whole.
+    // ---- What is written is owed: by status, the answer whose text was written whole.
 
     // 0: the journal is admissible, and `accept N` says how many entries it has; or the journal was written of a run
     // that ended where nothing more can happen; or the model keeps the rules of models, and `well formed` or its flat
     // text was written.
     ensures accepted { result.code ≡ 0
         → ((n : ℕ) × Gives (texts words.now) (I.content inputs.old)
-        (S.taken out.old) (S.taken out.new) (Reply.Line (Answer.Accept n)))
+        (S.taken out.old) (S.taken out.new) (Answer.Accept n))
         ⊎ ((text : List ℕ) × Gives (texts words.now) (I.content inputs.old)
-        (S.taken out.old) (S.taken out.new) (Reply.Journal text Ended.Quiet))
+        (S.taken out.old) (S.taken out.new) (Answer.Journal text Ended.Quiet))
         ⊎ Gives (texts words.now) (I.content inputs.old)
-        (S.taken out.old) (S.taken out.new) (Reply.Line Answer.WellFormed)
+        (S.taken out.old) (S.taken out.new) Answer.WellFormed
         ⊎ ((text : List ℕ) × Gives (texts words.now) (I.content inputs.old)
-        (S.taken out.old) (S.taken out.new) (Reply.Flat text)) }
+        (S.taken out.old) (S.taken out.new) (Answer.Flat text)) }
 
     // 1: `refuse N An` names the first entry that breaks a rule, and the first rule that it breaks.
     ensures refused { result.code ≡ 1 → (n : ℕ) × (rule : Rule) × Gives (texts words.now) (I.content inputs.old)
-        (S.taken out.old) (S.taken out.new) (Reply.Line (Answer.Refuse n rule)) }
+        (S.taken out.old) (S.taken out.new) (Answer.Refuse n rule) }
 
     // 2: the words mean no command, or name a stimulus that the model does not have.
     ensures usage { result.code ≡ 2 → Gives (texts words.now) (I.content inputs.old)
-        (S.taken out.old) (S.taken out.new) (Reply.Line Answer.Usage) }
+        (S.taken out.old) (S.taken out.new) Answer.Usage }
 
     // 3: the model's bytes are no flat text, or its machines break rules of models, or `judge` or `run` does not know
     // one of its forms yet; the lines say which and where.
-    ensures bad_model { result.code ≡ 3 → (text : List ℕ) × Gives (texts words.now) (I.content inputs.old)
-        (S.taken out.old) (S.taken out.new) (Reply.BadModel text) }
+    ensures bad_model { result.code ≡ 3 → (fault : LoadFault) × Gives (texts words.now) (I.content inputs.old)
+        (S.taken out.old) (S.taken out.new) (Answer.BadModel fault) }
 
     // 4: the journal's bytes are no journal text, and no earlier line breaks a rule.
     ensures bad_journal { result.code ≡ 4 → Gives (texts words.now) (I.content inputs.old)
-        (S.taken out.old) (S.taken out.new) (Reply.Line Answer.BadJournal) }
+        (S.taken out.old) (S.taken out.new) Answer.BadJournal }
 
     // 8: `limit N` names the entry by which the journal passes its limits; or the journal was written of a run that
     // ended because it is full.
     ensures limited { result.code ≡ 8
         → ((n : ℕ) × Gives (texts words.now) (I.content inputs.old)
-        (S.taken out.old) (S.taken out.new) (Reply.Line (Answer.Limit n)))
+        (S.taken out.old) (S.taken out.new) (Answer.Limit n))
         ⊎ ((text : List ℕ) × Gives (texts words.now) (I.content inputs.old)
-        (S.taken out.old) (S.taken out.new) (Reply.Journal text Ended.Limit)) }
+        (S.taken out.old) (S.taken out.new) (Answer.Journal text Ended.Limit)) }
 
     // 9: a file is too large.
     ensures too_large { result.code ≡ 9 → Gives (texts words.now) (I.content inputs.old)
-        (S.taken out.old) (S.taken out.new) (Reply.Line Answer.TooLarge) }
+        (S.taken out.old) (S.taken out.new) Answer.TooLarge }
 
     // ---- What is owed is written, unless reading, writing or memory failed (5, 6, 7).
 
-    // Where it is told what the files hold and a line is owed, one is, and its status comes unless reading, writing or
-    // memory failed.
+    // Where it is told what the files hold, and an answer is owed that is no journal of a run, its status comes.
     ensures exactly { (answer : Answer) → IsTold (texts words.now) (I.content inputs.old)
-        → IsDue (texts words.now) (I.content inputs.old) answer → (result.code ≡ code_of answer) ⊎ IsFailure result.code }
+        → IsOwed (texts words.now) (I.content inputs.old) answer
+        → (result.code ≡ code_of answer) ⊎ IsFailure result.code
+        ⊎ ((text : List ℕ) × (ended : Ended) × (answer ≡ Answer.Journal text ended)) }
 
-    // Where it is told what the files hold and a refusal of the model is owed, one comes, unless reading, writing or
-    // memory failed; and likewise the flat text of a model.
-    ensures refuses { (text : List ℕ) → IsTold (texts words.now) (I.content inputs.old)
-        → IsDueRefusal (texts words.now) (I.content inputs.old) text → (result.code ≡ 3) ⊎ IsFailure result.code }
-    ensures prints { (text : List ℕ) → IsTold (texts words.now) (I.content inputs.old)
-        → IsDueText (texts words.now) (I.content inputs.old) text → (result.code ≡ 0) ⊎ IsFailure result.code }
-
-    // Where a run is owed, its journal comes with one of its two ends, unless reading, writing or memory failed.
-    ensures runs { (setting : Setting) (stimuli : List Stimulus) (limit : ℕ) → IsTold (texts words.now) (I.content inputs.old)
-        → IsRunDue (texts words.now) (I.content inputs.old) setting stimuli limit
+    // Where a run is owed, its journal comes with one of its two ends.
+    ensures runs { (options : Options) (model : List ℕ) (names : List (List ℕ)) (setting : Setting) (stimuli : List Stimulus)
+        → IsTold (texts words.now) (I.content inputs.old) → Means (texts words.now) (Runs options model names)
+        → HasBuiltModel (I.content inputs.old) model setting → AreStimuli setting names stimuli
         → (result.code ≡ 0) ⊎ (result.code ≡ 8) ⊎ IsFailure result.code }
 
     // ---- What a failure leaves, and that there is no other status.
@@ -126,40 +121,36 @@ pub fn pssm<R, I: Inputs, S: Sink, G: Gate + Sync>(
 
     // 6: writing failed in this call. A front of the text that was owed was taken.
     ensures write_fault { result.code ≡ 6 → Rose (S.faults out.old) (S.faults out.new) }
-    ensures write_fault_part { result.code ≡ 6 → (reply : Reply) × IsOwed (texts words.now) (I.content inputs.old) reply
-        × TookPart (S.taken out.old) (S.taken out.new) (reply_text reply) }
+    ensures write_fault_part { result.code ≡ 6 → (answer : Answer) × IsOwed (texts words.now) (I.content inputs.old) answer
+        × TookPart (S.taken out.old) (S.taken out.new) (text_of answer) }
 
     // 7: there was not enough memory. Nothing is written.
     ensures no_memory_silent { result.code ≡ 7 → Keeps (S.taken out.old) (S.taken out.new) }
 
     // There is no other status.
-    ensures no_other { IsStatus result.code }
+    ensures no_other { result.code ≤ 9 }
 {
-    match owed(alloc, words, inputs) {
-        Ok(reply) => tell(alloc, &reply, out),
+    match answer(alloc, words, inputs) {
+        Ok(answer) => tell(alloc, answer, out),
         Err(Failure::ReadFault) => Status { code: 5 },
         Err(Failure::NoMemory) => Status { code: 7 },
     }
 }
 
-// Writes the text of a reply.
-fn tell<S: Sink>(alloc: Global, reply: &Reply, out: &mut S) -> Status
+// Writes the text of an answer.
+fn tell<S: Sink>(alloc: Global, answer: Answer, out: &mut S) -> Status
     ensures told { result.code ≢ 6 → result.code ≢ 7
-        → (result.code ≡ reply_code reply.now) × Appends (S.taken out.old) (S.taken out.new) (reply_text reply.now) }
+        → (result.code ≡ code_of answer) × Appends (S.taken out.old) (S.taken out.new) (text_of answer) }
     ensures write_fault { result.code ≡ 6 → Rose (S.faults out.old) (S.faults out.new)
-        × TookPart (S.taken out.old) (S.taken out.new) (reply_text reply.now) }
+        × TookPart (S.taken out.old) (S.taken out.new) (text_of answer) }
     ensures no_memory { result.code ≡ 7 → Keeps (S.taken out.old) (S.taken out.new) }
+    ensures no_other { result.code ≤ 9 }
+    ensures no_read_fault { result.code ≢ 5 }
 {
-    match reply {
-        Reply::Line(answer) => match answer.text(alloc) {
-            Ok(text) => put(text.as_bytes(), reply.status(), out),
-            Err(_) => Status { code: 7 },
-        },
-        Reply::Journal { text, .. } | Reply::Flat(text) | Reply::BadModel(text) => put(
-            text.as_slice(),
-            reply.status(),
-            out,
-        ),
+    let status = answer.status();
+    match answer.into_text(alloc) {
+        Ok(text) => put(text.as_slice(), status, out),
+        Err(_) => Status { code: 7 },
     }
 }
 
@@ -176,27 +167,11 @@ fn put<S: Sink>(bytes: &[u8], status: Status, out: &mut S) -> Status
     }
 }
 
-// The reply that is owed for the words and their files.
-fn owed<I: Inputs>(alloc: Global, words: &[String], inputs: &mut I) -> Result<Reply, Failure>
+// The answer that is owed for the words and their files, or why there is none.
+fn answer<I: Inputs>(alloc: Global, words: &[String], inputs: &mut I) -> Result<Answer, Failure>
     ensures owed { IfOk result (IsOwed (texts words.now) (I.content inputs.old)) }
     ensures goes_on { IfOk result (GoesOn (texts words.now) (I.content inputs.old)) }
-    ensures read_fault { IsErrOf result Failure.ReadFault
-        → ReadFailed (texts words.now) (I.faults inputs.old) (I.faults inputs.new) }
-{
-    match reply(alloc, words, inputs) {
-        Ok(reply) => Ok(reply),
-        Err(Stop::Answered(reply)) => Ok(reply),
-        Err(Stop::ReadFault) => Err(Failure::ReadFault),
-        Err(Stop::NoMemory) => Err(Failure::NoMemory),
-    }
-}
-
-// The reply that is owed, or why the work ended before it.
-fn reply<I: Inputs>(alloc: Global, words: &[String], inputs: &mut I) -> Result<Reply, Stop>
-    ensures owed { IfOk result (IsOwed (texts words.now) (I.content inputs.old)) }
-    ensures goes_on { IfOk result (GoesOn (texts words.now) (I.content inputs.old)) }
-    ensures stops { IfErr result (StopsAll (texts words.now) (I.content inputs.old)
-        (I.faults inputs.old) (I.faults inputs.new)) }
+    ensures failed { IfErr result (FailedFor (texts words.now) (I.faults inputs.old) (I.faults inputs.new)) }
 {
     match command_of(words) {
         Some(Command::Judge { model, journal }) => judge_journal(alloc, inputs, model, journal),
@@ -209,6 +184,6 @@ fn reply<I: Inputs>(alloc: Global, words: &[String], inputs: &mut I) -> Result<R
         ) => run_model(alloc, inputs, options, model, stimuli),
         Some(Command::Check { model }) => check_model(alloc, inputs, model),
         Some(Command::Flat { model }) => print_model(alloc, inputs, model),
-        None => Ok(Reply::Line(Answer::Usage)),
+        None => Ok(Answer::Usage),
     }
 }

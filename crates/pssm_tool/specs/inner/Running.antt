@@ -9,10 +9,11 @@ use Rattle.pssm_semantics.specs.declared.line.Line.{Line}
 use Rattle.pssm_semantics.specs.Built.{IsBuiltEntry}
 use Rattle.pssm_journal.specs.Entries.{KeepsNames, IsEntryOf}
 use Rattle.pssm_journal.specs.Grammar.{IsBuiltLine, IsLine}
-use Rattle.pssm_journal.specs.LineText.{line_text}
+use Rattle.pssm_journal.specs.LineText.{line_text, journal_text}
+use Rattle.pssm_journal.specs.Judged.{IsKept}
 use Rattle.pssm_journal.specs.Naming.{HasSpelledNames, IsSpelledEntry}
 use Rattle.pssm_system.specs.History.{History}
-use Rattle.pssm_tool.specs.Stimuli.{post_of}
+use Rattle.pssm_tool.specs.Stimuli.{post_of, AreStimuli}
 
 -- What the stimulus names is the setting's.
 abbrev pub IsKnown : Setting → Stimulus → Type 0
@@ -51,3 +52,13 @@ pub record IsLineOf (setting : Setting) (e : Entry) (bytes : List ℕ) : Type 0 
   pub plain : IsBuiltEntry e → IsBuiltLine line
   pub spelled : HasSpelledNames setting → IsSpelledEntry e → IsLine line
   pub text : bytes ≡ line_text line ++ 10 ∷ []
+
+-- The bytes are the text of a journal: its lines are lines of the grammar, and its entries break no rule and keep the limits.
+pub record IsTextOf (setting : Setting) (J : List Entry) (bytes : List ℕ) : Type 0 where
+  pub lines : List Line
+  pub text : bytes ≡ journal_text lines
+  pub kept : IsKept setting lines J
+
+-- Some word names no stimulus of the setting.
+abbrev pub NameNoStimuli : Setting → List (List ℕ) → Type 0
+NameNoStimuli setting words = (stimuli : List Stimulus) → AreStimuli setting words stimuli → ⊥

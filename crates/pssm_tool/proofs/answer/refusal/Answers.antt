@@ -1,7 +1,8 @@
-use Rattle.std.proofs.Common.{append_assoc}
-use Rattle.pssm_tool.specs.Answers.{refusal_line}
+use Rattle.std.proofs.Common.{◌++◌, codes, append_assoc}
+use Rattle.std.specs.Fmt.{decimal}
+use Rattle.pssm_flat.specs.Text.{line}
 use Rattle.pssm_tool.proofs.Regrouped.{regrouped}
 use Rattle.pssm_tool.proofs.answer.refusal.Goals as goal
 
 pub returns : goal.returns
-returns c = regrouped c.format.result _ (refusal_line c.args.entry c.args.rule) c.format.ensures.ok (simp append_assoc)
+returns c = regrouped c.format.result _ (line (codes "refuse " ++ decimal c.args.entry ++ codes " A" ++ decimal c.args.rule)) c.format.ensures.ok (simp append_assoc)

@@ -1,4 +1,4 @@
-use Rattle.std.proofs.Common.{◌≡◌, ◌++◌, List, ℕ, codes, append_assoc}
+use Rattle.std.proofs.Common.{◌++◌, codes, append_assoc}
 use Rattle.std.specs.Fmt.{decimal}
 use Rattle.pssm_tool.proofs.Regrouped.{regrouped}
 use Rattle.pssm_tool.proofs.refusal.shape_line.Goals as goal

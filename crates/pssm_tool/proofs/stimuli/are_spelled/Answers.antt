@@ -1,4 +1,4 @@
-use Rattle.std.proofs.Common.{◌≡◌, List, ℕ, IsNone, not, ap, sym, subst, ◌∙◌}
+use Rattle.std.proofs.Common.{List, ℕ, IsNone, not, ap, sym, subst, ◌∙◌}
 use Rattle.std.specs.List.{AllByRecursion}
 use Rattle.pssm_semantics.proofs.Appending.{every_push}
 use Rattle.pssm_journal.specs.inner.LineReading.{post_taken}

@@ -1,4 +1,4 @@
-use Rattle.std.proofs.Common.{List, ℕ, String, string_bytes, subst}
+use Rattle.std.proofs.Common.{List, ℕ, string_bytes, subst}
 use Rattle.pssm_semantics.specs.declared.stimulus.Stimulus.{Stimulus}
 use Rattle.pssm_tool.specs.Stimuli.{Names}
 use Rattle.pssm_tool.proofs.CallLaws.{more_named, not_named}

@@ -1,4 +1,3 @@
-use Rattle.std.proofs.Common.{subst, IfSome, IfNone}
 use Rattle.pssm_tool.proofs.CallLaws.{call_some, call_none, names_posted, names_none, names_not_spelled}
 use Rattle.pssm_tool.proofs.stimuli.stimulus_of.Goals as goal
 

@@ -1,4 +1,4 @@
-use Rattle.std.proofs.Common.{◌≡◌, ◌∙◌, List, ℕ, IfSome, codes, ap, sym, subst}
+use Rattle.std.proofs.Common.{◌∙◌, List, ℕ, IfSome, codes, ap, sym, subst}
 use Rattle.std.proofs.lemmas.Slice.Eq.{bytes_eq-Decides}
 use Rattle.pssm_tool.specs.Words.{texts, Means, meaning_of}
 use Rattle.pssm_tool.proofs.Three.{two_items, three_items}

@@ -1,4 +1,4 @@
-use Rattle.std.proofs.Common.{◌≡◌, List, ap, sym}
+use Rattle.std.proofs.Common.{sym}
 use Rattle.pssm_tool.specs.Words.{texts}
 use Rattle.pssm_tool.proofs.WordLaws.{first_and_rest, words_first, none_gives, true_and_false, no_seed, no_workers, no_limit, no_texts, no_model, bad_model, bad_stimuli}
 use Rattle.pssm_tool.proofs.words.run_of.Goals as goal

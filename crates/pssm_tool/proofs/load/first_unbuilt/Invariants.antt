@@ -1,6 +1,6 @@
 use Rattle.std.proofs.Common.{take}
-use Rattle.pssm_tool.specs.Refusals.{AreBuilt}
-use Rattle.pssm_tool.proofs.refusal.not_built_text.Given as goal
+use Rattle.pssm_tool.specs.Loads.{AreBuilt}
+use Rattle.pssm_tool.proofs.load.first_unbuilt.Given as goal
 
 -- The classes so far are built whole.
 abbrev pub invariant-loop-class : goal.invariant-loop-class

@@ -1,0 +1,81 @@
+//! The model that the words name.
+ghost use Rattle.std.specs.Prelude.{IfOk, IfErr};
+ghost use Rattle.pssm_base.specs.Faults.{NoneFell};
+ghost use Rattle.pssm_base.specs.Reading.{SameContent};
+ghost use Rattle.pssm_semantics.specs.Proper.{IsWellFormed};
+ghost use Rattle.pssm_tool.specs.Due.{HasModel, HasBuiltModel};
+ghost use Rattle.pssm_tool.specs.inner.Failures.{LacksModel, LacksBuiltModel, FailedAt, IsFound, TellsFault};
+
+use crate::answer::Answer;
+use crate::failure::Failure;
+use crate::load::{LoadFault, built, load};
+use pssm_base::{Inputs, WholeFault, read_whole};
+use pssm_semantics::Setting;
+use std::alloc::Global;
+
+// The most bytes that a model may have.
+const LIMIT: u64 = 16_777_216;
+
+/// The setting of a model's file, whose machines break no rule of models; or the answer that there is none.
+pub fn model<I: Inputs>(
+    alloc: Global,
+    inputs: &mut I,
+    path: &str,
+) -> Result<Result<Setting, Answer>, Failure>
+    ensures loads { IfOk result (λ found. IfOk found (HasModel (I.content inputs.old) path.now)) }
+    ensures well_formed { IfOk result (λ found. IfOk found IsWellFormed) }
+    ensures lacks { IfOk result (λ found. IfErr found (LacksModel (I.content inputs.old) path.now)) }
+    ensures failed { IfErr result (FailedAt (I.faults inputs.old path.now) (I.faults inputs.new path.now)) }
+    ensures counts { NoneFell (I.faults inputs.old) (I.faults inputs.new) }
+    ensures same { SameContent (I.content inputs.old) (I.content inputs.new) }
+{
+    let bytes = match read_whole(alloc, inputs, path, LIMIT) {
+        Ok(bytes) => bytes,
+        Err(WholeFault::TooLarge) => return Ok(Err(Answer::TooLarge)),
+        Err(WholeFault::ReadFault) => return Err(Failure::ReadFault),
+        Err(WholeFault::NoMemory) => return Err(Failure::NoMemory),
+    };
+    let loaded = load(alloc, bytes.as_slice());
+    drop(bytes);
+    found(loaded)
+}
+
+/// The setting of a model's file that the code runs whole; or the answer that there is none.
+pub fn built_model<I: Inputs>(
+    alloc: Global,
+    inputs: &mut I,
+    path: &str,
+) -> Result<Result<Setting, Answer>, Failure>
+    ensures built { IfOk result (λ found. IfOk found (HasBuiltModel (I.content inputs.old) path.now)) }
+    ensures lacks { IfOk result (λ found. IfErr found (LacksBuiltModel (I.content inputs.old) path.now)) }
+    ensures failed { IfErr result (FailedAt (I.faults inputs.old path.now) (I.faults inputs.new path.now)) }
+    ensures counts { NoneFell (I.faults inputs.old) (I.faults inputs.new) }
+    ensures same { SameContent (I.content inputs.old) (I.content inputs.new) }
+{
+    let setting = match model(alloc, inputs, path) {
+        Ok(Ok(setting)) => setting,
+        Ok(Err(answer)) => return Ok(Err(answer)),
+        Err(failure) => return Err(failure),
+    };
+    found(built(alloc, setting))
+}
+
+// The setting, or what comes of the fault.
+fn found(loaded: Result<Setting, LoadFault>) -> Result<Result<Setting, Answer>, Failure>
+    ensures { IsFound loaded result }
+{
+    match loaded {
+        Ok(setting) => Ok(Ok(setting)),
+        Err(fault) => refused(fault),
+    }
+}
+
+// Want of memory is a failure, and any other fault is answered.
+fn refused(fault: LoadFault) -> Result<Result<Setting, Answer>, Failure>
+    ensures { TellsFault fault result }
+{
+    match fault {
+        LoadFault::NoMemory => Err(Failure::NoMemory),
+        other => Ok(Err(Answer::BadModel(other))),
+    }
+}
