@@ -1,2 +1,3 @@
 pub mod SpellingLaws
 pub mod WordNumbers
+pub mod FrontLaws

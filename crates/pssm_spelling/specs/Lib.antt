@@ -1,3 +1,4 @@
 pub mod Spelling
 pub mod SpellingReading
 pub mod Numbers
+pub mod Fronts
