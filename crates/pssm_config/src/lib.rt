@@ -6,5 +6,7 @@
 #![tactic(auto)]
 
 mod config;
+#[cfg(test)]
+mod tests;
 
 pub use config::Config;
