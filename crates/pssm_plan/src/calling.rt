@@ -17,7 +17,7 @@ use pssm_config::Config;
 use pssm_model::{How, Item, Machine, Mode, RegionId, Route, TransId, VertexId};
 use std::alloc::{AllocError as NoMemory, Global};
 
-/// The transition of a route of one.
+// The transition of a route of one.
 fn start_of(route: &Route) -> TransId
     requires { (t : TransId) × (route.now.starts ≡ t ∷ []) }
     ensures { route.now.starts ≡ result ∷ [] }
@@ -25,7 +25,7 @@ fn start_of(route: &Route) -> TransId
     route.starts.as_slice()[0]
 }
 
-/// Whether a vertex is active in the span of a transition.
+// Whether a vertex is active in the span of a transition.
 fn is_left(machine: &Machine, config: &Config, t: TransId, s: VertexId) -> bool
     requires fits { Fits machine.now config.now }
     requires transition { t.0 < length machine.now.transitions }
@@ -38,7 +38,7 @@ fn is_left(machine: &Machine, config: &Config, t: TransId, s: VertexId) -> bool
 /// The most items that a plan lists; for more there is no memory.
 const MOST_CALLS: usize = 4_294_967_295;
 
-/// Whether a transition does not end in a region.
+// Whether a transition does not end in a region.
 fn passes_by(machine: &Machine, t: TransId, r: RegionId) -> bool
     requires transition { t.0 < length machine.now.transitions }
     requires region { r.0 < length machine.now.regions }
@@ -48,7 +48,7 @@ fn passes_by(machine: &Machine, t: TransId, r: RegionId) -> bool
 }
 
 impl Roster {
-    /// Lists the openings of a State's regions in which the transition does not end.
+    // Lists the openings of a State's regions in which the transition does not end.
     fn add_openings(&mut self, machine: &Machine, s: VertexId, t: TransId) -> Result<(), NoMemory>
         requires roster { IsRoster machine.now self.old.calls.items self.old.order.items }
         requires state { s.0 < length machine.now.vertices }
@@ -64,7 +64,7 @@ impl Roster {
         Ok(())
     }
 
-    /// Lists them where the State is entered and its entry has run.
+    // Lists them where the State is entered and its entry has run.
     fn reopen(
         &mut self,
         machine: &Machine,
@@ -88,7 +88,7 @@ impl Roster {
         }
     }
 
-    /// Lists the entry of a vertex where the transition enters it, and where that has run already, what it opens.
+    // Lists the entry of a vertex where the transition enters it, and where that has run already, what it opens.
     fn add_entry(&mut self, machine: &Machine, t: TransId, v: VertexId) -> Result<(), NoMemory>
         requires roster { IsRoster machine.now self.old.calls.items self.old.order.items }
         requires transition { t.0 < length machine.now.transitions }
@@ -140,7 +140,7 @@ impl Roster {
         Ok(())
     }
 
-    /// Lists what the transition of a listed effect opens in a State that it enters.
+    // Lists what the transition of a listed effect opens in a State that it enters.
     fn add_after(&mut self, machine: &Machine, s: VertexId, item: Item) -> Result<(), NoMemory>
         requires roster { IsRoster machine.now self.old.calls.items self.old.order.items }
         requires state { s.0 < length machine.now.vertices }
@@ -186,7 +186,7 @@ impl Roster {
         Ok(())
     }
 
-    /// Lists the items of a route that fires.
+    // Lists the items of a route that fires.
     fn add_route(
         &mut self,
         machine: &Machine,
@@ -227,7 +227,7 @@ impl Roster {
         Ok(())
     }
 
-    /// Lists the items of the late route by which an opening or a pick goes.
+    // Lists the items of the late route by which an opening or a pick goes.
     fn add_late(&mut self, machine: &Machine, how: &How) -> Result<(), NoMemory>
         requires roster { IsRoster machine.now self.old.calls.items self.old.order.items }
         requires single { (route : Route) → how.now ≡ How.By route → IsSingle machine.now route }
@@ -241,7 +241,7 @@ impl Roster {
         }
     }
 
-    /// Lists what an item calls once it has run in this way.
+    // Lists what an item calls once it has run in this way.
     fn follow(&mut self, machine: &Machine, item: Item, how: &How) -> Result<(), NoMemory>
         requires roster { IsRoster machine.now self.old.calls.items self.old.order.items }
         requires item { IsItemOf machine.now item }
@@ -326,7 +326,7 @@ impl Roster {
     }
 }
 
-/// The roster, where it was made whole.
+// The roster, where it was made whole.
 fn made(roster: Roster, outcome: Result<(), NoMemory>) -> Result<Roster, NoMemory>
     ensures ok { IfOk result (λ other. (other.calls.items ≡ roster.calls.items) × (other.order.items ≡ roster.order.items)) }
     ensures made { IsOk result → IsOk outcome }

@@ -68,7 +68,7 @@ pub fn have_all_run(calls: &[Call]) -> bool
     true
 }
 
-/// Whether the pair says that the item waits for one that has not run.
+// Whether the pair says that the item waits for one that has not run.
 fn blocks(calls: &[Call], pair: Pair, item: Item) -> bool
     ensures { IsTrue result ↔ ((pair.second ≡ item) × (IsMarked calls.now pair.first → ⊥)) }
 {
@@ -87,7 +87,7 @@ pub fn obstacle(calls: &[Call], order: &[Pair], item: Item) -> Option<Item>
     None
 }
 
-/// Notes two items, where the first comes before the second.
+// Notes two items, where the first comes before the second.
 fn note(machine: &Machine, order: &mut Vec<Pair>, first: Item, second: Item) -> Result<(), NoMemory>
     requires first { IsItemOf machine.now first }
     requires second { IsItemOf machine.now second }
@@ -101,7 +101,7 @@ fn note(machine: &Machine, order: &mut Vec<Pair>, first: Item, second: Item) -> 
     Ok(())
 }
 
-/// Notes each pair of the item and a listed one, where one comes before the other.
+// Notes each pair of the item and a listed one, where one comes before the other.
 fn link(
     machine: &Machine,
     calls: &[Call],
@@ -121,7 +121,7 @@ fn link(
     Ok(())
 }
 
-/// The call, run where it is one of the item.
+// The call, run where it is one of the item.
 fn told(call: Call, item: Item) -> Call
     ensures { IsTold item call result }
 {
@@ -132,7 +132,7 @@ fn told(call: Call, item: Item) -> Call
     }
 }
 
-/// The call, blocked exactly where an item that comes before has not run.
+// The call, blocked exactly where an item that comes before has not run.
 fn settled(calls: &[Call], order: &[Pair], call: Call) -> Call
     ensures { IsSettled calls.now order.now call result }
 {
@@ -143,7 +143,7 @@ fn settled(calls: &[Call], order: &[Pair], call: Call) -> Call
     }
 }
 
-/// Says of each call whether its item waits for another.
+// Says of each call whether its item waits for another.
 fn settle_all(calls: &mut [Call], order: &[Pair])
     ensures { ArePairwise (IsSettled calls.old order.now) calls.old calls.new }
 {
@@ -172,7 +172,7 @@ impl Roster {
         }
     }
 
-    /// Lists an item that is not listed yet.
+    // Lists an item that is not listed yet.
     fn push(&mut self, machine: &Machine, item: Item) -> Result<(), NoMemory>
         requires roster { IsRoster machine.now self.old.calls.items self.old.order.items }
         requires item { IsItemOf machine.now item }
