@@ -156,10 +156,9 @@ run_accepted words contents before after a options model names (on_model m s als
       by_run (ran stimuli text ended are ran_so e) = record {
         setting = s;
         text = text;
-        entries = length ran_so.journal;
         model_is = model_is;
         written = subst (λ (y : Answer). Appends before after (text_of y)) e written;
-        accepted = record { lines = ran_so.lines; journal = ran_so.journal; text = ran_so.text; kept = ran_so.kept; entries_are = refl };
+        accepted = (length ran_so.journal, record { lines = ran_so.lines; journal = ran_so.journal; text = ran_so.text; kept = ran_so.kept; entries_are = refl });
       }
 
 -- An answer of status 0 that is owed for a judgement accepts.

@@ -49,7 +49,6 @@ pub record IsContinued (contents : Contents) (model journal : List ℕ) : Type 0
 pub record IsAcceptedText (contents : Contents) (model : List ℕ) (before after : Option (List ℕ)) : Type 0 where
   pub setting : Setting
   pub text : List ℕ
-  pub entries : ℕ
   pub model_is : HasModel contents model setting
   pub written : Appends before after text
-  pub accepted : IsJudged setting text (Accepted entries)
+  pub accepted : (entries : ℕ) × IsJudged setting text (Accepted entries)
