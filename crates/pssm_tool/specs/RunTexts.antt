@@ -21,7 +21,8 @@ pub record EndsRun (setting : Setting) (stimuli : List Stimulus) (limit : ℕ) (
   pub few : length J ≤ limit
   pub ends : EndsAs setting stimuli limit J ended
 
--- The bytes are the text of a journal of a run of the setting with these stimuli and this limit, which ends so: its lines are lines of the grammar, and its entries break no rule and keep the limits.
+-- The bytes are the text of a journal of a run of the setting with these stimuli and this limit, which ends so:
+-- its lines are lines of the grammar, and its entries break no rule and keep the limits.
 pub record IsRunText (setting : Setting) (stimuli : List Stimulus) (limit : ℕ) (bytes : List ℕ) (ended : Ended) : Type 0 where
   pub journal : List Entry
   pub lines : List Line
