@@ -18,15 +18,4 @@ pub mod Nesting
 pub mod Scopes
 pub mod ListsFilled
 pub mod Agreeing
-pub mod SingleLegs
-pub mod SingleItems
-pub mod NestedRoutes
 pub mod NestedFrom
-pub mod Known
-pub mod KnownPlaces
-pub mod KnownItems
-pub mod MoreItems
-pub mod NestedSteps
-pub mod Ranks
-pub mod ReadyItems
-pub mod StepLengths

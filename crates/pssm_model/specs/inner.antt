@@ -3,4 +3,3 @@ pub mod Found
 pub mod Tables
 pub mod Listed
 pub mod Faultless
-pub mod Single

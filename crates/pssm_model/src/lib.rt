@@ -13,7 +13,6 @@ mod elements;
 mod forest;
 mod ids;
 mod index;
-mod laws;
 mod listing;
 mod machine;
 mod row;
@@ -30,7 +29,6 @@ pub use elements::{
     VertexKind,
 };
 pub use ids::{ActId, GuardId, MarkId, RegionId, SignalId, TransId, VertexId};
-pub use laws::{ready_items, step_length};
 pub use machine::Machine;
 pub use row::Row;
 pub use same::Same;

@@ -10,3 +10,14 @@ pub mod StandingItems
 pub mod Making
 pub mod Running
 pub mod ReadyCalls
+pub mod SingleLegs
+pub mod SingleItems
+pub mod MoreItems
+pub mod NestedRoutes
+pub mod NestedSteps
+pub mod Ranks
+pub mod ReadyItems
+pub mod Known
+pub mod KnownPlaces
+pub mod KnownItems
+pub mod StepLengths

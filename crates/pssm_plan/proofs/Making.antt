@@ -16,9 +16,9 @@ use Rattle.pssm_model.specs.Order.{course_by}
 use Rattle.pssm_model.specs.Order.HasGone.{begun}
 use Rattle.pssm_model.specs.Nested.{IsPlainlyNested}
 use Rattle.pssm_model.specs.OneRegion.{single_route}
-use Rattle.pssm_model.specs.inner.Single.{IsCalledOver, GoesOver}
+use Rattle.pssm_plan.specs.inner.Single.{IsCalledOver, GoesOver}
 use Rattle.pssm_model.proofs.BuiltTransitions.{nothing_in_nil}
-use Rattle.pssm_model.proofs.MoreItems.{nothing_ran, opens_at_head}
+use Rattle.pssm_plan.proofs.MoreItems.{nothing_ran, opens_at_head}
 use Rattle.pssm_config.specs.Tables.{Tables, configuration_of}
 use Rattle.pssm_plan.specs.declared.roster.Call.{Call}
 use Rattle.pssm_plan.specs.declared.roster.Pair.{Pair}

@@ -20,9 +20,9 @@ use Rattle.pssm_model.specs.Order.{IsReady, IsWayNow, course_by}
 use Rattle.pssm_model.specs.Order.HasGone.{more}
 use Rattle.pssm_model.specs.Nested.{IsPlainlyNested}
 use Rattle.pssm_model.specs.OneRegion.{single_route}
-use Rattle.pssm_model.specs.inner.Single.{IsCalledOver, IsCalledNext, GoesOver, IsEnteredBy}
-use Rattle.pssm_model.proofs.NestedRoutes.{route_is_single}
-use Rattle.pssm_model.proofs.MoreItems.{called_more, run_more}
+use Rattle.pssm_plan.specs.inner.Single.{IsCalledOver, IsCalledNext, GoesOver, IsEnteredBy}
+use Rattle.pssm_plan.proofs.NestedRoutes.{route_is_single}
+use Rattle.pssm_plan.proofs.MoreItems.{called_more, run_more}
 use Rattle.pssm_config.specs.Tables.{configuration_of}
 use Rattle.pssm_plan.specs.declared.roster.Call.{Call}
 use Rattle.pssm_plan.specs.declared.roster.Pair.{Pair}

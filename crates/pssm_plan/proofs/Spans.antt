@@ -14,7 +14,7 @@ use Rattle.pssm_model.specs.Forest.{vertex_at, transition_at, owner_of, LiesInRe
 use Rattle.pssm_model.specs.Forest.LiesUnder.{owned, further}
 use Rattle.pssm_model.specs.Shapes.{HasShape}
 use Rattle.pssm_model.specs.Legs.{Leaves, Enters}
-use Rattle.pssm_model.specs.inner.Single.{IsEndOf, IsSpan, LiesInSpan, IsEnteredBy}
+use Rattle.pssm_plan.specs.inner.Single.{IsEndOf, IsSpan, LiesInSpan, IsEnteredBy}
 use Rattle.pssm_model.proofs.BuiltElements.{mapped_some}
 use Rattle.pssm_model.proofs.BuiltRoutes.{is_one}
 use Rattle.pssm_model.proofs.Nesting.{shallower}

@@ -2,3 +2,4 @@ pub mod Marks
 pub mod Sequence
 pub mod Calling
 pub mod Views
+pub mod Single

@@ -5,7 +5,7 @@ ghost use Rattle.pssm_model.specs.declared.ids.VertexId.{VertexId};
 ghost use Rattle.pssm_model.specs.Shapes.{HasShape};
 ghost use Rattle.pssm_model.specs.Forest.{LiesInState};
 ghost use Rattle.pssm_model.specs.Legs.{Leaves, Enters};
-ghost use Rattle.pssm_model.specs.inner.Single.{IsSpan, LiesInSpan, IsEnteredBy, EndsIn};
+ghost use Rattle.pssm_plan.specs.inner.Single.{IsSpan, LiesInSpan, IsEnteredBy, EndsIn};
 ghost use Rattle.pssm_plan.specs.inner.Sequence.{LeavesState, IsSequence, IsItemOf};
 
 use pssm_model::{Item, Machine, RegionId, TransId, VertexId, VertexKind};

@@ -5,7 +5,7 @@ ghost use Rattle.pssm_model.specs.declared.ids.TransId.{TransId};
 ghost use Rattle.pssm_model.specs.declared.steps.Item.{Item};
 ghost use Rattle.pssm_model.specs.declared.steps.Route.{Route};
 ghost use Rattle.pssm_model.specs.declared.steps.How.{How};
-ghost use Rattle.pssm_model.specs.inner.Single.{IsEnteredBy, LiesInSpan, EndsIn};
+ghost use Rattle.pssm_plan.specs.inner.Single.{IsEnteredBy, LiesInSpan, EndsIn};
 ghost use Rattle.pssm_config.specs.Tables.{Fits, configuration_of};
 ghost use Rattle.pssm_plan.specs.inner.Marks.{IsLonger, IsMarked, IsListed};
 ghost use Rattle.pssm_plan.specs.inner.Sequence.{IsItemOf, IsRoster, IsExtended};

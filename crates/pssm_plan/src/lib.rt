@@ -6,11 +6,13 @@
 
 mod arrows;
 mod calling;
+mod laws;
 mod plan;
 mod ready;
 mod roster;
 mod standing;
 
+pub use laws::{ready_items, step_length};
 pub use plan::Plan;
 pub use pssm_model::{How, Item, Mode};
 pub use standing::Standing;

@@ -14,7 +14,7 @@ use Rattle.pssm_model.specs.declared.steps.Mode.TheVariants.{Plain}
 use Rattle.pssm_model.specs.Configuration.{Configuration}
 use Rattle.pssm_model.specs.Forest.{owner_of}
 use Rattle.pssm_model.specs.OneRegion.{single_route}
-use Rattle.pssm_model.specs.inner.Single.{LiesInSpan, IsEnteredBy, EndsIn}
+use Rattle.pssm_plan.specs.inner.Single.{LiesInSpan, IsEnteredBy, EndsIn}
 use Rattle.pssm_plan.specs.declared.roster.Call.{Call}
 use Rattle.pssm_plan.specs.declared.roster.Pair.{Pair}
 use Rattle.pssm_plan.specs.inner.Sequence.{IsExtended}

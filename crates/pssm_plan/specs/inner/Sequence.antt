@@ -8,7 +8,7 @@ use Rattle.pssm_model.specs.declared.steps.Item.{Item}
 use Rattle.pssm_model.specs.declared.steps.Item.TheVariants.{Exit, Effect, Enter, Opened, Pick}
 use Rattle.pssm_model.specs.Forest.{HasKind, LiesInState}
 use Rattle.pssm_model.specs.Legs.{Leaves}
-use Rattle.pssm_model.specs.inner.Single.{LiesInSpan, IsEnteredBy}
+use Rattle.pssm_plan.specs.inner.Single.{LiesInSpan, IsEnteredBy}
 use Rattle.pssm_plan.specs.declared.roster.Call.{Call}
 use Rattle.pssm_plan.specs.declared.roster.Pair.{Pair}
 use Rattle.pssm_plan.specs.inner.Marks.{IsListed, IsMarked}

@@ -1,6 +1,6 @@
 use Rattle.std.proofs.Common.{[]}
 use Rattle.pssm_model.specs.Course.Head.{Fires}
-use Rattle.pssm_model.proofs.NestedRoutes.{route_is_single}
+use Rattle.pssm_plan.proofs.NestedRoutes.{route_is_single}
 use Rattle.pssm_config.specs.Tables.{configuration_of}
 use Rattle.pssm_plan.specs.inner.Calling.{IsOfRoutes}
 use Rattle.pssm_plan.proofs.Making.{made_plan, firing_calls}

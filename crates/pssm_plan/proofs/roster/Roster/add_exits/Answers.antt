@@ -2,7 +2,7 @@ use Rattle.std.proofs.Common.{◌≡◌, ◌+◌, IsTrue, arith}
 use Rattle.pssm_model.specs.declared.ids.VertexId.{VertexId}
 use Rattle.pssm_model.specs.declared.steps.Item.{Item}
 use Rattle.pssm_model.specs.declared.steps.Item.TheVariants.{Exit}
-use Rattle.pssm_model.specs.inner.Single.{LiesInSpan}
+use Rattle.pssm_plan.specs.inner.Single.{LiesInSpan}
 use Rattle.pssm_config.specs.Tables.{configuration_of}
 use Rattle.pssm_plan.specs.inner.Calling.{IsExitOf}
 use Rattle.pssm_plan.proofs.Spans.{vertex_there}

@@ -1,6 +1,6 @@
 use Rattle.std.proofs.Common.{◌≡◌}
 use Rattle.pssm_model.specs.declared.steps.Item.TheVariants.{Exit}
-use Rattle.pssm_model.specs.inner.Single.{LiesInSpan}
+use Rattle.pssm_plan.specs.inner.Single.{LiesInSpan}
 use Rattle.pssm_config.specs.Tables.{configuration_of}
 use Rattle.pssm_plan.proofs.Growing.{HasGrown, AddedBelow}
 use Rattle.pssm_plan.proofs.roster.Roster.add_exits.Given as goal

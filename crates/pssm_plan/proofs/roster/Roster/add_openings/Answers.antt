@@ -4,7 +4,7 @@ use Rattle.pssm_model.specs.declared.ids.RegionId.{RegionId}
 use Rattle.pssm_model.specs.declared.steps.Item.{Item}
 use Rattle.pssm_model.specs.declared.steps.Item.TheVariants.{Opened}
 use Rattle.pssm_model.specs.declared.steps.Mode.TheVariants.{Plain}
-use Rattle.pssm_model.specs.inner.Single.{EndsIn}
+use Rattle.pssm_plan.specs.inner.Single.{EndsIn}
 use Rattle.pssm_plan.specs.inner.Calling.{IsOpeningOf}
 use Rattle.pssm_plan.proofs.Extending.{extended_same}
 use Rattle.pssm_plan.proofs.Growing.{AddedBy, grown_more, by_more, or_same}

@@ -1,7 +1,7 @@
 use Rattle.std.proofs.Common.{◌≡◌, take}
 use Rattle.pssm_model.specs.declared.steps.Item.TheVariants.{Opened}
 use Rattle.pssm_model.specs.declared.steps.Mode.TheVariants.{Plain}
-use Rattle.pssm_model.specs.inner.Single.{EndsIn}
+use Rattle.pssm_plan.specs.inner.Single.{EndsIn}
 use Rattle.pssm_plan.proofs.Growing.{HasGrown, AddedBy}
 use Rattle.pssm_plan.proofs.roster.Roster.add_openings.Given as goal
 

@@ -1,7 +1,7 @@
 -- the laws are lemmas
-use Rattle.pssm_model.proofs.KnownItems.{known_ready, step_finished}
+use Rattle.pssm_plan.proofs.KnownItems.{known_ready, step_finished}
 use Rattle.pssm_model.specs.Order.{known_course}
-use Rattle.pssm_model.proofs.laws.ready_items.Goals as goal
+use Rattle.pssm_plan.proofs.laws.ready_items.Goals as goal
 
 pub returns-clause-waiting : goal.returns-clause-waiting
 returns-clause-waiting c = λ m head now ran item step waits. known_ready m head now ran item step waits

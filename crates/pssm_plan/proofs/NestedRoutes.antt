@@ -18,7 +18,7 @@ use Rattle.pssm_model.specs.FiringSets.{IsLateOrigin, IsLateRoute}
 use Rattle.pssm_model.specs.Course.{Course, FiresBy, HasGoneBy, HasRestored}
 use Rattle.pssm_model.specs.Nested.{IsPlainlyNested, IsInitialOrState, EndsOnState}
 use Rattle.pssm_model.specs.OneRegion.{single_route}
-use Rattle.pssm_model.specs.inner.Single.{IsDirectTransition, IsDirectRoute, GoesDirectly}
+use Rattle.pssm_plan.specs.inner.Single.{IsDirectTransition, IsDirectRoute, GoesDirectly}
 use Rattle.pssm_model.proofs.BuiltElements.{mapped_some, all_at, kind_unique}
 use Rattle.pssm_model.proofs.BuiltTransitions.{nothing_in_nil, leaves_one}
 use Rattle.pssm_model.proofs.BuiltRoutes.{in_one, is_one, nil_from_nothing, one_in_order, none_in_order, all_of_one, same_route, on_single, on_single_is, reached_is_on, single_source, single_source_is}

@@ -28,14 +28,14 @@ use Rattle.pssm_model.specs.Items.{StartOpens}
 use Rattle.pssm_model.specs.Order.{HasGone, course_by, entries_at_most, IsNestedStep}
 use Rattle.pssm_model.specs.Order.HasGone.{begun, more}
 use Rattle.pssm_model.specs.Nested.{IsPlainlyNested}
-use Rattle.pssm_model.specs.inner.Single.{IsCalledOver}
+use Rattle.pssm_plan.specs.inner.Single.{IsCalledOver}
 use Rattle.pssm_model.proofs.BuiltElements.{mapped_some, same_vertex, same_transition}
 use Rattle.pssm_model.proofs.BuiltForest.{same_region}
 use Rattle.pssm_model.proofs.BuiltTransitions.{nothing_in_nil}
 use Rattle.pssm_model.proofs.BuiltRoutes.{in_one, is_one}
-use Rattle.pssm_model.proofs.SingleItems.{called_is, direct_over}
-use Rattle.pssm_model.proofs.NestedSteps.{gone_directly, over_in_range, ran_was_called}
-use Rattle.pssm_model.proofs.KnownItems.{lying_there}
+use Rattle.pssm_plan.proofs.SingleItems.{called_is, direct_over}
+use Rattle.pssm_plan.proofs.NestedSteps.{gone_directly, over_in_range, ran_was_called}
+use Rattle.pssm_plan.proofs.KnownItems.{lying_there}
 
 module _ (m : DraftMachine) where
   -- a number for each item: exits, entries, openings and effects

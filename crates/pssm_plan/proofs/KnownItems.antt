@@ -21,15 +21,15 @@ use Rattle.pssm_model.specs.Course.Head.{Starts, Fires}
 use Rattle.pssm_model.specs.Items.{HasRunOut, Before, IsWaiting, IsCleared}
 use Rattle.pssm_model.specs.Order.{IsReady, IsAtOrBefore, HasReadyAtOrBefore, KnownConfiguration, known_course, IsNestedStep}
 use Rattle.pssm_model.specs.OneRegion.{single_route}
-use Rattle.pssm_model.specs.inner.Single.{IsDirectRoute, GoesDirectly, LiesInSpan, GoesOver, IsEnteredBy, IsExitedOver, IsEnteredOver, IsCalledOver, IsOrderedOver}
+use Rattle.pssm_plan.specs.inner.Single.{IsDirectRoute, GoesDirectly, LiesInSpan, GoesOver, IsEnteredBy, IsExitedOver, IsEnteredOver, IsCalledOver, IsOrderedOver}
 use Rattle.pssm_model.proofs.BuiltElements.{mapped_some}
-use Rattle.pssm_model.proofs.Ranks.{owner_under}
+use Rattle.pssm_plan.proofs.Ranks.{owner_under}
 use Rattle.pssm_model.proofs.BuiltRoutes.{single_route_same}
-use Rattle.pssm_model.proofs.SingleItems.{called_is, called_of, before_is, before_of}
-use Rattle.pssm_model.proofs.Known.{Known, known_as, known_both, known_either, known_not, known_below, known_among, known_transition}
-use Rattle.pssm_model.proofs.KnownPlaces.{known_in_state, known_in_span, known_entered}
-use Rattle.pssm_model.proofs.NestedSteps.{gone_directly}
-use Rattle.pssm_model.proofs.ReadyItems.{run_known, ready_at_or_before, nothing_ready}
+use Rattle.pssm_plan.proofs.SingleItems.{called_is, called_of, before_is, before_of}
+use Rattle.pssm_plan.proofs.Known.{Known, known_as, known_both, known_either, known_not, known_below, known_among, known_transition}
+use Rattle.pssm_plan.proofs.KnownPlaces.{known_in_state, known_in_span, known_entered}
+use Rattle.pssm_plan.proofs.NestedSteps.{gone_directly}
+use Rattle.pssm_plan.proofs.ReadyItems.{run_known, ready_at_or_before, nothing_ready}
 
 -- an opening or a pick, which is in no order with the others
 abbrev IsUnordered : Item → Type 0

@@ -16,7 +16,7 @@ use Rattle.pssm_model.specs.Ways.{Memory, IsWay}
 use Rattle.pssm_model.specs.Order.{HasGone, course_by}
 use Rattle.pssm_model.specs.Order.HasGone.{begun as gone_begun, more as gone_more}
 use Rattle.pssm_model.specs.Nested.{IsPlainlyNested}
-use Rattle.pssm_model.specs.inner.Single.{IsDirectRoute, GoesDirectly, LiesInSpan, GoesOver, IsExitedOver, IsCalledOver}
+use Rattle.pssm_plan.specs.inner.Single.{IsDirectRoute, GoesDirectly, LiesInSpan, GoesOver, IsExitedOver, IsCalledOver}
 use Rattle.pssm_model.specs.OneRegion.{single_route}
 use Rattle.pssm_model.specs.declared.elements.VertexKind.TheVariants as kinds
 use Rattle.pssm_model.specs.declared.ids.TransId.{TransId}
@@ -25,9 +25,9 @@ use Rattle.pssm_model.specs.Legs.{Leaves}
 use Rattle.pssm_model.proofs.BuiltElements.{some_at, kind_unique}
 use Rattle.pssm_model.proofs.BuiltTransitions.{nothing_in_nil, leaves_one, leaves_at}
 use Rattle.pssm_model.proofs.BuiltRoutes.{single_source, single_route_same}
-use Rattle.pssm_model.proofs.NestedRoutes.{route_is_direct, late_route_is, route_is_single}
-use Rattle.pssm_model.proofs.SingleItems.{called_is}
-use Rattle.pssm_model.proofs.MoreItems.{gone_on, goes_on_directly, begun, begins_directly, gone_by_more, called_more, run_more}
+use Rattle.pssm_plan.proofs.NestedRoutes.{route_is_direct, late_route_is, route_is_single}
+use Rattle.pssm_plan.proofs.SingleItems.{called_is}
+use Rattle.pssm_plan.proofs.MoreItems.{gone_on, goes_on_directly, begun, begins_directly, gone_by_more, called_more, run_more}
 
 module _ {m : DraftMachine} (b : IsPlainlyNested m) where
   -- a way of a called item is a direct route or none

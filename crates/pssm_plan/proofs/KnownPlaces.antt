@@ -14,12 +14,12 @@ use Rattle.pssm_model.specs.Forest.LiesUnder.{owned, further}
 use Rattle.pssm_model.specs.Forest.HasRegionsAbove.{region, state, machine}
 use Rattle.pssm_model.specs.Legs.{Leaves, Enters}
 use Rattle.pssm_model.specs.Shapes.{HasShape}
-use Rattle.pssm_model.specs.inner.Single.{IsEndOf, IsSpan, LiesInSpan, IsEnteredBy}
+use Rattle.pssm_plan.specs.inner.Single.{IsEndOf, IsSpan, LiesInSpan, IsEnteredBy}
 use Rattle.pssm_model.proofs.BuiltTransitions.{leaves_at, enters_at}
 use Rattle.pssm_model.proofs.OwnerChains.{top_lies_nowhere, counted_is_place}
 use Rattle.pssm_model.proofs.Nesting.{under_cases, shallower}
-use Rattle.pssm_model.proofs.Ranks.{owner_under, depth_under}
-use Rattle.pssm_model.proofs.Known.{Known, known_as, known_both, known_either, known_not, known_below, known_vertex, known_place}
+use Rattle.pssm_plan.proofs.Ranks.{owner_under, depth_under}
+use Rattle.pssm_plan.proofs.Known.{Known, known_as, known_both, known_either, known_not, known_below, known_vertex, known_place}
 
 -- the region of a number
 abbrev region_of : ℕ → RegionId

@@ -8,9 +8,9 @@ use Rattle.pssm_model.specs.Course.{Course, HasRun}
 use Rattle.pssm_model.specs.Items.{Before, IsWaiting, IsCleared, HasRunOut}
 use Rattle.pssm_model.specs.Order.{IsReady, IsAtOrBefore}
 use Rattle.pssm_model.specs.Order.IsAtOrBefore.{at, before}
-use Rattle.pssm_model.specs.inner.Single.{GoesDirectly}
-use Rattle.pssm_model.proofs.Known.{Known, known_as, known_among, known_item}
-use Rattle.pssm_model.proofs.Ranks.{HasRank, rank_of_called, rank_of_earlier}
+use Rattle.pssm_plan.specs.inner.Single.{GoesDirectly}
+use Rattle.pssm_plan.proofs.Known.{Known, known_as, known_among, known_item}
+use Rattle.pssm_plan.proofs.Ranks.{HasRank, rank_of_called, rank_of_earlier}
 
 -- an item has run or not
 pub run_known : (course : Course) (item : Item) → Known (HasRun course item)

@@ -20,7 +20,7 @@ use Rattle.pssm_model.specs.Legs.LegScope.{internal, local, point, other}
 use Rattle.pssm_model.specs.Items.{IsAimedAt, LegEnds, LegOpens, PathBefore}
 use Rattle.pssm_model.specs.Items.PathBefore.{next as step_next, after as step_after}
 use Rattle.pssm_model.specs.OneRegion.{single_route}
-use Rattle.pssm_model.specs.inner.Single.{IsDirectTransition, IsEndOf, IsSpan, LiesInSpan, IsEnteredBy, EndsIn}
+use Rattle.pssm_plan.specs.inner.Single.{IsDirectTransition, IsEndOf, IsSpan, LiesInSpan, IsEnteredBy, EndsIn}
 use Rattle.pssm_model.proofs.BuiltElements.{kind_unique}
 use Rattle.pssm_model.proofs.BuiltRoutes.{on_single, on_single_is}
 
