@@ -2,12 +2,11 @@
 ghost use Rattle.std.specs.Prelude.{◌≡◌, ◌↔◌, ◌<◌, ◌+◌, [], Contains, AllPairs, length, IfOk, OnOk};
 ghost use Rattle.pssm_model.specs.Shapes.{HasShape};
 ghost use Rattle.pssm_model.specs.WellFormed.{Breaks, KeepsModelRules};
-ghost use Rattle.pssm_wellformed.specs.inner.Strays.{AreVertexMarks};
 ghost use Rattle.pssm_wellformed.specs.Faults.{IsEarlierFault};
 ghost use Rattle.pssm_wellformed.specs.inner.Checked.{IsPlace, place_number, IsCheckedBelow};
 
 use crate::fault::Fault;
-use crate::paths::VertexMarks;
+use crate::paths::Marked;
 use crate::rules::breaks;
 use pssm_model::{Element, FaultPlace, Machine, RegionId, TransId, VertexId};
 use std::alloc::{AllocError as NoMemory, Global};
@@ -44,19 +43,15 @@ fn place_at(machine: &Machine, number: u16) -> FaultPlace
 }
 
 /// Lists the faults at one place more.
-fn list_faults(
-    machine: &Machine,
-    marks: &VertexMarks,
-    place: FaultPlace,
-    faults: &mut Vec<Fault>,
-) -> Result<(), NoMemory>
-    requires marks { AreVertexMarks machine.now marks.now }
-    requires there { IsPlace machine.now place }
-    requires before { IsCheckedBelow machine.now (place_number machine.now place) 1 faults.old.items }
-    ensures { OnOk result (IsCheckedBelow machine.now (place_number machine.now place + 1) 1 faults.new.items) }
+fn list_faults(marked: &Marked, place: FaultPlace, faults: &mut Vec<Fault>) -> Result<(), NoMemory>
+    requires there { IsPlace marked.now place }
+    requires before { IsCheckedBelow marked.now (place_number marked.now place) 1 faults.old.items }
+    ensures { OnOk result (IsCheckedBelow marked.now (place_number marked.now place + 1) 1 faults.new.items) }
 {
+    // What is marked has the shape of a machine.
+    let _ = &marked.machine;
     for rule in 1..LAST_RULE + 1 {
-        if breaks(machine, marks, place, rule) {
+        if breaks(marked, place, rule) {
             let element = place;
             faults.push(Fault { element, rule })?;
         }
@@ -76,11 +71,11 @@ pub fn check(alloc: Global, machine: &Machine) -> Result<Vec<Fault>, NoMemory>
     ensures keeps_rules { IfOk result (λ list. (list.items ≡ []) ↔ KeepsModelRules machine.now) }
 {
     let places = places(machine);
-    let marks = VertexMarks::of(alloc, machine)?;
+    let marked = Marked::new(alloc, machine)?;
     let mut faults = Vec::new(alloc);
     for number in 0..places {
         let place = place_at(machine, number);
-        list_faults(machine, &marks, place, &mut faults)?;
+        list_faults(&marked, place, &mut faults)?;
     }
     Ok(faults)
 }

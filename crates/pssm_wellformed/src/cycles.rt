@@ -10,10 +10,9 @@ ghost use Rattle.std.specs.Prelude.{◌≡◌, ◌↔◌, ◌≤◌, ◌<◌, �
 ghost use Rattle.pssm_model.specs.Shapes.{HasShape};
 ghost use Rattle.pssm_model.specs.WellFormed.{IsOnCycle};
 ghost use Rattle.pssm_wellformed.specs.inner.Reach.{StaysWithin};
-ghost use Rattle.pssm_wellformed.specs.inner.Strays.{AreVertexMarks};
 ghost use Rattle.pssm_wellformed.specs.inner.Cycles.{GoesRound, stage_at, IsEarlierGroup, IsLastGroup, IsSearching, IsMeeting, steps_left, IsJoined, IsWalkedGroup, IsSettled};
 
-use crate::paths::VertexMarks;
+use crate::paths::Marked;
 use crate::walks::leads_of;
 use pssm_model::{Machine, VertexId};
 use std::alloc::{AllocError as NoMemory, Global};
@@ -225,10 +224,9 @@ pub fn cyclic_marks(alloc: Global, machine: &Machine) -> Result<Vec<bool>, NoMem
 }
 
 /// E19: whether it is a pseudostate that lies on a cycle of pseudostates.
-pub fn is_on_cycle(machine: &Machine, marks: &VertexMarks, vertex: VertexId) -> bool
-    requires marks { AreVertexMarks machine.now marks.now }
-    requires there { vertex.0 < length machine.now.vertices }
-    ensures { IsTrue result ↔ IsOnCycle machine.now vertex }
+pub fn is_on_cycle(marked: &Marked, vertex: VertexId) -> bool
+    requires there { vertex.0 < length marked.now.vertices }
+    ensures { IsTrue result ↔ IsOnCycle marked.now vertex }
 {
-    marks.cyclic[vertex.0 as usize]
+    marked.marks.cyclic[vertex.0 as usize]
 }

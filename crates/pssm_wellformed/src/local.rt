@@ -1,11 +1,10 @@
 //! The rule of local transitions, E14.
 ghost use Rattle.std.specs.Prelude.{◌↔◌, ◌<◌, length, IsTrue, MatchOption};
 ghost use Rattle.pssm_model.specs.WellFormed.{LeavesLocally, IsBadLocal};
-ghost use Rattle.pssm_wellformed.specs.inner.Strays.{AreVertexMarks};
 
 use crate::ends::{End, end_of};
 use crate::marks::strays;
-use crate::paths::VertexMarks;
+use crate::paths::Marked;
 use crate::transitions::goes;
 use pssm_model::{Machine, Owner, TransId, TransKind, VertexId, VertexKind};
 
@@ -26,19 +25,18 @@ fn local_state(machine: &Machine, transition: TransId) -> Option<VertexId>
 
 /// E14: whether it is local, and leaves neither a State nor an entry point, or a junction path that
 /// begins with it comes to a vertex outside the State.
-pub fn is_bad_local(machine: &Machine, marks: &VertexMarks, transition: TransId) -> bool
-    requires marks { AreVertexMarks machine.now marks.now }
-    requires there { transition.0 < length machine.now.transitions }
-    ensures { IsTrue result ↔ IsBadLocal machine.now transition }
+pub fn is_bad_local(marked: &Marked, transition: TransId) -> bool
+    requires there { transition.0 < length marked.now.transitions }
+    ensures { IsTrue result ↔ IsBadLocal marked.now transition }
 {
-    if !goes(machine, transition, TransKind::Local) {
+    if !goes(marked.machine, transition, TransKind::Local) {
         return false;
     }
-    let target = end_of(machine, transition, End::Target);
-    match local_state(machine, transition) {
+    let target = end_of(marked.machine, transition, End::Target);
+    match local_state(marked.machine, transition) {
         Some(state) => strays(
-            machine,
-            marks.junctions.as_slice(),
+            marked.machine,
+            marked.marks.junctions.as_slice(),
             target,
             Owner::State(state),
         ),

@@ -15,6 +15,7 @@ use crate::stamps::apart_marks;
 use crate::walks::{Walk, arrows_of, late_targets};
 use pssm_model::{Machine, VertexId, VertexKind};
 use std::alloc::{AllocError as NoMemory, Global};
+use std::marker::Model;
 
 /// By level the marks of the walks that may stray, a mark for each vertex that an initial, history
 /// or choice vertex reaches through pseudostates, for each on a cycle of them, and for each whose
@@ -61,24 +62,51 @@ impl VertexMarks {
     }
 }
 
+/// A machine with its marks, as the rules of paths ask. A clause sees the machine.
+#[derive(Drop)]
+pub struct Marked<'a> {
+    pub machine: &'a Machine,
+    pub marks: VertexMarks,
+}
+
+impl<'a> Model for Marked<'a> {
+    ghost use Rattle.pssm_model.specs.declared.elements.DraftMachine.{DraftMachine};
+    ghost use Rattle.pssm_wellformed.specs.inner.Strays.{AreVertexMarks};
+
+    ghost Value = { DraftMachine };
+
+    ghost view = { λ m. m.machine.now };
+
+    ghost invariant = { λ m. AreVertexMarks m.machine.now m.marks };
+}
+
+impl<'a> Marked<'a> {
+    /// Marks a machine.
+    pub fn new(alloc: Global, machine: &'a Machine) -> Result<Marked<'a>, NoMemory>
+        requires { HasShape machine.now }
+        ensures { IfOk result (λ marked. marked ≡ machine.now) }
+    {
+        let marks = VertexMarks::of(alloc, machine)?;
+        Ok(Marked { machine, marks })
+    }
+}
+
 /// Whether an initial, history or choice vertex reaches the vertex through pseudostates.
-fn is_reached_late(machine: &Machine, marks: &VertexMarks, vertex: VertexId) -> bool
-    requires marks { AreVertexMarks machine.now marks.now }
-    requires there { vertex.0 < length machine.now.vertices }
-    ensures { IsTrue result ↔ IsReachedLate machine.now vertex }
+fn is_reached_late(marked: &Marked, vertex: VertexId) -> bool
+    requires there { vertex.0 < length marked.now.vertices }
+    ensures { IsTrue result ↔ IsReachedLate marked.now vertex }
 {
-    marks.late[vertex.0 as usize]
+    marked.marks.late[vertex.0 as usize]
 }
 
 /// E18: whether it is a choice, or a junction that an initial, history or choice vertex reaches
 /// through pseudostates, and has neither `else` nor a branch without guard.
-pub fn may_find_no_branch(machine: &Machine, marks: &VertexMarks, vertex: VertexId) -> bool
-    requires marks { AreVertexMarks machine.now marks.now }
-    requires there { vertex.0 < length machine.now.vertices }
-    ensures { IsTrue result ↔ MayFindNoBranch machine.now vertex }
+pub fn may_find_no_branch(marked: &Marked, vertex: VertexId) -> bool
+    requires there { vertex.0 < length marked.now.vertices }
+    ensures { IsTrue result ↔ MayFindNoBranch marked.now vertex }
 {
-    !holds_at(machine, vertex, End::Source, Question::IsFallback)
-        && (has_kind(machine, vertex, VertexKind::Choice)
-            || (has_kind(machine, vertex, VertexKind::Junction)
-                && is_reached_late(machine, marks, vertex)))
+    !holds_at(marked.machine, vertex, End::Source, Question::IsFallback)
+        && (has_kind(marked.machine, vertex, VertexKind::Choice)
+            || (has_kind(marked.machine, vertex, VertexKind::Junction)
+                && is_reached_late(marked, vertex)))
 }

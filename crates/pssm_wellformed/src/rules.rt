@@ -1,7 +1,6 @@
 //! Which rule is broken where: the twenty-one rules by number.
 ghost use Rattle.std.specs.Prelude.{◌↔◌, ◌<◌, length, IsTrue};
 ghost use Rattle.pssm_model.specs.WellFormed.{Breaks};
-ghost use Rattle.pssm_wellformed.specs.inner.Strays.{AreVertexMarks};
 ghost use Rattle.pssm_wellformed.specs.inner.Checked.{IsPlace};
 
 use crate::apart::{forks_badly, is_bad_entry_point, joins_badly};
@@ -9,7 +8,7 @@ use crate::cycles::is_on_cycle;
 use crate::exits::is_bad_exit_point;
 use crate::local::is_bad_local;
 use crate::outside::goes_outside;
-use crate::paths::{VertexMarks, may_find_no_branch};
+use crate::paths::{Marked, may_find_no_branch};
 use crate::regions::{has_no_top_region, is_top_without_initial, owns_two_entries};
 use crate::transitions::{connects_badly, is_bad_else, is_bad_internal, is_triggered_wrongly};
 use crate::vertices::{
@@ -38,58 +37,55 @@ fn region_breaks(machine: &Machine, region: RegionId, rule: u8) -> bool
 }
 
 /// Whether the vertex breaks the rule.
-fn vertex_breaks(machine: &Machine, marks: &VertexMarks, vertex: VertexId, rule: u8) -> bool
-    requires marks { AreVertexMarks machine.now marks.now }
-    requires there { vertex.0 < length machine.now.vertices }
-    ensures { IsTrue result ↔ Breaks machine.now (FaultPlace.At (Element.Vertex vertex)) rule }
+fn vertex_breaks(marked: &Marked, vertex: VertexId, rule: u8) -> bool
+    requires there { vertex.0 < length marked.now.vertices }
+    ensures { IsTrue result ↔ Breaks marked.now (FaultPlace.At (Element.Vertex vertex)) rule }
 {
     match rule {
-        3 => is_bad_initial(machine, vertex),
-        4 => is_bad_history(machine, vertex),
-        5 => is_bad_join(machine, vertex),
-        6 => is_bad_fork(machine, vertex),
-        7 => joins_badly(machine, marks, vertex),
-        8 => forks_badly(machine, marks, vertex),
-        9 => is_open_ended(machine, vertex),
-        11 => is_bad_final(machine, vertex),
-        12 => is_bad_terminate(machine, vertex),
-        15 => is_bad_entry_point(machine, marks, vertex),
-        16 => is_bad_exit_point(machine, marks, vertex),
-        18 => may_find_no_branch(machine, marks, vertex),
-        19 => is_on_cycle(machine, marks, vertex),
-        20 => goes_outside(machine, marks, vertex),
+        3 => is_bad_initial(marked.machine, vertex),
+        4 => is_bad_history(marked.machine, vertex),
+        5 => is_bad_join(marked.machine, vertex),
+        6 => is_bad_fork(marked.machine, vertex),
+        7 => joins_badly(marked, vertex),
+        8 => forks_badly(marked, vertex),
+        9 => is_open_ended(marked.machine, vertex),
+        11 => is_bad_final(marked.machine, vertex),
+        12 => is_bad_terminate(marked.machine, vertex),
+        15 => is_bad_entry_point(marked, vertex),
+        16 => is_bad_exit_point(marked, vertex),
+        18 => may_find_no_branch(marked, vertex),
+        19 => is_on_cycle(marked, vertex),
+        20 => goes_outside(marked, vertex),
         _ => false,
     }
 }
 
 /// Whether the transition breaks the rule.
-fn transition_breaks(machine: &Machine, marks: &VertexMarks, transition: TransId, rule: u8) -> bool
-    requires marks { AreVertexMarks machine.now marks.now }
-    requires there { transition.0 < length machine.now.transitions }
-    ensures { IsTrue result ↔ Breaks machine.now (FaultPlace.At (Element.Transition transition)) rule }
+fn transition_breaks(marked: &Marked, transition: TransId, rule: u8) -> bool
+    requires there { transition.0 < length marked.now.transitions }
+    ensures { IsTrue result ↔ Breaks marked.now (FaultPlace.At (Element.Transition transition)) rule }
 {
     match rule {
-        10 => is_triggered_wrongly(machine, transition),
-        13 => is_bad_internal(machine, transition),
-        14 => is_bad_local(machine, marks, transition),
-        17 => is_bad_else(machine, transition),
-        21 => connects_badly(machine, transition),
+        10 => is_triggered_wrongly(marked.machine, transition),
+        13 => is_bad_internal(marked.machine, transition),
+        14 => is_bad_local(marked, transition),
+        17 => is_bad_else(marked.machine, transition),
+        21 => connects_badly(marked.machine, transition),
         _ => false,
     }
 }
 
 /// Whether the place breaks the rule.
-pub fn breaks(machine: &Machine, marks: &VertexMarks, place: FaultPlace, rule: u8) -> bool
-    requires marks { AreVertexMarks machine.now marks.now }
-    requires there { IsPlace machine.now place }
-    ensures { IsTrue result ↔ Breaks machine.now place rule }
+pub fn breaks(marked: &Marked, place: FaultPlace, rule: u8) -> bool
+    requires there { IsPlace marked.now place }
+    ensures { IsTrue result ↔ Breaks marked.now place rule }
 {
     match place {
-        FaultPlace::Top => top_breaks(machine, rule),
-        FaultPlace::At(Element::Region(region)) => region_breaks(machine, region, rule),
-        FaultPlace::At(Element::Vertex(vertex)) => vertex_breaks(machine, marks, vertex, rule),
+        FaultPlace::Top => top_breaks(marked.machine, rule),
+        FaultPlace::At(Element::Region(region)) => region_breaks(marked.machine, region, rule),
+        FaultPlace::At(Element::Vertex(vertex)) => vertex_breaks(marked, vertex, rule),
         FaultPlace::At(Element::Transition(transition)) => transition_breaks(
-            machine, marks, transition, rule,
+            marked, transition, rule,
         ),
     }
 }

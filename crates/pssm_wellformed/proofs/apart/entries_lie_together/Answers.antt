@@ -7,9 +7,10 @@ use Rattle.pssm_wellformed.proofs.apart.entries_lie_together.Goals as goal
 
 pub returns : goal.returns
 returns c =
-    let m = c.args.machine.now in
+    let m = c.args.marked.now in
     let v = c.args.vertex in
     let b = c.index.result.now in
-    let marks = c.args.marks.now.targets_apart.items in
-    point_iff m c.requires.marks.shape Source Target v b (inl c.requires.point)
-    (looked_up m Source Target (length m.vertices) marks v b c.requires.marks.targets_apart c.requires.there (λ there. get_or_default marks v.0 false b there ∙ sym c.index.ensures))
+    let marks = c.marked.inside.marks.targets_apart.items in
+    let are = rw c.marked.view_is at c.marked.invariant in
+    point_iff m are.shape Source Target v b (inl c.requires.point)
+    (looked_up m Source Target (length m.vertices) marks v b are.targets_apart c.requires.there (λ there. get_or_default marks v.0 false b there ∙ sym c.index.ensures))

@@ -8,11 +8,11 @@ use Rattle.pssm_wellformed.proofs.exits.has_stray_path_in.Goals as goal
 
 pub returns-in-State : goal.returns-in-State
 returns-in-State c =
-    let m = c.args.machine.now in
+    let m = c.args.marked.now in
     let v = c.args.vertex in
     let s = c.in-State.state in
-    let is = c.meeting.ensures.items in
-    let owner = owner_at m v c.vertex.result.now (State s) c.vertex.ensures c.in-State.is in
+    let is = rw c.marked.view_is at c.meeting.ensures.items in
+    let owner = owner_at m v c.vertex.result.now (State s) (rw (← c.marked.view_is) c.vertex.ensures) c.in-State.is in
     let says = c.some_come_from_afar.ensures in (
       λ t. let some = says.0 t in (s, some.2.0, owner, some.2.2, λ keeps. some.2.3 keeps.0 keeps.1 keeps.2),
       λ far.

@@ -6,12 +6,12 @@ use Rattle.pssm_wellformed.proofs.outside.some_stray_from.Goals as goal
 
 pub loop-transition-preserved : goal.loop-transition-preserved
 loop-transition-preserved c =
-    none_more (StraysFrom c.args.machine.now c.args.owner) c.args.transitions.now c.loop-transition.transition-index (transition_number 0)
+    none_more (StraysFrom c.args.marked.now c.args.owner) c.args.transitions.now c.loop-transition.transition-index (transition_number 0)
     c.loop-transition-test.true (λ h. false≢true (c.if-strays_from.ensures.1 h)) c.loop-transition.invariant
 
 pub returns : goal.returns
 returns c = (
   λ t. absurd (false≢true t),
-  λ h. absurd (none_at_all (StraysFrom c.args.machine.now c.args.owner) c.args.transitions.now c.loop-transition.transition-index
+  λ h. absurd (none_at_all (StraysFrom c.args.marked.now c.args.owner) c.args.transitions.now c.loop-transition.transition-index
       c.loop-transition-test.false c.loop-transition.invariant h.0 h.1 h.2),
 )
