@@ -39,9 +39,9 @@ pub record AreAsWide (m : DraftMachine) (tables : Tables) : Type 0 where
   pub remembered : length tables.remembered ≡ length m.regions
   pub empty : length tables.empty ≡ length m.regions
 
--- The tables are those of a run of the machine: what is active is a State or final state, each region names exactly its active direct vertex, so that it
--- has one at most, says exactly whether that is a final state, and remembers a direct vertex, and no State has done more do steps than it has
--- (UML 2.5.1 14.2.3.4, State configurations and State history)
+-- The tables fit the machine: they have a place for each of its vertices and regions, what is active is a State or final state, each region names exactly
+-- its active direct vertex, so that it has one at most, says exactly whether that is a final state, and remembers a direct vertex, and no State has done more
+-- do steps than it has (UML 2.5.1 14.2.3.4, State configurations and State history)
 pub record Fits (m : DraftMachine) (tables : Tables) : Type 0 where
   pub shape : HasShape m
   pub wide : AreAsWide m tables

@@ -18,8 +18,8 @@ use std::marker::Model;
 
 /// The configuration of a machine: what is active, remembered, done and left empty (UML 2.5.1, 14.2.3.4).
 ///
-/// A clause sees the tables. `configuration_of` reads the configuration off them, and `Fits` says that they are those of a
-/// run of a machine. Nothing takes memory once it is made.
+/// A clause sees the tables. `configuration_of` reads the configuration off them, and `Fits` says that they are tables of
+/// this machine and agree with one another. No call but `new` and `copy` takes memory.
 #[derive(Drop)]
 pub struct Config {
     /// By vertex: whether it is active.
@@ -46,6 +46,8 @@ impl Model for Config {
 
 impl Config {
     /// The configuration of a machine before anything has happened.
+    ///
+    /// `NoMemory`: memory ran out.
     pub fn new(alloc: Global, machine: &Machine) -> Result<Config, NoMemory>
         ensures fits { IfOk result (λ config. Fits machine.now config) }
         ensures nothing { IfOk result (λ config. Agree (configuration_of config) nothing_yet) }
@@ -113,7 +115,7 @@ impl Config {
 
     /// An active State does the next step of its do-activity.
     ///
-    /// No State has more than 65,535 of them.
+    /// At most 65,535 can be counted; a State of a proper machine has at most 64, so there is room for a step that is left.
     pub fn do_step(&mut self, s: VertexId)
         requires active { (configuration_of self.old).Active s }
         requires vertex { s.0 < length self.old.steps }
@@ -203,6 +205,8 @@ impl Config {
     }
 
     /// A second configuration, equal to this one.
+    ///
+    /// `NoMemory`: memory ran out; nothing has changed.
     pub fn copy(&self, alloc: Global) -> Result<Config, NoMemory>
         ensures { IfOk result (λ other. other ≡ self.now) }
     {

@@ -80,6 +80,10 @@ plain_is_spelled (Done o state firing) plain = absurd plain
 plain_is_spelled (Exit o state xs) plain = no_more_than xs plain
 plain_is_spelled (Effect o t xs) plain = no_more_than xs plain
 plain_is_spelled (Enter o state xs) plain = no_more_than xs plain
-plain_is_spelled (Opened o region mode how) plain = subst (λ (h : How). IsSpelledEntry (Opened o region mode h)) (sym plain.1.1) (omega arith)
+plain_is_spelled (Opened o region mode how) plain =
+    elim plain.1 [
+      | inl none ↦ subst (λ (h : How). IsSpelledEntry (Opened o region mode h)) (sym none) tt
+      | inr one ↦ subst (λ (h : How). IsSpelledEntry (Opened o region mode h)) (sym one.1) (omega arith)
+    ]
 plain_is_spelled (Pick o choice route) plain = absurd plain
 plain_is_spelled (DoStep o state step xs) plain = absurd plain

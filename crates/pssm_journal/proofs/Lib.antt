@@ -1,3 +1,4 @@
+pub mod PartLaws
 pub mod LineLaws
 pub mod Feeds
 pub mod LineLengths

@@ -1,137 +1,21 @@
 -- A line that is read has that text, and the text of a line of the grammar is read again.
-use Rattle.std.proofs.Common.{◌≡◌, ℕ, suc, ◌<◌, Bool, true, false, cond, eqb, List, [], ◌∷◌, ◌++◌, length, Option, Some, None, refl, sym, ap, subst, ◌∙◌, arith, inl, inr, ◌⊎◌}
+use Rattle.std.proofs.Common.{◌≡◌, ℕ, ◌<◌, cond, eqb, List, [], ◌++◌, Option, Some, None, refl, sym, ap, subst, ◌∙◌, arith, inl, inr}
 use Rattle.std.specs.Prelude.{codes, IfSome}
 use Rattle.std.specs.Option.{option_map_or}
 use Rattle.std.specs.Fmt.{decimal}
 use Rattle.std.proofs.lemmas.List.{append-nil}
 use Rattle.std.proofs.lemmas.Bool.{cond-false, eqb-false, ne_eqb}
 use Rattle.std.proofs.lemmas.Option.{same_Some}
-use Rattle.pssm_model.specs.declared.steps.Firing.{Firing}
 use Rattle.pssm_model.specs.declared.steps.Mode.TheVariants.{Plain}
-use Rattle.pssm_model.specs.declared.steps.How.TheVariants.{By}
 use Rattle.pssm_semantics.specs.declared.line.Line.{Line}
 use Rattle.pssm_semantics.specs.declared.line.Line.TheVariants.{Post, Start, Take, Done, Exit, Effect, Enter, Opened, Pick, DoStep}
-use Rattle.pssm_spelling.specs.Spelling.{IsName, continues_name}
-use Rattle.pssm_spelling.specs.SpellingReading.{is_digit, EndsRun, stripped, name_taken, number_taken, index_taken}
+use Rattle.pssm_spelling.specs.Spelling.{IsName}
+use Rattle.pssm_spelling.specs.SpellingReading.{stripped, name_taken, number_taken}
 use Rattle.pssm_spelling.proofs.SpellingLaws.{stripped_takes, stripped_again, name_takes, name_again, number_takes, number_again}
 use Rattle.pssm_journal.specs.LineText.{line_text, firing_text}
-use Rattle.pssm_model.specs.OneRegion.{single_route}
-use Rattle.pssm_semantics.specs.Built.{IsBuiltFiring}
 use Rattle.pssm_journal.specs.Grammar.{IsTakenLine, IsSpelledHow, IsSpelledFiring}
-use Rattle.pssm_journal.specs.inner.LineReading.{◌>>=◌, at_end, vertex, region, transition, firing_of, element_taken, place_taken, fires_taken, post_taken, start_taken, take_taken, exit_taken, effect_taken, enter_taken, open_taken, item_taken, line_taken}
-
--- ---- steps that may fail
-
--- the value of a step that did not fail
-bind_some : {A B : Type 0} (o : Option A) (f : A → Option B) (y : B) → (o >>= f) ≡ Some y → (x : A) × (o ≡ Some x) × (f x ≡ Some y)
-bind_some (Some x) f y e = (x, refl, e)
-bind_some None f y e = absurd cc
-
-at_end_is : {A : Type 0} (x : A) (rest : List ℕ) (y : A) → at_end x rest ≡ Some y → (rest ≡ []) × (x ≡ y)
-at_end_is x [] y e = (refl, same_Some x y e)
-at_end_is x (c ∷ cs) y e =
-    let never : eqb (suc (length cs)) 0 ≡ false = ne_eqb (suc (length cs)) 0 (λ (z : suc (length cs) ≡ 0). absurd (omega arith)) in
-    let none : at_end x (c ∷ cs) ≡ None = cond-false (eqb (suc (length cs)) 0) (Some x) None never in
-    absurd cc
-
--- a choice that did not fail
-chosen : {A B : Type 0} (f : A → Option B) (o : Option A) (other : Option B) (y : B) → option_map_or f o other ≡ Some y → ((x : A) × (o ≡ Some x) × (f x ≡ Some y)) ⊎ (other ≡ Some y)
-chosen f (Some x) other y e = inl (x, refl, e)
-chosen f None other y e = inr e
-
--- a test that was not met
-cond_other : {A : Type 0} (b : Bool) (x y : A) → cond b None (Some x) ≡ Some y → (b ≡ false) × (x ≡ y)
-cond_other true x y e = absurd cc
-cond_other false x y e = (refl, same_Some x y e)
-
--- a step that goes on with a value
-bind_at : {A B : Type 0} (o : Option A) (f : A → Option B) (x : A) → o ≡ Some x → (o >>= f) ≡ f x
-bind_at {A = A} o f x e = ap (λ (p : Option A). p >>= f) e
-
--- ---- an element behind a fixed front
-
-pub record IsElementFront (front bytes : List ℕ) (n : ℕ) (rest : List ℕ) : Type 0 where
-  pub parts : bytes ≡ front ++ (decimal n ++ rest)
-  pub small : n < 65536
-
-element_takes : (front bytes : List ℕ) (n : ℕ) (rest : List ℕ) → element_taken front bytes ≡ Some (n, rest) → IsElementFront front bytes n rest
-unfolding element_taken
-element_takes front bytes n rest e =
-    let b = bind_some (stripped front bytes) index_taken (n, rest) e in
-    let word : bytes ≡ front ++ b.0 = stripped_takes front bytes b.0 b.1 in
-    let number = number_takes 65536 b.0 n rest (omega arith) b.2 in
-    let tail : b.0 ≡ decimal n ++ rest = number.parts in
-    record { parts = cc; small = number.small }
-
-element_again : (front : List ℕ) (n : ℕ) (rest : List ℕ) → n < 65536 → EndsRun is_digit rest → element_taken front (front ++ (decimal n ++ rest)) ≡ Some (n, rest)
-unfolding element_taken
-element_again front n rest small ends =
-    bind_at (stripped front (front ++ (decimal n ++ rest))) index_taken (decimal n ++ rest) (stripped_again front (decimal n ++ rest)) ∙ number_again 65536 n rest (omega arith) small ends
-
--- ---- an object and an element
-
-pub record IsPlace (front bytes object : List ℕ) (n : ℕ) : Type 0 where
-  pub parts : bytes ≡ object ++ (front ++ (decimal n ++ []))
-  pub name : IsName object
-  pub small : n < 65536
-
-place_takes : (front bytes object : List ℕ) (n : ℕ) → place_taken front bytes ≡ Some (object, n) → IsPlace front bytes object n
-unfolding place_taken
-place_takes front bytes object n e =
-    let b = bind_some (name_taken bytes) (λ o. element_taken front o.1 >>= λ x. at_end (o.0, x.0) x.1) (object, n) e in
-    let name = name_takes bytes b.0.0 b.0.1 b.1 in
-    let d = bind_some (element_taken front b.0.1) (λ x. at_end (b.0.0, x.0) x.1) (object, n) b.2 in
-    let element = element_takes front b.0.1 d.0.0 d.0.1 d.1 in
-    let last = at_end_is (b.0.0, d.0.0) d.0.1 (object, n) d.2 in
-    let ended : d.0.1 ≡ [] = last.0 in
-    let whole : IsPlace front bytes b.0.0 d.0.0 = record { parts = name.parts ∙ ap (λ (t : List ℕ). b.0.0 ++ t) (element.parts ∙ ap (λ (t : List ℕ). front ++ (decimal d.0.0 ++ t)) ended); name = name.name; small = element.small } in
-    subst (λ (x : List ℕ × ℕ). IsPlace front bytes x.0 x.1) last.1 whole
-
-place_again : (front object : List ℕ) (n : ℕ) → IsName object → EndsRun continues_name (front ++ (decimal n ++ [])) → n < 65536 → place_taken front (object ++ (front ++ (decimal n ++ []))) ≡ Some (object, n)
-unfolding place_taken
-place_again front object n name ends small =
-    bind_at (name_taken (object ++ (front ++ (decimal n ++ [])))) (λ o. element_taken front o.1 >>= λ x. at_end (o.0, x.0) x.1) (object, front ++ (decimal n ++ [])) (name_again object (front ++ (decimal n ++ [])) name ends)
-    ∙ bind_at (element_taken front (front ++ (decimal n ++ []))) (λ x. at_end (object, x.0) x.1) (n, []) (element_again front n [] small tt)
-
--- ---- a firing
-
-pub record IsFires (bytes : List ℕ) (fires : Option ℕ) : Type 0 where
-  pub parts : bytes ≡ codes " " ++ firing_text (firing_of fires)
-  pub small : IfSome fires (λ t. t < 65536)
-
-fires_takes : (bytes : List ℕ) (fires : Option ℕ) → fires_taken bytes ≡ Some fires → IsFires bytes fires
-unfolding fires_taken
-fires_takes bytes fires e =
-    elim (chosen (λ rest. at_end None rest) (stripped (codes " -") bytes) (element_taken (codes " t") bytes >>= λ t. at_end (Some t.0) t.1) fires e) [
-      | inl none ↦
-          let word : bytes ≡ codes " -" ++ none.0 = stripped_takes (codes " -") bytes none.0 none.1 in
-          let last = at_end_is None none.0 fires none.2 in
-          let whole : IsFires bytes None = record { parts = word ∙ ap (λ (t : List ℕ). codes " -" ++ t) last.0; small = tt } in
-          subst (λ (f : Option ℕ). IsFires bytes f) last.1 whole
-      | inr some ↦
-          let b = bind_some (element_taken (codes " t") bytes) (λ t. at_end (Some t.0) t.1) fires some in
-          let element = element_takes (codes " t") bytes b.0.0 b.0.1 b.1 in
-          let last = at_end_is (Some b.0.0) b.0.1 fires b.2 in
-          let whole : IsFires bytes (Some b.0.0) = record { parts = element.parts ∙ ap (λ (t : List ℕ). codes " t" ++ (decimal b.0.0 ++ t)) last.0; small = element.small } in
-          subst (λ (f : Option ℕ). IsFires bytes f) last.1 whole
-    ]
-
-fires_again : (fires : Option ℕ) → IfSome fires (λ t. t < 65536) → fires_taken (codes " " ++ firing_text (firing_of fires)) ≡ Some fires
-unfolding fires_taken stripped
-fires_again None small = refl
-fires_again (Some t) small =
-    bind_at (element_taken (codes " t") (codes " t" ++ (decimal t ++ []))) (λ x. at_end (Some x.0) x.1) (t, []) (element_again (codes " t") t [] small tt)
-
-firing_is_plain : (fires : Option ℕ) → IsBuiltFiring (firing_of fires)
-firing_is_plain None = inl refl
-firing_is_plain (Some t) = inr (transition t, refl)
-
-firing_is_spelled : (fires : Option ℕ) → IfSome fires (λ t. t < 65536) → IsSpelledFiring (firing_of fires)
-firing_is_spelled None small = tt
-firing_is_spelled (Some t) small = ((omega arith, (small, tt), tt), tt)
-
-firing_from_routes : (f g : Firing) → f.routes ≡ g.routes → f ≡ g
-firing_from_routes f g e = ap (λ rs. let x : Firing = record { routes = rs } in x) e
+use Rattle.pssm_journal.specs.inner.LineReading.{◌>>=◌, at_end, vertex, region, transition, firing_of, way_of, element_taken, place_taken, fires_taken, way_taken, post_taken, start_taken, take_taken, exit_taken, effect_taken, enter_taken, open_taken, item_taken, line_taken}
+use Rattle.pssm_journal.proofs.PartLaws.{bind_some, at_end_is, chosen, cond_other, bind_at, choice_at, element_takes, element_again, place_takes, place_again, fires_takes, fires_again, firing_is_plain, firing_is_spelled, firing_from_routes, way_text, way_takes, way_again, way_is_plain, way_is_spelled}
 
 -- ---- the kinds of lines
 
@@ -250,25 +134,24 @@ enter_again object n name small =
 open_takes : (bytes : List ℕ) (l : Line) → open_taken bytes ≡ Some l → Spells (codes "open " ++ bytes) l
 unfolding open_taken
 open_takes bytes l e =
-    let o = bind_some (name_taken bytes) (λ object. element_taken (codes " r") object.1 >>= λ r. element_taken (codes " default by t") r.1 >>= λ by. at_end (Opened object.0 (region r.0) Plain (By (single_route (transition by.0)))) by.1) l e in
+    let o = bind_some (name_taken bytes) (λ object. element_taken (codes " r") object.1 >>= λ r. way_taken r.1 >>= λ by. Some (Opened object.0 (region r.0) Plain (way_of by))) l e in
     let object = name_takes bytes o.0.0 o.0.1 o.1 in
-    let r = bind_some (element_taken (codes " r") o.0.1) (λ r. element_taken (codes " default by t") r.1 >>= λ by. at_end (Opened o.0.0 (region r.0) Plain (By (single_route (transition by.0)))) by.1) l o.2 in
+    let r = bind_some (element_taken (codes " r") o.0.1) (λ r. way_taken r.1 >>= λ by. Some (Opened o.0.0 (region r.0) Plain (way_of by))) l o.2 in
     let place = element_takes (codes " r") o.0.1 r.0.0 r.0.1 r.1 in
-    let t = bind_some (element_taken (codes " default by t") r.0.1) (λ by. at_end (Opened o.0.0 (region r.0.0) Plain (By (single_route (transition by.0)))) by.1) l r.2 in
-    let way = element_takes (codes " default by t") r.0.1 t.0.0 t.0.1 t.1 in
-    let last = at_end_is (Opened o.0.0 (region r.0.0) Plain (By (single_route (transition t.0.0)))) t.0.1 l t.2 in
-    let text : bytes ≡ o.0.0 ++ (codes " r" ++ (decimal r.0.0 ++ (codes " default by t" ++ (decimal t.0.0 ++ [])))) =
-    object.parts ∙ ap (λ (x : List ℕ). o.0.0 ++ x) (place.parts ∙ ap (λ (x : List ℕ). codes " r" ++ (decimal r.0.0 ++ x)) (way.parts ∙ ap (λ (x : List ℕ). codes " default by t" ++ (decimal t.0.0 ++ x)) last.0)) in
-    let whole : Spells (codes "open " ++ bytes) (Opened o.0.0 (region r.0.0) Plain (By (single_route (transition t.0.0)))) = record { line = ((refl, (transition t.0.0, refl)), (object.name, place.small, (omega arith, (way.small, tt), tt))); text = ap (λ (x : List ℕ). codes "open " ++ x) text } in
-    subst (λ (x : Line). Spells (codes "open " ++ bytes) x) last.1 whole
+    let w = bind_some (way_taken r.0.1) (λ by. Some (Opened o.0.0 (region r.0.0) Plain (way_of by))) l r.2 in
+    let way = way_takes r.0.1 w.0 w.1 in
+    let text : bytes ≡ o.0.0 ++ (codes " r" ++ (decimal r.0.0 ++ way_text (way_of w.0))) =
+    object.parts ∙ ap (λ (x : List ℕ). o.0.0 ++ x) (place.parts ∙ ap (λ (x : List ℕ). codes " r" ++ (decimal r.0.0 ++ x)) way.parts) in
+    let whole : Spells (codes "open " ++ bytes) (Opened o.0.0 (region r.0.0) Plain (way_of w.0)) = record { line = ((refl, way_is_plain w.0), (object.name, place.small, way_is_spelled w.0 way.small)); text = ap (λ (x : List ℕ). codes "open " ++ x) text } in
+    subst (λ (x : Line). Spells (codes "open " ++ bytes) x) (same_Some (Opened o.0.0 (region r.0.0) Plain (way_of w.0)) l w.2) whole
 
-open_again : (object : List ℕ) (r t : ℕ) → IsName object → r < 65536 → t < 65536 → open_taken (object ++ (codes " r" ++ (decimal r ++ (codes " default by t" ++ (decimal t ++ []))))) ≡ Some (Opened object (region r) Plain (By (single_route (transition t))))
+open_again : (object : List ℕ) (r : ℕ) (by : Option ℕ) → IsName object → r < 65536 → IfSome by (λ t. t < 65536) → open_taken (object ++ (codes " r" ++ (decimal r ++ way_text (way_of by)))) ≡ Some (Opened object (region r) Plain (way_of by))
 unfolding open_taken
-open_again object r t name r_small t_small =
-    let tail = codes " default by t" ++ (decimal t ++ []) in
-    bind_at (name_taken (object ++ (codes " r" ++ (decimal r ++ tail)))) (λ o. element_taken (codes " r") o.1 >>= λ x. element_taken (codes " default by t") x.1 >>= λ by. at_end (Opened o.0 (region x.0) Plain (By (single_route (transition by.0)))) by.1) (object, codes " r" ++ (decimal r ++ tail)) (name_again object (codes " r" ++ (decimal r ++ tail)) name refl)
-    ∙ bind_at (element_taken (codes " r") (codes " r" ++ (decimal r ++ tail))) (λ x. element_taken (codes " default by t") x.1 >>= λ by. at_end (Opened object (region x.0) Plain (By (single_route (transition by.0)))) by.1) (r, tail) (element_again (codes " r") r tail r_small refl)
-    ∙ bind_at (element_taken (codes " default by t") tail) (λ by. at_end (Opened object (region r) Plain (By (single_route (transition by.0)))) by.1) (t, []) (element_again (codes " default by t") t [] t_small tt)
+open_again object r by name r_small small =
+    let tail = way_text (way_of by) in
+    bind_at (name_taken (object ++ (codes " r" ++ (decimal r ++ tail)))) (λ o. element_taken (codes " r") o.1 >>= λ x. way_taken x.1 >>= λ y. Some (Opened o.0 (region x.0) Plain (way_of y))) (object, codes " r" ++ (decimal r ++ tail)) (name_again object (codes " r" ++ (decimal r ++ tail)) name refl)
+    ∙ bind_at (element_taken (codes " r") (codes " r" ++ (decimal r ++ tail))) (λ x. way_taken x.1 >>= λ y. Some (Opened object (region x.0) Plain (way_of y))) (r, tail) (element_again (codes " r") r tail r_small refl)
+    ∙ bind_at (way_taken tail) (λ y. Some (Opened object (region r) Plain (way_of y))) by (way_again by small)
 
 -- ---- lines
 
@@ -308,10 +191,6 @@ line_takes bytes l e =
       ]
     ]
 
--- a choice at the place where it is made
-choice_at : {A B : Type 0} (f : A → Option B) (o : Option A) (other : Option B) (x : A) → o ≡ Some x → option_map_or f o other ≡ f x
-choice_at f o other x e = ap (λ p. option_map_or f p other) e
-
 post_line : (object signal : List ℕ) → IsName object → IsName signal → line_taken (line_text (Post object signal [])) ≡ Some (Post object signal [])
 unfolding line_taken
 post_line object signal object_name signal_name =
@@ -339,9 +218,9 @@ enter_line : (object : List ℕ) (n : ℕ) → IsName object → n < 65536 → l
 unfolding line_taken item_taken stripped
 enter_line object n name small = enter_again object n name small
 
-open_line : (object : List ℕ) (r t : ℕ) → IsName object → r < 65536 → t < 65536 → line_taken (line_text (Opened object (region r) Plain (By (single_route (transition t))))) ≡ Some (Opened object (region r) Plain (By (single_route (transition t))))
+open_line : (object : List ℕ) (r : ℕ) (by : Option ℕ) → IsName object → r < 65536 → IfSome by (λ t. t < 65536) → line_taken (line_text (Opened object (region r) Plain (way_of by))) ≡ Some (Opened object (region r) Plain (way_of by))
 unfolding line_taken item_taken stripped
-open_line object r t name r_small t_small = open_again object r t name r_small t_small
+open_line object r by name r_small small = open_again object r by name r_small small
 
 -- The text of the line is read as the line.
 abbrev IsReadAgain : Line → Type 0
@@ -369,10 +248,13 @@ line_again (Effect object t outs) h =
 line_again (Enter object state outs) h =
     subst (λ x. IsReadAgain (Enter object state x)) (sym h.0) (enter_line object state.0 h.1.0 h.1.1)
 line_again (Opened object r mode how) h =
-    let t = h.0.1.0 in
-    let spelled = subst IsSpelledHow h.0.1.1 h.1.2 in
-    subst (λ x. IsReadAgain (Opened object r x how)) (sym h.0.0)
-    (subst (λ x. IsReadAgain (Opened object r Plain x)) (sym h.0.1.1) (open_line object r.0 t.0 h.1.0 h.1.1 spelled.1.0))
+    subst (λ x. IsReadAgain (Opened object r x how)) (sym h.0.0) (elim h.0.1 [
+      | inl none ↦
+          subst (λ x. IsReadAgain (Opened object r Plain x)) (sym none) (open_line object r.0 None h.1.0 h.1.1 tt)
+      | inr one ↦
+          let spelled = subst IsSpelledHow one.1 h.1.2 in
+          subst (λ x. IsReadAgain (Opened object r Plain x)) (sym one.1) (open_line object r.0 (Some one.0.0) h.1.0 h.1.1 spelled.1.0)
+    ])
 line_again (Done object state firing) h = absurd h.0
 line_again (Pick object choice route) h = absurd h.0
 line_again (DoStep object state step outs) h = absurd h.0

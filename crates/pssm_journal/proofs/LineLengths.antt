@@ -7,14 +7,14 @@ use Rattle.std.proofs.lemmas.Bool.{and_parts, and_from, leb-true, not_from_false
 use Rattle.std.proofs.lemmas.List.{length-append}
 use Rattle.std.proofs.lemmas.Fmt.{digits_decimal, length-decimal-le}
 use Rattle.pssm_model.specs.declared.steps.Firing.{Firing}
-use Rattle.pssm_model.specs.declared.steps.Mode.TheVariants.{Plain}
+use Rattle.pssm_model.specs.declared.steps.How.{How}
 use Rattle.pssm_semantics.specs.declared.line.Line.{Line}
 use Rattle.pssm_semantics.specs.declared.line.Line.TheVariants.{Post, Start, Take, Done, Exit, Effect, Enter, Opened, Pick, DoStep}
 use Rattle.pssm_spelling.specs.Spelling.{IsName, continues_name}
 use Rattle.pssm_spelling.specs.SpellingReading.{is_digit}
 use Rattle.pssm_spelling.proofs.SpellingLaws.{digits_model, name_goes_on}
-use Rattle.pssm_journal.specs.LineText.{line_text, firing_text, routes_text}
-use Rattle.pssm_semantics.specs.Built.{IsBuiltFiring}
+use Rattle.pssm_journal.specs.LineText.{line_text, firing_text, routes_text, how_text}
+use Rattle.pssm_semantics.specs.Built.{IsBuiltFiring, IsBuiltWay}
 use Rattle.pssm_journal.specs.Grammar.{IsTakenLine, IsSpelledFiring, IsSpelledHow, IsSpelledRoute}
 use Rattle.pssm_journal.specs.Reading.{is_no_feed, has_no_feed}
 use Rattle.pssm_journal.proofs.Feeds.{no_feed_append}
@@ -75,6 +75,13 @@ short_firing firing (inr one) spelled =
     let here = subst (λ rs. AllByRecursion IsSpelledRoute rs) one.1 spelled in
     subst (λ rs. IsShort 42 (routes_text rs)) (sym one.1) (short_append 16 26 (codes "t") (decimal t.0 ++ []) (short_word (codes "t") refl refl) (short_last t.0 here.0.1.0))
 
+short_way : (how : How) → IsBuiltWay how → IsSpelledHow how → IsShort 42 (codes " default " ++ how_text how)
+short_way how (inl none) spelled = subst (λ h. IsShort 42 (codes " default " ++ how_text h)) (sym none) (short_more 16 42 (codes " default none") (omega arith) (short_word (codes " default none") refl refl))
+short_way how (inr one) spelled =
+    let t = one.0 in
+    let here = subst IsSpelledHow one.1 spelled in
+    subst (λ h. IsShort 42 (codes " default " ++ how_text h)) (sym one.1) (short_append 16 26 (codes " default by t") (decimal t.0 ++ []) (short_word (codes " default by t") refl refl) (short_last t.0 here.1.0))
+
 -- a kind, an object, a letter and a number
 short_place : (kind letter object : List ℕ) (n : ℕ) → IsShort 16 kind → IsShort 16 letter → IsName object → n < 65536 → IsShort 200 (kind ++ (object ++ (letter ++ (decimal n ++ []))))
 short_place kind letter object n kind_short letter_short name small =
@@ -111,17 +118,14 @@ short_line (Effect object t outs) h =
 short_line (Enter object state outs) h =
     subst (λ x. IsShortLine (Enter object state x)) (sym h.0) (short_place (codes "enter ") (codes " v") object state.0 (short_word (codes "enter ") refl refl) (short_word (codes " v") refl refl) h.1.0 h.1.1)
 short_line (Opened object r mode how) h =
-    let t = h.0.1.0 in
-    let spelled = subst IsSpelledHow h.0.1.1 h.1.2 in
-    let tail = codes " default by t" ++ (decimal t.0 ++ []) in
+    let tail = codes " default " ++ how_text how in
     subst (λ x. IsShortLine (Opened object r x how)) (sym h.0.0)
-    (subst (λ x. IsShortLine (Opened object r Plain x)) (sym h.0.1.1)
     (short_more 148 200 (codes "open " ++ (object ++ (codes " r" ++ (decimal r.0 ++ tail)))) (omega arith)
     (short_append 16 132 (codes "open ") (object ++ (codes " r" ++ (decimal r.0 ++ tail))) (short_word (codes "open ") refl refl)
     (short_append 64 68 object (codes " r" ++ (decimal r.0 ++ tail)) (short_name object h.1.0)
     (short_append 16 52 (codes " r") (decimal r.0 ++ tail) (short_word (codes " r") refl refl)
     (short_append 10 42 (decimal r.0) tail (short_number r.0 (omega (arith, h.1.1)))
-    (short_append 16 26 (codes " default by t") (decimal t.0 ++ []) (short_word (codes " default by t") refl refl) (short_last t.0 spelled.1.0))))))))
+    (short_way how h.0.1 h.1.2))))))
 short_line (Done object state firing) h = absurd h.0
 short_line (Pick object choice route) h = absurd h.0
 short_line (DoStep object state step outs) h = absurd h.0

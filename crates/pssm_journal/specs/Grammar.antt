@@ -2,19 +2,17 @@
 use Rattle.std.specs.Prelude.{◌≡◌, ℕ, ℤ, ◌<◌, ◌≤◌, List, [], ◌∷◌, ◌++◌, length, FitsSigned}
 use Rattle.std.specs.Int.{w64}
 use Rattle.std.specs.List.{AllByRecursion}
-use Rattle.pssm_model.specs.declared.ids.TransId.{TransId}
 use Rattle.pssm_model.specs.declared.steps.Route.{Route}
 use Rattle.pssm_model.specs.declared.steps.Firing.{Firing}
 use Rattle.pssm_model.specs.declared.steps.Mode.TheVariants.{Plain}
 use Rattle.pssm_model.specs.declared.steps.How.{How}
 use Rattle.pssm_model.specs.declared.steps.How.TheVariants.{By, Restore, Nothing}
-use Rattle.pssm_model.specs.OneRegion.{single_route}
 use Rattle.pssm_semantics.specs.declared.line.Line.{Line}
 use Rattle.pssm_semantics.specs.declared.line.Line.TheVariants.{Post, Start, Take, Done, Exit, Effect, Enter, Opened, Pick, DoStep}
 use Rattle.pssm_semantics.specs.declared.line.LineOut.{LineOut}
 use Rattle.pssm_semantics.specs.declared.line.LineOut.TheVariants.{Mark, Send}
 use Rattle.pssm_spelling.specs.Spelling.{IsName}
-use Rattle.pssm_semantics.specs.Built.{IsBuiltFiring}
+use Rattle.pssm_semantics.specs.Built.{IsBuiltFiring, IsBuiltWay}
 use Rattle.pssm_journal.specs.LineText.{line_text, header_line, journal_text}
 
 -- the number of an element or of a do step
@@ -66,7 +64,7 @@ IsBuiltLine (Take object number firing) = IsBuiltFiring firing
 IsBuiltLine (Exit object state outs) = outs ≡ []
 IsBuiltLine (Effect object transition outs) = outs ≡ []
 IsBuiltLine (Enter object state outs) = outs ≡ []
-IsBuiltLine (Opened object region mode how) = (mode ≡ Plain) × ((t : TransId) × (how ≡ By (single_route t)))
+IsBuiltLine (Opened object region mode how) = (mode ≡ Plain) × IsBuiltWay how
 IsBuiltLine _ = ⊥
 
 -- a line of the grammar, of a form that the code takes

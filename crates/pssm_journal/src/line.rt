@@ -1,12 +1,11 @@
 //! One line of a journal, from its text.
 ghost use Rattle.std.specs.Prelude.{◌≡◌, [], IfOk, IfSome, IfNone};
 ghost use Rattle.pssm_journal.specs.LineText.{line_text};
-ghost use Rattle.pssm_model.specs.OneRegion.{single_route};
+ghost use Rattle.pssm_model.specs.Routes.{single_route};
 ghost use Rattle.pssm_model.specs.declared.steps.Mode.TheVariants as modes;
-ghost use Rattle.pssm_model.specs.declared.steps.How.TheVariants as ways;
 ghost use Rattle.pssm_semantics.specs.declared.line.Line.TheVariants as lines;
 ghost use Rattle.pssm_journal.specs.Grammar.{IsTakenLine};
-ghost use Rattle.pssm_journal.specs.inner.LineReading.{line_of_parts, firing_of as fired};
+ghost use Rattle.pssm_journal.specs.inner.LineReading.{line_of_parts, firing_of as fired, way_of};
 ghost use Rattle.pssm_journal.specs.Reading.{SpellsNoLine};
 
 use crate::parts::{LineParts, parts_of};
@@ -42,6 +41,16 @@ fn firing_of(alloc: Global, fires: Option<u16>) -> Result<Firing, NoMemory>
     Ok(Firing {
         routes: Row::from_vec(routes),
     })
+}
+
+// No way, or the route of one transition.
+fn how_of(alloc: Global, by: Option<u16>) -> Result<How, NoMemory>
+    ensures { IfOk result (λ h. h ≡ way_of by) }
+{
+    match by {
+        Some(transition) => Ok(How::By(route_of(alloc, transition)?)),
+        None => Ok(How::Nothing),
+    }
 }
 
 // No outputs. A call that says so spares each line that has none the proof of it.
@@ -80,17 +89,21 @@ fn plain_take(
     })
 }
 
-// The line of an opening by default along one transition.
-fn plain_opening(alloc: Global, object: &[u8], region: u16, by: u16) -> Result<Line, NoMemory>
-    ensures { IfOk result (λ l. l ≡ lines.Opened object.now (record { 0 = region }) modes.Plain
-        (ways.By (single_route (record { 0 = by })))) }
+// The line of an opening by default, along one transition at most.
+fn plain_opening(
+    alloc: Global,
+    object: &[u8],
+    region: u16,
+    by: Option<u16>,
+) -> Result<Line, NoMemory>
+    ensures { IfOk result (λ l. l ≡ lines.Opened object.now (record { 0 = region }) modes.Plain (way_of by)) }
 {
     let object = text_of(alloc, object)?;
     Ok(Line::Opened {
         object,
         region: RegionId(region),
         mode: Mode::Plain,
-        how: How::By(route_of(alloc, by)?),
+        how: how_of(alloc, by)?,
     })
 }
 

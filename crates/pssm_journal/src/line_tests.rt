@@ -243,6 +243,15 @@ fn writes_openings(rt: HostRuntime) -> Result<(), Fail> {
 }
 
 #[test]
+fn writes_an_opening_by_none(rt: HostRuntime) -> Result<(), Fail> {
+    let alloc = rt.alloc();
+    let line = opened(alloc, Mode::Plain, How::Nothing)?;
+    let written = is_written(alloc, line, b"open a r0 default none\n")?;
+    assert!(rt; written);
+    Ok(())
+}
+
+#[test]
 fn writes_a_pick(rt: HostRuntime) -> Result<(), Fail> {
     let alloc = rt.alloc();
     let written = is_written(alloc, pick(alloc)?, b"pick a v2 t2,t5,t65535\n")?;

@@ -1,7 +1,7 @@
 //! The parts of a line as they lie in its text. Nothing here takes memory.
 ghost use Rattle.std.specs.Prelude.{◌≡◌, codes};
 ghost use Rattle.std.specs.Option.{option_map};
-ghost use Rattle.pssm_journal.specs.inner.LineReading.{line_of_parts, element_taken, place_taken, fires_taken, post_taken, start_taken, take_taken, exit_taken, effect_taken, enter_taken, open_taken, item_taken, line_taken};
+ghost use Rattle.pssm_journal.specs.inner.LineReading.{line_of_parts, element_taken, place_taken, optional_taken, fires_taken, way_taken, post_taken, start_taken, take_taken, exit_taken, effect_taken, enter_taken, open_taken, item_taken, line_taken};
 
 use pssm_spelling::{index_at, name_at, number_at, strip};
 
@@ -35,7 +35,7 @@ pub enum LineParts<'a> {
     Opened {
         object: &'a [u8],
         region: u16,
-        by: u16,
+        by: Option<u16>,
     },
 }
 
@@ -62,20 +62,36 @@ fn place_at<'a>(bytes: &'a [u8], front: &[u8]) -> Option<(&'a [u8], u16)>
     }
 }
 
+/// The word that says that there is none, or the number of an element behind a front, and nothing after it.
+#[tactic(auto, unfolding(crate::specs::inner::LineReading::optional_taken))]
+fn optional_at(bytes: &[u8], none: &[u8], front: &[u8]) -> Option<Option<u16>>
+    ensures { result ≡ optional_taken none.now front.now bytes.now }
+{
+    if let Some(rest) = strip(bytes, none) {
+        return if rest.is_empty() { Some(None) } else { None };
+    }
+    let (element, rest) = element_at(bytes, front)?;
+    if rest.is_empty() {
+        Some(Some(element))
+    } else {
+        None
+    }
+}
+
 /// What fires, and nothing after it.
 #[tactic(auto, unfolding(crate::specs::inner::LineReading::fires_taken))]
 fn fires_at(bytes: &[u8]) -> Option<Option<u16>>
     ensures { result ≡ fires_taken bytes.now }
 {
-    if let Some(rest) = strip(bytes, b" -") {
-        return if rest.is_empty() { Some(None) } else { None };
-    }
-    let (transition, rest) = element_at(bytes, b" t")?;
-    if rest.is_empty() {
-        Some(Some(transition))
-    } else {
-        None
-    }
+    optional_at(bytes, b" -", b" t")
+}
+
+/// The way of an opening by default, and nothing after it.
+#[tactic(auto, unfolding(crate::specs::inner::LineReading::way_taken))]
+fn way_at(bytes: &[u8]) -> Option<Option<u16>>
+    ensures { result ≡ way_taken bytes.now }
+{
+    optional_at(bytes, b" default none", b" default by t")
 }
 
 #[tactic(auto, unfolding(crate::specs::inner::LineReading::post_taken))]
@@ -153,12 +169,8 @@ fn open_at(bytes: &[u8]) -> Option<LineParts<'_>>
 {
     let (object, rest) = name_at(bytes)?;
     let (region, rest) = element_at(rest, b" r")?;
-    let (by, rest) = element_at(rest, b" default by t")?;
-    if rest.is_empty() {
-        Some(LineParts::Opened { object, region, by })
-    } else {
-        None
-    }
+    let by = way_at(rest)?;
+    Some(LineParts::Opened { object, region, by })
 }
 
 /// A line that is an item of a step.

@@ -21,6 +21,14 @@ fn a_whole_text_has_no_fault(rt: HostRuntime) -> Result<(), Fail> {
 }
 
 #[test]
+fn an_opening_goes_by_a_transition_or_by_none(rt: HostRuntime) -> Result<(), Fail> {
+    let both = b"pssm-journal 1\nopen a r0 default by t1\nopen a r1 default none\n";
+    let fault = fault_of(rt.alloc(), &[both])?;
+    assert_eq!(rt; fault, None);
+    Ok(())
+}
+
+#[test]
 fn an_empty_text_ends_in_line_1(rt: HostRuntime) -> Result<(), Fail> {
     let fault = fault_of(rt.alloc(), &[])?;
     assert_eq!(rt; fault, Some(LineFault::NoEnd { line: 1 }));

@@ -8,7 +8,7 @@ use Rattle.pssm_semantics.specs.declared.entry.Entry.{Entry}
 use Rattle.pssm_semantics.specs.declared.line.Line.{Line}
 use Rattle.pssm_semantics.specs.declared.setting.Setting.{Setting}
 use Rattle.pssm_semantics.specs.Rules.{Holds}
-use Rattle.pssm_semantics.specs.Laws.{CompletesWithin}
+use Rattle.pssm_semantics.specs.Laws.{CompletesInTime}
 use Rattle.pssm_semantics.specs.Admissible.{IsAdmissibleIn, KeepsJournalLimits}
 use Rattle.pssm_semantics.proofs.Admissible.{IsAdmissible-nil}
 use Rattle.pssm_journal.specs.declared.fault.LineFault.{LineFault}
@@ -253,7 +253,7 @@ pub none_left : (rest : List ℕ) → true ≡ (length rest == 0) → rest ≡ [
 none_left rest e = nil_from_length rest (eqb-true (length rest) 0 (sym e))
 
 -- All bytes were read, and no line is left over.
-judging_whole : (setting : Setting) (bytes : List ℕ) (run : History) → IsJudging setting bytes [] true [] run → CompletesWithin run.setting run.journal 3
+judging_whole : (setting : Setting) (bytes : List ℕ) (run : History) → IsJudging setting bytes [] true [] run → CompletesInTime run.setting run.journal
     → IsVerdictOn setting bytes (Accept (length run.journal))
 judging_whole setting bytes run j completes =
     let whole : bytes ≡ journal_text j.lines = j.stream ∙ append-nil (journal_text j.lines ++ []) ∙ append-nil (journal_text j.lines) in
@@ -265,12 +265,12 @@ judging_whole setting bytes run j completes =
         text = whole;
         kept = kept;
         entries_are = refl;
-        completes = subst (λ (s : Setting). CompletesWithin s run.journal 3) j.setting_is completes;
+        completes = subst (λ (s : Setting). CompletesInTime s run.journal) j.setting_is completes;
       },
     )
 
 pub judged_whole : (setting : Setting) (bytes rest pending : List ℕ) (begun : Bool) (run : History) → IsJudging setting bytes rest begun pending run
-    → rest ≡ [] → begun ≡ true → pending ≡ [] → CompletesWithin run.setting run.journal 3 → IsVerdictOn setting bytes (Accept (length run.journal))
+    → rest ≡ [] → begun ≡ true → pending ≡ [] → CompletesInTime run.setting run.journal → IsVerdictOn setting bytes (Accept (length run.journal))
 judged_whole setting bytes rest pending begun run j r b p completes =
     let ended = subst (λ (x : List ℕ). IsJudging setting bytes x begun pending run) r j in
     let seen = subst (λ (x : Bool). IsJudging setting bytes [] x pending run) b ended in

@@ -2,5 +2,4 @@ pub mod RunLaws
 pub mod FollowingLaws
 pub mod JudgingLaws
 pub mod AnswerLaws
-pub mod Samples
 pub mod EveryJournal

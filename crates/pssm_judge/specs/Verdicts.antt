@@ -5,8 +5,7 @@ use Rattle.pssm_base.specs.Reading.{Contents, ReadsWhole, HoldsMore}
 use Rattle.pssm_semantics.specs.declared.entry.Entry.{Entry}
 use Rattle.pssm_semantics.specs.declared.line.Line.{Line}
 use Rattle.pssm_semantics.specs.declared.setting.Setting.{Setting}
-use Rattle.pssm_semantics.specs.Built.{entries_to_complete}
-use Rattle.pssm_semantics.specs.Laws.{CompletesWithin}
+use Rattle.pssm_semantics.specs.Laws.{CompletesInTime}
 use Rattle.pssm_journal.specs.LineText.{journal_text}
 use Rattle.pssm_journal.specs.Judged.{Judged, Accepted, Refused, Limited, BadText, IsKept, IsJudged}
 use Rattle.pssm_judge.specs.declared.run.Stop.{Stop}
@@ -16,18 +15,18 @@ use Rattle.pssm_judge.specs.declared.verdict.Verdict.TheVariants.{Accept, Refuse
 use Rattle.pssm_judge.specs.declared.verdict.JudgeFault.{JudgeFault}
 use Rattle.pssm_judge.specs.declared.verdict.JudgeFault.TheVariants.{Text, Limit, TooLarge, ReadFault, NoMemory}
 
--- The bytes are the text of an admissible journal that can be continued to a complete run by at most so many entries.
-pub record IsPrefixText (setting : Setting) (bytes : List ℕ) (entries most : ℕ) : Type 0 where
+-- The bytes are the text of an admissible journal that can be continued to a complete run, by no more entries than its open steps need at most.
+pub record IsPrefixText (setting : Setting) (bytes : List ℕ) (entries : ℕ) : Type 0 where
   pub lines : List Line
   pub journal : List Entry
   pub text : bytes ≡ journal_text lines
   pub kept : IsKept setting lines journal
   pub entries_are : entries ≡ length journal
-  pub completes : CompletesWithin setting journal most
+  pub completes : CompletesInTime setting journal
 
--- what the bytes deserve, as a verdict; an accepted journal of the settings that the code runs is completed by at most so many entries as their open steps need
+-- what the bytes deserve, as a verdict; an accepted journal can be continued to a complete run
 abbrev pub IsVerdictOn : Setting → List ℕ → Verdict → Type 0
-IsVerdictOn setting bytes (Accept entries) = IsJudged setting bytes (Accepted entries) × IsPrefixText setting bytes entries entries_to_complete
+IsVerdictOn setting bytes (Accept entries) = IsJudged setting bytes (Accepted entries) × IsPrefixText setting bytes entries
 IsVerdictOn setting bytes (Refuse entry rule) = IsJudged setting bytes (Refused entry rule)
 
 -- what the bytes deserve where there is no verdict; want of memory says nothing of them

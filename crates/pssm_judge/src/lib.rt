@@ -10,8 +10,6 @@ mod judging;
 mod laws;
 mod limits;
 mod run;
-#[cfg(test)]
-mod tests;
 mod verdict;
 
 pub use judging::judge;

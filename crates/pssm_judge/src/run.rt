@@ -1,8 +1,8 @@
 //! `Run`: the run that a journal has told so far.
 ghost use Rattle.std.specs.Prelude.{◌≡◌, [], length, IfOk, IfNone, IfSome, MatchOption};
-ghost use Rattle.pssm_semantics.specs.Built.{IsBuilt, entries_to_complete};
+ghost use Rattle.pssm_semantics.specs.Built.{IsBuilt};
 ghost use Rattle.pssm_semantics.specs.Admissible.{IsAdmissibleIn, KeepsJournalLimits};
-ghost use Rattle.pssm_semantics.specs.Laws.{CompletesWithin};
+ghost use Rattle.pssm_semantics.specs.Laws.{CompletesInTime};
 ghost use Rattle.pssm_judge.specs.inner.Following.{Follows, TakesLine, StopsAt, StopsAmong};
 ghost use Rattle.pssm_judge.specs.Verdicts.{answer_to};
 
@@ -75,7 +75,7 @@ impl Run {
     /// How many entries the run has. They are the beginning of a complete run.
     pub fn len(&self) -> u32
         ensures count { result ≡ length self.now.journal }
-        ensures completes { CompletesWithin self.now.setting self.now.journal entries_to_complete }
+        ensures completes { CompletesInTime self.now.setting self.now.journal }
     {
         self.system.entries().len() as u32
     }

@@ -1,10 +1,10 @@
 -- Configurations that agree are changed alike, and the same is finished, complete and next in them.
-use Rattle.std.proofs.Common.{◌≡◌, ◌≢◌, ◌⊎◌, ◌↔◌, ◌<◌, ℕ, inl, inr}
+use Rattle.std.proofs.Common.{◌⊎◌, ◌↔◌, ℕ, inl, inr}
 use Rattle.pssm_model.specs.declared.ids.VertexId.{VertexId}
 use Rattle.pssm_model.specs.declared.ids.RegionId.{RegionId}
 use Rattle.pssm_model.specs.declared.elements.DraftMachine.{DraftMachine}
-use Rattle.pssm_model.specs.Configuration.{Configuration, IsDirect, IsFinished, IsComplete, IsNextDoStep}
-use Rattle.pssm_model.specs.Changes.{Agree, FillsOrOwns, entered, exited, opened_none, opened_way, did_step}
+use Rattle.pssm_model.specs.Configuration.{Configuration, IsFinished, IsComplete, IsNextDoStep}
+use Rattle.pssm_model.specs.Changes.{Agree, entered, exited, opened_none, opened_way, did_step}
 
 pub Agree-refl : (a : Configuration) → Agree a a
 Agree-refl a = record {

@@ -16,7 +16,7 @@ use Rattle.pssm_model.specs.Forest.{vertex_at, transition_at}
 use Rattle.pssm_model.specs.Shapes.{place_of, OwnsVertex, HasShape, HasBadOwner, HasBadEnd, IsTooDeep, IsMisshapen, IsEarlier, IsShapeFault}
 use Rattle.pssm_model.specs.inner.Depths.{IsPlace}
 use Rattle.pssm_model.specs.inner.Faultless.{IsFaultless, place_element, transition_element, AreFaultless, IsFaultOf, IsFirstFault}
-use Rattle.pssm_model.proofs.BuiltElements.{mapped_at, mapped_some}
+use Rattle.pssm_model.proofs.ElementLaws.{mapped_at, mapped_some}
 use Rattle.pssm_model.proofs.OwnerChains.{owned_is_place, counted_is_place}
 use Rattle.pssm_model.proofs.Faults.{sound_is_shapely, faulty_is_misshapen}
 

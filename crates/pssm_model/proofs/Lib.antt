@@ -1,13 +1,5 @@
-pub mod BuiltElements
-pub mod BuiltForest
-pub mod BuiltTransitions
-pub mod BuiltLegs
-pub mod BuiltRoutes
-pub mod BuiltFiring
-pub mod BuiltShape
-pub mod BuiltWellFormed
-pub mod BuiltExample
-pub mod BuiltFrom
+pub mod ElementLaws
+pub mod RouteLaws
 pub mod NotBuiltFirst
 pub mod OwnerChains
 pub mod Climbing

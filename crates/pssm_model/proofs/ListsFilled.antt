@@ -18,7 +18,7 @@ use Rattle.pssm_model.specs.Forest.{vertex_at, transition_at, owner_of}
 use Rattle.pssm_model.specs.Legs.{Leaves}
 use Rattle.pssm_model.specs.Shapes.{HasShape, OwnsVertex}
 use Rattle.pssm_model.specs.inner.Listed.{IsListed, AreLists, AreListsBelow, list_at, count_of, width_of, vertex_number, region_number, transition_number}
-use Rattle.pssm_model.proofs.BuiltElements.{mapped_some}
+use Rattle.pssm_model.proofs.ElementLaws.{mapped_some}
 
 module _ {A : Type 0} (number : A → ℕ) (width : ℕ) (Of : ℕ → ℕ → Type 0) where
   -- at first nothing is listed

@@ -14,8 +14,7 @@ use Rattle.pssm_model.specs.NotBuilt.{IsFurtherVertex, IsFurtherTransition}
 use Rattle.pssm_model.specs.WellFormed.{KeepsModelRules}
 use Rattle.pssm_model.specs.WellFormed.Breaks.{E03}
 use Rattle.pssm_model.specs.Nested.{IsPlainlyNested, IsInitialOrState, EndsOnState}
-use Rattle.pssm_model.proofs.BuiltElements.{mapped_at, some_at}
-use Rattle.pssm_model.proofs.BuiltFrom.{all_from, kind_split, external_split}
+use Rattle.pssm_model.proofs.ElementLaws.{mapped_at, some_at, all_from, kind_split, external_split}
 
 module _ {m : DraftMachine} (shape : HasShape m) (rules : KeepsModelRules m)
     (vertices : (v : VertexId) (x : Vertex) → vertex_at m v ≡ Some x → IsFurtherVertex x → ⊥)

@@ -1,5 +1,5 @@
 -- The first element that the code does not run: what each turn of the search adds, and the search as a whole.
-use Rattle.std.proofs.Common.{◌≡◌, ◌↔◌, ◌<◌, ◌+◌, ℕ, Bool, true, false, length, Some, IsTrue, slice_get, refl, sym, ap, subst, ◌∙◌, inl, inr, ⊎_elim, arith}
+use Rattle.std.proofs.Common.{◌≡◌, ◌↔◌, ◌<◌, ◌+◌, ℕ, Bool, true, false, length, Some, IsTrue, slice_get, refl, sym, ap, subst, ◌∙◌, ⊎_elim, arith}
 use Rattle.std.proofs.lemmas.Bool.{cases_eq, false≢true}
 use Rattle.std.proofs.lemmas.Option.{slice_get_within}
 use Rattle.pssm_model.specs.declared.ids.VertexId.{VertexId}
@@ -43,14 +43,12 @@ module _ (m : DraftMachine) (n : ℕ) (p : Owner) (at : slice_get m.regions n �
   region_further further = by_owner p at further
     where
       by_owner : (q : Owner) → slice_get m.regions n ≡ Some q → IsFurtherOwner has_top q → IsNotBuilt m (place_element Regions n)
-      by_owner Top e is = let below = knows.0 is in inr (e, below)
+      by_owner Top e is = let below = knows.0 is in (e, below)
       by_owner (Region r) e is = absurd is
-      by_owner (State s) e is = inl (s, e)
+      by_owner (State s) e is = absurd is
 
   pub region_built : (IsFurtherOwner has_top p → ⊥) → IsNotBuilt m (place_element Regions n) → ⊥
-  region_built plain wrong =
-      ⊎_elim (λ nested. let same : State nested.0 ≡ p = cc (at, nested.1) in plain (subst (IsFurtherOwner has_top) same tt))
-      (λ top. let same : Top ≡ p = cc (at, top.0) in plain (subst (IsFurtherOwner has_top) same (knows.1 top.1))) wrong
+  region_built plain wrong = let same : Top ≡ p = cc (at, wrong.0) in plain (subst (IsFurtherOwner has_top) same (knows.1 wrong.1))
 
   -- whether a top region is among the first ones, with this one
   pub tops_with : p ≡ Top → IsTrue true ↔ HasTopBelow m (n + 1)
@@ -69,7 +67,7 @@ module _ (m : DraftMachine) (n : ℕ) (p : Owner) (at : slice_get m.regions n �
 
 -- each element is one of its class
 region_within : (m : DraftMachine) → AreBuiltBelow m (place_element Regions) (length m.regions) → (r : RegionId) → IsNotBuilt m (elements.Region r) → ⊥
-region_within m built r wrong = built r.0 (⊎_elim (λ nested. slice_get_within m.regions r.0 (State nested.0) nested.1) (λ top. slice_get_within m.regions r.0 Top top.0) wrong) wrong
+region_within m built r wrong = built r.0 (slice_get_within m.regions r.0 Top wrong.0) wrong
 
 vertex_within : (m : DraftMachine) → AreBuiltBelow m (place_element Vertices) (length m.vertices) → (v : VertexId) → IsNotBuilt m (elements.Vertex v) → ⊥
 vertex_within m built v wrong = built v.0 (slice_get_within m.vertices v.0 wrong.0 wrong.1) wrong

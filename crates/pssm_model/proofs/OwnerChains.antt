@@ -5,7 +5,7 @@ use Rattle.std.proofs.lemmas.Option.{slice_get_within}
 use Rattle.pssm_model.specs.declared.ids.VertexId.{VertexId}
 use Rattle.pssm_model.specs.declared.ids.RegionId.{RegionId}
 use Rattle.pssm_model.specs.declared.elements.Vertex.{Vertex}
-use Rattle.pssm_model.proofs.BuiltElements.{mapped_some}
+use Rattle.pssm_model.proofs.ElementLaws.{mapped_some}
 use Rattle.pssm_model.specs.declared.elements.DraftMachine.{DraftMachine}
 use Rattle.pssm_model.specs.declared.elements.Owner.{Owner}
 use Rattle.pssm_model.specs.declared.elements.Owner.TheVariants.{Top, Region, State}

@@ -25,7 +25,8 @@ IsDirect m s r = (owner_of m (State s) ≡ Some (Region r)) × IsStateOrFinal m 
 abbrev pub HasActiveFinal : DraftMachine → Configuration → RegionId → Type 0
 HasActiveFinal m now r = (s : VertexId) × (owner_of m (State s) ≡ Some (Region r)) × HasKind m s kinds.Final × now.Active s
 
--- The region is finished: a final state of it is active, or it was left empty (UML 2.5.1 14.2.3.6, final states; 14.2.3.8, completion).
+-- The region is finished: a final state of it is active, or it was left empty (UML 2.5.1 14.2.3.6, final states; 14.2.3.8, completion;
+-- that an empty region is finished is this profile's choice).
 abbrev pub IsFinished : DraftMachine → Configuration → RegionId → Type 0
 IsFinished m now r = HasActiveFinal m now r ⊎ now.LeftEmpty r
 

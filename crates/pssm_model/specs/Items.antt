@@ -39,7 +39,8 @@ LegEnds m route t (items.Opened r Deep) = (v : VertexId) × IsLastVertex m route
 LegEnds m route t (items.Pick c) = IsLastVertex m route t c × HasKind m c kinds.Choice
 LegEnds m route t _ = ⊥
 
--- A local leg opens by default the regions of its State at which its route does not aim (UML 2.5.1 14.5.12, local transitions).
+-- A local leg opens by default each region of its State at which neither it nor a later leg of its route aims
+-- (this profile's choice; UML 2.5.1 14.5.12 says only that the State is not left).
 abbrev pub LegOpens : DraftMachine → Route → TransId → Item → Type 0
 LegOpens m route t (items.Opened r Plain) =
     (s : VertexId) × IsLocalFrom m route t s × (owner_of m (Region r) ≡ Some (State s)) × (IsAimedAt m route t r → ⊥)

@@ -16,7 +16,6 @@ pub mod Order
 pub mod BuiltMachine
 pub mod Silent
 pub mod NotBuilt
-pub mod OneRegion
 pub mod Proper
 pub mod Equal
 pub mod formers

@@ -1,5 +1,5 @@
--- The premise of the forms of States in regions and regions in States: initial vertices and States, in any nesting, and external transitions
--- that end on States. Later work widens this premise; no definition changes with it.
+-- The premise of what the order of a step is built for: every vertex is an initial vertex or a State, in any nesting of regions, and every transition is
+-- external and ends on a State. Later work widens this premise; no definition changes with it.
 use Rattle.std.specs.Prelude.{◌≡◌, ◌⊎◌}
 use Rattle.std.specs.List.{AllByRecursion}
 use Rattle.pssm_model.specs.declared.elements.DraftMachine.{DraftMachine}

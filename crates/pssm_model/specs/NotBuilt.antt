@@ -13,10 +13,6 @@ use Rattle.pssm_model.specs.declared.elements.Element.TheVariants as elements
 use Rattle.pssm_model.specs.Forest.{vertex_at, transition_at, owner_of, HasKind}
 use Rattle.pssm_model.specs.Shapes.{IsEarlier}
 
--- A State owns the region.
-abbrev pub IsNestedRegion : DraftMachine → RegionId → Type 0
-IsNestedRegion m r = (s : VertexId) × (owner_of m (Region r) ≡ Some (State s))
-
 -- The region is a top region, and not the first.
 abbrev pub IsFurtherTopRegion : DraftMachine → RegionId → Type 0
 IsFurtherTopRegion m r = (owner_of m (Region r) ≡ Some Top) × ((q : RegionId) × (q.0 < r.0) × (owner_of m (Region q) ≡ Some Top))
@@ -51,7 +47,7 @@ IsFurtherTransition m x = (x.kind ≢ External) ⊎ IsFurtherReaction m x ⊎ Is
 
 -- The element is of a form that the code does not run yet.
 abbrev pub IsNotBuilt : DraftMachine → Element → Type 0
-IsNotBuilt m (elements.Region r) = IsNestedRegion m r ⊎ IsFurtherTopRegion m r
+IsNotBuilt m (elements.Region r) = IsFurtherTopRegion m r
 IsNotBuilt m (elements.Vertex v) = (x : Vertex) × (vertex_at m v ≡ Some x) × IsFurtherVertex x
 IsNotBuilt m (elements.Transition t) = (x : Transition) × (transition_at m t ≡ Some x) × IsFurtherTransition m x
 

@@ -44,7 +44,7 @@ pub data HasGone (m : DraftMachine) (head : Head) (now : Configuration) : List (
   more : {ran : List (Item × How)} (item : Item) (how : How) → HasGone m head now ran → IsReady m (course_by head now ran) item
       → (truth : Truth) → IsWayNow m truth (course_by head now ran) item how → HasGone m head now (ran ++ (item, how) ∷ [])
 
--- a configuration of which it is known what holds in it and what does not (this profile's choice)
+-- a configuration of which it is known what holds in it and what does not, so that a ready item can be found, and not only not be missing
 pub record KnownConfiguration : Type 0 where
   pub is_active : VertexId → Bool
   pub remembers : RegionId → VertexId → Bool
@@ -70,7 +70,7 @@ pub record IsNestedStep (m : DraftMachine) (course : Course) : Type 0 where
   pub nested : IsPlainlyNested m
   pub gone : HasGone m course.head course.at_head course.ran
 
--- how many further entries an open step of the machine can need: an exit and an entry for each vertex, an opening for each region,
--- an effect for each transition (this profile's choice)
+-- how many further entries an open step of the machine can need: an exit and an entry for each vertex (a choice has one pick and neither),
+-- an opening for each region, an effect for each transition (this profile's choice)
 abbrev pub entries_at_most : DraftMachine → ℕ
 entries_at_most m = 2 * length m.vertices + length m.regions + length m.transitions

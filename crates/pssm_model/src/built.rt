@@ -1,13 +1,8 @@
 //! The first element of a machine that the code does not run yet.
 ghost use Rattle.std.specs.Prelude.{◌↔◌, IsTrue, IfSome, IfNone, length};
-ghost use Rattle.pssm_model.specs.declared.elements.DraftMachine.{DraftMachine};
 ghost use Rattle.pssm_model.specs.declared.elements.Element.{Element};
 ghost use Rattle.pssm_model.specs.declared.shape.PlaceKind.TheVariants as places;
 ghost use Rattle.pssm_model.specs.Forest.{HasKind};
-ghost use Rattle.pssm_model.specs.Shapes.{HasShape};
-ghost use Rattle.pssm_model.specs.WellFormed.{KeepsModelRules};
-ghost use Rattle.pssm_model.specs.Silent.{IsSilentMachine};
-ghost use Rattle.pssm_model.specs.BuiltMachine.{IsBuiltMachine};
 ghost use Rattle.pssm_model.specs.inner.Faultless.{place_element, transition_element};
 ghost use Rattle.pssm_model.specs.NotBuilt.{IsAtTop, IsFurtherReaction, IsToJunction, IsFurtherVertex, IsFurtherTransition, IsNotBuilt, IsFirstNotBuilt};
 ghost use Rattle.pssm_model.specs.inner.Found.{AreBuiltBelow, IsFirstNumber, IsFurtherOwner};
@@ -34,13 +29,7 @@ pub fn first_not_built(machine: &Machine) -> Option<Element>
     None
 }
 
-/// A machine without behaviours that has its shape, keeps the rules of models and has no such element is one that the code
-/// runs (this profile's choice).
-pub fn built_machine()
-    ensures { (m : DraftMachine) → IsSilentMachine m → HasShape m → KeepsModelRules m → ((e : Element) → IsNotBuilt m e → ⊥) → IsBuiltMachine m }
-{}
-
-/// The first region that a State owns or that is a further top region.
+/// The first further top region.
 fn first_region(machine: &Machine) -> Option<u16>
     ensures first { IfSome result (IsFirstNumber machine.now (place_element places.Regions)) }
     ensures none { IfNone result (AreBuiltBelow machine.now (place_element places.Regions) (length machine.now.regions)) }
@@ -65,7 +54,7 @@ fn is_further_owner(has_top: bool, owner: Owner) -> bool
     match owner {
         Owner::Top => has_top,
         Owner::Region(_) => false,
-        Owner::State(_) => true,
+        Owner::State(_) => false,
     }
 }
 

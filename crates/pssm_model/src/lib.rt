@@ -22,7 +22,7 @@ mod steps;
 mod text;
 
 pub use boxed::Boxed;
-pub use built::{built_machine, first_not_built};
+pub use built::first_not_built;
 pub use duplicate::Duplicate;
 pub use elements::{
     DraftMachine, Element, FaultPlace, Guard, Owner, Shape, TransKind, Transition, Vertex,

@@ -21,12 +21,12 @@ use Rattle.pssm_model.specs.Items.{Called, Before, StartOpens}
 use Rattle.pssm_model.specs.Order.{HasGone, course_by}
 use Rattle.pssm_model.specs.Order.HasGone.{begun, more}
 use Rattle.pssm_model.specs.Nested.{IsPlainlyNested}
-use Rattle.pssm_model.specs.OneRegion.{single_route}
+use Rattle.pssm_model.specs.Routes.{single_route}
 use Rattle.pssm_plan.specs.inner.Single.{GoesDirectly, IsCalledOver, IsOrderedOver, GoesOver}
-use Rattle.pssm_model.proofs.BuiltElements.{mapped_some}
+use Rattle.pssm_model.proofs.ElementLaws.{mapped_some}
 use Rattle.pssm_model.proofs.OwnerChains.{owned_is_place}
 use Rattle.pssm_plan.proofs.NestedRoutes.{route_is_single}
-use Rattle.pssm_model.proofs.BuiltRoutes.{single_route_same}
+use Rattle.pssm_model.proofs.RouteLaws.{single_route_same}
 use Rattle.pssm_plan.proofs.NestedSteps.{gone_directly, late_from_initial, exit_before_effect}
 use Rattle.pssm_plan.proofs.SingleItems.{called_is, called_of, before_is, before_of}
 use Rattle.pssm_config.specs.Tables.{Tables, configuration_of}

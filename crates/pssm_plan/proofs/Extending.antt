@@ -26,6 +26,13 @@ module _ (old : List Call) (item : Item) where
         h,
   )
 
+  pub free_push : (call : Call) → Contains (old ++ fresh_call item ∷ []) call → IsTrue call.blocked → Contains old call
+  free_push call h blocked =
+      ⊎_elim
+      (λ was. was)
+      (λ now. absurd (let e : IsTrue false = subst (λ (c : Call). IsTrue c.blocked) (sym now) blocked in cc))
+      (Contains-push_cases old (fresh_call item) call h)
+
   pub marked_push : (x : Item) → IsMarked (old ++ fresh_call item ∷ []) x ↔ IsMarked old x
   marked_push x = (
     λ h. ⊎_elim
@@ -84,6 +91,8 @@ module _ (m : DraftMachine) (old : List Call) (pairs links : List Pair) (item : 
     roster = roster_push r there fresh linked;
     listed = listed_push old item;
     marked = marked_push old item;
+    kept = λ call was. Contains-append_left old (fresh_call item ∷ []) call was;
+    free = free_push old item;
   }
 
 -- what is added may be said in other words
@@ -96,6 +105,8 @@ extended_same m old new order P Q same h = record {
     λ l. (h.listed x).1 (⊎_elim (λ was. inl was) (λ q. inr ((same x).1 q)) l),
   );
   marked = h.marked;
+  kept = h.kept;
+  free = h.free;
 }
 
 -- nothing is added
@@ -105,6 +116,8 @@ extended_none m calls order P none r = record {
   roster = r;
   listed = λ x. (λ h. inl h, λ h. ⊎_elim (λ was. was) (λ p. none x p) h);
   marked = λ x. (λ h. h, λ h. h);
+  kept = λ call was. was;
+  free = λ call is blocked. is;
 }
 
 -- something, and then more
@@ -123,4 +136,6 @@ extended_further m a b c o p P Q h g = record {
         l,
   );
   marked = λ x. (λ l. (h.marked x).0 ((g.marked x).0 l), λ l. (g.marked x).1 ((h.marked x).1 l));
+  kept = λ call was. g.kept call (h.kept call was);
+  free = λ call is blocked. h.free call (g.free call is blocked) blocked;
 }

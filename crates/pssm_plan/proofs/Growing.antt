@@ -30,6 +30,8 @@ module _ (m : DraftMachine) (old : List Call) (before : List Pair) where
       roster = r;
       listed = λ x. (λ h. inl h, λ h. ⊎_elim (λ was. was) (λ p. absurd (none x p)) h);
       marked = λ x. (λ h. h, λ h. h);
+      kept = λ call was. was;
+      free = λ call is blocked. is;
     };
   }
 
@@ -55,6 +57,8 @@ module _ (m : DraftMachine) (old : List Call) (before : List Pair) where
             l,
       );
       marked = λ x. (λ l. (h.extended.marked x).0 ((g.marked x).0 l), λ l. (g.marked x).1 ((h.extended.marked x).1 l));
+      kept = λ call was. g.kept call (h.extended.kept call was);
+      free = λ call is blocked. h.extended.free call (g.free call is blocked) blocked;
     };
   }
 

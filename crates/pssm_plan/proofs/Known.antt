@@ -8,10 +8,10 @@ use Rattle.pssm_model.specs.declared.elements.Owner.{Owner}
 use Rattle.pssm_model.specs.declared.elements.Owner.TheVariants.{Top, Region, State}
 use Rattle.pssm_model.specs.declared.steps.Item.{Item}
 use Rattle.pssm_model.specs.contracts.steps.ItemPartialEq.TheImpl.{eq-value as item_eq}
-use Rattle.pssm_model.proofs.BuiltElements.{same_vertex, same_transition}
-use Rattle.pssm_model.proofs.BuiltForest.{same_region}
-use Rattle.pssm_model.proofs.BuiltTransitions.{nothing_in_nil}
-use Rattle.pssm_model.proofs.BuiltRoutes.{in_one, is_one}
+use Rattle.pssm_model.proofs.ElementLaws.{same_vertex, same_transition}
+use Rattle.pssm_model.proofs.ElementLaws.{same_region}
+use Rattle.pssm_model.proofs.ElementLaws.{nothing_in_nil}
+use Rattle.pssm_model.proofs.RouteLaws.{in_one, is_one}
 
 -- It holds, or it does not.
 abbrev pub Known : Type 0 → Type 0

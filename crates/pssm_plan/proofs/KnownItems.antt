@@ -20,11 +20,11 @@ use Rattle.pssm_model.specs.Course.{Head, Course, FiresBy, HasGoneBy, HasRun}
 use Rattle.pssm_model.specs.Course.Head.{Starts, Fires}
 use Rattle.pssm_model.specs.Items.{HasRunOut, Before, IsWaiting, IsCleared}
 use Rattle.pssm_model.specs.Order.{IsReady, IsAtOrBefore, HasReadyAtOrBefore, KnownConfiguration, known_course, IsNestedStep}
-use Rattle.pssm_model.specs.OneRegion.{single_route}
+use Rattle.pssm_model.specs.Routes.{single_route}
 use Rattle.pssm_plan.specs.inner.Single.{IsDirectRoute, GoesDirectly, LiesInSpan, GoesOver, IsEnteredBy, IsExitedOver, IsEnteredOver, IsCalledOver, IsOrderedOver}
-use Rattle.pssm_model.proofs.BuiltElements.{mapped_some}
+use Rattle.pssm_model.proofs.ElementLaws.{mapped_some}
 use Rattle.pssm_plan.proofs.Ranks.{owner_under}
-use Rattle.pssm_model.proofs.BuiltRoutes.{single_route_same}
+use Rattle.pssm_model.proofs.RouteLaws.{single_route_same}
 use Rattle.pssm_plan.proofs.SingleItems.{called_is, called_of, before_is, before_of}
 use Rattle.pssm_plan.proofs.Known.{Known, known_as, known_both, known_either, known_not, known_below, known_among, known_transition}
 use Rattle.pssm_plan.proofs.KnownPlaces.{known_in_state, known_in_span, known_entered}
@@ -48,7 +48,7 @@ lying_there {m} shape v q h =
     let at = mapped_some (λ (x : Vertex). x.owner) (vertex_at m v) up.0 up.1 in
     slice_get_within m.vertices v.0 at.0 at.1
 
-owning_there : {m : DraftMachine} → HasShape m → (s : VertexId) (r : RegionId) → owner_of m (Region r) ≡ Some (State s) → s.0 < length m.vertices
+pub owning_there : {m : DraftMachine} → HasShape m → (s : VertexId) (r : RegionId) → owner_of m (Region r) ≡ Some (State s) → s.0 < length m.vertices
 owning_there {m} shape s r e =
     let is : HasKind m s kinds.State = (shape.regions r (State s) e).0 in
     let at = mapped_some (λ (x : Vertex). x.kind) (vertex_at m s) kinds.State is in
@@ -120,14 +120,14 @@ module _ {m : DraftMachine} (shape : HasShape m) (course : Course) (g : GoesDire
       → Known ((t : TransId) × FiresBy course.head (single_route t) × P t)
   known_fires_some P each = known_firing m course.head (λ route fires. g.routes route (inl fires)) P each
 
-  known_over_some : (P : TransId → Type 0) → ((t : TransId) → Known (P t)) → Known ((t : TransId) × GoesOver course t × P t)
+  pub known_over_some : (P : TransId → Type 0) → ((t : TransId) → Known (P t)) → Known ((t : TransId) × GoesOver course t × P t)
   known_over_some P each =
       known_as
       (λ h. ⊎_elim (λ fires. (fires.0, inl fires.1, fires.2)) (λ gone. (gone.0, inr gone.1, gone.2)) h)
       (λ h. ⊎_elim (λ fires. inl (h.0, fires, h.2)) (λ gone. inr (h.0, gone, h.2)) h.1)
       (known_either (known_fires_some P each) (known_late m course g P each))
 
-  known_over : (t : TransId) → Known (GoesOver course t)
+  pub known_over : (t : TransId) → Known (GoesOver course t)
   known_over t =
       known_as
       (λ h. subst (λ u. GoesOver course u) h.2 h.1)
@@ -149,14 +149,14 @@ module _ {m : DraftMachine} (shape : HasShape m) (course : Course) (g : GoesDire
       (known_both (known_fires t) (known_both (active s) (known_in_span shape t s)))
 
   -- which exits and entries it calls
-  known_exit : (s : VertexId) → Known (IsCalledOver m course (items.Exit s))
+  pub known_exit : (s : VertexId) → Known (IsCalledOver m course (items.Exit s))
   known_exit s =
       known_as
       (λ h. (h.0, (h.1, h.2.0, h.2.1)))
       (λ h. (h.0, h.1.0, (h.1.1, h.1.2)))
       (known_fires_some (λ t. course.at_head.Active s × LiesInSpan m t s) (λ t. known_both (active s) (known_in_span shape t s)))
 
-  known_enter : (s : VertexId) → Known (IsCalledOver m course (items.Enter s))
+  pub known_enter : (s : VertexId) → Known (IsCalledOver m course (items.Enter s))
   known_enter s =
       known_as
       (λ h. (h.0, (h.1, h.2)))

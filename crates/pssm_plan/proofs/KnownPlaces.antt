@@ -15,7 +15,7 @@ use Rattle.pssm_model.specs.Forest.HasRegionsAbove.{region, state, machine}
 use Rattle.pssm_model.specs.Legs.{Leaves, Enters}
 use Rattle.pssm_model.specs.Shapes.{HasShape}
 use Rattle.pssm_plan.specs.inner.Single.{IsEndOf, IsSpan, LiesInSpan, IsEnteredBy}
-use Rattle.pssm_model.proofs.BuiltTransitions.{leaves_at, enters_at}
+use Rattle.pssm_model.proofs.ElementLaws.{leaves_at, enters_at}
 use Rattle.pssm_model.proofs.OwnerChains.{top_lies_nowhere, counted_is_place}
 use Rattle.pssm_model.proofs.Nesting.{under_cases, shallower}
 use Rattle.pssm_plan.proofs.Ranks.{owner_under, depth_under}

@@ -6,6 +6,7 @@ pub mod Growing
 pub mod Rewriting
 pub mod Leading
 pub mod Courses
+pub mod Settling
 pub mod StandingItems
 pub mod Making
 pub mod Running
@@ -21,3 +22,10 @@ pub mod Known
 pub mod KnownPlaces
 pub mod KnownItems
 pub mod StepLengths
+pub mod ReadyOrOut
+pub mod SteadyPlaces
+pub mod SteadyItems
+pub mod SteadyFilling
+pub mod SteadyChanges
+pub mod Steadiness
+pub mod SteadyRules

@@ -1,5 +1,5 @@
 -- The plans of a start and of routes that fire, and of one more item that runs.
-use Rattle.std.proofs.Common.{◌↔◌, List, [], Contains, refl, sym, subst, inl, inr, ⊎_elim}
+use Rattle.std.proofs.Common.{◌↔◌, ◌<◌, List, [], Contains, arith, refl, sym, subst, inl, inr, ⊎_elim}
 use Rattle.pssm_model.specs.declared.ids.TransId.{TransId}
 use Rattle.pssm_model.specs.declared.elements.DraftMachine.{DraftMachine}
 use Rattle.pssm_model.specs.declared.steps.Route.{Route}
@@ -15,10 +15,13 @@ use Rattle.pssm_model.specs.Course.Head.{Starts, Fires}
 use Rattle.pssm_model.specs.Order.{course_by}
 use Rattle.pssm_model.specs.Order.HasGone.{begun}
 use Rattle.pssm_model.specs.Nested.{IsPlainlyNested}
-use Rattle.pssm_model.specs.OneRegion.{single_route}
+use Rattle.pssm_model.specs.Routes.{single_route}
 use Rattle.pssm_plan.specs.inner.Single.{IsCalledOver, GoesOver}
-use Rattle.pssm_model.proofs.BuiltTransitions.{nothing_in_nil}
+use Rattle.pssm_model.proofs.ElementLaws.{nothing_in_nil}
 use Rattle.pssm_plan.proofs.MoreItems.{nothing_ran, opens_at_head}
+use Rattle.std.proofs.lemmas.Bool.{false≢true}
+use Rattle.pssm_model.specs.Changes.{Agree, nothing_yet}
+use Rattle.pssm_plan.specs.inner.Views.{nothing_held}
 use Rattle.pssm_config.specs.Tables.{Tables, configuration_of}
 use Rattle.pssm_plan.specs.declared.roster.Call.{Call}
 use Rattle.pssm_plan.specs.declared.roster.Pair.{Pair}
@@ -49,6 +52,15 @@ module _ {m : DraftMachine} (b : IsPlainlyNested m) (shape : HasShape m) (head :
         λ h. absurd (nothing_ran head (configuration_of tables) x h),
       ))
       made.settled
+
+-- the tables of a start hold the configuration before anything has happened
+pub nothing_at_start : Agree (configuration_of nothing_held) nothing_yet
+nothing_at_start = record {
+  active = λ s. (λ h. absurd (false≢true h), λ h. absurd h);
+  remembered = λ r s. (λ h. cc, λ h. absurd h);
+  stepped = λ s k. (λ h. (let lt : k < 0 = h in omega arith), λ h. absurd h);
+  left_empty = λ r. (λ h. absurd (false≢true h), λ h. absurd h);
+}
 
 -- a start calls the openings of the top regions
 pub start_calls : (m : DraftMachine) (now : Configuration) (x : Item) → IsTopOpening m x ↔ IsCalledOver m (course_by Starts now []) x

@@ -15,10 +15,10 @@ use Rattle.pssm_model.specs.declared.steps.Item.TheVariants as items
 use Rattle.pssm_model.specs.Configuration.{Configuration}
 use Rattle.pssm_model.specs.Items.{StartOpens}
 use Rattle.pssm_model.specs.Course.{Head, Course, FiresBy, HasGoneBy, HasRun, HasRestored}
-use Rattle.pssm_model.specs.OneRegion.{single_route}
+use Rattle.pssm_model.specs.Routes.{single_route}
 use Rattle.pssm_plan.specs.inner.Single.{IsDirectRoute, GoesDirectly, IsEnteredBy, GoesOver, IsEnteredOver, IsCalledOver, IsCalledNext}
-use Rattle.pssm_model.proofs.BuiltTransitions.{nothing_in_nil}
-use Rattle.pssm_model.proofs.BuiltRoutes.{in_one, is_one}
+use Rattle.pssm_model.proofs.ElementLaws.{nothing_in_nil}
+use Rattle.pssm_model.proofs.RouteLaws.{in_one, is_one}
 
 -- the step once this item has run in this way
 abbrev pub gone_on : Course → Item → How → Course

@@ -17,11 +17,11 @@ use Rattle.pssm_model.specs.Routes.IsReached.{start, on}
 use Rattle.pssm_model.specs.FiringSets.{IsLateOrigin, IsLateRoute}
 use Rattle.pssm_model.specs.Course.{Course, FiresBy, HasGoneBy, HasRestored}
 use Rattle.pssm_model.specs.Nested.{IsPlainlyNested, IsInitialOrState, EndsOnState}
-use Rattle.pssm_model.specs.OneRegion.{single_route}
+use Rattle.pssm_model.specs.Routes.{single_route}
 use Rattle.pssm_plan.specs.inner.Single.{IsDirectTransition, IsDirectRoute, GoesDirectly}
-use Rattle.pssm_model.proofs.BuiltElements.{mapped_some, all_at, kind_unique}
-use Rattle.pssm_model.proofs.BuiltTransitions.{nothing_in_nil, leaves_one}
-use Rattle.pssm_model.proofs.BuiltRoutes.{in_one, is_one, nil_from_nothing, one_in_order, none_in_order, all_of_one, same_route, on_single, on_single_is, reached_is_on, single_source, single_source_is}
+use Rattle.pssm_model.proofs.ElementLaws.{mapped_some, all_at, kind_unique}
+use Rattle.pssm_model.proofs.ElementLaws.{nothing_in_nil, leaves_one}
+use Rattle.pssm_model.proofs.RouteLaws.{in_one, is_one, nil_from_nothing, one_in_order, none_in_order, all_of_one, same_route, on_single, on_single_is, reached_is_on, single_source, single_source_is}
 
 module _ {m : DraftMachine} (b : IsPlainlyNested m) where
   -- a vertex is an initial vertex or a State

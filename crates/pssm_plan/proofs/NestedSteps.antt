@@ -17,14 +17,14 @@ use Rattle.pssm_model.specs.Order.{HasGone, course_by}
 use Rattle.pssm_model.specs.Order.HasGone.{begun as gone_begun, more as gone_more}
 use Rattle.pssm_model.specs.Nested.{IsPlainlyNested}
 use Rattle.pssm_plan.specs.inner.Single.{IsDirectRoute, GoesDirectly, LiesInSpan, GoesOver, IsExitedOver, IsCalledOver}
-use Rattle.pssm_model.specs.OneRegion.{single_route}
+use Rattle.pssm_model.specs.Routes.{single_route}
 use Rattle.pssm_model.specs.declared.elements.VertexKind.TheVariants as kinds
 use Rattle.pssm_model.specs.declared.ids.TransId.{TransId}
 use Rattle.pssm_model.specs.Forest.{HasKind}
 use Rattle.pssm_model.specs.Legs.{Leaves}
-use Rattle.pssm_model.proofs.BuiltElements.{some_at, kind_unique}
-use Rattle.pssm_model.proofs.BuiltTransitions.{nothing_in_nil, leaves_one, leaves_at}
-use Rattle.pssm_model.proofs.BuiltRoutes.{single_source, single_route_same}
+use Rattle.pssm_model.proofs.ElementLaws.{some_at, kind_unique}
+use Rattle.pssm_model.proofs.ElementLaws.{nothing_in_nil, leaves_one, leaves_at}
+use Rattle.pssm_model.proofs.RouteLaws.{single_source, single_route_same}
 use Rattle.pssm_plan.proofs.NestedRoutes.{route_is_direct, late_route_is, route_is_single}
 use Rattle.pssm_plan.proofs.SingleItems.{called_is}
 use Rattle.pssm_plan.proofs.MoreItems.{gone_on, goes_on_directly, begun, begins_directly, gone_by_more, called_more, run_more}

@@ -17,7 +17,7 @@ use Rattle.pssm_model.specs.Shapes.{HasShape}
 use Rattle.pssm_model.specs.Course.{Course}
 use Rattle.pssm_model.specs.Items.{Called, Before}
 use Rattle.pssm_plan.specs.inner.Single.{GoesDirectly, IsCalledOver, IsOrderedOver}
-use Rattle.pssm_model.proofs.BuiltElements.{mapped_some}
+use Rattle.pssm_model.proofs.ElementLaws.{mapped_some}
 use Rattle.pssm_model.proofs.OwnerChains.{one_count, state_down}
 use Rattle.pssm_model.proofs.Nesting.{shallower}
 use Rattle.pssm_plan.proofs.SingleItems.{direct_over, called_is, before_is}

@@ -1,11 +1,10 @@
 -- A list of calls that is gone through, each call in its place becoming another.
 use Rattle.std.proofs.Common.{◌≡◌, ◌≢◌, ◌+◌, ◌<◌, ◌≤◌, ℕ, List, length, get_or, set, IsTrue, Bool, arith, sym, subst, ap, refl, ◌∙◌, ⊎_elim}
-use Rattle.std.proofs.lemmas.Bool.{cases_lt}
 use Rattle.std.proofs.lemmas.List.{get_or-set_same, get_or-set_other, length-set, get_or_default}
 use Rattle.pssm_model.specs.declared.steps.Item.{Item}
 use Rattle.pssm_plan.specs.declared.roster.Call.{Call}
 use Rattle.pssm_plan.specs.declared.roster.Pair.{Pair}
-use Rattle.pssm_plan.specs.inner.Marks.{IsListed, IsMarked, IsBlocked, IsSettled, ArePairwise}
+use Rattle.pssm_plan.specs.inner.Marks.{IsListed, IsMarked, IsBlocked, ArePairwise}
 use Rattle.pssm_plan.proofs.Growing.{lower_or_same}
 
 -- the calls below a number are rewritten, and the others are as they were
@@ -71,26 +70,3 @@ listed_along a b x long same listed =
 -- what blocks an item in the one list blocks it in the other
 pub blocked_along : (a b : List Call) (order : List Pair) (x : Item) → AreAlike a b → IsBlocked a order x → IsBlocked b order x
 blocked_along a b order x h blocked = (blocked.0, blocked.1, λ marked. blocked.2 (marked_along b a blocked.0 (alike_back a b h) marked))
-
--- while calls are settled, items and what has run stay
-pub settling_alike : (old now : List Call) (order : List Pair) (i : ℕ) → IsRewritten (IsSettled old order) old now i → AreAlike old now
-settling_alike old now order i h = (
-  h.same_length,
-  λ k d lt. ⊎_elim
-      (λ below. let s = h.done k d below in (s.item_is, s.ran))
-      (λ above. let e = h.rest k d above in (ap (λ (c : Call). c.item) e, ap (λ (c : Call). c.ran) e))
-      (cases_lt k i),
-)
-
-pub settled_by_old : (old now : List Call) (order : List Pair) (i : ℕ) (a b : Call) → IsRewritten (IsSettled old order) old now i
-    → IsSettled now order a b → IsSettled old order a b
-settled_by_old old now order i a b h s =
-    let alike = settling_alike old now order i h in
-    record {
-      item_is = s.item_is;
-      ran = s.ran;
-      blocked = (
-        λ true. blocked_along now old order a.item (alike_back old now alike) (s.blocked.0 true),
-        λ is. s.blocked.1 (blocked_along old now order a.item alike is),
-      );
-    }

@@ -19,7 +19,7 @@ use Rattle.pssm_model.specs.Ways.{Memory, IsWay}
 use Rattle.pssm_model.specs.Order.{IsReady, IsWayNow, course_by}
 use Rattle.pssm_model.specs.Order.HasGone.{more}
 use Rattle.pssm_model.specs.Nested.{IsPlainlyNested}
-use Rattle.pssm_model.specs.OneRegion.{single_route}
+use Rattle.pssm_model.specs.Routes.{single_route}
 use Rattle.pssm_plan.specs.inner.Single.{IsCalledOver, IsCalledNext, GoesOver, IsEnteredBy}
 use Rattle.pssm_plan.proofs.NestedRoutes.{route_is_single}
 use Rattle.pssm_plan.proofs.MoreItems.{called_more, run_more}

@@ -16,9 +16,9 @@ use Rattle.pssm_model.specs.Course.Head.{Starts, Fires}
 use Rattle.pssm_model.specs.Items.{CanExit, IsAimedAt, PathBefore, IsCalledInLeg, LegEnds, LegOpens, EnterOpens, OpensByEntering, StartOpens, Called, IsExit, IsEffect, IsEnter, Before}
 use Rattle.pssm_model.specs.Items.Called.{start, run, ends, opens, restored, entered}
 use Rattle.pssm_model.specs.Items.Before.{inner_exit, outer_enter, exit_effect, path, effect_enter, effect_end, enter_end, later}
-use Rattle.pssm_model.specs.OneRegion.{single_route}
+use Rattle.pssm_model.specs.Routes.{single_route}
 use Rattle.pssm_plan.specs.inner.Single.{IsDirectTransition, GoesDirectly, IsEnteredBy, GoesOver, IsExitedOver, IsEnteredOver, OpensAfterEntry, IsCalledOver, IsOrderedOver}
-use Rattle.pssm_model.proofs.BuiltRoutes.{on_single, on_single_is, single_route_same}
+use Rattle.pssm_model.proofs.RouteLaws.{on_single, on_single_is, single_route_same}
 use Rattle.pssm_plan.proofs.SingleLegs.{same_leg, same_leg_is, no_later_leg, no_path, leg_exits_is, leg_exits_of, leg_enters_is, leg_enters_of, aimed_is, aimed_of, no_leg_end, no_leg_opening}
 
 -- the leg of a route of one transition

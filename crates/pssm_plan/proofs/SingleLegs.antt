@@ -19,10 +19,10 @@ use Rattle.pssm_model.specs.Legs.Scope.{Within}
 use Rattle.pssm_model.specs.Legs.LegScope.{internal, local, point, other}
 use Rattle.pssm_model.specs.Items.{IsAimedAt, LegEnds, LegOpens, PathBefore}
 use Rattle.pssm_model.specs.Items.PathBefore.{next as step_next, after as step_after}
-use Rattle.pssm_model.specs.OneRegion.{single_route}
+use Rattle.pssm_model.specs.Routes.{single_route}
 use Rattle.pssm_plan.specs.inner.Single.{IsDirectTransition, IsEndOf, IsSpan, LiesInSpan, IsEnteredBy, EndsIn}
-use Rattle.pssm_model.proofs.BuiltElements.{kind_unique}
-use Rattle.pssm_model.proofs.BuiltRoutes.{on_single, on_single_is}
+use Rattle.pssm_model.proofs.ElementLaws.{kind_unique}
+use Rattle.pssm_model.proofs.RouteLaws.{on_single, on_single_is}
 
 -- the innermost region of the same vertices is the same
 pub scope_same : (m : DraftMachine) (P Q : VertexId → Type 0) (r : RegionId) → ((v : VertexId) → P v ↔ Q v) → IsScope m P r → IsScope m Q r

@@ -15,8 +15,8 @@ use Rattle.pssm_model.specs.Forest.LiesUnder.{owned, further}
 use Rattle.pssm_model.specs.Shapes.{HasShape}
 use Rattle.pssm_model.specs.Legs.{Leaves, Enters}
 use Rattle.pssm_plan.specs.inner.Single.{IsEndOf, IsSpan, LiesInSpan, IsEnteredBy}
-use Rattle.pssm_model.proofs.BuiltElements.{mapped_some}
-use Rattle.pssm_model.proofs.BuiltRoutes.{is_one}
+use Rattle.pssm_model.proofs.ElementLaws.{mapped_some}
+use Rattle.pssm_model.proofs.RouteLaws.{is_one}
 use Rattle.pssm_model.proofs.Nesting.{shallower}
 use Rattle.pssm_model.proofs.OwnerChains.{counted_is_place, owned_is_place}
 use Rattle.pssm_model.proofs.Scopes.{one_scope}

@@ -29,10 +29,10 @@ use Rattle.pssm_model.specs.Order.{HasGone, course_by, entries_at_most, IsNested
 use Rattle.pssm_model.specs.Order.HasGone.{begun, more}
 use Rattle.pssm_model.specs.Nested.{IsPlainlyNested}
 use Rattle.pssm_plan.specs.inner.Single.{IsCalledOver}
-use Rattle.pssm_model.proofs.BuiltElements.{mapped_some, same_vertex, same_transition}
-use Rattle.pssm_model.proofs.BuiltForest.{same_region}
-use Rattle.pssm_model.proofs.BuiltTransitions.{nothing_in_nil}
-use Rattle.pssm_model.proofs.BuiltRoutes.{in_one, is_one}
+use Rattle.pssm_model.proofs.ElementLaws.{mapped_some, same_vertex, same_transition}
+use Rattle.pssm_model.proofs.ElementLaws.{same_region}
+use Rattle.pssm_model.proofs.ElementLaws.{nothing_in_nil}
+use Rattle.pssm_model.proofs.RouteLaws.{in_one, is_one}
 use Rattle.pssm_plan.proofs.SingleItems.{called_is, direct_over}
 use Rattle.pssm_plan.proofs.NestedSteps.{gone_directly, over_in_range, ran_was_called}
 use Rattle.pssm_plan.proofs.KnownItems.{lying_there}
@@ -47,7 +47,7 @@ module _ (m : DraftMachine) where
   number_of _ = 0
 
   -- What the item names is there, and the item is one that such a machine calls.
-  abbrev IsThere : Item → Type 0
+  abbrev pub IsThere : Item → Type 0
   IsThere (items.Exit s) = s.0 < length m.vertices
   IsThere (items.Enter s) = s.0 < length m.vertices
   IsThere (items.Opened r Plain) = r.0 < length m.regions
@@ -122,7 +122,7 @@ module _ {m : DraftMachine} (shape : HasShape m) where
   start_there (Fires routes) r h = absurd h
 
   -- what is called is there
-  called_there : (b : IsPlainlyNested m) (head : Head) (now : Configuration) (ran : List (Item × How)) → HasGone m head now ran
+  pub called_there : (b : IsPlainlyNested m) (head : Head) (now : Configuration) (ran : List (Item × How)) → HasGone m head now ran
       → (x : Item) → IsCalledOver m (course_by head now ran) x → IsThere m x
   called_there b head now ran gone (items.Exit s) h = lying_there shape s (Region h.1.2.0) h.1.2.2
   called_there b head now ran gone (items.Effect t) h = over_in_range b head now ran gone t h

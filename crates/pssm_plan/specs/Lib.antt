@@ -1,4 +1,5 @@
 pub mod Agenda
 pub mod Plans
 pub mod Standings
+pub mod Steadiness
 pub mod inner

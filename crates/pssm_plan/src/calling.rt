@@ -7,7 +7,7 @@ ghost use Rattle.pssm_model.specs.declared.steps.Route.{Route};
 ghost use Rattle.pssm_model.specs.declared.steps.How.{How};
 ghost use Rattle.pssm_plan.specs.inner.Single.{IsEnteredBy, LiesInSpan, EndsIn};
 ghost use Rattle.pssm_config.specs.Tables.{Fits, configuration_of};
-ghost use Rattle.pssm_plan.specs.inner.Marks.{IsLonger, IsMarked, IsListed};
+ghost use Rattle.pssm_plan.specs.inner.Marks.{IsLonger, IsMarked, IsListed, AreBlocked};
 ghost use Rattle.pssm_plan.specs.inner.Sequence.{IsItemOf, IsRoster, IsExtended};
 ghost use Rattle.pssm_plan.specs.inner.Calling.{IsOpeningOf, IsEntryOf, IsOfLeg, IsExitOf, IsOpenedAfter, IsOpenedBy, IsTopOpening, IsSingle, IsOfRoute, IsOfRoutes, IsLate, IsFollowing, IsMadeOf, IsRunIn};
 
@@ -64,13 +64,12 @@ impl Roster {
         Ok(())
     }
 
-    // Lists them where the State is entered and its entry has run.
+    // Lists them where the State's entry has run.
     fn reopen(
         &mut self,
         machine: &Machine,
         s: VertexId,
         t: TransId,
-        entered: bool,
         ran: bool,
     ) -> Result<(), NoMemory>
         requires roster { IsRoster machine.now self.old.calls.items self.old.order.items }
@@ -79,9 +78,9 @@ impl Roster {
         ensures calls { IsLonger self.old.calls.items self.new.calls.items }
         ensures order { IsLonger self.old.order.items self.new.order.items }
         ensures added { OnOk result (IsExtended machine.now self.old.calls.items
-            (λ x. IsTrue entered × IsTrue ran × IsOpeningOf machine.now s t x) self.new.calls.items self.new.order.items) }
+            (λ x. IsTrue ran × IsOpeningOf machine.now s t x) self.new.calls.items self.new.order.items) }
     {
-        if entered && ran {
+        if ran {
             self.add_openings(machine, s, t)
         } else {
             Ok(())
@@ -97,10 +96,12 @@ impl Roster {
         ensures order { IsLonger self.old.order.items self.new.order.items }
         ensures added { OnOk result (IsExtended machine.now self.old.calls.items (IsEntryOf machine.now self.old.calls.items t v) self.new.calls.items self.new.order.items) }
     {
-        let entered = enters(machine, t, v);
+        if !enters(machine, t, v) {
+            return Ok(());
+        }
         let ran = has_run(self.calls.as_slice(), Item::Enter(v));
-        self.add(machine, Item::Enter(v), entered)?;
-        self.reopen(machine, v, t, entered, ran)
+        self.add(machine, Item::Enter(v), true)?;
+        self.reopen(machine, v, t, ran)
     }
 
     /// Lists the effect of a transition and the entries that come of it.
@@ -264,6 +265,7 @@ impl Roster {
         requires item { IsItemOf machine.now item }
         requires single { (route : Route) → how.now ≡ How.By route → IsSingle machine.now route }
         ensures added { OnOk result (IsExtended machine.now self.old.calls.items (IsFollowing machine.now self.old.calls.items item how.now) self.new.calls.items self.new.order.items) }
+        ensures longer { OnOk result (IsLonger self.old.order.items self.new.order.items) }
         ensures few { OnOk result (length self.new.calls.items < 2 ^ 32) }
         ensures calls { OnErr result (self.new.calls.items ≡ self.old.calls.items) }
         ensures order { OnErr result (self.new.order.items ≡ self.old.order.items) }
@@ -285,9 +287,9 @@ impl Roster {
         ensures made { IfOk result (λ roster. IsMadeOf machine.now (IsTopOpening machine.now) roster.calls.items roster.order.items) }
     {
         let mut roster = Roster::new(alloc);
-        let outcome = roster.add_tops(machine);
-        roster.settle();
-        made(roster, outcome)
+        roster.add_tops(machine)?;
+        roster.settle_new();
+        made(roster)
     }
 
     /// The roster of routes that fire.
@@ -303,9 +305,9 @@ impl Roster {
         ensures made { IfOk result (λ roster. IsMadeOf machine.now (IsOfRoutes machine.now (configuration_of config.now) [] routes.now) roster.calls.items roster.order.items) }
     {
         let mut roster = Roster::new(alloc);
-        let outcome = roster.add_routes(machine, config, routes);
-        roster.settle();
-        made(roster, outcome)
+        roster.add_routes(machine, config, routes)?;
+        roster.settle_new();
+        made(roster)
     }
 
     /// Notes that a listed item runs in this way, and lists what it calls, all of it or nothing.
@@ -313,26 +315,27 @@ impl Roster {
         requires roster { IsRoster machine.now self.old.calls.items self.old.order.items }
         requires item { IsItemOf machine.now item }
         requires listed { IsListed self.old.calls.items item }
+        requires blocked { AreBlocked self.old.calls.items self.old.order.items }
         requires single { (route : Route) → how.now ≡ How.By route → IsSingle machine.now route }
         ensures ran { OnOk result (IsRunIn machine.now self.old.calls.items item how.now self.new.calls.items self.new.order.items) }
         ensures few { OnOk result (length self.new.calls.items < 2 ^ 32) }
         ensures calls { OnErr result (self.new.calls.items ≡ self.old.calls.items) }
         ensures order { OnErr result (self.new.order.items ≡ self.old.order.items) }
     {
+        let pairs = self.order.as_slice().len();
         self.follow_whole(machine, item, how)?;
         self.tell(item);
-        self.settle();
+        self.settle(item, pairs);
         Ok(())
     }
 }
 
-// The roster, where it was made whole.
-fn made(roster: Roster, outcome: Result<(), NoMemory>) -> Result<Roster, NoMemory>
+// The roster, where its items are not too many.
+fn made(roster: Roster) -> Result<Roster, NoMemory>
     ensures ok { IfOk result (λ other. (other.calls.items ≡ roster.calls.items) × (other.order.items ≡ roster.order.items)) }
-    ensures made { IsOk result → IsOk outcome }
     ensures few { IfOk result (λ other. length other.calls.items < 2 ^ 32) }
 {
-    if outcome.is_ok() && roster.calls.as_slice().len() <= MOST_CALLS {
+    if roster.calls.as_slice().len() <= MOST_CALLS {
         Ok(roster)
     } else {
         Err(NoMemory)

@@ -4,6 +4,7 @@ ghost use Rattle.pssm_model.specs.declared.elements.DraftMachine.{DraftMachine};
 ghost use Rattle.pssm_model.specs.Nested.{IsPlainlyNested};
 ghost use Rattle.pssm_model.specs.Course.Head.{Starts, Fires};
 ghost use Rattle.pssm_model.specs.Items.{HasRunOut};
+ghost use Rattle.pssm_model.specs.Changes.{Agree, nothing_yet};
 ghost use Rattle.pssm_model.specs.Routes.{Truth, IsStateRoute};
 ghost use Rattle.pssm_model.specs.declared.steps.Route.{Route};
 ghost use Rattle.pssm_model.specs.Order.{IsReady, IsWayNow};
@@ -13,7 +14,7 @@ ghost use Rattle.pssm_plan.specs.Plans.{IsPlanOf};
 ghost use Rattle.pssm_plan.specs.Standings.{StandsAs, ListsReady, IsItemAt, ready_calls};
 
 use crate::ready::{count_ready, ready_item};
-use crate::roster::{Roster, has_run, have_all_run, is_listed, obstacle};
+use crate::roster::{Roster, call_of, have_all_run, obstacle};
 use crate::standing::Standing;
 use pssm_config::Config;
 use pssm_model::{Firing, How, Item, Machine};
@@ -28,17 +29,18 @@ enum Beginning {
     Firing(Snapshot<Firing>, Snapshot<Config>),
 }
 
-/// An item that has run, and its way, which is only for clauses and takes no memory.
+/// An item that has run, and its way: it is only for clauses and takes no memory.
 #[derive(Drop)]
 struct Step {
-    item: Item,
+    item: Snapshot<Item>,
     how: Snapshot<How>,
 }
 
 /// The plan of a step (UML 2.5.1, 14.2.3.9, run to completion): the items that it calls, which of them have run, and
 /// which wait for others.
 ///
-/// A clause sees the step as far as it has come, and the tables. `IsPlanOf` says that they are those of a machine.
+/// A clause sees the step as far as it has come, the lists of its called items and of their order. `IsPlanOf` says that all
+/// this is that of a step of a machine.
 #[derive(Drop)]
 pub struct Plan {
     beginning: Beginning,
@@ -65,11 +67,14 @@ impl Plan {
         ensures { (m : DraftMachine) → IsPlanOf m self.now → StandsAs m (course_of self.now) item result }
     {
         let calls = self.roster.calls.as_slice();
-        if !is_listed(calls, item) {
+        let Some(call) = call_of(calls, item) else {
             return Standing::NotCalled;
-        }
-        if has_run(calls, item) {
+        };
+        if call.ran {
             return Standing::Ran;
+        }
+        if !call.blocked {
+            return Standing::Ready;
         }
         match obstacle(calls, self.roster.order.as_slice(), item) {
             Some(on) => Standing::Waits { on },
@@ -102,9 +107,12 @@ impl Plan {
     }
 
     /// The plan of a start, which opens the top regions.
+    ///
+    /// `NoMemory`: memory ran out.
     pub fn of_start(alloc: Global, machine: &Machine) -> Result<Plan, NoMemory>
         requires { IsPlainlyNested machine.now }
         ensures head { IfOk result (λ plan. plan.head ≡ Starts) }
+        ensures at_head { IfOk result (λ plan. Agree (configuration_of plan.at_head) nothing_yet) }
         ensures none_ran { IfOk result (λ plan. plan.ran ≡ []) }
         ensures plan { IfOk result (IsPlanOf machine.now) }
     {
@@ -118,6 +126,8 @@ impl Plan {
     }
 
     /// The plan of routes that fire in a configuration.
+    ///
+    /// `NoMemory`: memory ran out; nothing has changed.
     pub fn of_firing(
         alloc: Global,
         machine: &Machine,
@@ -158,7 +168,7 @@ impl Plan {
         let _shaped = machine.regions();
         let ran = self.ran.len();
         let step = Step {
-            item,
+            item: Snapshot::of(&item),
             how: Snapshot::of(how),
         };
         self.ran.push(step)?;

@@ -3,11 +3,11 @@ ghost use Rattle.std.specs.Prelude.{◌≡◌, ◌↔◌, ◌⊎◌, ◌≤◌, 
 ghost use Rattle.pssm_model.specs.declared.steps.Item.{Item};
 ghost use Rattle.pssm_plan.specs.declared.roster.Call.{Call};
 ghost use Rattle.pssm_plan.specs.declared.roster.Pair.{Pair};
-ghost use Rattle.pssm_plan.specs.inner.Marks.{IsListed, IsMarked, IsBlocked, the_pair, IsLonger, IsTold, IsSettled, ArePairwise};
+ghost use Rattle.pssm_plan.specs.inner.Marks.{IsListed, IsMarked, IsBlocked, the_pair, IsLonger, IsTold, IsSettled, IsBlockedAs, IsSettledAt, IsResettled, ArePairwise};
 ghost use Rattle.pssm_plan.specs.inner.Sequence.{IsItemOf, IsSequence, IsLink, AreItemsOf, IsRoster, IsExtended};
 
 use crate::arrows::comes_before;
-use pssm_model::{Item, Machine};
+use pssm_model::{Item, Machine, VertexId};
 use std::alloc::{AllocError as NoMemory, Global};
 
 /// An item that a step calls: whether it has run, and whether an item that comes before it has not.
@@ -42,6 +42,18 @@ pub fn is_listed(calls: &[Call], item: Item) -> bool
         }
     }
     false
+}
+
+/// The call of an item, where it is listed.
+pub fn call_of(calls: &[Call], item: Item) -> Option<Call>
+    ensures { MatchOption result (IsListed calls.now item → ⊥) (λ call. Contains calls.now call × (call.item ≡ item)) }
+{
+    for call in calls {
+        if same_item(call.item, item) {
+            return Some(*call);
+        }
+    }
+    None
 }
 
 /// Whether the item is listed as one that has run.
@@ -132,24 +144,54 @@ fn told(call: Call, item: Item) -> Call
     }
 }
 
-// The call, blocked exactly where an item that comes before has not run.
-fn settled(calls: &[Call], order: &[Pair], call: Call) -> Call
-    ensures { IsSettled calls.now order.now call result }
+// The call, blocked as said where it is one of the item.
+fn blocked_as(call: Call, item: Item, blocked: bool) -> Call
+    ensures { IsBlockedAs item blocked call result }
 {
-    Call {
-        item: call.item,
-        ran: call.ran,
-        blocked: obstacle(calls, order, call.item).is_some(),
+    if same_item(call.item, item) {
+        Call {
+            item: call.item,
+            ran: call.ran,
+            blocked,
+        }
+    } else {
+        call
     }
 }
 
-// Says of each call whether its item waits for another.
-fn settle_all(calls: &mut [Call], order: &[Pair])
-    ensures { ArePairwise (IsSettled calls.old order.now) calls.old calls.new }
+// Says of the calls of an item that it waits for another, or that it does not.
+fn mark_blocked(calls: &mut [Call], item: Item, blocked: bool)
+    ensures { ArePairwise (IsBlockedAs item blocked) calls.old calls.new }
 {
-    for k in 0..calls.len() {
-        let call = settled(calls, order, calls[k]);
-        calls[k] = call;
+    for call in calls.iter_mut() {
+        *call = blocked_as(*call, item, blocked);
+    }
+}
+
+// Says of the calls of an item whether it waits for another.
+fn settle_item(calls: &mut [Call], order: &[Pair], item: Item)
+    ensures { ArePairwise (IsSettledAt calls.old order.now item) calls.old calls.new }
+{
+    let blocked = obstacle(calls, order, item).is_some();
+    mark_blocked(calls, item, blocked);
+}
+
+// Whether the pair is a new one or says that another item waits for this one.
+fn is_due(place: usize, pair: Pair, item: Item, from: usize) -> bool
+    ensures { IsTrue result ↔ ((from ≤ place) ⊎ (pair.first ≡ item)) }
+{
+    from <= place || same_item(pair.first, item)
+}
+
+// Says of each item that comes after this one, or second in a pair from this place on, whether it waits for another.
+fn settle_after(calls: &mut [Call], order: &[Pair], item: Item, from: usize)
+    ensures { ArePairwise (IsResettled calls.old order.now item from (length order.now)) calls.old calls.new }
+{
+    for k in 0..order.len() {
+        let pair = order[k];
+        if is_due(k, pair, item, from) {
+            settle_item(calls, order, pair.second);
+        }
     }
 }
 
@@ -215,11 +257,20 @@ impl Roster {
         }
     }
 
-    /// Says of each item whether it waits for another.
-    pub fn settle(&mut self)
+    /// Says of each item that comes after this one, or second in a pair from this place on, whether it waits for another.
+    pub fn settle(&mut self, item: Item, from: usize)
+        ensures settled { ArePairwise (IsResettled self.old.calls.items self.old.order.items item from (length self.old.order.items)) self.old.calls.items self.new.calls.items }
+        ensures order { self.new.order.items ≡ self.old.order.items }
+    {
+        settle_after(self.calls.as_mut_slice(), self.order.as_slice(), item, from);
+    }
+
+    /// Says of each item whether it waits for another, where none is said to wait yet.
+    pub fn settle_new(&mut self)
+        requires { (call : Call) → Contains self.old.calls.items call → IsTrue call.blocked → ⊥ }
         ensures settled { ArePairwise (IsSettled self.old.calls.items self.old.order.items) self.old.calls.items self.new.calls.items }
         ensures order { self.new.order.items ≡ self.old.order.items }
     {
-        settle_all(self.calls.as_mut_slice(), self.order.as_slice());
+        self.settle(Item::Pick(VertexId(0)), 0);
     }
 }

@@ -4,7 +4,6 @@ use Rattle.pssm_model.specs.Shapes.{HasShape}
 use Rattle.pssm_model.specs.WellFormed.{KeepsModelRules}
 use Rattle.pssm_model.specs.NotBuilt.{IsNotBuilt}
 use Rattle.pssm_model.specs.BuiltMachine.{IsBuiltMachine}
-use Rattle.pssm_model.proofs.BuiltFrom.{built_from_rules}
 use Rattle.pssm_semantics.specs.declared.setting.Setting.{Setting}
 use Rattle.pssm_semantics.specs.Built.{IsSilent, IsBuilt}
 
@@ -36,4 +35,4 @@ built_setting s machine = record {
 -- so is one whose machine has its shape, keeps the rules of models and has no element that is not built
 pub silent_runs : {setting : Setting} (s : IsSilent setting) → HasShape s.class.machine → KeepsModelRules s.class.machine
     → ((e : Element) → IsNotBuilt s.class.machine e → ⊥) → IsBuilt setting
-silent_runs s shape rules built = built_setting s (built_from_rules s.class_is.machine shape rules built)
+silent_runs s shape rules built = built_setting s (record { shape = shape; rules = rules; silent = s.class_is.machine; built = built })

@@ -13,8 +13,8 @@ use Rattle.pssm_model.specs.declared.ids.VertexId.{VertexId}
 use Rattle.pssm_model.specs.declared.ids.RegionId.{RegionId}
 use Rattle.pssm_model.specs.Legs.{On}
 use Rattle.pssm_model.specs.Course.{HasRun, HasRestored, Leg, IsLeg}
-use Rattle.pssm_model.proofs.BuiltTransitions.{nothing_in_nil}
-use Rattle.pssm_model.proofs.BuiltRoutes.{is_one}
+use Rattle.pssm_model.proofs.ElementLaws.{nothing_in_nil}
+use Rattle.pssm_model.proofs.RouteLaws.{is_one}
 use Rattle.pssm_semantics.specs.declared.entry.ObjectId.{ObjectId}
 use Rattle.pssm_semantics.specs.declared.entry.Entry.{Entry}
 use Rattle.pssm_semantics.specs.Journal.{object_of}

@@ -2,8 +2,8 @@
 use Rattle.std.proofs.Common.{◌≡◌, ◌⊎◌, List, [], ◌∷◌, Contains, Option, Some, None, sym, ap, subst, inl, inr, ⊎_elim}
 use Rattle.std.specs.List.{filter_map, cons_option}
 use Rattle.std.proofs.lemmas.List.Elements.{Contains-append_left, Contains-append_right, Contains-append_cases}
-use Rattle.pssm_model.proofs.BuiltTransitions.{nothing_in_nil}
-use Rattle.pssm_model.proofs.BuiltRoutes.{is_one, in_one}
+use Rattle.pssm_model.proofs.ElementLaws.{nothing_in_nil}
+use Rattle.pssm_model.proofs.RouteLaws.{is_one, in_one}
 
 -- the first of a list, and the others
 pub first_in : {X : Type 0} (x : X) (xs : List X) → Contains (x ∷ xs) x

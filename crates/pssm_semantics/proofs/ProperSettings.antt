@@ -3,7 +3,6 @@ use Rattle.std.proofs.Common.{◌≡◌, ◌≢◌, ◌⊎◌, ◌<◌, ◌≤�
 use Rattle.std.specs.List.{AllByRecursion}
 use Rattle.std.proofs.lemmas.List.Elements.{All-from_recursion, All-nil, All-map}
 use Rattle.std.proofs.lemmas.List.{get_or-map, length-map}
-use Rattle.pssm_model.specs.declared.elements.DraftMachine.{DraftMachine}
 use Rattle.pssm_model.specs.declared.elements.Vertex.{Vertex}
 use Rattle.pssm_model.specs.declared.elements.VertexKind.TheVariants as kinds
 use Rattle.pssm_model.specs.declared.elements.Transition.{Transition}
@@ -11,10 +10,7 @@ use Rattle.pssm_model.specs.declared.elements.Guard.{Guard}
 use Rattle.pssm_model.specs.declared.elements.Guard.TheVariants.{Always, Otherwise}
 use Rattle.pssm_model.specs.Shapes.{HasShape}
 use Rattle.pssm_model.specs.WellFormed.{KeepsModelRules}
-use Rattle.pssm_model.specs.BuiltMachine.{IsPlainVertex, IsPlainTransition}
 use Rattle.pssm_model.specs.Silent.{IsSilentVertex, IsSilentTransition}
-use Rattle.pssm_model.proofs.BuiltShape.{built_has_shape}
-use Rattle.pssm_model.proofs.BuiltWellFormed.{built_keeps_rules}
 use Rattle.pssm_semantics.specs.declared.tree.Act.{Act}
 use Rattle.pssm_semantics.specs.declared.setting.Class.{Class}
 use Rattle.pssm_semantics.specs.declared.setting.Setting.{Setting}
@@ -140,13 +136,7 @@ module _ (setting : Setting) (s : IsSilent setting) (shape : HasShape s.class.ma
         limits = (omega (arith, one_class), omega (arith, one_object), s.few_signals);
       }
 
--- a machine that the code runs has no behaviours
-plain_is_silent : (x : Vertex) → IsPlainVertex x → IsSilentVertex x
-plain_is_silent x h = record { entry = h.entry; exit = h.exit; steps = h.steps }
-
-plain_transition_is_silent : (m : DraftMachine) (x : Transition) → IsPlainTransition m x → IsSilentTransition x
-plain_transition_is_silent m x h = record { guard = inl h.guard; effect = h.effect }
-
+-- a setting that the code runs has no behaviours
 built_is_silent : (setting : Setting) → IsBuilt setting → IsSilent setting
 built_is_silent setting b = record {
   class = b.class;
@@ -164,12 +154,7 @@ built_is_silent setting b = record {
     nothing = b.class_is.nothing;
     guards = b.class_is.guards;
     marks = b.class_is.marks;
-    machine = record {
-      vertices = every IsPlainVertex IsSilentVertex b.class.machine.vertices plain_is_silent b.class_is.machine.vertices;
-      transitions =
-          every (IsPlainTransition b.class.machine) IsSilentTransition b.class.machine.transitions (plain_transition_is_silent b.class.machine)
-          b.class_is.machine.transitions;
-    };
+    machine = b.class_is.machine.silent;
   };
   object_name = b.object_name;
   object_class = b.object_class;
@@ -181,6 +166,6 @@ built_is_silent setting b = record {
 pub built_is_well_formed : (setting : Setting) → IsBuilt setting → IsWellFormed setting
 unfolding built_is_silent
 built_is_well_formed setting b = record {
-  proper = silent_is_proper setting (built_is_silent setting b) (built_has_shape b.class_is.machine);
-  rules = single (λ (c : Class). KeepsModelRules c.machine) setting.classes b.class b.classes (built_keeps_rules b.class_is.machine);
+  proper = silent_is_proper setting (built_is_silent setting b) b.class_is.machine.shape;
+  rules = single (λ (c : Class). KeepsModelRules c.machine) setting.classes b.class b.classes b.class_is.machine.rules;
 }

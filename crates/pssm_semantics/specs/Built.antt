@@ -1,4 +1,4 @@
--- The premise of what is built, the settings that the code runs: one class with a machine of one region, one object, and signals without arguments;
+-- The premise of what is built, the settings that the code runs: one class with a machine that the code runs, one object, and signals without arguments;
 -- and the entries of their runs.
 -- Later work widens this premise; no definition changes with it.
 use Rattle.std.specs.Prelude.{◌≡◌, ◌≢◌, ◌⊎◌, ◌<◌, ◌≤◌, ℕ, [], ◌∷◌, length, AllPairs}
@@ -8,11 +8,12 @@ use Rattle.pssm_model.specs.declared.ids.TransId.{TransId}
 use Rattle.pssm_model.specs.declared.elements.Transition.{Transition}
 use Rattle.pssm_model.specs.declared.steps.Firing.{Firing}
 use Rattle.pssm_model.specs.declared.steps.Mode.TheVariants.{Plain}
-use Rattle.pssm_model.specs.declared.steps.How.TheVariants.{By}
+use Rattle.pssm_model.specs.declared.steps.How.{How}
+use Rattle.pssm_model.specs.declared.steps.How.TheVariants.{By, Nothing}
 use Rattle.pssm_model.specs.declared.elements.Vertex.{Vertex}
 use Rattle.pssm_model.specs.BuiltMachine.{IsBuiltMachine}
 use Rattle.pssm_model.specs.Silent.{IsSilentMachine}
-use Rattle.pssm_model.specs.OneRegion.{single_route}
+use Rattle.pssm_model.specs.Routes.{single_route}
 use Rattle.pssm_semantics.specs.declared.entry.Entry.{Entry}
 use Rattle.pssm_semantics.specs.declared.entry.Entry.TheVariants.{Post, Start, Take, Exit, Effect, Enter, Opened}
 use Rattle.pssm_semantics.specs.declared.setting.SignalDecl.{SignalDecl}
@@ -27,7 +28,7 @@ pub record IsPlainSignal (x : SignalDecl) : Type 0 where
   pub name : IsName x.name
   pub count : x.count ≡ 0
 
--- a class without variables, guards and marks, whose one behaviour is the empty one
+-- a class without variables, guards and marks, whose one behaviour is the empty one, with a machine that the code runs
 pub record IsPlainClass (x : Class) : Type 0 where
   pub empty : Act
   pub name : IsName x.name
@@ -89,15 +90,16 @@ pub record IsBuilt (setting : Setting) : Type 0 where
   pub triggers : AllByRecursion (ListsSignals (length setting.signals)) class.machine.transitions
   pub defers : AllByRecursion (DefersSignals (length setting.signals)) class.machine.vertices
 
--- how many entries at most the open step of such a setting still needs: an exit or opening, an effect and an entry
-abbrev pub entries_to_complete : ℕ
-entries_to_complete = 3
-
 -- Nothing fires, or one transition does.
 abbrev pub IsBuiltFiring : Firing → Type 0
 IsBuiltFiring firing = (firing.routes ≡ []) ⊎ ((t : TransId) × (firing.routes ≡ single_route t ∷ []))
 
--- the entries of a run of such a setting: no arguments, no outputs, routes of one transition
+-- no way, or the route of one transition
+abbrev pub IsBuiltWay : How → Type 0
+IsBuiltWay how = (how ≡ Nothing) ⊎ ((t : TransId) × (how ≡ By (single_route t)))
+
+-- the entries of a run of such a setting: no arguments, no outputs, signal numbers from 1, openings by default, by no way or by the route of one transition,
+-- firings of at most one such route, and no completion, pick or do step
 abbrev pub IsBuiltEntry : Entry → Type 0
 IsBuiltEntry (Post o signal args) = args ≡ []
 IsBuiltEntry (Start o) = Unit {0}
@@ -105,5 +107,5 @@ IsBuiltEntry (Take o number firing) = (0 < number) × IsBuiltFiring firing
 IsBuiltEntry (Exit o state outs) = outs ≡ []
 IsBuiltEntry (Effect o transition outs) = outs ≡ []
 IsBuiltEntry (Enter o state outs) = outs ≡ []
-IsBuiltEntry (Opened o region mode how) = (mode ≡ Plain) × ((t : TransId) × (how ≡ By (single_route t)))
+IsBuiltEntry (Opened o region mode how) = (mode ≡ Plain) × IsBuiltWay how
 IsBuiltEntry _ = ⊥

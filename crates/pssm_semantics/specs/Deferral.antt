@@ -1,13 +1,10 @@
 -- Which signals are deferred.
-use Rattle.std.specs.Prelude.{◌⊎◌, List, Contains, IsSomeAnd}
+use Rattle.std.specs.Prelude.{List, Contains, IsSomeAnd}
 use Rattle.pssm_model.specs.declared.ids.VertexId.{VertexId}
 use Rattle.pssm_model.specs.declared.ids.SignalId.{SignalId}
 use Rattle.pssm_model.specs.declared.elements.DraftMachine.{DraftMachine}
-use Rattle.pssm_model.specs.declared.steps.Item.{Item}
 use Rattle.pssm_model.specs.Forest.{vertex_at}
 use Rattle.pssm_model.specs.FiringSets.{Overrides}
-use Rattle.pssm_model.specs.Course.{HasRun}
-use Rattle.pssm_model.specs.Items.{Called}
 use Rattle.pssm_semantics.specs.declared.entry.ObjectId.{ObjectId}
 use Rattle.pssm_semantics.specs.declared.entry.Entry.{Entry}
 use Rattle.pssm_semantics.specs.declared.stimulus.Stimulus.{Stimulus}
@@ -15,8 +12,6 @@ use Rattle.pssm_semantics.specs.declared.setting.Class.{Class}
 use Rattle.pssm_semantics.specs.Values.{eight_of}
 use Rattle.pssm_semantics.specs.Pool.{KnownSignals}
 use Rattle.pssm_semantics.specs.Journal.{IsActive, configuration_after}
-use Rattle.pssm_semantics.specs.Steps.{StepAt, IsLastStep, course_of}
-use Rattle.pssm_semantics.specs.Completion.{HasEnded}
 use Rattle.pssm_semantics.specs.Behaviours.{store_of, guards_under}
 
 -- The State lists the signal as deferred (UML 2.5.1 14.2.3.4, deferred events).

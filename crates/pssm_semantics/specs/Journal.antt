@@ -76,7 +76,7 @@ abbrev pub OpensByNone : Entry → ObjectId → RegionId → Type 0
 OpensByNone (Opened object region mode Nothing) o r = (object ≡ o) × (region ≡ r)
 OpensByNone _ o r = ⊥
 
--- The entry opens the region (UML 2.5.1 14.2.3.2, default entry of a region).
+-- The entry opens the region (UML 2.5.1 14.2.3.2 and 14.2.3.4, default activation and State history).
 abbrev pub OpensAt : Entry → ObjectId → RegionId → Type 0
 OpensAt (Opened object region mode how) o r = (object ≡ o) × (region ≡ r)
 OpensAt _ o r = ⊥

@@ -1,5 +1,7 @@
 -- The statements about all admissible journals.
-use Rattle.std.specs.Prelude.{◌≡◌, ◌≢◌, ◌⊎◌, ◌≤◌, ◌<◌, ◌++◌, ℕ, List, length, Some, slice_get}
+use Rattle.std.specs.Prelude.{◌≡◌, ◌≢◌, ◌⊎◌, ◌≤◌, ◌<◌, ◌++◌, ℕ, List, length, Some, slice_get, sum_by, Contains, AllPairs}
+use Rattle.std.specs.Option.{option_map_or}
+use Rattle.pssm_model.specs.Order.{entries_at_most}
 use Rattle.pssm_model.specs.declared.ids.VertexId.{VertexId}
 use Rattle.pssm_model.specs.declared.ids.RegionId.{RegionId}
 use Rattle.pssm_model.specs.declared.steps.Firing.{Firing}
@@ -23,6 +25,26 @@ pub record CompletesWithin (setting : Setting) (J : List Entry) (most : ℕ) : T
   pub more : List Entry
   pub few : length more ≤ most
   pub run : IsCompleteRun setting (J ++ more)
+
+-- an object whose last step is not finished (UML 2.5.1 14.2.3.9, run to completion)
+abbrev pub HasOpenStep : Setting → List Entry → ObjectId → Type 0
+HasOpenStep setting J o = (class : Class) × (class_of setting o ≡ Some class) × (IsStepFinished class.machine J o → ⊥)
+
+-- the objects with an open step, each once (UML 2.5.1 14.2.3.9, run to completion)
+pub record AreOpen (setting : Setting) (J : List Entry) (unfinished : List ObjectId) : Type 0 where
+  pub each : (o : ObjectId) → HasOpenStep setting J o → Contains unfinished o
+  pub only : (o : ObjectId) → Contains unfinished o → HasOpenStep setting J o
+  pub once : AllPairs (λ a b. a ≢ b) unfinished
+
+-- the sum of what the open steps of these objects can need (this profile's choice)
+abbrev pub needs_at_most : Setting → List ObjectId → ℕ
+needs_at_most setting objects = sum_by (λ o. option_map_or (λ c. entries_at_most c.machine) (class_of setting o) 0) objects
+
+-- The journal can be continued to a complete run by no more entries than its open steps need at most; where no step is open it is complete
+-- (UML 2.5.1 14.2.3.9, run to completion; the bound is this profile's choice).
+abbrev pub CompletesInTime : Setting → List Entry → Type 0
+CompletesInTime setting J =
+    (unfinished : List ObjectId) × AreOpen setting J unfinished × CompletesWithin setting J (needs_at_most setting unfinished)
 
 -- The entry begins a step of the object other than its first (UML 2.5.1 14.2.3.9, run to completion).
 abbrev pub BeginsStep : Entry → ObjectId → Type 0

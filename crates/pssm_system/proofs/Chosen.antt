@@ -1,229 +1,228 @@
--- The entry that is chosen may follow, and where none is chosen no entry but a post may.
-use Rattle.std.proofs.Common.{◌≡◌, ◌<◌, ◌≤◌, ◌+◌, ℕ, List, [], ◌∷◌, length, Bool, true, false, All, Vec, Global, Option, Some, None, refl, sym, subst, ◌∙◌, ⊎_elim, arith}
-use Rattle.std.proofs.lemmas.Bool.{cases_lt, false≢true}
-use Rattle.std.proofs.lemmas.List.Elements.{All-from_recursion}
+-- What is chosen may follow, and nothing is chosen where nothing may.
+use Rattle.std.proofs.Common.{◌≡◌, ◌<◌, ◌+◌, ℕ, List, [], ◌∷◌, length, Contains, All, Option, Some, None, slice_get, refl, sym, ap, subst, inl, inr, ⊎_elim, arith}
+use Rattle.std.proofs.lemmas.Bool.{cases_lt}
+use Rattle.std.proofs.lemmas.List.Elements.{All-nil}
 use Rattle.pssm_model.specs.declared.ids.VertexId.{VertexId}
 use Rattle.pssm_model.specs.declared.ids.TransId.{TransId}
 use Rattle.pssm_model.specs.declared.ids.SignalId.{SignalId}
 use Rattle.pssm_model.specs.declared.elements.DraftMachine.{DraftMachine}
 use Rattle.pssm_model.specs.declared.steps.Route.{Route}
 use Rattle.pssm_model.specs.declared.steps.Firing.{Firing}
+use Rattle.pssm_model.specs.declared.steps.How.{How}
 use Rattle.pssm_model.specs.declared.steps.Item.{Item}
 use Rattle.pssm_model.specs.declared.steps.Item.TheVariants as items
-use Rattle.pssm_model.specs.BuiltMachine.{IsBuiltMachine}
-use Rattle.pssm_model.specs.OneRegion.{first_transition, single_route}
-use Rattle.pssm_model.proofs.BuiltElements.{some_at, first_in_range, state_in_range}
-use Rattle.pssm_model.proofs.BuiltTransitions.{nothing_in_nil, leaving_in_range}
-use Rattle.pssm_semantics.specs.declared.entry.ObjectId.{ObjectId}
+use Rattle.pssm_model.specs.Legs.{Leaves}
+use Rattle.pssm_model.specs.Routes.{Lists, single_route}
+use Rattle.pssm_model.specs.Items.{HasRunOut}
+use Rattle.pssm_model.specs.Order.{IsReady}
+use Rattle.pssm_model.proofs.ElementLaws.{some_at, leaves_at, lists_at}
+use Rattle.pssm_model.proofs.RouteLaws.{all_of_one}
+use Rattle.pssm_model.specs.inner.Listed.{transition_number}
+use Rattle.pssm_config.specs.Tables.{Tables}
+use Rattle.pssm_plan.specs.Agenda.{Agenda, course_of}
+use Rattle.pssm_plan.proofs.Known.{Known, known_as, known_both, known_below, known_among, known_number, known_vertex}
 use Rattle.pssm_semantics.specs.declared.entry.Entry.{Entry}
 use Rattle.pssm_semantics.specs.declared.entry.Entry.TheVariants.{Post, Start, Take, Done, Exit, Effect, Enter, Opened, Pick, DoStep}
-use Rattle.pssm_semantics.specs.declared.entry.Rule.TheVariants.{A1, A3, A5, A8, A11}
+use Rattle.pssm_semantics.specs.declared.entry.Rule.TheVariants.{A1, A3, A5, A11}
 use Rattle.pssm_semantics.specs.declared.setting.Setting.{Setting}
 use Rattle.pssm_semantics.specs.Journal.{IsPost, object_of}
-use Rattle.pssm_semantics.specs.Known.{IsRouteOf, IsOutOf, NamesKnown}
-use Rattle.pssm_semantics.specs.Rules.{Holds, IsCalledItem}
+use Rattle.pssm_semantics.specs.Known.{IsRouteOf}
 use Rattle.pssm_semantics.specs.Admissible.{MayFollow, IsQuiet}
 use Rattle.pssm_semantics.specs.Built.{IsBuilt}
-use Rattle.pssm_system.specs.declared.progress.Progress.{Progress}
-use Rattle.pssm_system.specs.declared.progress.Progress.TheVariants.{Unstarted, Opening, Resting, Exiting, Acting, Entering}
-use Rattle.pssm_system.specs.inner.Situations.{the_object, IsProgressIn, IsTransitionOf, StandsAt}
-use Rattle.pssm_system.specs.inner.Judging.{FiresAt, IsNumbered, Judges}
-use Rattle.pssm_system.specs.inner.Reactions.{has_mark, AreReactions}
-use Rattle.pssm_system.specs.inner.Choosing.{the_opening, next_entry, IsIdle, Chooses}
-use Rattle.pssm_system.proofs.Kept.{asks, own_class, own_entry}
-use Rattle.pssm_system.proofs.Rules.{starts_once, no_queue_head, called_item_waits, no_do_step}
+use Rattle.pssm_system.specs.inner.Firing.{Reacts, FiresAt}
+use Rattle.pssm_system.specs.inner.Situations.{the_object, IsAtRest, StandsAt}
+use Rattle.pssm_system.specs.inner.Choosing.{IsIdle, TakesNext, ChoosesItem, Chooses}
+use Rattle.pssm_system.proofs.BuiltMachines.{leaving_there}
+use Rattle.pssm_system.proofs.Firings.{some_active}
+use Rattle.pssm_system.proofs.Kept.{asks, own_entry, class_there}
+use Rattle.pssm_system.proofs.Rules.{starts_once, no_queue_head, no_do_step}
 use Rattle.pssm_system.proofs.Judged.{judged}
-use Rattle.pssm_system.proofs.Following.{next_waits}
+use Rattle.pssm_system.proofs.Standing.{plan_or_none, step_of}
+use Rattle.pssm_system.proofs.Following.{IsNextItem, next_exit, next_effect, next_enter, next_opened, next_take, signal_there, picks_nothing}
+use Rattle.pssm_system.proofs.Ready.{ready_follows, runs_ready, out_or_ready}
 
--- what comes next, where it is told
-same_entry : (e f : Entry) → (let there : Option Entry = Some e in there) ≡ Some f → e ≡ f
-same_entry e f h = cc
+-- whether the State reacts to the signal is known
+known_signal : (a c : SignalId) → Known (a ≡ c)
+known_signal a c = known_as (λ e. ap (λ n. let x : SignalId = record { 0 = n } in x) e) (λ e. ap (λ (x : SignalId). x.0) e) (known_number a.0 c.0)
 
--- what comes next is no post
-next_is_no_post : (first : TransId) (p : Progress) (e : Entry) → next_entry first p ≡ Some e → IsPost e → ⊥
-next_is_no_post first Unstarted e is post = subst IsPost (sym (same_entry (Start the_object) e is)) post
-next_is_no_post first Opening e is post = subst IsPost (sym (same_entry (the_opening first) e is)) post
-next_is_no_post first (Resting a) e is post = let clash : None ≡ Some e = is in absurd (cc)
-next_is_no_post first (Exiting a t v) e is post = subst IsPost (sym (same_entry (Exit the_object a []) e is)) post
-next_is_no_post first (Acting t v) e is post = subst IsPost (sym (same_entry (Effect the_object t []) e is)) post
-next_is_no_post first (Entering v) e is post = subst IsPost (sym (same_entry (Enter the_object v []) e is)) post
+module _ (m : DraftMachine) where
+  known_reaction_at : (s : VertexId) (signal : SignalId) (k : ℕ) → k < length m.transitions
+      → Known (Leaves m (transition_number k) s × Lists m (transition_number k) signal)
+  known_reaction_at s signal k lt =
+      let at = some_at m.transitions k lt in
+      let t = transition_number k in
+      known_both
+      (known_as (λ e. (leaves_at m t at.0 s at.1).1 e) (λ h. (leaves_at m t at.0 s at.1).0 h) (known_vertex at.0.source s))
+      (known_as
+      (λ h. (lists_at m t at.0 signal at.1).1 (subst (Contains at.0.triggers) h.2 h.1))
+      (λ h. (signal, (lists_at m t at.0 signal at.1).0 h, refl))
+      (known_among (λ g. g ≡ signal) at.0.triggers (λ g inside. known_signal g signal)))
 
--- the verdict on it
-next_is_judged : (m : DraftMachine) (p : Progress) (signals : List SignalId) (taken : ℕ) (e : Entry) → next_entry (first_transition m) p ≡ Some e → Judges m p signals taken e None
-next_is_judged m Unstarted signals taken e is =
-    subst (λ x. Judges m Unstarted signals taken x None) (same_entry (Start the_object) e is) refl
-next_is_judged m Opening signals taken e is =
-    subst (λ x. Judges m Opening signals taken x None) (same_entry (the_opening (first_transition m)) e is) (([], refl), refl)
-next_is_judged m (Resting a) signals taken e is = let clash : None ≡ Some e = is in absurd (cc)
-next_is_judged m (Exiting a t v) signals taken e is =
-    subst (λ x. Judges m (Exiting a t v) signals taken x None) (same_entry (Exit the_object a []) e is) ((items.Effect t ∷ items.Enter v ∷ [], refl), refl)
-next_is_judged m (Acting t v) signals taken e is =
-    subst (λ x. Judges m (Acting t v) signals taken x None) (same_entry (Effect the_object t []) e is) ((items.Enter v ∷ [], refl), refl)
-next_is_judged m (Entering v) signals taken e is =
-    subst (λ x. Judges m (Entering v) signals taken x None) (same_entry (Enter the_object v []) e is) (([], refl), refl)
+  known_reacts : (s : VertexId) (signal : SignalId) → Known (Reacts m s signal)
+  known_reacts s signal =
+      known_as
+      (λ h. (transition_number h.0, h.2.1.0, h.2.1.1))
+      (λ h. (h.0.0, leaving_there m h.0 s h.1, (leaving_there m h.0 s h.1, (h.1, h.2))))
+      (known_below (λ k. (k < length m.transitions) × (Leaves m (transition_number k) s × Lists m (transition_number k) signal)) known_at
+      (length m.transitions))
+    where
+      known_at : (k : ℕ) → Known ((k < length m.transitions) × (Leaves m (transition_number k) s × Lists m (transition_number k) signal))
+      known_at k =
+          ⊎_elim
+          (λ lt. known_as (λ h. (lt, h)) (λ h. h.1) (known_reaction_at s signal k lt))
+          (λ ge. inr (λ h. let lt = h.0 in omega (arith, lt, ge)))
+          (cases_lt k (length m.transitions))
 
--- the route of one transition of the machine
-single_known : (m : DraftMachine) (t : TransId) → IsTransitionOf m t → IsRouteOf m (single_route t)
-single_known m t lt = All-from_recursion (IsTransitionOf m) (t ∷ []) (lt, tt)
+  -- something fires, or nothing
+  pub some_firing : (active : Option VertexId) (signal : SignalId) → (routes : List Route) × (FiresAt m active signal routes × All (IsRouteOf m) routes)
+  some_firing None signal = ([], ((λ s is. absurd (cc)), All-nil (IsRouteOf m)))
+  some_firing (Some s) signal =
+      ⊎_elim
+      (λ h. (
+        single_route h.0 ∷ [],
+        (
+          (s, refl, (h.0, refl, h.1, h.2)),
+          all_of_one (IsRouteOf m) (single_route h.0) (all_of_one (λ (t : TransId). t.0 < length m.transitions) h.0 (leaving_there m h.0 s h.1)),
+        ),
+      ))
+      (λ none. ([], ((λ q is r. none (subst (λ v. Reacts m v signal) (sym (same_some s q is)) r)), All-nil (IsRouteOf m))))
+      (known_reacts s signal)
+    where
+      same_some : (x y : VertexId) → Some x ≡ Some y → x ≡ y
+      same_some x y e = cc
 
 -- what fires is of the machine
-fired_known : {m : DraftMachine} (bm : IsBuiltMachine m) (a : VertexId) (signal : SignalId) (routes : List Route) → FiresAt m a signal routes → All (IsRouteOf m) routes
-fired_known {m} bm a signal [] h = All-from_recursion (IsRouteOf m) [] tt
-fired_known {m} bm a signal (route ∷ []) (t, same, leaves, lists) =
-    All-from_recursion (IsRouteOf m) (route ∷ [])
-    (subst (IsRouteOf m) (sym same) (single_known m t (leaving_in_range bm t a leaves)), tt)
-fired_known bm a signal (route ∷ other ∷ rest) h = absurd h
+fired_there : (m : DraftMachine) (active : Option VertexId) (signal : SignalId) (routes : List Route) → FiresAt m active signal routes → All (IsRouteOf m) routes
+fired_there m active signal [] h = All-nil (IsRouteOf m)
+fired_there m active signal (route ∷ []) (s, is, (t, single, leaves, lists)) =
+    all_of_one (IsRouteOf m) route
+    (subst (IsRouteOf m) (sym single) (all_of_one (λ (u : TransId). u.0 < length m.transitions) t (leaving_there m t s leaves)))
+fired_there m active signal (route ∷ other ∷ rest) h = absurd h
 
--- something fires at each signal, be it nothing
-fires_some : (m : DraftMachine) (rows : List (Vec Bool Global)) (a : VertexId) (signal : SignalId) → AreReactions m rows
-    → (firing : Firing) × FiresAt m a signal firing.routes
-fires_some m rows a signal table = by_mark (has_mark rows a.0 signal.0) refl
-  where
-    by_mark : (mark : Bool) → has_mark rows a.0 signal.0 ≡ mark → (firing : Firing) × FiresAt m a signal firing.routes
-    by_mark true is =
-        let r = (table a signal).0 is in
-        let firing : Firing = record { routes = single_route r.0 ∷ [] } in
-        (firing, (r.0, refl, r.1, r.2))
-    by_mark false is =
-        let firing : Firing = record { routes = [] } in
-        (firing, λ r. absurd (false≢true (sym is ∙ (table a signal).1 r)))
+module _ {setting : Setting} (b : IsBuilt setting) (J : List Entry) (plan : Option Agenda) (tables : Tables) (signals : List SignalId) (taken : ℕ)
+    (s : StandsAt b.class.machine J plan tables signals taken) where
+  -- the start
+  start_follows : plan ≡ None → MayFollow setting J (Start the_object)
+  start_follows none = judged b J plan tables signals taken s (Start the_object) (b.class, class_there b, tt) None none
 
-module _ {setting : Setting} (b : IsBuilt setting) where
-  -- an entry of the object that names what its class has
-  names_hold : (J : List Entry) (e : Entry) → object_of e ≡ the_object → NamesKnown setting b.class e → Holds setting A1 J e
-  names_hold J e own known = (b.class, own_class b (object_of e) own, known)
-
-  no_outs_known : All (IsOutOf setting b.class) []
-  no_outs_known = All-from_recursion (IsOutOf setting b.class) [] tt
-
-  next_names : (J : List Entry) (p : Progress) (e : Entry) → IsProgressIn b.class.machine p → next_entry (first_transition b.class.machine) p ≡ Some e → Holds setting A1 J e
-  next_names J Unstarted e known is =
-      subst (Holds setting A1 J) (same_entry (Start the_object) e is) (names_hold J (Start the_object) refl tt)
-  next_names J Opening e known is =
-      let region : 0 < length b.class.machine.regions = rw b.class_is.machine.regions (omega arith) in
-      subst (Holds setting A1 J) (same_entry (the_opening (first_transition b.class.machine)) e is)
-      (names_hold J (the_opening (first_transition b.class.machine)) refl (region, single_known b.class.machine (first_transition b.class.machine) (first_in_range b.class_is.machine)))
-  next_names J (Resting a) e known is = let clash : None ≡ Some e = is in absurd (cc)
-  next_names J (Exiting a t v) e known is =
-      subst (Holds setting A1 J) (same_entry (Exit the_object a []) e is) (names_hold J (Exit the_object a []) refl (state_in_range b.class_is.machine a known.0, no_outs_known))
-  next_names J (Acting t v) e known is =
-      subst (Holds setting A1 J) (same_entry (Effect the_object t []) e is) (names_hold J (Effect the_object t []) refl (known.0, no_outs_known))
-  next_names J (Entering v) e known is =
-      subst (Holds setting A1 J) (same_entry (Enter the_object v []) e is) (names_hold J (Enter the_object v []) refl (state_in_range b.class_is.machine v known, no_outs_known))
-
-  -- what the progress says comes next may follow
-  pub next_follows : (J : List Entry) (p : Progress) (signals : List SignalId) (taken : ℕ) → StandsAt b.class.machine J p signals taken
-      → (e : Entry) → next_entry (first_transition b.class.machine) p ≡ Some e → (IsPost e → ⊥) × MayFollow setting J e
-  next_follows J p signals taken s e is = (
-    next_is_no_post (first_transition b.class.machine) p e is,
-    judged b J e p signals taken s (next_names J p e s.names is) None (next_is_judged b.class.machine p signals taken e is),
+  -- the take of the next signal
+  take_follows : (signal : SignalId) (e : Entry) → IsAtRest b.class.machine plan → slice_get signals taken ≡ Some signal
+      → TakesNext b.class.machine tables taken signal e → (IsPost e → ⊥) × MayFollow setting J e
+  take_follows signal (Take o number firing) rests there (own, number_is, fires) = (
+    λ post. post,
+    subst (λ q. MayFollow setting J (Take q number firing)) (sym own)
+        (judged b J plan tables signals taken s (Take the_object number firing)
+        (b.class, class_there b, fired_there b.class.machine fires.0 signal firing.routes fires.2) None (rests, (signal, (number_is, there), fires))),
   )
+  take_follows signal (Post o g args) rests there h = absurd h
+  take_follows signal (Start o) rests there h = absurd h
+  take_follows signal (Done o v firing) rests there h = absurd h
+  take_follows signal (Exit o v outs) rests there h = absurd h
+  take_follows signal (Effect o t outs) rests there h = absurd h
+  take_follows signal (Enter o v outs) rests there h = absurd h
+  take_follows signal (Opened o r mode how) rests there h = absurd h
+  take_follows signal (Pick o v route) rests there h = absurd h
+  take_follows signal (DoStep o v k outs) rests there h = absurd h
 
-  -- so may the take of the next signal with what it fires
-  take_follows : (J : List Entry) (a : VertexId) (signals : List SignalId) (taken : ℕ) → StandsAt b.class.machine J (Resting a) signals taken
-      → (o : ObjectId) (number : ℕ) (firing : Firing) (signal : SignalId) → o ≡ the_object → IsNumbered signals taken number signal
-      → FiresAt b.class.machine a signal firing.routes → MayFollow setting J (Take o number firing)
-  take_follows J a signals taken s o number firing signal own numbered fires =
-      judged b J (Take o number firing) (Resting a) signals taken s
-      (names_hold J (Take o number firing) own (fired_known b.class_is.machine a signal firing.routes fires)) None (a, signal, refl, numbered, fires)
+  -- where nothing is ready everything has run
+  rests_where : (p : Agenda) → plan ≡ Some p → ((item : Item) → IsReady b.class.machine (course_of p) item → ⊥) → IsAtRest b.class.machine plan
+  rests_where p is none =
+      (p, is, ⊎_elim (λ out. out) (λ ready. absurd (none ready.0 ready.1)) (out_or_ready b (step_of s p is)))
 
-  take_chosen : (J : List Entry) (a : VertexId) (signals : List SignalId) (taken : ℕ) → StandsAt b.class.machine J (Resting a) signals taken
-      → (e : Entry) → Chooses b.class.machine (Resting a) signals taken (Some e) → (IsPost e → ⊥) × MayFollow setting J e
-  take_chosen J a signals taken s (Take o number firing) (signal, own, numbered, fires) =
-      (λ post. post, take_follows J a signals taken s o number firing signal own numbered fires)
-  take_chosen J a signals taken s (Post o g args) h = absurd h
-  take_chosen J a signals taken s (Start o) h = absurd h
-  take_chosen J a signals taken s (Done o v firing) h = absurd h
-  take_chosen J a signals taken s (Exit o v outs) h = absurd h
-  take_chosen J a signals taken s (Effect o t outs) h = absurd h
-  take_chosen J a signals taken s (Enter o v outs) h = absurd h
-  take_chosen J a signals taken s (Opened o r mode how) h = absurd h
-  take_chosen J a signals taken s (Pick o v route) h = absurd h
-  take_chosen J a signals taken s (DoStep o v k outs) h = absurd h
+  chosen_item : (p : Agenda) (e : Entry) → plan ≡ Some p → ChoosesItem b.class.machine p (Some e) → (IsPost e → ⊥) × MayFollow setting J e
+  chosen_item p e is (item, f, same, ready, runs) =
+      let here : e ≡ f = (let both = same in cc) in
+      let next = ready_follows b (step_of s p is) item f ready runs in
+      (subst (λ g. IsPost g → ⊥) (sym here) next.no_post, subst (MayFollow setting J) (sym here) next.may)
 
-  pub chosen_follows : (J : List Entry) (p : Progress) (signals : List SignalId) (taken : ℕ) → StandsAt b.class.machine J p signals taken
-      → (e : Entry) → Chooses b.class.machine p signals taken (Some e) → (IsPost e → ⊥) × MayFollow setting J e
-  chosen_follows J Unstarted signals taken s e h = next_follows J Unstarted signals taken s e (sym h)
-  chosen_follows J Opening signals taken s e h = next_follows J Opening signals taken s e (sym h)
-  chosen_follows J (Resting a) signals taken s e h = take_chosen J a signals taken s e h
-  chosen_follows J (Exiting a t v) signals taken s e h = next_follows J (Exiting a t v) signals taken s e (sym h)
-  chosen_follows J (Acting t v) signals taken s e h = next_follows J (Acting t v) signals taken s e (sym h)
-  chosen_follows J (Entering v) signals taken s e h = next_follows J (Entering v) signals taken s e (sym h)
+  chosen_of : (found : Option Agenda) (e : Entry) → plan ≡ found → Chooses b.class.machine found tables signals taken (Some e)
+      → (IsPost e → ⊥) × MayFollow setting J e
+  chosen_of None e is h =
+      let here : e ≡ Start the_object = (let both = h in cc) in
+      (subst (λ g. IsPost g → ⊥) (sym here) (λ post. post), subst (MayFollow setting J) (sym here) (start_follows is))
+  chosen_of (Some p) e is (inl h) = chosen_item p e is h
+  chosen_of (Some p) e is (inr (none, (signal, there, takes))) = take_follows signal e (rests_where p is none) there takes
 
-  -- where nothing is chosen the object rests, and no signal waits
-  pub none_is_idle : (p : Progress) (signals : List SignalId) (taken : ℕ) → Chooses b.class.machine p signals taken None → IsIdle p signals taken
-  none_is_idle Unstarted signals taken h = let clash : None ≡ Some (Start the_object) = h in absurd (cc)
-  none_is_idle Opening signals taken h = let clash : None ≡ Some (the_opening (first_transition b.class.machine)) = h in absurd (cc)
-  none_is_idle (Resting a) signals taken h = h
-  none_is_idle (Exiting a t v) signals taken h = let clash : None ≡ Some (Exit the_object a []) = h in absurd (cc)
-  none_is_idle (Acting t v) signals taken h = let clash : None ≡ Some (Effect the_object t []) = h in absurd (cc)
-  none_is_idle (Entering v) signals taken h = let clash : None ≡ Some (Enter the_object v []) = h in absurd (cc)
+  pub chosen_follows : (e : Entry) → Chooses b.class.machine plan tables signals taken (Some e) → (IsPost e → ⊥) × MayFollow setting J e
+  chosen_follows e h = chosen_of plan e refl h
 
-  -- an object at rest, for which no signal waits, does nothing
-  module _ (J : List Entry) (a : VertexId) (signals : List SignalId) (taken : ℕ) (s : StandsAt b.class.machine J (Resting a) signals taken)
-      (none : length signals ≤ taken) where
-    uncalled : (item : Item) → IsCalledItem b.class.machine J the_object item → ⊥
-    uncalled item called = nothing_in_nil item (called_item_waits b.class_is.machine J the_object (Resting a) item tt s.progress_is called)
+  -- nothing is chosen where the object is idle
+  idle_of : (found : Option Agenda) → plan ≡ found → Chooses b.class.machine found tables signals taken None → IsIdle b.class.machine plan signals taken
+  idle_of None is h = absurd (let clash = h in cc)
+  idle_of (Some p) is (inl (item, e, clash, ready, runs)) = absurd (let both = clash in cc)
+  idle_of (Some p) is (inr (none, past)) = (rests_where p is none, past)
 
-    rests_own : (e : Entry) → object_of e ≡ the_object → (IsPost e → ⊥) → MayFollow setting J e → ⊥
-    rests_own (Post o g args) own other may = other tt
-    rests_own (Start o) own other may =
-        let there = subst (λ x. MayFollow setting J (Start x)) own may in
-        starts_once b.class_is.machine J the_object (Resting a) tt s.progress_is (asks b J (Start the_object) A3 (λ e. cc) refl (there A3))
-    rests_own (Take o number firing) own other may =
-        let few = next_waits b J (Resting a) signals taken s (Take o number firing) may (λ n. refl) in omega arith
-    rests_own (Done o v firing) own other may =
-        let there = subst (λ x. MayFollow setting J (Done x v firing)) own may in
-        no_queue_head b.class_is.machine J the_object v (asks b J (Done the_object v firing) A5 (λ e. cc) refl (there A5))
-    rests_own (Exit o v outs) own other may =
-        let there = subst (λ x. MayFollow setting J (Exit x v outs)) own may in
-        uncalled (items.Exit v) (asks b J (Exit the_object v outs) A8 (λ e. cc) refl (there A8))
-    rests_own (Effect o t outs) own other may =
-        let there = subst (λ x. MayFollow setting J (Effect x t outs)) own may in
-        uncalled (items.Effect t) (asks b J (Effect the_object t outs) A8 (λ e. cc) refl (there A8))
-    rests_own (Enter o v outs) own other may =
-        let there = subst (λ x. MayFollow setting J (Enter x v outs)) own may in
-        uncalled (items.Enter v) (asks b J (Enter the_object v outs) A8 (λ e. cc) refl (there A8))
-    rests_own (Opened o r mode how) own other may =
-        let there = subst (λ x. MayFollow setting J (Opened x r mode how)) own may in
-        uncalled (items.Opened r mode) (asks b J (Opened the_object r mode how) A8 (λ e. cc) refl (there A8))
-    rests_own (Pick o v route) own other may =
-        let there = subst (λ x. MayFollow setting J (Pick x v route)) own may in
-        uncalled (items.Pick v) (asks b J (Pick the_object v route) A8 (λ e. cc) refl (there A8))
-    rests_own (DoStep o v k outs) own other may =
-        let there = subst (λ x. MayFollow setting J (DoStep x v k outs)) own may in
-        no_do_step b.class_is.machine J the_object v k (asks b J (DoStep the_object v k outs) A11 (λ e. cc) refl (there A11))
+  pub none_is_idle : Chooses b.class.machine plan tables signals taken None → IsIdle b.class.machine plan signals taken
+  none_is_idle h = idle_of plan refl h
 
-    rests_quiet : IsQuiet setting J
-    rests_quiet e other may = rests_own e (own_entry b J e (may A1)) other may
+  -- an idle object is quiet
+  nothing_next : IsAtRest b.class.machine plan → (x : Item) (how : How) → IsNextItem b.class.machine plan x how → ⊥
+  nothing_next (p, is, out) x how n =
+      let same : p ≡ n.p = (let first = is in let second = n.is in cc) in
+      n.ready.waiting.not_run (subst (λ q. HasRunOut b.class.machine (course_of q)) same out x n.ready.waiting.called)
 
-  pub idle_is_quiet : (J : List Entry) (p : Progress) (signals : List SignalId) (taken : ℕ) → StandsAt b.class.machine J p signals taken
-      → IsIdle p signals taken → IsQuiet setting J
-  idle_is_quiet J (Resting a) signals taken s none = rests_quiet J a signals taken s none
-  idle_is_quiet J Unstarted signals taken s h = absurd h
-  idle_is_quiet J Opening signals taken s h = absurd h
-  idle_is_quiet J (Exiting a t v) signals taken s h = absurd h
-  idle_is_quiet J (Acting t v) signals taken s h = absurd h
-  idle_is_quiet J (Entering v) signals taken s h = absurd h
+  idle_own : IsIdle b.class.machine plan signals taken → (e : Entry) → object_of e ≡ the_object → (IsPost e → ⊥) → MayFollow setting J e → ⊥
+  idle_own idle (Post o g args) own other may = other tt
+  idle_own idle (Start o) own other may =
+      starts_once (step_of s idle.0.0 idle.0.1)
+      (asks b J (Start the_object) A3 (λ e. cc) refl ((subst (λ x. MayFollow setting J (Start x)) own may) A3))
+  idle_own idle (Take o number firing) own other may =
+      let n = next_take b J plan tables signals taken s number firing (subst (λ x. MayFollow setting J (Take x number firing)) own may) in
+      let lt = signal_there b J plan tables signals taken s number n.next in
+      let past = idle.1 in
+      omega arith
+  idle_own idle (Done o v firing) own other may =
+      let there = subst (λ x. MayFollow setting J (Done x v firing)) own may in
+      no_queue_head b.class_is.machine J the_object v (asks b J (Done the_object v firing) A5 (λ e. cc) refl (there A5))
+  idle_own idle (Exit o v outs) own other may =
+      nothing_next idle.0 (items.Exit v) _ (next_exit b J plan tables signals taken s v outs (subst (λ x. MayFollow setting J (Exit x v outs)) own may))
+  idle_own idle (Effect o t outs) own other may =
+      nothing_next idle.0 (items.Effect t) _ (next_effect b J plan tables signals taken s t outs (subst (λ x. MayFollow setting J (Effect x t outs)) own may))
+  idle_own idle (Enter o v outs) own other may =
+      nothing_next idle.0 (items.Enter v) _ (next_enter b J plan tables signals taken s v outs (subst (λ x. MayFollow setting J (Enter x v outs)) own may))
+  idle_own idle (Opened o r mode how) own other may =
+      nothing_next idle.0 (items.Opened r mode) how
+      (next_opened b J plan tables signals taken s r mode how (subst (λ x. MayFollow setting J (Opened x r mode how)) own may))
+  idle_own idle (Pick o v route) own other may =
+      picks_nothing b J plan tables signals taken s v route (subst (λ x. MayFollow setting J (Pick x v route)) own may)
+  idle_own idle (DoStep o v k outs) own other may =
+      let there = subst (λ x. MayFollow setting J (DoStep x v k outs)) own may in
+      no_do_step b.class_is.machine J the_object v k (asks b J (DoStep the_object v k outs) A11 (λ e. cc) refl (there A11))
 
-  -- where no entry may follow, the object rests and no signal waits
-  goes_on : (J : List Entry) (p : Progress) (signals : List SignalId) (taken : ℕ) → StandsAt b.class.machine J p signals taken → IsQuiet setting J
-      → (e : Entry) → next_entry (first_transition b.class.machine) p ≡ Some e → ⊥
-  goes_on J p signals taken s quiet e is = let may = next_follows J p signals taken s e is in quiet e may.0 may.1
+  pub idle_is_quiet : IsIdle b.class.machine plan signals taken → IsQuiet setting J
+  idle_is_quiet idle e other may = idle_own idle e (own_entry b J e (may A1)) other may
 
-  pub quiet_is_idle : (J : List Entry) (p : Progress) (signals : List SignalId) (taken : ℕ) (rows : List (Vec Bool Global))
-      → AreReactions b.class.machine rows → StandsAt b.class.machine J p signals taken → IsQuiet setting J → IsIdle p signals taken
-  quiet_is_idle J Unstarted signals taken rows table s quiet = goes_on J Unstarted signals taken s quiet (Start the_object) refl
-  quiet_is_idle J Opening signals taken rows table s quiet = goes_on J Opening signals taken s quiet (the_opening (first_transition b.class.machine)) refl
-  quiet_is_idle J (Resting a) signals taken rows table s quiet =
+  -- and a quiet one is idle
+  signal_at : (k : ℕ) → k < length signals → (signal : SignalId) × (slice_get signals k ≡ Some signal)
+  signal_at k lt = some_at signals k lt
+
+  quiet_rests : IsQuiet setting J → IsAtRest b.class.machine plan
+  quiet_rests quiet =
       ⊎_elim
-      (λ (waits : taken < length signals).
-      let signal = some_at signals taken waits in
-      let fires = fires_some b.class.machine rows a signal.0 table in
-      absurd (quiet (Take the_object (taken + 1) fires.0) (λ post. post)
-      (take_follows J a signals taken s the_object (taken + 1) fires.0 signal.0 refl (refl, signal.1) fires.1)))
-      (λ none. none)
-      (cases_lt taken (length signals))
-  quiet_is_idle J (Exiting a t v) signals taken rows table s quiet = goes_on J (Exiting a t v) signals taken s quiet (Exit the_object a []) refl
-  quiet_is_idle J (Acting t v) signals taken rows table s quiet = goes_on J (Acting t v) signals taken s quiet (Effect the_object t []) refl
-  quiet_is_idle J (Entering v) signals taken rows table s quiet = goes_on J (Entering v) signals taken s quiet (Enter the_object v []) refl
+      (λ none. absurd (quiet (Start the_object) (λ post. post) (start_follows none)))
+      (λ some.
+      let u = step_of s some.0 some.1 in
+      ⊎_elim
+      (λ out. (some.0, some.1, out))
+      (λ ready.
+      let e = runs_ready b u ready.0 ready.1 in
+      let next = ready_follows b u ready.0 e.0 ready.1 e.1 in
+      absurd (quiet e.0 next.no_post next.may))
+      (out_or_ready b u))
+      (plan_or_none plan)
+
+  pub quiet_is_idle : IsQuiet setting J → IsIdle b.class.machine plan signals taken
+  quiet_is_idle quiet =
+      let rests = quiet_rests quiet in (
+        rests,
+        ⊎_elim
+            (λ lt.
+            let at = signal_at taken lt in
+            let active = some_active b.class_is.machine tables s.fits in
+            let firing = some_firing b.class.machine active.0 at.0 in
+            let fired : Firing = record { routes = firing.0 } in
+            let may = take_follows at.0 (Take the_object (taken + 1) fired) rests at.1 (refl, refl, (active.0, active.1, firing.1.0)) in
+            absurd (quiet (Take the_object (taken + 1) fired) may.0 may.1))
+            (λ past. past)
+            (cases_lt taken (length signals)),
+      )

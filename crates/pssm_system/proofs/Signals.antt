@@ -1,5 +1,5 @@
 -- The signals of a journal of one object and its pool, where no State defers a signal: the first not taken is the next.
-use Rattle.std.proofs.Common.{◌≡◌, ◌<◌, ◌≤◌, ◌+◌, ◌++◌, ℕ, zero, suc, List, [], ◌∷◌, length, Bool, true, false, cond, ◌||◌, ◌&&◌, not, eqb, drop, Some, slice_get, refl, sym, ap, subst, ◌∙◌, ⊎_elim, arith, add-one, filter, eq-eqb, length-append}
+use Rattle.std.proofs.Common.{◌≡◌, ◌<◌, ◌≤◌, ◌+◌, ◌++◌, ℕ, zero, suc, List, [], ◌∷◌, length, Bool, true, false, cond, ◌||◌, ◌&&◌, not, eqb, drop, Some, slice_get, refl, sym, ap, ◌∙◌, ⊎_elim, arith, add-one, filter, eq-eqb, length-append}
 use Rattle.std.specs.List.{AllByRecursion, list_any, enumerate_from}
 use Rattle.std.proofs.lemmas.Bool.{cases_lt}
 use Rattle.std.proofs.lemmas.Bool.Decides.{eqb_tells}
@@ -7,25 +7,23 @@ use Rattle.std.proofs.lemmas.Option.{slice_get_within}
 use Rattle.std.proofs.lemmas.List.Folds.{list_any-append}
 use Rattle.std.proofs.lemmas.Grind.{flat_map-append}
 use Rattle.pssm_model.specs.declared.ids.VertexId.{VertexId}
-use Rattle.pssm_model.specs.declared.ids.SignalId.{SignalId}
-use Rattle.pssm_model.specs.declared.elements.DraftMachine.{DraftMachine}
 use Rattle.pssm_model.specs.declared.elements.VertexKind.TheVariants as kinds
 use Rattle.pssm_model.specs.declared.steps.Firing.{Firing}
 use Rattle.pssm_model.specs.Forest.{HasKind}
 use Rattle.pssm_model.specs.BuiltMachine.{IsBuiltMachine}
-use Rattle.pssm_model.proofs.BuiltTransitions.{nothing_deferred}
 use Rattle.pssm_semantics.specs.declared.entry.ObjectId.{ObjectId}
 use Rattle.pssm_semantics.specs.declared.entry.Entry.{Entry}
 use Rattle.pssm_semantics.specs.declared.entry.Entry.TheVariants.{Take}
 use Rattle.pssm_semantics.specs.declared.stimulus.Stimulus.{Stimulus}
 use Rattle.pssm_semantics.specs.declared.setting.Class.{Class}
-use Rattle.pssm_semantics.specs.Journal.{IsActive}
+use Rattle.pssm_model.specs.Changes.{Agree}
+use Rattle.pssm_config.specs.Tables.{Tables, Fits, configuration_of}
+use Rattle.pssm_semantics.specs.Journal.{IsActive, configuration_after}
 use Rattle.pssm_semantics.specs.Pool.{KnownSignals, signals_of, signals_of_entry, takes, pool_of, told_by}
 use Rattle.pssm_semantics.specs.Deferral.{IsDeferred}
 use Rattle.pssm_semantics.specs.Rules.{IsFirstWaiting}
-use Rattle.pssm_system.specs.declared.progress.Progress.{Progress}
-use Rattle.pssm_system.specs.declared.progress.Progress.TheVariants.{Unstarted, Opening, Resting, Exiting, Acting, Entering}
-use Rattle.pssm_system.specs.inner.Situations.{the_object, active_in, IsProgressIn, HasTaken, StandsAt}
+use Rattle.pssm_system.specs.inner.Situations.{the_object, HasTaken}
+use Rattle.pssm_system.proofs.BuiltMachines.{nothing_deferred, state_of_active}
 
 -- the signals of a longer journal
 pub signals_push : (J : List Entry) (e : Entry) → signals_of (J ++ e ∷ []) ≡ signals_of J ++ (signals_of_entry e ++ [])
@@ -150,22 +148,14 @@ get_within : {X : Type 0} (xs : List X) (k : ℕ) (x : X) → slice_get xs k ≡
 get_within xs k x e = slice_get_within xs k x e
 
 -- what is active is a State
-abbrev AreStatesActive : Class → List Entry → ObjectId → Type 0
+abbrev pub AreStatesActive : Class → List Entry → ObjectId → Type 0
 AreStatesActive c J o = (s : VertexId) → IsActive J o s → HasKind c.machine s kinds.State
 
-state_active : (m : DraftMachine) (p : Progress) (s : VertexId) → IsProgressIn m p → active_in p ≡ Some s → HasKind m s kinds.State
-state_active m Unstarted s names is = absurd (cc)
-state_active m Opening s names is = absurd (cc)
-state_active m (Resting a) s names is = let same : a ≡ s = cc in subst (λ v. HasKind m v kinds.State) same names
-state_active m (Exiting a t v) s names is = let same : a ≡ s = cc in subst (λ w. HasKind m w kinds.State) same names.0
-state_active m (Acting t v) s names is = absurd (cc)
-state_active m (Entering v) s names is = absurd (cc)
+pub active_states : (c : Class) → IsBuiltMachine c.machine → (J : List Entry) (tables : Tables) → Fits c.machine tables
+    → Agree (configuration_of tables) (configuration_after c.machine J the_object) → AreStatesActive c J the_object
+active_states c b J tables fits same s active = state_of_active b s (fits.states s ((same.active s).1 active))
 
-pub active_states : (m : DraftMachine) (J : List Entry) (p : Progress) (signals : List SignalId) (taken : ℕ) → StandsAt m J p signals taken
-    → (v : VertexId) → IsActive J the_object v → HasKind m v kinds.State
-active_states m J p signals taken s v is = state_active m p v s.names (s.active v is)
-
--- a State of a machine of one region defers nothing
+-- a State of a machine that the code runs defers nothing
 pub defers_nothing : (c : Class) → IsBuiltMachine c.machine → (told : KnownSignals) (J : List Entry) (o : ObjectId) (x : Stimulus) → AreStatesActive c J o
     → IsDeferred c told J o x → ⊥
 defers_nothing c b told J o x states h = nothing_deferred b h.0 x.signal (states h.0 h.1) h.2

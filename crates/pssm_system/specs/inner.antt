@@ -1,7 +1,6 @@
 pub mod Advancing
 pub mod Choosing
+pub mod Firing
 pub mod Judging
 pub mod Keeping
-pub mod Reactions
-pub mod Sample
 pub mod Situations

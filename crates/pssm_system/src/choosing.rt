@@ -1,14 +1,16 @@
 //! The entry that may come next, where the object stands as is told.
-ghost use Rattle.std.specs.Prelude.{◌≡◌, ◌≤◌, ◌↔◌, [], IsTrue, IfOk, length};
-ghost use Rattle.pssm_model.specs.OneRegion.{first_transition};
+ghost use Rattle.std.specs.Prelude.{◌≡◌, ◌≤◌, ◌<◌, ◌↔◌, [], IsTrue, IfOk, IfSome, length};
+ghost use Rattle.pssm_model.specs.declared.elements.DraftMachine.{DraftMachine};
+ghost use Rattle.pssm_model.specs.BuiltMachine.{IsBuiltMachine};
+ghost use Rattle.pssm_config.specs.Tables.{Fits};
+ghost use Rattle.pssm_plan.specs.Plans.{IsPlanOf};
 ghost use Rattle.pssm_system.specs.inner.Situations.{the_object};
-ghost use Rattle.pssm_system.specs.inner.Judging.{FiresAt};
-ghost use Rattle.pssm_system.specs.inner.Choosing.{the_opening, IsIdle, ChoosesTake, Chooses, AreEnabledBelow};
+ghost use Rattle.pssm_system.specs.inner.Choosing.{IsIdle, IsPlainItem, RunsItem, TakesNext, ChoosesTake, Chooses};
 
-use crate::judging::{Situation, reacts_in};
-use crate::progress::{Progress, TOP_REGION};
-use crate::routes::single_route;
-use pssm_model::{Firing, How, Machine, Mode, Row, SignalId, TransId, VertexId};
+use crate::opening::default_way;
+use crate::reacting::{active_at_top, pick_firing};
+use crate::situation::Situation;
+use pssm_model::{Item, Machine, Row, SignalId, TransId, VertexId};
 use pssm_semantics::{Entry, ObjectId};
 use std::alloc::{AllocError as NoMemory, Global};
 
@@ -16,66 +18,104 @@ use std::alloc::{AllocError as NoMemory, Global};
 const OBJECT: ObjectId = ObjectId(0);
 
 impl Situation {
-    /// Whether the object rests and no signal waits.
+    /// Whether the object has started, its step is finished and no signal waits.
     pub fn is_idle(&self) -> bool
-        ensures { IsTrue result ↔ IsIdle self.now.progress self.now.signals.items self.now.taken }
+        ensures { (m : DraftMachine) → IfSome self.now.plan (IsPlanOf m)
+            → (IsTrue result ↔ IsIdle m self.now.plan self.now.signals.items self.now.taken) }
     {
-        match self.progress {
-            Progress::Resting(_) => self.signals.as_slice().len() <= self.taken,
-            Progress::Unstarted
-            | Progress::Opening
-            | Progress::Exiting { .. }
-            | Progress::Acting { .. }
-            | Progress::Entering { .. } => false,
+        match &self.plan {
+            Some(plan) => plan.finished() && self.signals.as_slice().len() <= self.taken,
+            None => false,
         }
     }
 
-    /// The entry that comes next, if one does; `first` is the transition out of the initial vertex, and of several
-    /// transitions the word picks one.
+    /// The entry that comes next, if one does; of several ready items and of several transitions the word picks one.
     pub fn choose(
         &self,
         alloc: Global,
         machine: &Machine,
-        first: TransId,
         word: u64,
     ) -> Result<Option<Entry>, NoMemory>
-        requires first { first ≡ first_transition machine.now }
+        requires built { IsBuiltMachine machine.now }
+        requires fits { Fits machine.now self.now.config }
+        requires plan { IfSome self.now.plan (IsPlanOf machine.now) }
         requires few { length self.now.signals.items ≤ 2000000 }
-        ensures { IfOk result (λ chosen. Chooses machine.now self.now.progress self.now.signals.items self.now.taken chosen) }
+        ensures { IfOk result (λ chosen. Chooses machine.now self.now.plan self.now.config self.now.signals.items self.now.taken chosen) }
     {
-        match self.progress {
-            Progress::Resting(state) => self.choose_take(alloc, machine, state, word),
-            Progress::Unstarted => Ok(Some(Entry::Start { object: OBJECT })),
-            Progress::Opening => Ok(Some(opening(alloc, first)?)),
-            Progress::Exiting { from, .. } => Ok(Some(exit(alloc, from))),
-            Progress::Acting { by, .. } => Ok(Some(effect(alloc, by))),
-            Progress::Entering { to } => Ok(Some(enter(alloc, to))),
+        match &self.plan {
+            None => Ok(Some(Entry::Start { object: OBJECT })),
+            Some(plan) => {
+                let count = plan.ready_count();
+                if count > 0 {
+                    let item = plan.ready_at((word % u64::from(count)) as u32);
+                    return Ok(Some(run(alloc, machine, item)?));
+                }
+                self.choose_take(alloc, machine, word)
+            }
         }
     }
 
-    /// The take of the next signal, if one waits, by an object that rests in the State.
+    // The take of the next signal, if one waits.
     fn choose_take(
         &self,
         alloc: Global,
         machine: &Machine,
-        state: VertexId,
         word: u64,
     ) -> Result<Option<Entry>, NoMemory>
+        requires built { IsBuiltMachine machine.now }
+        requires fits { Fits machine.now self.now.config }
         requires few { length self.now.signals.items ≤ 2000000 }
-        ensures { IfOk result (λ chosen. ChoosesTake machine.now state self.now.signals.items self.now.taken chosen) }
+        ensures { IfOk result (λ chosen. ChoosesTake machine.now self.now.config self.now.signals.items self.now.taken chosen) }
     {
         match self.signals.as_slice().get(self.taken) {
             None => Ok(None),
-            Some(signal) => Ok(Some(Entry::Take {
-                object: OBJECT,
-                number: self.taken as u32 + 1,
-                firing: pick_firing(alloc, machine, state, *signal, word)?,
-            })),
+            Some(signal) => Ok(Some(self.take(alloc, machine, *signal, word)?)),
         }
+    }
+
+    // The take of the next signal, which is this one.
+    fn take(
+        &self,
+        alloc: Global,
+        machine: &Machine,
+        signal: SignalId,
+        word: u64,
+    ) -> Result<Entry, NoMemory>
+        requires built { IsBuiltMachine machine.now }
+        requires fits { Fits machine.now self.now.config }
+        requires few { self.now.taken < 2000000 }
+        ensures { IfOk result (λ entry. TakesNext machine.now self.now.config self.now.taken signal entry) }
+    {
+        let active = active_at_top(machine, &self.config);
+        Ok(Entry::Take {
+            object: OBJECT,
+            number: self.taken as u32 + 1,
+            firing: pick_firing(alloc, machine, active, signal, word)?,
+        })
     }
 }
 
-/// The exit of a State, without outputs.
+// The entry that runs the item, without outputs; an opening goes by its default way.
+fn run(alloc: Global, machine: &Machine, item: Item) -> Result<Entry, NoMemory>
+    requires built { IsBuiltMachine machine.now }
+    requires plain { IsPlainItem machine.now item }
+    ensures { IfOk result (λ entry. RunsItem machine.now item entry) }
+{
+    match item {
+        Item::Exit(state) => Ok(exit(alloc, state)),
+        Item::Effect(transition) => Ok(effect(alloc, transition)),
+        Item::Enter(state) => Ok(enter(alloc, state)),
+        Item::Opened(region, mode) => Ok(Entry::Opened {
+            object: OBJECT,
+            region,
+            mode,
+            how: default_way(alloc, machine, region)?,
+        }),
+        Item::Pick(_) => unreachable!(),
+    }
+}
+
+// The exit of a State, without outputs.
 fn exit(alloc: Global, state: VertexId) -> Entry
     ensures { result ≡ Entry.Exit the_object state [] }
 {
@@ -86,7 +126,7 @@ fn exit(alloc: Global, state: VertexId) -> Entry
     }
 }
 
-/// The effect of a transition, without outputs.
+// The effect of a transition, without outputs.
 fn effect(alloc: Global, transition: TransId) -> Entry
     ensures { result ≡ Entry.Effect the_object transition [] }
 {
@@ -97,7 +137,7 @@ fn effect(alloc: Global, transition: TransId) -> Entry
     }
 }
 
-/// The entry of a State, without outputs.
+// The entry of a State, without outputs.
 fn enter(alloc: Global, state: VertexId) -> Entry
     ensures { result ≡ Entry.Enter the_object state [] }
 {
@@ -106,56 +146,4 @@ fn enter(alloc: Global, state: VertexId) -> Entry
         state,
         outs: Row::from_vec(Vec::new(alloc)),
     }
-}
-
-/// The opening of the region by the first transition, the one out of its initial vertex.
-fn opening(alloc: Global, first: TransId) -> Result<Entry, NoMemory>
-    ensures { IfOk result (λ entry. entry ≡ the_opening first) }
-{
-    Ok(Entry::Opened {
-        object: OBJECT,
-        region: TOP_REGION,
-        mode: Mode::Plain,
-        how: How::By(single_route(alloc, first)?),
-    })
-}
-
-/// What the signal fires in the State: of the transitions that it enables the one that the word picks, or nothing.
-fn pick_firing(
-    alloc: Global,
-    machine: &Machine,
-    state: VertexId,
-    signal: SignalId,
-    word: u64,
-) -> Result<Firing, NoMemory>
-    ensures { IfOk result (λ firing. FiresAt machine.now state signal firing.routes) }
-{
-    let enabled = enabled_transitions(alloc, machine, state, signal)?;
-    let mut routes = Vec::new(alloc);
-    if !enabled.is_empty() {
-        let pick = (word % enabled.len() as u64) as usize;
-        routes.push(single_route(alloc, enabled[pick])?)?;
-    }
-    Ok(Firing {
-        routes: Row::from_vec(routes),
-    })
-}
-
-/// The transitions out of the State that list the signal, in order.
-fn enabled_transitions(
-    alloc: Global,
-    machine: &Machine,
-    state: VertexId,
-    signal: SignalId,
-) -> Result<Vec<TransId>, NoMemory>
-    ensures { IfOk result (λ found. AreEnabledBelow machine.now state signal (length machine.now.transitions) found.items) }
-{
-    let mut found = Vec::new(alloc);
-    for number in 0..machine.transitions() {
-        let transition = machine.transition(TransId(number));
-        if reacts_in(transition, state, signal) {
-            found.push(TransId(number))?;
-        }
-    }
-    Ok(found)
 }

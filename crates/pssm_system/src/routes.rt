@@ -1,24 +1,9 @@
-//! Routes of one transition, which are all that a machine of one region has.
+//! Routes of one transition, which are all that a machine of States in regions has.
 ghost use Rattle.std.specs.Prelude.{◌≡◌, MatchOption, IfOk};
-ghost use Rattle.pssm_model.specs.BuiltMachine.{IsBuiltMachine};
-ghost use Rattle.pssm_model.specs.OneRegion.{single_route, first_transition};
+ghost use Rattle.pssm_model.specs.Routes.{single_route};
 
-use pssm_model::{Machine, Route, Row, TransId, VertexKind};
+use pssm_model::{Route, Row, TransId};
 use std::alloc::{AllocError as NoMemory, Global};
-
-/// The transition out of the initial vertex (UML 2.5.1, 14.2.3.7, initial).
-pub fn first_transition(machine: &Machine) -> TransId
-    requires { IsBuiltMachine machine.now }
-    ensures { result ≡ first_transition machine.now }
-{
-    for number in 0..machine.transitions() {
-        let source = machine.transition(TransId(number)).source;
-        if machine.vertex(source).kind == VertexKind::Initial {
-            return TransId(number);
-        }
-    }
-    TransId(0)
-}
 
 /// The transition of a route that is no more than one.
 pub fn single_start(route: &Route) -> Option<TransId>

@@ -2,31 +2,25 @@
 ghost use Rattle.std.specs.Prelude.{◌≡◌, ◌<◌, ◌↔◌, ◌++◌, ◌∷◌, [], length, IsTrue, IfOk, IfNone, IfSome, OnOk, OnErr, Some};
 ghost use Rattle.std.specs.List.{AllByRecursion};
 ghost use Rattle.pssm_semantics.specs.Values.{no_params};
-ghost use Rattle.pssm_semantics.specs.Built.{IsBuilt, IsBuiltEntry, entries_to_complete};
+ghost use Rattle.pssm_semantics.specs.Built.{IsBuilt, IsBuiltEntry};
 
-use crate::judging::Situation;
-use crate::progress::Progress;
-use crate::reactions::{Reactions, reactions_of};
-use crate::routes::first_transition;
-use crate::stepping::{posted_signal, progress_after, takes_signal};
-use pssm_model::{Machine, TransId};
+use crate::situation::Situation;
+use pssm_config::Config;
+use pssm_model::Machine;
 use pssm_semantics::{Args, Entry, ObjectId, Rule, Setting};
 use std::alloc::{AllocError as NoMemory, Global};
 use std::marker::Model;
 
 /// A setting and the journal of an admissible run of it.
 ///
-/// A clause sees these two alone. Beside them it keeps where the object stands and a table of its machine, so that
-/// judging an entry and appending one take the same time however long the journal is.
+/// A clause sees these two alone. Beside them it keeps where the object stands, so that judging an entry and appending one
+/// take the same time however long the journal is.
 #[derive(Drop)]
 pub struct System {
     alloc: Global,
     setting: Setting,
     entries: Vec<Entry>,
     situation: Situation,
-    reactions: Reactions,
-    /// The transition out of the initial vertex of the machine.
-    first: TransId,
     /// The values of the variables of the class, which has none.
     store: Vec<i64>,
     /// The parameters of the object's step: eight zeros, since no signal has arguments.
@@ -44,11 +38,11 @@ impl Model for System {
 
     ghost coded = { Prim.hlevel (codes, stmt.the_row.coded, cond.the_row.coded, expr.the_row.coded) };
 
-    ghost use Rattle.pssm_system.specs.inner.Keeping.{KeepsRun, KeepsValues, KeepsFirst};
+    ghost use Rattle.pssm_system.specs.inner.Keeping.{KeepsRun, KeepsValues};
 
     ghost view = { λ s. record { setting = s.setting; journal = s.entries.items } };
 
-    ghost invariant = { λ s. KeepsRun s.setting s.entries.items s.situation s.reactions.rows.items × KeepsValues s.store.items s.params × KeepsFirst s.setting s.first };
+    ghost invariant = { λ s. KeepsRun s.setting s.entries.items s.situation × KeepsValues s.store.items s.params };
 }
 
 impl System {
@@ -59,7 +53,7 @@ impl System {
     ghost use Rattle.pssm_semantics.specs.Proper.{IsWellFormed};
     ghost use Rattle.pssm_semantics.specs.Rules.{Holds};
     ghost use Rattle.pssm_semantics.specs.Admissible.{MayFollow, IsAdmissibleIn, IsQuiet, KeepsJournalLimits};
-    ghost use Rattle.pssm_semantics.specs.Laws.{CompletesWithin, KeepsTakes, KeepsRegions};
+    ghost use Rattle.pssm_semantics.specs.Laws.{CompletesInTime, KeepsTakes, KeepsRegions};
     ghost use Rattle.pssm_semantics.specs.Verdict.{IsFirstBroken};
     ghost use Rattle.pssm_semantics.specs.declared.entry.Rule.TheVariants.{A1};
     ghost use Rattle.pssm_semantics.specs.declared.setting.Class.{Class};
@@ -71,24 +65,18 @@ impl System {
         requires { IsBuilt setting }
         ensures start { IfOk result (λ system. system ≡ record { setting = setting; journal = [] }) }
     {
-        let reactions = reactions_of(
-            alloc,
-            machine_of(&setting),
-            setting.signals.as_slice().len(),
-        )?;
-        let first = first_transition(machine_of(&setting));
+        let config = Config::new(alloc, machine_of(&setting))?;
         let params = zero_params(alloc)?;
         Ok(System {
             alloc,
             setting,
             entries: Vec::new(alloc),
             situation: Situation {
-                progress: Progress::Unstarted,
+                config,
+                plan: None,
                 signals: Vec::new(alloc),
                 taken: 0,
             },
-            reactions,
-            first,
             store: Vec::new(alloc),
             params,
         })
@@ -104,14 +92,14 @@ impl System {
 
     /// The entries of the journal, in order: those of an admissible run.
     ///
-    /// There are at most 1,000,000 of them, with at most 2,000,000 posts, sends and marks, and at most three more
-    /// entries finish the step that is open.
+    /// There are at most 1,000,000 of them, with at most 2,000,000 posts, sends and marks. At most two entries for each vertex
+    /// of the machine, one for each region and one for each transition finish the step that is open.
     pub fn entries(&self) -> &[Entry]
         ensures journal { result.now ≡ self.now.journal }
         ensures admissible { IsAdmissibleIn self.now.setting self.now.journal }
         ensures limits { KeepsJournalLimits self.now.journal }
         ensures built { AllByRecursion IsBuiltEntry self.now.journal }
-        ensures completes { CompletesWithin self.now.setting self.now.journal entries_to_complete }
+        ensures completes { CompletesInTime self.now.setting self.now.journal }
         ensures laws { KeepsTakes self.now.setting self.now.journal × KeepsRegions self.now.setting self.now.journal }
     {
         self.entries.as_slice()
@@ -124,10 +112,7 @@ impl System {
         ensures breaks { IfOk result (λ rule. IfSome rule (λ broken. IsFirstBroken (Holds self.now.setting) self.now.journal entry.now broken)) }
     {
         let machine = machine_of(&self.setting);
-        Ok(
-            self.situation
-                .judge(machine, self.first, &self.reactions, entry),
-        )
+        Ok(self.situation.judge(machine, entry))
     }
 
     /// Appends an entry that breaks no rule after the journal.
@@ -139,17 +124,11 @@ impl System {
         ensures ok { OnOk result (self.new ≡ record { setting = self.old.setting; journal = self.old.journal ++ entry ∷ [] }) }
         ensures err { OnErr result (self.new ≡ self.old) }
     {
-        let progress = progress_after(
-            machine_of(&self.setting),
-            self.first,
-            self.situation.progress,
-            &entry,
-        );
-        let posted = posted_signal(&entry);
-        let takes = takes_signal(&entry);
         self.situation.signals.reserve(1)?;
-        self.entries.push(entry)?;
-        self.situation.advance(progress, posted, takes);
+        self.entries.reserve(1)?;
+        let machine = machine_of(&self.setting);
+        self.situation.apply(self.alloc, machine, &entry)?;
+        let _ = self.entries.push(entry);
         Ok(())
     }
 
@@ -162,13 +141,14 @@ impl System {
 
     /// An entry other than a post that breaks no rule after the journal, or none where there is none.
     ///
-    /// Where a signal enables several transitions the word picks one of them; which one is not promised.
+    /// Of several ready items, and of several transitions that a signal enables, the word picks one; which one is not
+    /// promised.
     pub fn choose(&self, word: u64) -> Result<Option<Entry>, NoMemory>
         ensures chosen { IfOk result (λ o. IfSome o (λ e. (IsPost e → ⊥) × MayFollow self.now.setting self.now.journal e)) }
         ensures none { IfOk result (λ o. IfNone o (IsQuiet self.now.setting self.now.journal)) }
     {
         self.situation
-            .choose(self.alloc, machine_of(&self.setting), self.first, word)
+            .choose(self.alloc, machine_of(&self.setting), word)
     }
 
     /// The values of the object's variables, as they are now.

@@ -4,11 +4,10 @@ use Rattle.std.specs.List.{AllByRecursion}
 use Rattle.pssm_base.specs.Reading.{Contents}
 use Rattle.pssm_model.specs.Shapes.{HasShape}
 use Rattle.pssm_model.specs.WellFormed.{KeepsModelRules}
-use Rattle.pssm_model.proofs.BuiltFrom.{built_from_rules}
 use Rattle.pssm_semantics.specs.declared.setting.Class.{Class}
 use Rattle.pssm_semantics.specs.declared.setting.Setting.{Setting}
 use Rattle.pssm_semantics.specs.Built.{IsBuilt}
-use Rattle.pssm_semantics.proofs.BuiltSettings.{built_setting}
+use Rattle.pssm_semantics.proofs.BuiltSettings.{silent_runs}
 use Rattle.pssm_flat.specs.Flat.{IsFlat}
 use Rattle.pssm_tool.specs.Loads.{IsBuiltWhole}
 use Rattle.pssm_tool.specs.Due.{HasBuiltModel}
@@ -22,7 +21,7 @@ pub is_built : (contents : Contents) (path : List ℕ) (s : Setting) → HasBuil
 is_built contents path s has =
     let silent = has.0.loads.flat.written.silent in
     let one : (P : Class → Type 0) → AllByRecursion P s.classes → P silent.class = λ P all. (subst (λ xs. AllByRecursion P xs) silent.classes all).0 in
-    built_setting silent (built_from_rules silent.class_is.machine
+    silent_runs silent
     (one (λ x. HasShape x.machine) (have_shape s has.0.loads.flat))
     (one (λ x. KeepsModelRules x.machine) (rules_kept s.classes has.0.loads.faults))
-    (one IsBuiltWhole has.1))
+    (one IsBuiltWhole has.1)

@@ -28,7 +28,7 @@ module _ (words : List (List ℕ)) (contents : Contents) (known : IsTold words c
   continued_is_prefix h =
       let held = told_bytes (contents model) (known model (model_named words (Judges model journal) is)) in
       let same : h.setting ≡ setting = model_once contents model held.0 held.1 h.setting setting h.model_is has.0 in
-      subst (λ s. HoldsPrefix contents journal s) same (h.entries, h.holds, (h.completes.more, h.completes.run))
+      subst (λ s. HoldsPrefix contents journal s) same (h.entries, h.holds, (h.completes.2.more, h.completes.2.run))
 
   -- A prefix of a complete run is owed its acceptance.
   prefix_is_owed : (h : HoldsPrefix contents journal setting) → IsOwed words contents (Accept (length h.0))

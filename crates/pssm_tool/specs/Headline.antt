@@ -7,8 +7,7 @@ use Rattle.pssm_semantics.specs.declared.entry.Entry.{Entry}
 use Rattle.pssm_semantics.specs.declared.line.Line.{Line}
 use Rattle.pssm_semantics.specs.declared.setting.Setting.{Setting}
 use Rattle.pssm_semantics.specs.Admissible.{KeepsJournalLimits, IsPrefixOfRun}
-use Rattle.pssm_semantics.specs.Built.{entries_to_complete}
-use Rattle.pssm_semantics.specs.Laws.{CompletesWithin}
+use Rattle.pssm_semantics.specs.Laws.{CompletesInTime}
 use Rattle.pssm_journal.specs.LineText.{journal_text}
 use Rattle.pssm_journal.specs.Grammar.{IsTakenLine}
 use Rattle.pssm_journal.specs.Entries.{AreEntries}
@@ -37,13 +36,13 @@ AcceptsPrefixes words contents code =
     (model journal : List ℕ) (setting : Setting) → Means words (Judges model journal) → HasBuiltModel contents model setting
     → (code ≡ 0 → HoldsPrefix contents journal setting) × (HoldsPrefix contents journal setting → (code ≡ 0) ⊎ IsFailure code)
 
--- The journal is a prefix of a complete run of the model, which at most so many further entries reach as an open step needs.
+-- The journal is a prefix of a complete run of the model, which no more further entries reach than its open steps need at most.
 pub record IsContinued (contents : Contents) (model journal : List ℕ) : Type 0 where
   pub setting : Setting
   pub entries : List Entry
   pub model_is : HasModel contents model setting
   pub holds : HoldsJournal contents journal setting entries
-  pub completes : CompletesWithin setting entries entries_to_complete
+  pub completes : CompletesInTime setting entries
 
 -- A text was written that the judge accepts as a journal of the model.
 pub record IsAcceptedText (contents : Contents) (model : List ℕ) (before after : Option (List ℕ)) : Type 0 where

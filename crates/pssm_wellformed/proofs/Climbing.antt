@@ -12,7 +12,7 @@ use Rattle.pssm_model.specs.Forest.LiesUnder.{owned, further}
 use Rattle.pssm_model.specs.Forest.HasRegionsAbove.{region, state, machine}
 use Rattle.pssm_model.specs.Legs.{IsPoint}
 use Rattle.pssm_model.specs.Shapes.{HasShape}
-use Rattle.pssm_model.proofs.BuiltElements.{some_at, kind_unique, mapped_at}
+use Rattle.pssm_model.proofs.ElementLaws.{some_at, kind_unique, mapped_at}
 use Rattle.pssm_model.specs.declared.elements.Vertex.{Vertex}
 use Rattle.pssm_wellformed.specs.inner.Walks.{LiesIn, IsThere}
 use Rattle.pssm_wellformed.specs.inner.Levels.{IsLevel, IsWithin, IsHome, IsCommonLevel, IsClimbing, IsPartWith, IsSeeking}

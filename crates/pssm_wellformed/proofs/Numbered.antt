@@ -14,7 +14,7 @@ use Rattle.pssm_model.specs.Forest.{transition_at}
 use Rattle.pssm_model.specs.Shapes.{HasShape}
 use Rattle.pssm_model.specs.WellFormed.{Breaks, HasNoTopRegion, IsBadInitial, IsBadHistory, IsBadJoin, IsBadFork, JoinsBadly, ForksBadly, IsOpenEnded, IsBadFinal, IsBadTerminate, IsBadEntryPoint, IsBadExitPoint, MayFindNoBranch, IsOnCycle, GoesOutside, IsTriggeredWrongly, IsBadInternal, IsBadLocal, IsBadElse, ConnectsBadly, IsTopWithoutInitial, OwnsTwoOfAKind}
 use Rattle.pssm_model.specs.WellFormed.Breaks.{E01_top, E01, E02, E03, E04, E05, E06, E07, E08, E09, E10, E11, E12, E13, E14, E15, E16, E17, E18, E19, E20, E21}
-use Rattle.pssm_model.proofs.BuiltElements.{mapped_some}
+use Rattle.pssm_model.proofs.ElementLaws.{mapped_some}
 use Rattle.pssm_wellformed.specs.declared.ends.End.TheVariants.{Source}
 use Rattle.pssm_wellformed.specs.inner.Checked.{IsPlace}
 use Rattle.pssm_wellformed.proofs.Closures.{leader_is_pseudostate}

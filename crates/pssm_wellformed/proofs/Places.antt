@@ -14,7 +14,7 @@ use Rattle.pssm_model.specs.declared.elements.Owner.{Owner}
 use Rattle.pssm_model.specs.declared.elements.Owner.TheVariants.{Region, State}
 use Rattle.pssm_model.specs.Forest.{transition_at, vertex_at, owner_of, HasKind}
 use Rattle.pssm_model.specs.Shapes.{HasShape, OwnsVertex}
-use Rattle.pssm_model.proofs.BuiltElements.{mapped_some, mapped_at, some_at, kind_unique}
+use Rattle.pssm_model.proofs.ElementLaws.{mapped_some, mapped_at, some_at, kind_unique}
 use Rattle.pssm_wellformed.specs.declared.ends.End.{End}
 use Rattle.pssm_wellformed.specs.declared.ends.End.TheVariants.{Source, Target}
 use Rattle.pssm_wellformed.specs.inner.Ends.{HasEnd}

@@ -18,7 +18,7 @@ use Rattle.pssm_model.specs.Paths.IsJunctionPath.{one, more}
 use Rattle.pssm_model.specs.Legs.{IsPoint}
 use Rattle.pssm_model.specs.declared.elements.VertexKind.{VertexKind}
 use Rattle.pssm_model.specs.WellFormed.{LeavesLocally, IsBadLocal, LeavesRegion, GoesOutside, StaysInside}
-use Rattle.pssm_model.proofs.BuiltElements.{same_vertex, kind_unique}
+use Rattle.pssm_model.proofs.ElementLaws.{same_vertex, kind_unique}
 use Rattle.pssm_wellformed.specs.declared.ends.End.TheVariants.{Source}
 use Rattle.pssm_wellformed.specs.declared.walks.Walk.TheVariants.{Junctions, Inner, Back}
 use Rattle.pssm_wellformed.specs.inner.Reach.{IsReached}

@@ -14,7 +14,7 @@ use Rattle.pssm_model.specs.Forest.{HasKind, owner_of, LiesInState, OwnsOfKind}
 use Rattle.pssm_model.specs.Legs.{IsPoint}
 use Rattle.pssm_model.specs.Shapes.{HasShape}
 use Rattle.pssm_model.specs.WellFormed.{Ends, LieApart, LieApartBeside}
-use Rattle.pssm_model.proofs.BuiltElements.{kind_unique}
+use Rattle.pssm_model.proofs.ElementLaws.{kind_unique}
 use Rattle.pssm_wellformed.specs.declared.ends.End.{End}
 use Rattle.pssm_wellformed.specs.inner.Ends.{HasEnd, transition_number}
 use Rattle.pssm_wellformed.specs.inner.Apart.{EndLiesInside, placed, AreEnds, IsAround, AreOtherEnds, LieApartAround, IsFitting}

@@ -6,11 +6,12 @@ use Rattle.pssm_model.specs.declared.ids.RegionId.{RegionId}
 use Rattle.pssm_model.specs.declared.ids.TransId.{TransId}
 use Rattle.pssm_model.specs.declared.steps.Firing.{Firing}
 use Rattle.pssm_model.specs.declared.steps.Mode.TheVariants.{Plain}
-use Rattle.pssm_model.specs.declared.steps.How.TheVariants.{By}
+use Rattle.pssm_model.specs.declared.steps.How.{How}
+use Rattle.pssm_model.specs.declared.steps.How.TheVariants.{By, Nothing}
 use Rattle.pssm_semantics.specs.declared.line.Line.{Line}
 use Rattle.pssm_semantics.specs.declared.line.Line.TheVariants.{Post, Start, Take, Exit, Effect, Enter, Opened}
 use Rattle.pssm_spelling.specs.SpellingReading.{stripped, name_taken, number_taken, index_taken}
-use Rattle.pssm_model.specs.OneRegion.{single_route}
+use Rattle.pssm_model.specs.Routes.{single_route}
 use Rattle.pssm_journal.specs.declared.parts.LineParts.{LineParts}
 use Rattle.pssm_journal.specs.declared.parts.LineParts.TheVariants as parts
 
@@ -37,6 +38,11 @@ abbrev pub firing_of : Option ℕ → Firing
 firing_of None = record { routes = [] }
 firing_of (Some t) = record { routes = single_route (transition t) ∷ [] }
 
+-- no way, or the route of the one transition
+abbrev pub way_of : Option ℕ → How
+way_of None = Nothing
+way_of (Some t) = By (single_route (transition t))
+
 -- the line of parts that lie in a text
 abbrev pub line_of_parts : LineParts → Line
 line_of_parts (parts.Post object signal) = Post object.now signal.now []
@@ -45,7 +51,7 @@ line_of_parts (parts.Take object number fires) = Take object.now number (firing_
 line_of_parts (parts.Exit object state) = Exit object.now (vertex state) []
 line_of_parts (parts.Effect object t) = Effect object.now (transition t) []
 line_of_parts (parts.Enter object state) = Enter object.now (vertex state) []
-line_of_parts (parts.Opened object r by) = Opened object.now (region r) Plain (By (single_route (transition by)))
+line_of_parts (parts.Opened object r by) = Opened object.now (region r) Plain (way_of by)
 
 -- the number of an element behind a fixed front
 unfoldable pub element_taken : List ℕ → List ℕ → Option (ℕ × List ℕ)
@@ -60,12 +66,20 @@ place_taken front bytes = do
   element ← element_taken front object.1
   at_end (object.0, element.0) element.1
 
+-- the word that says that there is none, or the number of an element behind a fixed front, and nothing after it
+unfoldable pub optional_taken : List ℕ → List ℕ → List ℕ → Option (Option ℕ)
+optional_taken none front bytes =
+    option_map_or (λ rest. at_end None rest) (stripped none bytes) (do
+      element ← element_taken front bytes
+      at_end (Some element.0) element.1)
+
 -- what fires, and nothing after it
 unfoldable pub fires_taken : List ℕ → Option (Option ℕ)
-fires_taken bytes =
-    option_map_or (λ rest. at_end None rest) (stripped (codes " -") bytes) (do
-      t ← element_taken (codes " t") bytes
-      at_end (Some t.0) t.1)
+fires_taken bytes = optional_taken (codes " -") (codes " t") bytes
+
+-- the way of an opening by default, and nothing after it
+unfoldable pub way_taken : List ℕ → Option (Option ℕ)
+way_taken bytes = optional_taken (codes " default none") (codes " default by t") bytes
 
 unfoldable pub post_taken : List ℕ → Option Line
 post_taken bytes = do
@@ -107,8 +121,8 @@ unfoldable pub open_taken : List ℕ → Option Line
 open_taken bytes = do
   object ← name_taken bytes
   r ← element_taken (codes " r") object.1
-  by ← element_taken (codes " default by t") r.1
-  at_end (Opened object.0 (region r.0) Plain (By (single_route (transition by.0)))) by.1
+  by ← way_taken r.1
+  Some (Opened object.0 (region r.0) Plain (way_of by))
 
 -- a line that is an item of a step
 unfoldable pub item_taken : List ℕ → Option Line

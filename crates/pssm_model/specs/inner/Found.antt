@@ -25,4 +25,4 @@ HasTopBelow m n = (q : RegionId) × (q.0 < n) × (owner_of m (Region q) ≡ Some
 abbrev pub IsFurtherOwner : Bool → Owner → Type 0
 IsFurtherOwner has_top Top = has_top ≡ true
 IsFurtherOwner has_top (Region r) = ⊥
-IsFurtherOwner has_top (State s) = Unit {0}
+IsFurtherOwner has_top (State s) = ⊥

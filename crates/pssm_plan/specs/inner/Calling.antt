@@ -13,7 +13,7 @@ use Rattle.pssm_model.specs.declared.steps.Item.TheVariants.{Exit, Effect, Enter
 use Rattle.pssm_model.specs.declared.steps.Mode.TheVariants.{Plain}
 use Rattle.pssm_model.specs.Configuration.{Configuration}
 use Rattle.pssm_model.specs.Forest.{owner_of}
-use Rattle.pssm_model.specs.OneRegion.{single_route}
+use Rattle.pssm_model.specs.Routes.{single_route}
 use Rattle.pssm_plan.specs.inner.Single.{LiesInSpan, IsEnteredBy, EndsIn}
 use Rattle.pssm_plan.specs.declared.roster.Call.{Call}
 use Rattle.pssm_plan.specs.declared.roster.Pair.{Pair}

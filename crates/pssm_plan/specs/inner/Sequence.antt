@@ -1,5 +1,5 @@
 -- Which of the items that a step calls come before which: it is seen from the items alone.
-use Rattle.std.specs.Prelude.{◌≡◌, ◌⊎◌, ◌<◌, ◌↔◌, ◌≢◌, List, length, Contains, AllPairs}
+use Rattle.std.specs.Prelude.{◌≡◌, ◌⊎◌, ◌<◌, ◌↔◌, ◌≢◌, List, length, Contains, AllPairs, IsTrue}
 use Rattle.pssm_model.specs.declared.ids.VertexId.{VertexId}
 use Rattle.pssm_model.specs.declared.ids.TransId.{TransId}
 use Rattle.pssm_model.specs.declared.elements.DraftMachine.{DraftMachine}
@@ -49,8 +49,10 @@ pub record IsRoster (m : DraftMachine) (calls : List Call) (order : List Pair) :
   pub once : AllPairs (λ a b. a.item ≢ b.item) calls
   pub sequenced : (p : Pair) → Contains order p ↔ (IsListed calls p.first × IsListed calls p.second × IsSequence m p.first p.second)
 
--- The lists are those of a roster that has besides the items that these calls have those that are added, which have not run.
+-- The lists are those of a roster that has besides the items that these calls have those that are added, which have not run and are not said to wait.
 pub record IsExtended (m : DraftMachine) (old : List Call) (Added : Item → Type 0) (calls : List Call) (order : List Pair) : Type 0 where
   pub roster : IsRoster m calls order
   pub listed : (x : Item) → IsListed calls x ↔ (IsListed old x ⊎ Added x)
   pub marked : (x : Item) → IsMarked calls x ↔ IsMarked old x
+  pub kept : (call : Call) → Contains old call → Contains calls call
+  pub free : (call : Call) → Contains calls call → IsTrue call.blocked → Contains old call

@@ -19,7 +19,7 @@ use Rattle.pssm_model.specs.Forest.{HasKind, owner_of, IsScope, LiesInRegion, Li
 use Rattle.pssm_model.specs.Legs.{Leaves, Enters, Goes}
 use Rattle.pssm_model.specs.Course.{Course, FiresBy, HasGoneBy, HasRun, HasRestored}
 use Rattle.pssm_model.specs.Items.{StartOpens}
-use Rattle.pssm_model.specs.OneRegion.{single_route}
+use Rattle.pssm_model.specs.Routes.{single_route}
 
 -- The transition is external, leaves no entry point and ends on a State.
 pub record IsDirectTransition (m : DraftMachine) (t : TransId) : Type 0 where

@@ -25,4 +25,4 @@ tables_of (Firing firing config) = config.value
 
 -- the items that have run, each with its way
 abbrev pub steps_of : List Step → List (Item × How)
-steps_of = map (λ x. (x.item, x.how.value))
+steps_of = map (λ x. (x.item.value, x.how.value))

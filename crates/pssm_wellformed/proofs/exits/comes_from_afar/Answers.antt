@@ -2,7 +2,7 @@ use Rattle.std.proofs.Common.{◌≡◌, refl, ap}
 use Rattle.std.proofs.lemmas.Option.{slice_get_within}
 use Rattle.pssm_model.specs.declared.ids.VertexId.{VertexId}
 use Rattle.pssm_model.specs.declared.elements.Owner.TheVariants.{State}
-use Rattle.pssm_model.proofs.BuiltElements.{same_vertex}
+use Rattle.pssm_model.proofs.ElementLaws.{same_vertex}
 use Rattle.pssm_wellformed.specs.inner.Marks.{MarkStrays}
 use Rattle.pssm_wellformed.proofs.Listing.{empty_iff}
 use Rattle.pssm_wellformed.proofs.Straying.{afar_itself, afar_outside, afar_iff, point_aside}

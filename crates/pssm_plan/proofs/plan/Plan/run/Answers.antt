@@ -7,10 +7,11 @@ use Rattle.pssm_model.specs.Order.{IsReady, IsWayNow}
 use Rattle.pssm_plan.specs.declared.plan.Step.{Step}
 use Rattle.pssm_plan.specs.Agenda.{Agenda, course_of}
 use Rattle.pssm_plan.specs.Plans.{IsPlanOf}
-use Rattle.pssm_plan.specs.inner.Marks.{IsListed}
+use Rattle.pssm_plan.specs.inner.Marks.{IsListed, AreBlocked}
 use Rattle.pssm_plan.specs.inner.Sequence.{IsRoster}
 use Rattle.pssm_plan.specs.inner.Views.{head_of, tables_of, steps_of}
 use Rattle.pssm_plan.proofs.Courses.{plan_roster}
+use Rattle.pssm_plan.proofs.StandingItems.{plan_blocked}
 use Rattle.pssm_plan.proofs.Running.{way_is_single, run_plan}
 use Rattle.pssm_plan.proofs.plan.Plan.run.Goals as goal
 
@@ -27,6 +28,10 @@ run-outcome-requires-clause-item c =
 pub run-outcome-requires-clause-listed : goal.run-outcome-requires-clause-listed
 run-outcome-requires-clause-listed c =
     subst (λ (p : Agenda). IsListed p.calls c.args.item) (sym c.self.view_is) ((c.requires.plan.called c.args.item).1 c.requires.ready.waiting.called)
+
+pub run-outcome-requires-clause-blocked : goal.run-outcome-requires-clause-blocked
+run-outcome-requires-clause-blocked c =
+    subst (λ (p : Agenda). AreBlocked p.calls p.order) (sym c.self.view_is) (plan_blocked c.args.machine.now c.args.self.now c.requires.plan)
 
 pub run-outcome-requires-clause-single : goal.run-outcome-requires-clause-single
 run-outcome-requires-clause-single c =
@@ -46,10 +51,11 @@ returns-else-is_err-clause-plan c =
     let plan = subst (λ (p : Agenda). IsPlanOf m p) back c.requires.plan in
     let ready = subst (λ (p : Agenda). IsReady m (course_of p) c.args.item) back c.requires.ready in
     let way = subst (λ (p : Agenda). IsWayNow m c.requires.way.0 (course_of p) c.args.item c.args.how.now) back c.requires.way.1 in
-    let step : Step → Item × How = (λ s. (s.item, s.how.value)) in
+    let step : Step → Item × How = (λ s. (s.item.value, s.how.value)) in
     let longer = ap (λ (l : List Step). steps_of l) c.in_ok-push.ensures.items
     ∙ map-append step c.self.inside.ran.items _
-    ∙ ap (λ (h : How). steps_of c.self.inside.ran.items ++ (c.args.item, h) ∷ []) c.of.ensures in
+    ∙ ap (λ (x : Item). steps_of c.self.inside.ran.items ++ (x, c.of-2.result.value) ∷ []) c.of.ensures
+    ∙ ap (λ (h : How). steps_of c.self.inside.ran.items ++ (c.args.item, h) ∷ []) c.of-2.ensures in
     on_ok_weaker c.run-outcome.result
     (λ ran. subst
     (λ (l : List (Item × How)). IsPlanOf m (record {

@@ -9,6 +9,6 @@ pub returns-then-ran-clause-added : goal.returns-then-ran-clause-added
 returns-then-ran-clause-added c =
     on_ok_weaker c.add_openings.result
     (λ added. extended_same c.args.machine.now _ _ _ (IsOpeningOf c.args.machine.now c.args.s c.args.t)
-    (λ (x : Item). IsTrue c.args.entered × IsTrue c.args.ran × IsOpeningOf c.args.machine.now c.args.s c.args.t x)
-    (λ x. (λ o. (c.if-entered.true, c.if-ran.true, o), λ h. h.2)) added)
+    (λ (x : Item). IsTrue c.args.ran × IsOpeningOf c.args.machine.now c.args.s c.args.t x)
+    (λ x. (λ o. (c.if-ran.true, o), λ h. h.1)) added)
     c.add_openings.ensures.added

@@ -4,8 +4,8 @@ use Rattle.pssm_system.proofs.system.System.entries.Goals as goal
 
 pub returns-clause-completes : goal.returns-clause-completes
 returns-clause-completes c =
-    completes_seen c.args.self.now c.self.inside.situation c.self.inside.reactions.rows.items c.self.inside.setting c.self.inside.entries.items c.self.invariant.0 c.self.view_is
+    completes_seen c.args.self.now c.self.inside.situation c.self.inside.setting c.self.inside.entries.items c.self.invariant.0 c.self.view_is
 
 pub returns-clause-laws : goal.returns-clause-laws
 returns-clause-laws c =
-    laws_seen c.args.self.now c.self.inside.situation c.self.inside.reactions.rows.items c.self.inside.setting c.self.inside.entries.items c.self.invariant.0 c.self.view_is
+    laws_seen c.args.self.now c.self.inside.situation c.self.inside.setting c.self.inside.entries.items c.self.invariant.0 c.self.view_is

@@ -4,5 +4,5 @@ use Rattle.pssm_system.proofs.system.System.quiet.Goals as goal
 
 pub returns : goal.returns
 returns c =
-    quiet_seen c.args.self.now c.self.inside.situation c.self.inside.reactions.rows.items c.self.inside.setting c.self.inside.entries.items c.self.invariant.0 c.self.view_is
+    quiet_seen c.args.self.now c.self.inside.situation c.self.inside.setting c.self.inside.entries.items c.self.invariant.0 c.self.view_is
     c.is_idle.result c.is_idle.ensures

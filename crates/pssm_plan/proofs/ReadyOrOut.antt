@@ -1,0 +1,156 @@
+-- A step of a machine of States in regions has run out, or has a ready item, where the configuration at its head is
+-- known.
+use Rattle.std.proofs.Common.{List, ◌≡◌, ◌⊎◌, ◌<◌, ℕ, length, Option, Some, None, option_map, refl, ap, subst, inl, inr, ⊎_elim}
+use Rattle.pssm_model.specs.declared.ids.VertexId.{VertexId}
+use Rattle.pssm_model.specs.declared.ids.RegionId.{RegionId}
+use Rattle.pssm_model.specs.declared.ids.TransId.{TransId}
+use Rattle.pssm_model.specs.declared.elements.DraftMachine.{DraftMachine}
+use Rattle.pssm_model.specs.declared.elements.Owner.TheVariants.{Top, Region, State}
+use Rattle.pssm_model.specs.declared.steps.Mode.TheVariants.{Plain, Shallow, Deep}
+use Rattle.pssm_model.specs.declared.steps.How.{How}
+use Rattle.pssm_model.specs.declared.steps.Item.{Item}
+use Rattle.pssm_model.specs.declared.steps.Item.TheVariants as items
+use Rattle.pssm_model.specs.declared.elements.Transition.{Transition}
+use Rattle.pssm_model.specs.Forest.{transition_at, LiesInRegion}
+use Rattle.pssm_model.specs.Legs.{Enters}
+use Rattle.pssm_model.specs.Shapes.{HasShape}
+use Rattle.pssm_model.specs.Configuration.{Configuration}
+use Rattle.pssm_model.specs.Course.{Head, Course, HasRun}
+use Rattle.pssm_model.specs.Course.Head.{Starts, Fires}
+use Rattle.pssm_model.specs.Items.{StartOpens, IsWaiting, HasRunOut}
+use Rattle.pssm_model.specs.Order.{HasGone, IsReady, course_by}
+use Rattle.pssm_model.specs.Nested.{IsPlainlyNested}
+use Rattle.pssm_plan.specs.inner.Single.{GoesDirectly, EndsIn, IsEnteredBy, OpensAfterEntry, IsCalledOver}
+use Rattle.pssm_model.proofs.ElementLaws.{enters_one}
+use Rattle.pssm_plan.proofs.Known.{Known, known_as, known_both, known_either, known_not, known_below}
+use Rattle.pssm_plan.proofs.KnownPlaces.{known_owner, known_in_region, known_entered}
+use Rattle.pssm_plan.proofs.KnownItems.{known_over_some, known_over, known_exit, known_enter, owning_there, some_ready}
+use Rattle.pssm_plan.proofs.NestedSteps.{gone_directly}
+use Rattle.pssm_plan.proofs.ReadyItems.{run_known}
+use Rattle.pssm_plan.proofs.SingleItems.{called_is, called_of}
+use Rattle.pssm_plan.proofs.Spans.{target_of}
+use Rattle.pssm_plan.proofs.StepLengths.{IsThere, called_there}
+
+-- what a start opens is known
+start_known : (m : DraftMachine) (head : Head) (r : RegionId) → Known (StartOpens m head (items.Opened r Plain))
+start_known m Starts r = known_owner m (Region r) Top
+start_known m (Fires routes) r = inr (λ h. h)
+
+-- whether a transition ends in a region
+ends_known : {m : DraftMachine} → HasShape m → (t : TransId) (r : RegionId) → Known (EndsIn m t r)
+ends_known {m} shape t r = by (transition_at m t) refl
+  where
+    by : (o : Option Transition) → transition_at m t ≡ o → Known (EndsIn m t r)
+    by None e = inr (λ h. let none = ap (option_map (λ (x : Transition). x.target)) e in let clash : Enters m t h.0 = h.1 in cc)
+    by (Some x) e =
+        known_as
+        (λ h. (x.target, target_of m t x e, h))
+        (λ h. subst (λ v. LiesInRegion m v r) (enters_one m t h.0 x.target h.1 (target_of m t x e)) h.2)
+        (known_in_region shape x.target r)
+
+-- the vertices, regions and transitions of numbers, and their items
+abbrev vertex_of : ℕ → VertexId
+vertex_of k = record { 0 = k }
+
+abbrev region_of : ℕ → RegionId
+region_of k = record { 0 = k }
+
+abbrev transition_of : ℕ → TransId
+transition_of k = record { 0 = k }
+
+abbrev exit_of : ℕ → Item
+exit_of k = items.Exit (vertex_of k)
+
+abbrev effect_of : ℕ → Item
+effect_of k = items.Effect (transition_of k)
+
+abbrev enter_of : ℕ → Item
+enter_of k = items.Enter (vertex_of k)
+
+abbrev opening_of : ℕ → Item
+opening_of k = items.Opened (region_of k) Plain
+
+module _ {m : DraftMachine} (shape : HasShape m) (course : Course) (g : GoesDirectly m course)
+    (active : (s : VertexId) → Known (course.at_head.Active s)) where
+  -- which openings are called
+  after_entry_known : (s : VertexId) (r : RegionId) → Known (OpensAfterEntry m course s r)
+  after_entry_known s r =
+      known_as
+      (λ h. (h.0, h.1.0, (h.1.1.0, (h.1.1.1, h.1.1.2.0), h.1.1.2.1)))
+      (λ h. (h.0, (h.1, (h.2.0, h.2.1.0, (h.2.1.1, h.2.2)))))
+      (known_both
+      (run_known course (items.Enter s))
+      (known_both
+      (known_owner m (Region r) (State s))
+      (known_over_some shape course g active
+      (λ t. IsEnteredBy m t s × (EndsIn m t r → ⊥))
+      (λ t. known_both (known_entered shape t s) (known_not (ends_known shape t r))))))
+
+  opening_known : (r : RegionId) → Known (IsCalledOver m course (items.Opened r Plain))
+  opening_known r =
+      known_either
+      (start_known m course.head r)
+      (known_as
+      (λ h. (vertex_of h.0, h.2))
+      (λ h. (h.0.0, owning_there shape h.0 r h.1.1, h.1))
+      (known_below (λ k. OpensAfterEntry m course (vertex_of k) r) (λ k. after_entry_known (vertex_of k) r) (length m.vertices)))
+
+  -- some item of a kind waits, or none does
+  waiting_known : (item : ℕ → Item) → ((k : ℕ) → Known (IsCalledOver m course (item k))) → (n : ℕ)
+      → ((x : Item) × IsWaiting m course x) ⊎ ((k : ℕ) → k < n → IsCalledOver m course (item k) → HasRun course (item k))
+  waiting_known item called n =
+      ⊎_elim
+      (λ h. inl (item h.0, record { called = called_of m course g (item h.0) h.2.0; not_run = h.2.1 }))
+      (λ none. inr (λ k lt is. ⊎_elim (λ ran. ran) (λ not. absurd (none (k, lt, (is, not)))) (run_known course (item k))))
+      (known_below
+      (λ k. IsCalledOver m course (item k) × (HasRun course (item k) → ⊥))
+      (λ k. known_both (called k) (known_not (run_known course (item k))))
+      n)
+
+  -- where what is called is there, and nothing that is there waits, everything called has run
+  all_ran : ((k : ℕ) → k < length m.vertices → IsCalledOver m course (exit_of k) → HasRun course (exit_of k))
+      → ((k : ℕ) → k < length m.transitions → IsCalledOver m course (effect_of k) → HasRun course (effect_of k))
+      → ((k : ℕ) → k < length m.vertices → IsCalledOver m course (enter_of k) → HasRun course (enter_of k))
+      → ((k : ℕ) → k < length m.regions → IsCalledOver m course (opening_of k) → HasRun course (opening_of k))
+      → (x : Item) → IsThere m x → IsCalledOver m course x → HasRun course x
+  all_ran exits effects entries openings (items.Exit s) there h = exits s.0 there h
+  all_ran exits effects entries openings (items.Effect t) there h = effects t.0 there h
+  all_ran exits effects entries openings (items.Enter s) there h = entries s.0 there h
+  all_ran exits effects entries openings (items.Opened r Plain) there h = openings r.0 there h
+  all_ran exits effects entries openings (items.Opened r Shallow) there h = absurd h
+  all_ran exits effects entries openings (items.Opened r Deep) there h = absurd h
+  all_ran exits effects entries openings (items.Pick c) there h = absurd h
+
+  -- some item waits, or everything called has run
+  some_waits : ((x : Item) → IsCalledOver m course x → IsThere m x)
+      → HasRunOut m course ⊎ ((x : Item) × IsWaiting m course x)
+  some_waits there =
+      ⊎_elim
+      (λ waits. inr waits)
+      (λ exits. ⊎_elim
+      (λ waits. inr waits)
+      (λ effects. ⊎_elim
+      (λ waits. inr waits)
+      (λ entries. ⊎_elim
+      (λ waits. inr waits)
+      (λ openings. inl (λ x called. (
+      let is = called_is m course g x called in
+      all_ran exits effects entries openings x (there x is) is
+      )))
+      (waiting_known opening_of (λ k. opening_known (region_of k)) (length m.regions)))
+      (waiting_known enter_of (λ k. known_enter shape course g active (vertex_of k)) (length m.vertices)))
+      (waiting_known effect_of (λ k. known_over shape course g active (transition_of k)) (length m.transitions)))
+      (waiting_known exit_of (λ k. known_exit shape course g active (vertex_of k)) (length m.vertices))
+
+-- A step has run out, or an item is ready.
+pub ready_or_out : {m : DraftMachine} → HasShape m → IsPlainlyNested m
+    → (head : Head) (now : Configuration) (ran : List (Item × How))
+    → HasGone m head now ran → ((s : VertexId) → Known (now.Active s))
+    → HasRunOut m (course_by head now ran) ⊎ ((x : Item) × IsReady m (course_by head now ran) x)
+ready_or_out shape nested head now ran gone active =
+    let course = course_by head now ran in
+    let g = gone_directly nested head now ran gone in
+    ⊎_elim
+    (λ out. inl out)
+    (λ waits. (let first = some_ready shape course g active waits.0 waits.1 in inr (first.0, first.1)))
+    (some_waits shape course g active (called_there shape nested head now ran gone))

@@ -1,0 +1,292 @@
+-- A step keeps a configuration consistent: what it enters may become active, and what it exits is.
+use Rattle.std.proofs.Common.{List, Some, ◌≡◌, ◌⊎◌, sym, subst, inl, inr, ⊎_elim, ◌∙◌}
+use Rattle.pssm_model.specs.declared.ids.VertexId.{VertexId}
+use Rattle.pssm_model.specs.declared.ids.RegionId.{RegionId}
+use Rattle.pssm_model.specs.declared.ids.TransId.{TransId}
+use Rattle.pssm_model.specs.declared.elements.DraftMachine.{DraftMachine}
+use Rattle.pssm_model.specs.declared.elements.VertexKind.TheVariants as kinds
+use Rattle.pssm_model.specs.declared.elements.Owner.{Owner}
+use Rattle.pssm_model.specs.declared.elements.Owner.TheVariants.{Top, Region, State}
+use Rattle.pssm_model.specs.declared.steps.How.{How}
+use Rattle.pssm_model.specs.declared.steps.How.TheVariants.{By, Restore, Nothing}
+use Rattle.pssm_model.specs.declared.steps.Item.{Item}
+use Rattle.pssm_model.specs.declared.steps.Item.TheVariants as items
+use Rattle.pssm_model.specs.Forest.{HasKind, IsStateOrFinal, owner_of, LiesUnder, LiesInRegion}
+use Rattle.pssm_model.specs.Forest.LiesUnder.{owned, further}
+use Rattle.pssm_model.specs.Shapes.{HasShape}
+use Rattle.pssm_model.specs.declared.steps.Mode.TheVariants.{Plain}
+use Rattle.pssm_model.specs.Configuration.{Configuration, IsDirect}
+use Rattle.pssm_model.specs.Changes.{entered, exited}
+use Rattle.pssm_model.specs.Course.{Head, FiresBy, HasGoneBy, HasRun}
+use Rattle.pssm_model.specs.Order.{HasGone, IsReady, course_by}
+use Rattle.pssm_model.specs.Order.HasGone.{begun as gone_begun, more as gone_more}
+use Rattle.pssm_model.specs.Nested.{IsPlainlyNested}
+use Rattle.pssm_model.specs.Routes.{single_route}
+use Rattle.pssm_config.specs.Tables.{CanEnter}
+use Rattle.pssm_plan.specs.Steadiness.{IsConsistent, KeepsInitials, BeginsWell, changed_by_item, changed_along}
+use Rattle.pssm_plan.specs.inner.Single.{IsSpan, EndsIn, GoesOver, IsEnteredBy, IsCalledOver}
+use Rattle.pssm_model.proofs.ElementLaws.{some_at}
+use Rattle.pssm_model.proofs.RouteLaws.{single_source}
+use Rattle.pssm_model.proofs.OwnerChains.{one_owner, owner_above}
+use Rattle.pssm_model.proofs.Nesting.{under_cases, region_cases, lies_within}
+use Rattle.pssm_plan.proofs.Spans.{source_of}
+use Rattle.pssm_plan.proofs.NestedRoutes.{target_is_state}
+use Rattle.pssm_plan.proofs.NestedSteps.{gone_directly, over_in_range, ran_was_called}
+use Rattle.pssm_plan.proofs.SingleItems.{called_is, called_of, before_of}
+use Rattle.pssm_plan.proofs.SteadyPlaces.{no_circle, one_reached, home_of_state, home_above, outer_of, late_span_is, owned_lies, lies_around, entered_fills, entered_reached, one_span}
+use Rattle.pssm_plan.proofs.SteadyItems.{starts_at, late_is, exits_over, ready_after_exits, over_span, inside_fired, fires_or_starts}
+use Rattle.pssm_plan.proofs.SteadyFilling.{one_fills}
+use Rattle.pssm_plan.proofs.SteadyChanges.{changed_along-push, no_entry_yet, active_is}
+
+-- what is active on an owner chain: a State that is, or a region with such a direct vertex
+abbrev IsHeld : DraftMachine → Configuration → Owner → Type 0
+IsHeld m now Top = Unit {0}
+IsHeld m now (Region r) = (v : VertexId) × IsDirect m v r × now.Active v
+IsHeld m now (State s) = now.Active s
+
+module _ {m : DraftMachine} (shape : HasShape m) (now : Configuration) (consistent : IsConsistent m now) where
+  -- in a consistent configuration an owner chain is active on from where it is
+  held_up : (p q : Owner) → owner_of m p ≡ Some q → IsHeld m now p → IsHeld m now q
+  held_up Top q e held = absurd (cc)
+  held_up (Region r) q e held =
+      ⊎_elim
+      (λ top. subst (IsHeld m now) (one_owner m (Region r) Top q top e) tt)
+      (λ at. subst (IsHeld m now) (one_owner m (Region r) (State at.0) q at.1 e) at.2)
+      (consistent.owners r held.0 held.1 held.2)
+  held_up (State s) q e held =
+      let is = consistent.states s held in
+      let home = home_of_state shape s is in
+      subst (IsHeld m now) (one_owner m (State s) (Region home.0) q home.1 e) (s, (home.1, is), held)
+
+  held_along : (p q : Owner) → LiesUnder m p q → IsHeld m now p → IsHeld m now q
+  held_along p q (owned e) held = held_up p q e held
+  held_along p q (further {q = k} e rest) held = held_along k q rest (held_up p k e held)
+
+  -- the State that owns a region in which something active lies
+  pub around_active : (v s : VertexId) (r : RegionId) → now.Active v → LiesInRegion m v r
+      → owner_of m (Region r) ≡ Some (State s) → now.Active s
+  around_active v s r active lies e = held_up (Region r) (State s) e (held_along (State v) (Region r) lies active)
+
+module _ {m : DraftMachine} (shape : HasShape m) (nested : IsPlainlyNested m) (initials : KeepsInitials m)
+    (head : Head) (now : Configuration) (begins : BeginsWell m head now) where
+  -- what is entered is a State
+  entered_is_state : (t : TransId) (s : VertexId) → IsEnteredBy m t s → HasKind m s kinds.State
+  entered_is_state t s h =
+      ⊎_elim
+      (λ same. subst (λ v. HasKind m v kinds.State) same (target_is_state nested t h.0 h.1))
+      (λ inside. (shape.regions inside.1.0 (State s) inside.1.1).0)
+      h.2
+
+  -- two States of one region that are entered are the same
+  entered_once : (ran : List (Item × How)) → HasGone m head now ran → (r : RegionId) (s v : VertexId)
+      → owner_of m (State s) ≡ Some (Region r) → owner_of m (State v) ≡ Some (Region r)
+      → IsCalledOver m (course_by head now ran) (items.Enter s)
+      → IsCalledOver m (course_by head now ran) (items.Enter v) → s ≡ v
+  entered_once ran gone r s v e f first second =
+      let span = over_span shape nested initials head now begins ran gone first.0 first.1.0 in
+      let other = over_span shape nested initials head now begins ran gone second.0 second.1.0 in
+      let above = home_above shape s r e in
+      let one = one_fills shape nested initials head now begins ran gone r above.0 above.1 first.0 second.0 first.1.0 second.1.0
+      (entered_fills m first.0 s r span.0 span.1 e first.1.1) (entered_fills m second.0 v r other.0 other.1 f second.1.1) in
+      let target = second.1.1 in
+      one_reached shape target.0 s v r e f
+      (entered_reached m second.0 s target.0 (subst (λ x. IsEnteredBy m x s) one first.1.1) target.1)
+      (entered_reached m second.0 v target.0 target target.1)
+
+  -- the region of a State whose entry is ready has no active direct vertex
+  vacant : (ran : List (Item × How)) → HasGone m head now ran → (r : RegionId) (s v : VertexId)
+      → IsReady m (course_by head now ran) (items.Enter s) → IsDirect m s r → IsDirect m v r
+      → (changed_along m now ran).Active v → ⊥
+  vacant ran gone r s v ready e f active =
+      let course = course_by head now ran in
+      let over = called_is m course (gone_directly nested head now ran gone) (items.Enter s) ready.waiting.called in
+      ⊎_elim
+      (λ entry. (
+      let same = entered_once ran gone r s v e.0 f.0 over (ran_was_called nested head now ran gone (items.Enter v) entry) in
+      ready.waiting.not_run (subst (λ x. HasRun course (items.Enter x)) (sym same) entry)
+      ))
+      (λ left. ⊎_elim
+      (λ starts. begins.start starts v left.0)
+      (λ fires. (
+      let inside = inside_fired shape nested initials head now begins fires.0 fires.1 ran gone over.0 s over.1 in
+      let lies = lies_within m v r inside.0 (owned f.0) (region_cases m (State s) r inside.0 e.0 inside.2) in
+      left.1 (ready_after_exits shape nested initials head now begins ran gone s v ready
+      (fires.0, (fires.1, left.0, (inside.0, inside.1, lies))))
+      ))
+      (fires_or_starts shape nested initials head now begins ran gone over.0 over.1.0))
+      ((active_is shape nested initials head now begins ran gone v).0 active)
+
+  -- a State whose entry is ready may become active
+  pub may_enter : (ran : List (Item × How)) → HasGone m head now ran → (s : VertexId)
+      → IsReady m (course_by head now ran) (items.Enter s)
+      → CanEnter m (changed_along m now ran) s
+  may_enter ran gone s ready =
+      let over = called_is m (course_by head now ran) (gone_directly nested head now ran gone) (items.Enter s) ready.waiting.called in
+      record {
+        state = inl (entered_is_state over.0 s over.1.1);
+        vacant = λ r v e f active. vacant ran gone r s v ready e f active;
+      }
+
+  -- once a State is exited
+  after_exit : (ran : List (Item × How)) → HasGone m head now ran → (q : VertexId)
+      → IsReady m (course_by head now ran) (items.Exit q)
+      → IsConsistent m (changed_along m now ran) → IsConsistent m (exited m (changed_along m now ran) q)
+  after_exit ran gone q ready was = record {
+    states = λ s h. was.states s h.1;
+    one_each = λ r s v d e h k. was.one_each r s v d e h.1 k.1;
+    owners = λ r s d h. ⊎_elim
+        (λ top. inl top)
+        (λ at. inr (
+          at.0,
+          at.1,
+          (λ same. nothing_inside r s d (subst (λ x. owner_of m (Region r) ≡ Some (State x)) same at.1) h.1, at.2),
+        ))
+        (was.owners r s d h.1);
+  }
+    where
+      nothing_inside : (r : RegionId) (s : VertexId) → IsDirect m s r → owner_of m (Region r) ≡ Some (State q)
+          → (changed_along m now ran).Active s → ⊥
+      nothing_inside r s d e active =
+          let course = course_by head now ran in
+          let g = gone_directly nested head now ran gone in
+          let called = called_is m course g (items.Exit q) ready.waiting.called in
+          let span = called.1.2 in
+          ⊎_elim
+          (λ entry. no_entry_yet shape nested initials head now begins ran gone q s ready.waiting entry)
+          (λ left. (
+          let exits : IsCalledOver m course (items.Exit s) =
+          (called.0, (called.1.0, left.0, (span.0, span.1, lies_around m s q r span.0 (owned d.0) e span.2))) in
+          left.1 (ready.cleared (items.Exit s) (called_of m course g (items.Exit s) exits)
+          (before_of m course g (items.Exit s) (items.Exit q) (r, e, owned d.0)))
+          ))
+          ((active_is shape nested initials head now begins ran gone s).0 active)
+
+  -- the owner of a region in which a State is entered is the machine, or active
+  abbrev IsOwnerActive : List (Item × How) → RegionId → Type 0
+  IsOwnerActive ran r =
+      (owner_of m (Region r) ≡ Some Top)
+      ⊎ ((q : VertexId) × (owner_of m (Region r) ≡ Some (State q)) × (changed_along m now ran).Active q)
+
+  fired_owner : (ran : List (Item × How)) → HasGone m head now ran → (t : TransId) (r : RegionId) (p : Owner)
+      → FiresBy head (single_route t) → IsSpan m t r → owner_of m (Region r) ≡ Some p → IsOwnerActive ran r
+  fired_owner ran gone t r Top fires span e = inl e
+  fired_owner ran gone t r (Region k) fires span e = absurd (shape.regions r (Region k) e).0
+  fired_owner ran gone t r (State o) fires span e =
+      let lt = over_in_range nested head now ran gone t (inl fires) in
+      let at = some_at m.transitions t.0 lt in
+      let v = at.0.source in
+      let leaves = source_of m t at.0 at.1 in
+      let active = begins.from_active (single_route t) v fires (single_source m t v leaves) in
+      inr (
+        o,
+        e,
+        (active_is shape nested initials head now begins ran gone o).1 (inr (
+          around_active shape now begins.consistent v o r active (span.common v (inl leaves)) e,
+          λ exit. (
+              let called = ran_was_called nested head now ran gone (items.Exit o) exit in
+              let over = exits_over shape nested initials head now begins ran t o fires called in
+              let inside = over.2 in
+              let same = one_span m t inside.0 r lt inside.1 span in
+              no_circle shape r (owned_lies m r r o e (subst (λ x. LiesInRegion m o x) same inside.2))
+              ),
+        )),
+      )
+
+  late_owner : (ran : List (Item × How)) → HasGone m head now ran → (t : TransId) (r : RegionId)
+      → HasGoneBy (course_by head now ran) (single_route t) → IsSpan m t r → IsOwnerActive ran r
+  late_owner ran gone t r late span =
+      let course = course_by head now ran in
+      let by = late_is nested head now ran gone t late in
+      let same = late_span_is shape initials by.0 r by.1 t by.2.0 by.2.1 span in
+      let called : IsCalledOver m course (items.Opened r Plain) =
+      subst (λ x. IsCalledOver m course (items.Opened x Plain)) same by.2.2 in
+      ⊎_elim
+      (λ starts. inl (starts_at m head r starts).1)
+      (λ at. inr (at.0, at.1.1, (active_is shape nested initials head now begins ran gone at.0).1 (inl at.1.0)))
+      called
+
+  inner_owner : (ran : List (Item × How)) → HasGone m head now ran → (t : TransId) (q : VertexId) (r k : RegionId)
+      → IsReady m (course_by head now ran) (items.Enter q) → owner_of m (State q) ≡ Some (Region r)
+      → GoesOver (course_by head now ran) t
+      → EndsIn m t r → IsSpan m t k → LiesUnder m (Region r) (Region k) → IsOwnerActive ran r
+  inner_owner ran gone t q r k ready e over ends span under =
+      let course = course_by head now ran in
+      let g = gone_directly nested head now ran gone in
+      let outer = outer_of shape r k under in
+      let lies : LiesInRegion m outer.0 k =
+      ⊎_elim (λ same. absurd (cc)) (λ more. more) (under_cases m (Region r) (State outer.0) (Region k) outer.2 under) in
+      let called : IsCalledOver m course (items.Enter outer.0) =
+      (t, (over, (ends.0, ends.1, inr ((k, span, lies), (r, outer.2, ends.2))))) in
+      let entry = ready.cleared (items.Enter outer.0) (called_of m course g (items.Enter outer.0) called)
+      (before_of m course g (items.Enter outer.0) (items.Enter q) (r, outer.2, owned e)) in
+      inr (outer.0, outer.2, (active_is shape nested initials head now begins ran gone outer.0).1 (inl entry))
+
+  owner_active : (ran : List (Item × How)) → HasGone m head now ran → (r : RegionId) (q : VertexId)
+      → IsReady m (course_by head now ran) (items.Enter q) → owner_of m (State q) ≡ Some (Region r)
+      → IsOwnerActive ran r
+  owner_active ran gone r q ready e =
+      let course = course_by head now ran in
+      let called = called_is m course (gone_directly nested head now ran gone) (items.Enter q) ready.waiting.called in
+      let t = called.0 in
+      let over = called.1.0 in
+      let wide = over_span shape nested initials head now begins ran gone t over in
+      let fills = entered_fills m t q r wide.0 wide.1 e called.1.1 in
+      let above = home_above shape q r e in
+      let owner = owner_above m (Region r) above.0 above.1 in
+      ⊎_elim
+      (λ same. (
+      let span : IsSpan m t r = subst (λ x. IsSpan m t x) (sym same) fills.1.1 in
+      ⊎_elim
+      (λ fires. fired_owner ran gone t r owner.0 fires span owner.1)
+      (λ late. late_owner ran gone t r late span)
+      over
+      ))
+      (λ under. inner_owner ran gone t q r fills.1.0 ready e over fills.0 fills.1.1 under)
+      fills.1.2
+
+  -- once a State is entered
+  after_enter : (ran : List (Item × How)) → HasGone m head now ran → (q : VertexId)
+      → IsReady m (course_by head now ran) (items.Enter q)
+      → IsConsistent m (changed_along m now ran) → IsConsistent m (entered m (changed_along m now ran) q)
+  after_enter ran gone q ready was = record {
+    states = λ s h. ⊎_elim (λ same. subst (λ x. IsStateOrFinal m x) (sym same) (may_enter ran gone q ready).state) (was.states s) h;
+    one_each = λ r s v d e h k. ⊎_elim
+        (λ same. ⊎_elim
+        (λ too. same ∙ sym too)
+        (λ active. absurd (vacant ran gone r q v ready (subst (λ x. IsDirect m x r) same d) e active))
+        k)
+        (λ active. ⊎_elim
+        (λ too. absurd (vacant ran gone r q s ready (subst (λ x. IsDirect m x r) too e) d active))
+        (λ other. was.one_each r s v d e active other)
+        k)
+        h;
+    owners = λ r s d h. ⊎_elim
+        (λ top. inl top)
+        (λ at. inr (at.0, at.1, inr at.2))
+        (⊎_elim {C = IsOwnerActive ran r}
+        (λ same. owner_active ran gone r q ready (subst (λ x. owner_of m (State x) ≡ Some (Region r)) same d.0))
+        (λ active. was.owners r s d active)
+        h);
+  }
+
+  -- once any item has run
+  after_item : (ran : List (Item × How)) → HasGone m head now ran → (item : Item) (how : How)
+      → IsReady m (course_by head now ran) item
+      → IsConsistent m (changed_along m now ran) → IsConsistent m (changed_by_item m (changed_along m now ran) item how)
+  after_item ran gone (items.Exit q) how ready was = after_exit ran gone q ready was
+  after_item ran gone (items.Enter q) how ready was = after_enter ran gone q ready was
+  after_item ran gone (items.Effect t) how ready was = was
+  after_item ran gone (items.Opened r mode) (By route) ready was =
+      record { states = was.states; one_each = was.one_each; owners = was.owners }
+  after_item ran gone (items.Opened r mode) (Restore s) ready was =
+      record { states = was.states; one_each = was.one_each; owners = was.owners }
+  after_item ran gone (items.Opened r mode) Nothing ready was =
+      record { states = was.states; one_each = was.one_each; owners = was.owners }
+  after_item ran gone (items.Pick c) how ready was = was
+
+  -- so the configuration stays consistent
+  pub stays_consistent : (ran : List (Item × How)) → HasGone m head now ran → IsConsistent m (changed_along m now ran)
+  stays_consistent _ (gone_begun fires) = begins.consistent
+  stays_consistent _ (gone_more {ran = ran} item how before ready truth way) =
+      subst (λ (c : Configuration). IsConsistent m c) (sym (changed_along-push m now ran item how))
+      (after_item ran before item how ready (stays_consistent ran before))

@@ -1,7 +1,0 @@
-use Rattle.pssm_plan.specs.inner.Marks.{IsSettled}
-use Rattle.pssm_plan.proofs.Rewriting.{IsRewritten}
-use Rattle.pssm_plan.proofs.roster.settle_all.Given as goal
-
--- the calls so far are settled
-abbrev pub invariant-loop-k : goal.invariant-loop-k
-invariant-loop-k l = IsRewritten (IsSettled l.fn.calls l.fn.order) l.fn.calls l.calls l.k

@@ -1,0 +1,47 @@
+-- What is kept once a step has gone on.
+use Rattle.std.proofs.Common.{◌≡◌, ◌++◌, ◌+◌, ℕ, [], ◌∷◌, Option, Some, Result, Ok, Err, OnOk, refl}
+use Rattle.pssm_model.specs.declared.elements.DraftMachine.{DraftMachine}
+use Rattle.pssm_model.specs.declared.steps.Firing.{Firing}
+use Rattle.pssm_model.specs.declared.steps.How.{How}
+use Rattle.pssm_model.specs.declared.steps.Item.{Item}
+use Rattle.pssm_model.specs.Course.Head.{Starts, Fires}
+use Rattle.pssm_model.specs.Changes.{Agree, nothing_yet}
+use Rattle.pssm_config.specs.Tables.{configuration_of}
+use Rattle.pssm_plan.specs.Agenda.{Agenda}
+use Rattle.pssm_plan.specs.Plans.{IsPlanOf}
+use Rattle.pssm_semantics.specs.declared.entry.ObjectId.{ObjectId}
+use Rattle.pssm_semantics.specs.declared.entry.Entry.TheVariants.{Start, Take}
+use Rattle.pssm_system.specs.declared.situation.Situation.{Situation}
+use Rattle.pssm_system.specs.inner.Advancing.{HasRunOn, Advances}
+
+-- the item has run, where that has succeeded
+pub has_run_on : {A E : Type 0} (m : DraftMachine) (old : Option Agenda) (was now : Agenda) (item : Item) (how : How) (outcome : Result A E)
+    → old ≡ Some was → now.head ≡ was.head → now.at_head ≡ was.at_head
+    → OnOk outcome (now.ran ≡ was.ran ++ (item, how) ∷ []) → OnOk outcome (IsPlanOf m now)
+    → OnOk outcome (HasRunOn m old item how (Some now))
+has_run_on m old was now item how (Ok done) is head at_head ran plan =
+    record { was = was; was_is = is; now = now; now_is = refl; head = head; at_head = at_head; ran = ran; is_plan = plan }
+has_run_on m old was now item how (Err error) is head at_head ran plan = tt
+
+-- a step has begun, by a start or by a take
+pub begins : (m : DraftMachine) (old new : Situation) (o : ObjectId) (plan : Agenda) → new.plan ≡ Some plan → new.config ≡ old.config
+    → new.signals.items ≡ old.signals.items → new.taken ≡ old.taken → plan.head ≡ Starts
+    → Agree (configuration_of plan.at_head) nothing_yet → plan.ran ≡ [] → IsPlanOf m plan → Advances m old (Start o) new
+begins m old new o plan is config signals taken head at_head ran is_plan = record {
+  plan = record { now = plan; now_is = is; head_is = head; ran = ran; is_plan = is_plan };
+  at_head = at_head;
+  config = config;
+  signals = signals;
+  taken = taken;
+}
+
+pub takes_next : (m : DraftMachine) (old new : Situation) (o : ObjectId) (number : ℕ) (firing : Firing) (plan : Agenda) → new.plan ≡ Some plan
+    → new.config ≡ old.config → new.signals.items ≡ old.signals.items → new.taken ≡ old.taken + 1 → plan.head ≡ Fires firing.routes
+    → plan.at_head ≡ old.config → plan.ran ≡ [] → IsPlanOf m plan → Advances m old (Take o number firing) new
+takes_next m old new o number firing plan is config signals taken head at_head ran is_plan = record {
+  plan = record { now = plan; now_is = is; head_is = head; ran = ran; is_plan = is_plan };
+  at_head = at_head;
+  config = config;
+  signals = signals;
+  taken = taken;
+}
