@@ -15,8 +15,9 @@ use std::alloc::Global;
 // The most bytes that a journal may have.
 const LIMIT: u64 = 16_777_216;
 
-// How many bytes the reader of lines is handed at a time.
-const PIECE: usize = 65_536;
+// How many bytes the reader of lines is handed at a time: few, so that the lines of each piece
+// take the memory that those before them gave back.
+const PIECE: usize = 512;
 
 /// Judges the journal that stands under `path`, as one of a run of the setting.
 ///

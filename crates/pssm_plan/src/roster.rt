@@ -133,29 +133,21 @@ fn link(
     Ok(())
 }
 
-// The call, run where it is one of the item.
-fn told(call: Call, item: Item) -> Call
-    ensures { IsTold item call result }
+// Whether the call has run, now that the item has.
+fn has_now_run(call: Call, item: Item) -> bool
+    ensures { IsTold item call (record call { ran = result }) }
 {
-    Call {
-        item: call.item,
-        ran: call.ran || same_item(call.item, item),
-        blocked: call.blocked,
-    }
+    call.ran || same_item(call.item, item)
 }
 
-// The call, blocked as said where it is one of the item.
-fn blocked_as(call: Call, item: Item, blocked: bool) -> Call
-    ensures { IsBlockedAs item blocked call result }
+// Whether the call is blocked, as said where it is one of the item.
+fn blocked_as(call: Call, item: Item, blocked: bool) -> bool
+    ensures { IsBlockedAs item blocked call (record call { blocked = result }) }
 {
     if same_item(call.item, item) {
-        Call {
-            item: call.item,
-            ran: call.ran,
-            blocked,
-        }
+        blocked
     } else {
-        call
+        call.blocked
     }
 }
 
@@ -164,7 +156,7 @@ fn mark_blocked(calls: &mut [Call], item: Item, blocked: bool)
     ensures { ArePairwise (IsBlockedAs item blocked) calls.old calls.new }
 {
     for call in calls.iter_mut() {
-        *call = blocked_as(*call, item, blocked);
+        call.blocked = blocked_as(*call, item, blocked);
     }
 }
 
@@ -253,7 +245,7 @@ impl Roster {
         ensures order { self.new.order.items ≡ self.old.order.items }
     {
         for call in self.calls.iter_mut() {
-            *call = told(*call, item);
+            call.ran = has_now_run(*call, item);
         }
     }
 

@@ -3,7 +3,7 @@ ghost use Rattle.std.specs.Prelude.{◌≢◌};
 
 use crate::model::built_model;
 use crate::{Status, pssm};
-use pssm_base::{Gate, SureInputs, SureSink};
+use pssm_base::{Gate, Inputs, SureInputs, SureSink};
 use pssm_judge::{JudgeFault, LineFault, Rule, Verdict, judge};
 use std::alloc::Global;
 use std::test::Fail;
@@ -43,6 +43,19 @@ fn answers(rt: HostRuntime) -> Result<(), Fail> {
     Ok(())
 }
 
+// What the journal under one path deserves as one of the model under another.
+fn judged_from<I: Inputs>(
+    alloc: Global,
+    inputs: &mut I,
+    path: &str,
+    journal: &str,
+) -> Result<Result<Verdict, JudgeFault>, Fail> {
+    let Ok(Ok(setting)) = built_model(alloc, inputs, path) else {
+        return Err("the model is refused".into());
+    };
+    Ok(judge(alloc, setting, inputs, journal))
+}
+
 // What a journal of a start and these bytes deserves.
 fn judged(alloc: Global, more: &[u8]) -> Result<Result<Verdict, JudgeFault>, Fail> {
     let mut bytes = START.to_vec(alloc)?;
@@ -51,10 +64,7 @@ fn judged(alloc: Global, more: &[u8]) -> Result<Result<Verdict, JudgeFault>, Fai
     files.push((String::from_str(alloc, "model")?, MODEL.to_vec(alloc)?))?;
     files.push((String::from_str(alloc, "journal")?, bytes))?;
     let mut inputs = SureInputs::new(files);
-    let Ok(Ok(setting)) = built_model(alloc, &mut inputs, "model") else {
-        return Err("the model is refused".into());
-    };
-    Ok(judge(alloc, setting, &mut inputs, "journal"))
+    judged_from(alloc, &mut inputs, "model", "journal")
 }
 
 // No answer of the program says on which line of a journal a fault stands.
