@@ -1,5 +1,6 @@
 -- Readers that did not fail.
-use Rattle.std.proofs.Common.{◌≡◌, Bool, true, false, cond, Option, Some, None, refl}
+use Rattle.std.proofs.Common.{◌≡◌, Bool, true, false, cond, Option, Some, None, Result, Ok, refl}
+use Rattle.pssm_acts.specs.declared.act_fault.ActFault.{ActFault}
 use Rattle.pssm_flat.specs.inner.Lines.{◌>>=◌}
 
 -- both steps gave a value
@@ -24,3 +25,10 @@ refused_some false o y e = (refl, e)
 
 pub some_is : {A : Type 0} (x y : A) → Some x ≡ Some y → x ≡ y
 some_is x y e = cc
+
+-- an answer without a fault
+abbrev pub fine : {A : Type 0} → A → Result A ActFault
+fine x = Ok x
+
+pub ok_is : {A : Type 0} (x y : A) → fine x ≡ fine y → x ≡ y
+ok_is x y e = cc

@@ -4,7 +4,8 @@ use Rattle.std.specs.List.{AllByRecursion, prefix_len}
 use Rattle.std.proofs.lemmas.List.{take_at, drop_at, take-append-drop}
 use Rattle.pssm_spelling.proofs.SpellingLaws.{passes_front, front_again, stripped_takes, stripped_again}
 use Rattle.pssm_flat.specs.Text.{line, text_of}
-use Rattle.pssm_flat.specs.inner.Outlines.{is_inner, IsInner, line_front}
+use Rattle.pssm_flat.specs.Flat.{is_inner}
+use Rattle.pssm_flat.specs.inner.Outlines.{IsInner, line_front}
 use Rattle.pssm_flat.proofs.Bind.{bind_then, some_is}
 
 -- ---- the first line

@@ -1,243 +1,252 @@
--- Each line of a text may stand where it stands.
-use Rattle.std.proofs.Common.{◌≡◌, ℕ, suc, ◌+◌, ◌<◌, ◌≤◌, true, List, [], ◌∷◌, ◌++◌, length, Some, ◌⊎◌, inl, inr, refl, sym, ap, subst, ◌∙◌, append_assoc, arith, eq-eqb}
-use Rattle.std.specs.Prelude.{map, codes, AllPairs}
-use Rattle.std.specs.List.{AllByRecursion}
-use Rattle.std.proofs.lemmas.Bool.{lt-ltb}
-use Rattle.std.proofs.lemmas.List.{append-nil, length-append}
+-- All lines of a setting with a text are read.
+use Rattle.std.proofs.Common.{◌≡◌, ℕ, zero, suc, ◌<◌, true, false, List, [], ◌∷◌, ◌++◌, length, take, Some, Ok, refl, sym, ap, subst, ◌∙◌, append_assoc, arith}
+use Rattle.std.specs.Prelude.{map, codes, slice_get}
+use Rattle.std.specs.Option.{option_map_or}
+use Rattle.std.specs.List.{AllByRecursion, flat_map}
+use Rattle.std.specs.Str.{bytes_eq}
+use Rattle.std.proofs.lemmas.Bool.{lt-ltb, eq-eqb}
+use Rattle.std.proofs.lemmas.List.{append-nil, length-append, take_at}
 use Rattle.std.proofs.lemmas.Slice.Eq.{bytes_eq-Decides}
-use Rattle.pssm_model.specs.declared.ids.SignalId.{SignalId}
-use Rattle.pssm_model.specs.declared.elements.Owner.{Owner}
-use Rattle.pssm_model.specs.declared.elements.Owner.TheVariants as owners
-use Rattle.pssm_model.specs.declared.elements.Vertex.{Vertex}
-use Rattle.pssm_model.specs.declared.elements.Transition.{Transition}
-use Rattle.pssm_model.specs.declared.elements.Guard.{Guard}
-use Rattle.pssm_model.specs.declared.elements.Guard.TheVariants.{Always, Otherwise, When}
-use Rattle.pssm_semantics.specs.declared.setting.SignalDecl.{SignalDecl}
-use Rattle.pssm_flat.specs.declared.line.Line.{Line}
+use Rattle.pssm_semantics.specs.declared.setting.Class.{Class}
+use Rattle.pssm_semantics.specs.declared.setting.Setting.{Setting}
+use Rattle.pssm_spelling.specs.Spelling.{IsName}
 use Rattle.pssm_flat.specs.declared.line.Line.TheVariants as lines
+use Rattle.pssm_flat.specs.declared.head.Head.{Head}
 use Rattle.pssm_flat.specs.declared.block.Block.{Block}
 use Rattle.pssm_flat.specs.declared.outline.Outline.{Outline}
 use Rattle.pssm_flat.specs.declared.outline.Outline.TheVariants as stages
-use Rattle.pssm_flat.specs.Text.{numbered, signal_line, region_lines, region_line, vertex_line, defer_line, transition_line, on_line, signal_name}
-use Rattle.pssm_flat.specs.Flat.{IsRegionOwner, IsVertexOwner}
+use Rattle.pssm_flat.specs.Text.{machine_lines, head_lines, flat_lines}
+use Rattle.pssm_flat.specs.Flat.{AreNames, IsWrittenClass, IsWritten}
+use Rattle.pssm_flat.specs.Faults.{lines_before_class, lines_through}
 use Rattle.pssm_flat.specs.inner.Lines.{line_text}
-use Rattle.pssm_flat.specs.inner.Outlines.{plain_signal, names_region_owner, names_vertex_owner, is_state, plain_vertex, plain_transition, deferring, with_defer, triggered, with_trigger, with_else, after_line, after_bytes, after_lines}
-use Rattle.pssm_flat.proofs.Lasts.{last_of-push}
-use Rattle.pssm_flat.proofs.Items.{AllFit}
-use Rattle.pssm_flat.proofs.SignalLaws.{Differ, IsNewSignal, fit_differ}
-use Rattle.pssm_flat.proofs.LineLaws.{IsSmallOwner}
-use Rattle.pssm_flat.proofs.ListLaws.{IsLaterSignal, with_signal_again}
-use Rattle.pssm_flat.proofs.LineForms.{IsGoodLine, line_again}
-use Rattle.pssm_flat.proofs.Good.{vertex_part, else_part, transition_part, signal_part, class_part, object_part, head_part, elements_part, block_part, draft_lines, IsReadVertex, IsReadTransition, IsReadBlock}
-use Rattle.pssm_flat.proofs.Reach.{plain_line, after_append}
+use Rattle.pssm_flat.specs.inner.Outlines.{signal_of, empty_block, setting_of, is_next_class, opened, ended, after_line, after_bytes, after_lines, done_of}
+use Rattle.pssm_flat.proofs.NameLaws.{names_are}
+use Rattle.pssm_flat.proofs.Good.{class_name_of, names_with}
+use Rattle.pssm_flat.proofs.CompleteHead.{next_line, one_then, many_then, head_of, head_next}
+use Rattle.pssm_flat.proofs.CompleteBlock.{block_with, elements_next}
 
-pub next_line : (d e : Outline) (l : Line) → IsGoodLine l → after_line d l ≡ Some e → after_bytes d (line_text l) ≡ Some e
-unfolding after_bytes
-next_line d e l good eq = rw (line_again l good) eq
+-- What was read behind the blocks of these classes: the head where there are none, or else the last block, read to its end.
+pub record IsBehind (h : Head) (done : List Class) (d : Outline) : Type 0 where
+  pub machine : (name : List ℕ) → after_line d (lines.Machine name) ≡ Ok (opened h done name)
+  pub end : after_line d lines.End ≡ Ok (ended h done)
 
-one_then : (d e f : Outline) (l : List ℕ) (ls : List (List ℕ)) → after_bytes d l ≡ Some e → after_lines e ls ≡ Some f → after_lines d (l ∷ ls) ≡ Some f
-one_then d e f l ls one more = rw one more
+behind_head : (h : Head) → IsBehind h [] (stages.Heading h)
+behind_head h = record { machine = λ name. refl; end = refl }
 
-pub many_then : (d e f : Outline) (a b : List (List ℕ)) → after_lines d a ≡ Some e → after_lines e b ≡ Some f → after_lines d (a ++ b) ≡ Some f
-many_then d e f a b first more = after_append d a b ∙ rw first more
+-- the block of a class that has been read
+abbrev pub block_of : Head → Class → Block
+block_of h x = block_with x.name (names_with h x.vars) x.vars x.machine.regions x.machine.vertices x.machine.transitions x.program
 
--- ---- signals
+behind_class : (h : Head) (done : List Class) (x : Class) → 0 < length x.machine.regions → IsBehind h (done ++ x ∷ []) (stages.Open h done (block_of h x))
+behind_class h done x some = record { machine = λ name. rw (lt-ltb 0 (length x.machine.regions) some) refl; end = rw (lt-ltb 0 (length x.machine.regions) some) refl }
 
-signal_next : (seen : List SignalDecl) (x : SignalDecl) → IsNewSignal seen x → length seen < 256 → after_bytes (stages.Signals seen) (signal_line x) ≡ Some (stages.Signals (seen ++ x ∷ []))
-signal_next seen x new few =
-    let same : x ≡ plain_signal x.name = ap (λ n. let y : SignalDecl = record { name = x.name; count = n } in y) new.plain.count in
-    let next : after_line (stages.Signals seen) (lines.Signal x.name) ≡ Some (stages.Signals (seen ++ plain_signal x.name ∷ [])) = rw (lt-ltb (length seen) 256 few, new.new) refl in
-    ap (after_bytes (stages.Signals seen)) (ap signal_line same ∙ plain_line x.name) ∙ next_line (stages.Signals seen) (stages.Signals (seen ++ plain_signal x.name ∷ [])) (lines.Signal x.name) new.plain.name next
-    ∙ ap (λ (z : SignalDecl). Some (stages.Signals (seen ++ z ∷ []))) (sym same)
+get_past : {X : Type 0} (front later : List X) (x : X) → slice_get (front ++ x ∷ later) (length front) ≡ Some x
+get_past [] later x = refl
+get_past (y ∷ front) later x = get_past front later x
 
-signals_next : (seen new : List SignalDecl) → AllFit IsNewSignal seen new → length seen + length new ≤ 256 → after_lines (stages.Signals seen) (map signal_line new) ≡ Some (stages.Signals (seen ++ new))
-signals_next seen [] fit few = ap (λ (xs : List SignalDecl). Some (stages.Signals xs)) (sym (append-nil seen))
-signals_next seen (x ∷ new) fit few =
-    one_then (stages.Signals seen) (stages.Signals (seen ++ x ∷ [])) (stages.Signals (seen ++ x ∷ new)) (signal_line x) (map signal_line new) (signal_next seen x fit.0 (omega arith))
-    (signals_next (seen ++ x ∷ []) new fit.1 (omega (arith, length-append seen (x ∷ []))) ∙ ap (λ (xs : List SignalDecl). Some (stages.Signals xs)) (append_assoc seen (x ∷ []) new))
+map_append : {X Y : Type 0} (f : X → Y) (xs ys : List X) → map f (xs ++ ys) ≡ map f xs ++ map f ys
+map_append f [] ys = refl
+map_append f (x ∷ xs) ys = ap (λ t. f x ∷ t) (map_append f xs ys)
 
--- ---- elements
+map_count : {X Y : Type 0} (f : X → Y) (xs : List X) → length (map f xs) ≡ length xs
+map_count f [] = refl
+map_count f (x ∷ xs) = ap suc (map_count f xs)
 
-abbrev block_of : List SignalDecl → List ℕ → List ℕ → List Owner → List Vertex → List Transition → Block
-block_of signals class object regions vertices transitions = record { signals = signals; class = class; object = object; regions = regions; vertices = vertices; transitions = transitions }
+-- the next block may begin
+is_next : (h : Head) (done later : List Class) (x : Class) → h.classes ≡ map class_name_of (done ++ x ∷ later) → is_next_class h (length done) x.name ≡ true
+is_next h done later x same =
+    let all = same ∙ map_append class_name_of done (x ∷ later) in
+    let at : slice_get h.classes (length done) ≡ Some x.name =
+    ap (λ ns. slice_get ns (length done)) all ∙ ap (λ n. slice_get (map class_name_of done ++ x.name ∷ map class_name_of later) n) (sym (map_count class_name_of done)) ∙ get_past (map class_name_of done) (map class_name_of later) x.name in
+    ap (λ o. option_map_or (λ next. bytes_eq next x.name) o false) at ∙ (bytes_eq-Decides x.name x.name).1 refl
 
-abbrev at_block : List SignalDecl → List ℕ → List ℕ → List Owner → List Vertex → List Transition → Outline
-at_block signals class object regions vertices transitions = stages.Block (block_of signals class object regions vertices transitions)
+-- what is behind several blocks
+record BehindLines (h : Head) (done : List Class) (d : Outline) (ls : List (List ℕ)) : Type 0 where
+  outline : Outline
+  reads : after_lines d ls ≡ Some outline
+  behind : IsBehind h done outline
 
-region_small : (o : Owner) → IsRegionOwner o → IsSmallOwner o × (names_region_owner o ≡ true)
-region_small owners.Top is = (tt, refl)
-region_small (owners.Region r) is = absurd is
-region_small (owners.State v) is = (is, refl)
+module _ (h : Head) (differ : AreNames (map signal_of h.signals)) (s : Setting) (signals : s.signals ≡ h.signals) (objects : s.objects ≡ h.objects) where
+  lines_same : (x : Class) → machine_lines s x ≡ machine_lines (setting_of h []) x
+  lines_same x = ap (λ gs. machine_lines (record { signals = gs; classes = []; objects = s.objects }) x) signals ∙ ap (λ os. machine_lines (record { signals = h.signals; classes = []; objects = os }) x) objects
 
-vertex_small : (o : Owner) → IsVertexOwner o → IsSmallOwner o × (names_vertex_owner o ≡ true)
-vertex_small owners.Top is = absurd is
-vertex_small (owners.Region r) is = (is, refl)
-vertex_small (owners.State v) is = (is, refl)
+  -- one block
+  class_next : (done later : List Class) (x : Class) (d : Outline) → IsBehind h done d → h.classes ≡ map class_name_of (done ++ x ∷ later) → IsName x.name → IsWrittenClass (names_with h x.vars) x
+      → after_lines d (machine_lines s x) ≡ Some (stages.Open h done (block_of h x))
+  class_next done later x d behind same is written =
+      let begun = stages.Open h done (empty_block h x.name) in
+      let open_is : opened h done x.name ≡ Some begun = rw (is_next h done later x same) refl in
+      let read : after_line d (lines.Machine x.name) ≡ Ok (Some begun) = behind.machine x.name ∙ ap Ok open_is in
+      ap (after_lines d) (lines_same x) ∙ one_then d begun (stages.Open h done (block_of h x)) (line_text (lines.Machine x.name)) _ (next_line d begun (lines.Machine x.name) is read) (elements_next h done x differ written)
 
-module _ (s : List SignalDecl) (c o : List ℕ) where
-  regions_next : (n : ℕ) (seen new : List Owner) → n ≡ length seen → AllByRecursion IsRegionOwner new → length seen + length new ≤ 65536
-      → after_lines (at_block s c o seen [] []) (numbered region_lines n new) ≡ Some (at_block s c o (seen ++ new) [] [])
-  regions_next n seen [] e all few = ap (λ (xs : List Owner). Some (at_block s c o xs [] [])) (sym (append-nil seen))
-  regions_next n seen (x ∷ new) e all few =
-      let small = region_small x all.0 in
-      let next : after_line (at_block s c o seen [] []) (lines.Region n x) ≡ Some (at_block s c o (seen ++ x ∷ []) [] []) = rw (eq-eqb n (length seen) e, small.1) refl in
-      one_then (at_block s c o seen [] []) (at_block s c o (seen ++ x ∷ []) [] []) (at_block s c o (seen ++ x ∷ new) [] []) (region_line n x) (numbered region_lines (suc n) new)
-      (next_line (at_block s c o seen [] []) (at_block s c o (seen ++ x ∷ []) [] []) (lines.Region n x) (omega arith, small.0) next)
-      (regions_next (suc n) (seen ++ x ∷ []) new (omega (arith, length-append seen (x ∷ []))) all.1 (omega (arith, length-append seen (x ∷ [])))
-      ∙ ap (λ (xs : List Owner). Some (at_block s c o xs [] [])) (append_assoc seen (x ∷ []) new))
+  blocks_front : (done new later : List Class) (d : Outline) → IsBehind h done d → h.classes ≡ map class_name_of (done ++ (new ++ later)) → AllByRecursion (λ (x : Class). IsName x.name) new
+      → AllByRecursion (λ (x : Class). IsWrittenClass (names_with h x.vars) x) new → BehindLines h (done ++ new) d (flat_map (machine_lines s) new)
+  blocks_front done [] later d behind same is written = record { outline = d; reads = refl; behind = subst (λ xs. IsBehind h xs d) (sym (append-nil done)) behind }
+  blocks_front done (x ∷ new) later d behind same is written =
+      let open_is = class_next done (new ++ later) x d behind same is.0 written.0 in
+      let next = stages.Open h done (block_of h x) in
+      let grouped : (done ++ x ∷ []) ++ new ≡ done ++ x ∷ new = append_assoc done (x ∷ []) new in
+      let more = blocks_front (done ++ x ∷ []) new later next (behind_class h done x written.0.machine.some_region) (same ∙ ap (map class_name_of) (sym (append_assoc done (x ∷ []) (new ++ later)))) is.1 written.1 in
+      record {
+        outline = more.outline;
+        reads = many_then d next more.outline (machine_lines s x) (flat_map (machine_lines s) new) open_is more.reads;
+        behind = subst (λ xs. IsBehind h xs more.outline) grouped more.behind;
+      }
 
--- the vertex of a line with these deferred signals
-abbrev deferred : Vertex → List SignalId → Vertex
-deferred v ds = record (plain_vertex v.owner v.kind v.label) { defers = ds }
+names_of_classes : (classes : List Class) → AllByRecursion IsName (map class_name_of classes) → AllByRecursion (λ (x : Class). IsName x.name) classes
+names_of_classes [] all = tt
+names_of_classes (x ∷ classes) all = (all.0, names_of_classes classes all.1)
 
-deferred_is : (signals : List SignalDecl) (v : Vertex) → IsReadVertex signals v → deferred v v.defers ≡ v
-deferred_is signals v read = sym (
-    ap (λ n. let y : Vertex = record v { entry = record { 0 = n } } in y) read.silent.entry
-    ∙ ap (λ n. let y : Vertex = record v { entry = record { 0 = 0 }; exit = record { 0 = n } } in y) read.silent.exit
-    ∙ ap (λ k. let y : Vertex = record v { entry = record { 0 = 0 }; exit = record { 0 = 0 }; steps = k } in y) read.silent.steps)
+pub class_names : (s : Setting) → IsWritten s → AllByRecursion (λ (x : Class). IsName x.name) s.classes
+class_names s w = names_of_classes s.classes (names_are (map class_name_of s.classes) w.class_names)
 
--- the transition of a line with these triggers
-abbrev listing : Transition → List SignalId → Guard → Transition
-listing t ts g = record (plain_transition t.source t.target t.kind) { triggers = ts; guard = g }
+-- the classes behind a front of them
+pub record SplitAt (xs : List Class) (c : ℕ) (x : Class) : Type 0 where
+  pub later : List Class
+  pub parts : xs ≡ take c xs ++ x ∷ later
 
-module _ (s : List SignalDecl) (c o : List ℕ) (r : List Owner) (some : 0 < length r) (differ : AllPairs Differ s) where
-  at_defer : (before : List Vertex) (v : Vertex) (seen : List SignalId) (g : SignalId) → is_state v.kind ≡ true → IsLaterSignal s seen g
-      → with_defer (block_of s c o r (before ++ deferred v seen ∷ []) []) (signal_name s g) ≡ Some (block_of s c o r (before ++ deferred v (seen ++ g ∷ []) ∷ []) [])
-  unfolding with_defer deferring
-  at_defer before v seen g state fits = rw (last_of-push before (deferred v seen), state, with_signal_again s seen g differ fits) refl
+pub split_at : (xs : List Class) (c : ℕ) (x : Class) → slice_get xs c ≡ Some x → SplitAt xs c x
+split_at [] zero x e = absurd cc
+split_at [] (suc c) x e = absurd cc
+split_at (y ∷ xs) zero x e = let same : y ≡ x = cc in record { later = xs; parts = ap (λ z. z ∷ xs) same }
+split_at (y ∷ xs) (suc c) x e = let more = split_at xs c x e in record { later = more.later; parts = ap (λ t. y ∷ t) more.parts }
 
-  defers_next : (before : List Vertex) (v : Vertex) (seen new : List SignalId) → is_state v.kind ≡ true → AllFit (IsLaterSignal s) seen new
-      → after_lines (at_block s c o r (before ++ deferred v seen ∷ []) []) (map (defer_line s) new) ≡ Some (at_block s c o r (before ++ deferred v (seen ++ new) ∷ []) [])
-  defers_next before v seen [] state fit = ap (λ (xs : List SignalId). Some (at_block s c o r (before ++ deferred v xs ∷ []) [])) (sym (append-nil seen))
-  defers_next before v seen (g ∷ new) state fit =
-      let here = at_block s c o r (before ++ deferred v seen ∷ []) [] in
-      let there = at_block s c o r (before ++ deferred v (seen ++ g ∷ []) ∷ []) [] in
-      let next : after_line here (lines.Defer (signal_name s g)) ≡ Some there = rw (at_defer before v seen g state fit.0) refl in
-      one_then here there (at_block s c o r (before ++ deferred v (seen ++ g ∷ new) ∷ []) []) (defer_line s g) (map (defer_line s) new) (next_line here there (lines.Defer (signal_name s g)) fit.0.name next)
-      (defers_next before v (seen ++ g ∷ []) new state fit.1 ∙ ap (λ (xs : List SignalId). Some (at_block s c o r (before ++ deferred v xs ∷ []) [])) (append_assoc seen (g ∷ []) new))
+all_front : {X : Type 0} (P : X → Type 0) (xs ys : List X) → AllByRecursion P (xs ++ ys) → AllByRecursion P xs
+all_front P [] ys all = tt
+all_front P (x ∷ xs) ys all = (all.0, all_front P xs ys all.1)
 
-  all_defers : (before : List Vertex) (v : Vertex) → IsReadVertex s v
-      → after_lines (at_block s c o r (before ++ deferred v [] ∷ []) []) (map (defer_line s) v.defers) ≡ Some (at_block s c o r (before ++ v ∷ []) [])
-  all_defers before v read =
-      let whole : Some (at_block s c o r (before ++ deferred v v.defers ∷ []) []) ≡ Some (at_block s c o r (before ++ v ∷ []) []) = ap (λ (x : Vertex). Some (at_block s c o r (before ++ x ∷ []) [])) (deferred_is s v read) in
-      elim read.as_state [
-        | inl state ↦ defers_next before v [] v.defers (ap is_state state) read.defers ∙ whole
-        | inr none ↦ subst (λ (xs : List SignalId). after_lines (at_block s c o r (before ++ deferred v [] ∷ []) []) (map (defer_line s) xs) ≡ Some (at_block s c o r (before ++ deferred v xs ∷ []) [])) (sym none) refl ∙ whole
-      ]
+all_rest : {X : Type 0} (P : X → Type 0) (xs ys : List X) → AllByRecursion P (xs ++ ys) → AllByRecursion P ys
+all_rest P [] ys all = all
+all_rest P (x ∷ xs) ys all = all_rest P xs ys all.1
 
-  vertices_next : (n : ℕ) (seen new : List Vertex) → n ≡ length seen → AllByRecursion (IsReadVertex s) new → length seen + length new ≤ 65536
-      → after_lines (at_block s c o r seen []) (numbered (vertex_part s) n new) ≡ Some (at_block s c o r (seen ++ new) [])
-  vertices_next n seen [] e all few = ap (λ (xs : List Vertex). Some (at_block s c o r xs [])) (sym (append-nil seen))
-  vertices_next n seen (v ∷ new) e all few =
-      let small = vertex_small v.owner all.0.owner in
-      let here = at_block s c o r seen [] in
-      let first = at_block s c o r (seen ++ deferred v [] ∷ []) [] in
-      let there = at_block s c o r (seen ++ v ∷ []) [] in
-      let next : after_line here (lines.Vertex n v.owner v.kind v.label) ≡ Some first = rw (lt-ltb 0 (length r) some, eq-eqb n (length seen) e, small.1) refl in
-      let part : after_lines here (vertex_part s n v) ≡ Some there =
-      one_then here first there (vertex_line n v) (map (defer_line s) v.defers) (next_line here first (lines.Vertex n v.owner v.kind v.label) (omega arith, small.0, all.0.label) next) (all_defers seen v all.0) in
-      many_then here there (at_block s c o r (seen ++ v ∷ new) []) (vertex_part s n v) (numbered (vertex_part s) (suc n) new) part
-      (vertices_next (suc n) (seen ++ v ∷ []) new (omega (arith, length-append seen (v ∷ []))) all.1 (omega (arith, length-append seen (v ∷ [])))
-      ∙ ap (λ (xs : List Vertex). Some (at_block s c o r xs [])) (append_assoc seen (v ∷ []) new))
+-- What is read of the lines up to those of the machine of a class.
+pub record BeforeClass (s : Setting) (c : ℕ) : Type 0 where
+  pub outline : Outline
+  pub reads : after_lines stages.Start (lines_before_class s c) ≡ Some outline
+  pub behind : IsBehind (head_of s) (take c s.classes) outline
 
-module _ (s : List SignalDecl) (c o : List ℕ) (r : List Owner) (vs : List Vertex) (some : 0 < length r) (differ : AllPairs Differ s) where
-  at_trigger : (before : List Transition) (t : Transition) (seen : List SignalId) (g : SignalId) → IsLaterSignal s seen g
-      → with_trigger (block_of s c o r vs (before ++ listing t seen Always ∷ [])) (signal_name s g) ≡ Some (block_of s c o r vs (before ++ listing t (seen ++ g ∷ []) Always ∷ []))
-  unfolding with_trigger triggered
-  at_trigger before t seen g fits = rw (last_of-push before (listing t seen Always), with_signal_again s seen g differ fits) refl
+pub before_front : (s : Setting) (w : IsWritten s) (c : ℕ) (later : List Class) → s.classes ≡ take c s.classes ++ later → BeforeClass s c
+before_front s w c later parts =
+    let h = head_of s in
+    let front = take c s.classes in
+    let is = all_front (λ (x : Class). IsName x.name) front later (subst (AllByRecursion (λ (x : Class). IsName x.name)) parts (class_names s w)) in
+    let written = all_front (λ (x : Class). IsWrittenClass (names_with h x.vars) x) front later (subst (AllByRecursion (λ (x : Class). IsWrittenClass (names_with h x.vars) x)) parts w.classes) in
+    let blocks = blocks_front h w.signal_names s refl refl [] front later (stages.Heading h) (behind_head h) (ap (map class_name_of) parts) is written in
+    record { outline = blocks.outline; reads = many_then stages.Start (stages.Heading h) blocks.outline (head_lines s) (flat_map (machine_lines s) front) (head_next s w) blocks.reads; behind = blocks.behind }
 
-  at_else : (before : List Transition) (t : Transition) (seen : List SignalId) → with_else (block_of s c o r vs (before ++ listing t seen Always ∷ [])) ≡ Some (block_of s c o r vs (before ++ listing t seen Otherwise ∷ []))
-  unfolding with_else
-  at_else before t seen = rw (last_of-push before (listing t seen Always)) refl
+-- what is read of a text is its setting
+pub lines_read : (s : Setting) → IsWritten s → after_lines stages.Start (flat_lines s) ≡ Some (stages.Ended s)
+unfolding flat_lines
+lines_read s w =
+    let h = head_of s in
+    let blocks = blocks_front h w.signal_names s refl refl [] s.classes [] (stages.Heading h) (behind_head h) (ap (map class_name_of) (sym (append-nil s.classes))) (class_names s w) w.classes in
+    let last : ended h s.classes ≡ Some (stages.Ended s) = rw (eq-eqb (length h.classes) (length s.classes) (map_count class_name_of s.classes)) refl in
+    let read : after_line blocks.outline lines.End ≡ Ok (Some (stages.Ended s)) = blocks.behind.end ∙ ap Ok last in
+    many_then stages.Start (stages.Heading h) (stages.Ended s) (head_lines s) _ (head_next s w)
+    (many_then (stages.Heading h) blocks.outline (stages.Ended s) (flat_map (machine_lines s) s.classes) (codes "end" ∷ []) blocks.reads
+    (one_then blocks.outline (stages.Ended s) (stages.Ended s) (codes "end") [] (next_line blocks.outline (stages.Ended s) lines.End tt read) refl))
 
-  triggers_next : (before : List Transition) (t : Transition) (seen new : List SignalId) → AllFit (IsLaterSignal s) seen new
-      → after_lines (at_block s c o r vs (before ++ listing t seen Always ∷ [])) (map (on_line s) new) ≡ Some (at_block s c o r vs (before ++ listing t (seen ++ new) Always ∷ []))
-  triggers_next before t seen [] fit = ap (λ (xs : List SignalId). Some (at_block s c o r vs (before ++ listing t xs Always ∷ []))) (sym (append-nil seen))
-  triggers_next before t seen (g ∷ new) fit =
-      let here = at_block s c o r vs (before ++ listing t seen Always ∷ []) in
-      let there = at_block s c o r vs (before ++ listing t (seen ++ g ∷ []) Always ∷ []) in
-      let next : after_line here (lines.On (signal_name s g)) ≡ Some there = rw (at_trigger before t seen g fit.0) refl in
-      one_then here there (at_block s c o r vs (before ++ listing t (seen ++ g ∷ new) Always ∷ [])) (on_line s g) (map (on_line s) new) (next_line here there (lines.On (signal_name s g)) fit.0.name next)
-      (triggers_next before t (seen ++ g ∷ []) new fit.1 ∙ ap (λ (xs : List SignalId). Some (at_block s c o r vs (before ++ listing t xs Always ∷ []))) (append_assoc seen (g ∷ []) new))
+-- ---- one class
 
-  guard_next : (before : List Transition) (t : Transition) (g : Guard) → (g ≡ Always) ⊎ (g ≡ Otherwise)
-      → after_lines (at_block s c o r vs (before ++ listing t t.triggers Always ∷ [])) (else_part g) ≡ Some (at_block s c o r vs (before ++ listing t t.triggers g ∷ []))
-  guard_next before t Always is = refl
-  guard_next before t Otherwise is =
-      let here = at_block s c o r vs (before ++ listing t t.triggers Always ∷ []) in
-      let there = at_block s c o r vs (before ++ listing t t.triggers Otherwise ∷ []) in
-      let next : after_line here lines.Otherwise ≡ Some there = rw (at_else before t t.triggers) refl in
-      one_then here there there (codes "else") [] (next_line here there lines.Otherwise tt next) refl
-  guard_next before t (When k) is = elim is [ inl e ↦ absurd cc | inr e ↦ absurd cc ]
+take_more : (xs : List Class) (c : ℕ) (x : Class) → slice_get xs c ≡ Some x → take (suc c) xs ≡ take c xs ++ x ∷ []
+take_more [] zero x e = absurd cc
+take_more [] (suc c) x e = absurd cc
+take_more (y ∷ xs) zero x e = let same : y ≡ x = cc in ap (λ z. z ∷ []) same
+take_more (y ∷ xs) (suc c) x e = ap (λ t. y ∷ t) (take_more xs c x e)
 
-  listing_is : (t : Transition) → IsReadTransition s t → listing t t.triggers t.guard ≡ t
-  listing_is t read = sym (ap (λ n. let y : Transition = record t { effect = record { 0 = n } } in y) read.silent.effect)
+flat_append : {X : Type 0} (f : X → List (List ℕ)) (xs ys : List X) → flat_map f (xs ++ ys) ≡ flat_map f xs ++ flat_map f ys
+flat_append f [] ys = refl
+flat_append f (x ∷ xs) ys = ap (λ t. f x ++ t) (flat_append f xs ys) ∙ sym (append_assoc (f x) (flat_map f xs) (flat_map f ys))
 
-  transition_next : (n : ℕ) (seen : List Transition) (t : Transition) → n ≡ length seen → IsReadTransition s t → n < 65536
-      → after_lines (at_block s c o r vs seen) (transition_part s n t) ≡ Some (at_block s c o r vs (seen ++ t ∷ []))
-  transition_next n seen t e read small =
-      let here = at_block s c o r vs seen in
-      let first = at_block s c o r vs (seen ++ listing t [] Always ∷ []) in
-      let second = at_block s c o r vs (seen ++ listing t t.triggers Always ∷ []) in
-      let third = at_block s c o r vs (seen ++ listing t t.triggers t.guard ∷ []) in
-      let there = at_block s c o r vs (seen ++ t ∷ []) in
-      let next : after_line here (lines.Transition n t.source t.target t.kind) ≡ Some first = rw (lt-ltb 0 (length r) some, eq-eqb n (length seen) e) refl in
-      one_then here first there (transition_line n t) (map (on_line s) t.triggers ++ else_part t.guard)
-      (next_line here first (lines.Transition n t.source t.target t.kind) (small, read.ends.source, read.ends.target) next)
-      (many_then first second there (map (on_line s) t.triggers) (else_part t.guard) (triggers_next seen t [] t.triggers read.triggers)
-      (guard_next seen t t.guard read.silent.guard ∙ ap (λ (x : Transition). Some (at_block s c o r vs (seen ++ x ∷ []))) (listing_is t read)))
+-- What is read of the lines up to and with those of the machine of a class, and of the line behind them.
+pub record ClassRead (s : Setting) (c : ℕ) (x : Class) : Type 0 where
+  -- behind the lines before the class
+  pub before : Outline
+  pub reads_before : after_lines stages.Start (lines_before_class s c) ≡ Some before
+  pub behind_before : IsBehind (head_of s) (take c s.classes) before
+  pub begun : after_bytes before (line_text (lines.Machine x.name)) ≡ Ok (Some (stages.Open (head_of s) (take c s.classes) (empty_block (head_of s) x.name)))
+  pub inner : List (List ℕ)
+  pub machine_is : machine_lines s x ≡ line_text (lines.Machine x.name) ∷ inner
+  -- behind its lines
+  pub grown : lines_before_class s (suc c) ≡ lines_before_class s c ++ machine_lines s x
+  pub reads : after_lines before (machine_lines s x) ≡ Some (stages.Open (head_of s) (take c s.classes) (block_of (head_of s) x))
+  -- and behind the next line
+  pub last : List ℕ
+  pub through : lines_through s c ≡ lines_before_class s (suc c) ++ last ∷ []
+  pub later : List (List ℕ)
+  pub whole : flat_lines s ≡ lines_through s c ++ later
+  pub next : Outline
+  pub reads_last : after_bytes (stages.Open (head_of s) (take c s.classes) (block_of (head_of s) x)) last ≡ Ok (Some next)
+  pub next_done : done_of next ≡ take c s.classes ++ x ∷ []
 
-  transitions_next : (n : ℕ) (seen new : List Transition) → n ≡ length seen → AllByRecursion (IsReadTransition s) new → length seen + length new ≤ 65536
-      → after_lines (at_block s c o r vs seen) (numbered (transition_part s) n new) ≡ Some (at_block s c o r vs (seen ++ new))
-  transitions_next n seen [] e all few = ap (λ (xs : List Transition). Some (at_block s c o r vs xs)) (sym (append-nil seen))
-  transitions_next n seen (t ∷ new) e all few =
-      let here = at_block s c o r vs seen in
-      let there = at_block s c o r vs (seen ++ t ∷ []) in
-      many_then here there (at_block s c o r vs (seen ++ t ∷ new)) (transition_part s n t) (numbered (transition_part s) (suc n) new) (transition_next n seen t e all.0 (omega arith))
-      (transitions_next (suc n) (seen ++ t ∷ []) new (omega (arith, length-append seen (t ∷ []))) all.1 (omega (arith, length-append seen (t ∷ [])))
-      ∙ ap (λ (xs : List Transition). Some (at_block s c o r vs xs)) (append_assoc seen (t ∷ []) new))
+take_through : (a b : List (List ℕ)) (l : List ℕ) (more : List (List ℕ)) → take (suc (length (a ++ b))) ((a ++ b) ++ l ∷ more) ≡ (a ++ b) ++ l ∷ []
+take_through a b l more =
+    let front : List (List ℕ) = (a ++ b) ++ l ∷ [] in
+    let count : suc (length (a ++ b)) ≡ length front = omega (arith, length-append (a ++ b) (l ∷ [])) in
+    ap (λ n. take n ((a ++ b) ++ l ∷ more)) count ∙ ap (take (length front)) (sym (append_assoc (a ++ b) (l ∷ []) more)) ∙ take_at front more (length front) refl
 
--- ---- the whole text
+-- the line behind the blocks of some classes
+record NextRead (s : Setting) (done later : List Class) (d : Outline) : Type 0 where
+  last : List ℕ
+  more : List (List ℕ)
+  parts : flat_map (machine_lines s) later ++ codes "end" ∷ [] ≡ last ∷ more
+  next : Outline
+  reads : after_bytes d last ≡ Ok (Some next)
+  next_done : done_of next ≡ done
 
-none_differ : AllPairs Differ []
-none_differ i j d less lt = absurd (omega arith)
+next_read : (s : Setting) (w : IsWritten s) (done later : List Class) (d : Outline) → IsBehind (head_of s) done d → s.classes ≡ done ++ later → NextRead s done later d
+next_read s w done [] d behind parts =
+    let h = head_of s in
+    let all : s.classes ≡ done = parts ∙ append-nil done in
+    let count : length h.classes ≡ length done = map_count class_name_of s.classes ∙ ap length all in
+    let made = stages.Ended (setting_of h done) in
+    let last : ended h done ≡ Some made = rw (eq-eqb (length h.classes) (length done) count) refl in
+    record { last = codes "end"; more = []; parts = refl; next = made; reads = next_line d made lines.End tt (behind.end ∙ ap Ok last); next_done = refl }
+next_read s w done (y ∷ later) d behind parts =
+    let h = head_of s in
+    let begun = stages.Open h done (empty_block h y.name) in
+    let is : IsName y.name = (all_rest (λ (x : Class). IsName x.name) done (y ∷ later) (subst (AllByRecursion (λ (x : Class). IsName x.name)) parts (class_names s w))).0 in
+    let open_is : opened h done y.name ≡ Some begun = rw (is_next h done later y (ap (map class_name_of) parts)) refl in
+    record { last = line_text (lines.Machine y.name); more = _; parts = refl; next = begun; reads = next_line d begun (lines.Machine y.name) is (behind.machine y.name ∙ ap Ok open_is); next_done = refl }
 
-pub signals_of_block_differ : (b : Block) → IsReadBlock b → AllPairs Differ b.signals
-signals_of_block_differ b read = fit_differ [] b.signals none_differ read.signals.fit
-
-head_next : (b : Block) → IsReadBlock b → after_lines stages.Start (head_part b.signals b.class b.object) ≡ Some (at_block b.signals b.class b.object [] [] [])
-head_next b read =
-    let s = b.signals in
-    let c = b.class in
-    let o = b.object in
-    let signals : after_lines stages.Start (signal_part s) ≡ Some (stages.Signals s) =
-    one_then stages.Start (stages.Signals []) (stages.Signals s) (codes "pssm-flat 1") (map signal_line s) (next_line stages.Start (stages.Signals []) lines.Header tt refl) (signals_next [] s read.signals.fit (let few = read.signals.few in omega arith)) in
-    let class : after_lines stages.Start (class_part s c) ≡ Some (stages.Classed s c) =
-    many_then stages.Start (stages.Signals s) (stages.Classed s c) (signal_part s) _ signals (one_then (stages.Signals s) (stages.Classed s c) (stages.Classed s c) (codes "class " ++ c) [] (next_line (stages.Signals s) (stages.Classed s c) (lines.Class c) read.class refl) refl) in
-    let at_object : after_line (stages.Classed s c) (lines.Object o c) ≡ Some (stages.Placed s c o) = rw ((bytes_eq-Decides c c).1 refl) refl in
-    let object : after_lines stages.Start (object_part s c o) ≡ Some (stages.Placed s c o) =
-    many_then stages.Start (stages.Classed s c) (stages.Placed s c o) (class_part s c) _ class
-    (one_then (stages.Classed s c) (stages.Placed s c o) (stages.Placed s c o) (line_text (lines.Object o c)) [] (next_line (stages.Classed s c) (stages.Placed s c o) (lines.Object o c) (read.object, read.class) at_object) refl) in
-    let at_machine : after_line (stages.Placed s c o) (lines.Machine c) ≡ Some (at_block s c o [] [] []) = rw ((bytes_eq-Decides c c).1 refl) refl in
-    many_then stages.Start (stages.Placed s c o) (at_block s c o [] [] []) (object_part s c o) _ object
-    (one_then (stages.Placed s c o) (at_block s c o [] [] []) (at_block s c o [] [] []) (line_text (lines.Machine c)) [] (next_line (stages.Placed s c o) (at_block s c o [] [] []) (lines.Machine c) read.class at_machine) refl)
-
-pub block_next : (b : Block) → IsReadBlock b → 0 < length b.regions → after_lines stages.Start (block_part b) ≡ Some (stages.Block b)
-block_next b read some =
-    let s = b.signals in
-    let c = b.class in
-    let o = b.object in
-    let r = b.regions in
-    let differ = signals_of_block_differ b read in
-    let regions = regions_next s c o 0 [] r refl read.regions (let few = read.few_regions in omega arith) in
-    let vertices = vertices_next s c o r some differ 0 [] b.vertices refl read.vertices (let few = read.few_vertices in omega arith) in
-    let transitions = transitions_next s c o r b.vertices some differ 0 [] b.transitions refl read.transitions (let few = read.few_transitions in omega arith) in
-    many_then stages.Start (at_block s c o [] [] []) (stages.Block b) (head_part s c o) (elements_part b) (head_next b read)
-    (many_then (at_block s c o [] [] []) (at_block s c o r [] []) (stages.Block b) (numbered region_lines 0 r) _ regions
-    (many_then (at_block s c o r [] []) (at_block s c o r b.vertices []) (stages.Block b) (numbered (vertex_part s) 0 b.vertices) (numbered (transition_part s) 0 b.transitions) vertices transitions))
-
-pub text_next : (b : Block) → IsReadBlock b → 0 < length b.regions → after_lines stages.Start (draft_lines (stages.Ended b)) ≡ Some (stages.Ended b)
-text_next b read some =
-    let at_end : after_line (stages.Block b) lines.End ≡ Some (stages.Ended b) = rw (lt-ltb 0 (length b.regions) some) refl in
-    many_then stages.Start (stages.Block b) (stages.Ended b) (block_part b) (codes "end" ∷ []) (block_next b read some)
-    (one_then (stages.Block b) (stages.Ended b) (stages.Ended b) (codes "end") [] (next_line (stages.Block b) (stages.Ended b) lines.End tt at_end) refl)
+pub class_read : (s : Setting) → IsWritten s → (c : ℕ) (x : Class) → slice_get s.classes c ≡ Some x → ClassRead s c x
+unfolding flat_lines
+class_read s w c x e =
+    let h = head_of s in
+    let front = take c s.classes in
+    let split = split_at s.classes c x e in
+    let before = before_front s w c (x ∷ split.later) split.parts in
+    let is = all_rest (λ (y : Class). IsName y.name) front (x ∷ split.later) (subst (AllByRecursion (λ (y : Class). IsName y.name)) split.parts (class_names s w)) in
+    let written = all_rest (λ (y : Class). IsWrittenClass (names_with h y.vars) y) front (x ∷ split.later) (subst (AllByRecursion (λ (y : Class). IsWrittenClass (names_with h y.vars) y)) split.parts w.classes) in
+    let reads = class_next h w.signal_names s refl refl front split.later x before.outline before.behind (ap (map class_name_of) split.parts) is.0 written.0 in
+    let grouped : s.classes ≡ (front ++ x ∷ []) ++ split.later = split.parts ∙ sym (append_assoc front (x ∷ []) split.later) in
+    let n = next_read s w (front ++ x ∷ []) split.later (stages.Open h front (block_of h x)) (behind_class h front x written.0.machine.some_region) grouped in
+    let more = take_more s.classes c x e in
+    let head = head_lines s in
+    let grown_by : flat_map (machine_lines s) (take (suc c) s.classes) ≡ flat_map (machine_lines s) front ++ machine_lines s x =
+    ap (flat_map (machine_lines s)) more ∙ flat_append (machine_lines s) front (x ∷ []) ∙ ap (λ t. flat_map (machine_lines s) front ++ t) (append-nil (machine_lines s x)) in
+    let all : flat_lines s ≡ (head ++ flat_map (machine_lines s) (take (suc c) s.classes)) ++ n.last ∷ n.more =
+    ap (λ cs. head ++ (flat_map (machine_lines s) cs ++ codes "end" ∷ [])) (grouped ∙ ap (λ t. t ++ split.later) (sym more))
+    ∙ ap (λ t. head ++ (t ++ codes "end" ∷ [])) (flat_append (machine_lines s) (take (suc c) s.classes) split.later)
+    ∙ ap (λ t. head ++ t) (append_assoc (flat_map (machine_lines s) (take (suc c) s.classes)) (flat_map (machine_lines s) split.later) (codes "end" ∷ []) ∙ ap (λ t. flat_map (machine_lines s) (take (suc c) s.classes) ++ t) n.parts)
+    ∙ sym (append_assoc head (flat_map (machine_lines s) (take (suc c) s.classes)) (n.last ∷ n.more)) in
+    let through : lines_through s c ≡ lines_before_class s (suc c) ++ n.last ∷ [] =
+    ap (take (suc (length (lines_before_class s (suc c))))) all ∙ take_through head (flat_map (machine_lines s) (take (suc c) s.classes)) n.last n.more in
+    record {
+      before = before.outline;
+      reads_before = before.reads;
+      behind_before = before.behind;
+      begun = next_line before.outline (stages.Open h front (empty_block h x.name)) (lines.Machine x.name) is.0
+          (before.behind.machine x.name ∙ ap Ok (let open_is : opened h front x.name ≡ Some (stages.Open h front (empty_block h x.name)) = rw (is_next h front split.later x (ap (map class_name_of) split.parts)) refl in open_is));
+      inner = _;
+      machine_is = refl;
+      grown = ap (λ t. head ++ t) grown_by ∙ sym (append_assoc head (flat_map (machine_lines s) front) (machine_lines s x));
+      reads = reads;
+      last = n.last;
+      through = through;
+      later = n.more;
+      whole = all ∙ sym (append_assoc (lines_before_class s (suc c)) (n.last ∷ []) n.more) ∙ ap (λ t. t ++ n.more) (sym through);
+      next = n.next;
+      reads_last = n.reads;
+      next_done = n.next_done;
+    }

@@ -1,98 +1,97 @@
 -- What has been read so far: the lines that it stands for, and what its parts keep.
 use Rattle.std.proofs.Common.{◌≡◌, ℕ, ◌<◌, ◌≤◌, ◌⊎◌, List, [], ◌∷◌, ◌++◌, length}
-use Rattle.std.specs.Prelude.{map, codes}
-use Rattle.std.specs.List.{AllByRecursion}
-use Rattle.pssm_model.specs.declared.elements.Vertex.{Vertex}
-use Rattle.pssm_model.specs.declared.elements.Transition.{Transition}
-use Rattle.pssm_model.specs.declared.elements.Guard.{Guard}
-use Rattle.pssm_model.specs.declared.elements.Guard.TheVariants.{Always, Otherwise, When}
-use Rattle.pssm_model.specs.Silent.{IsSilentVertex, IsSilentTransition}
+use Rattle.std.specs.Prelude.{map, codes, slice_get}
+use Rattle.std.specs.List.{AllByRecursion, flat_map}
+use Rattle.std.specs.Option.{option_map_or}
 use Rattle.pssm_semantics.specs.declared.setting.SignalDecl.{SignalDecl}
-use Rattle.pssm_spelling.specs.Spelling.{IsName}
+use Rattle.pssm_semantics.specs.declared.setting.VarDecl.{VarDecl}
+use Rattle.pssm_semantics.specs.declared.setting.ObjectDecl.{ObjectDecl}
+use Rattle.pssm_semantics.specs.declared.setting.Names.{Names}
+use Rattle.pssm_semantics.specs.declared.setting.Class.{Class}
+use Rattle.pssm_flat.specs.declared.head.Head.{Head}
 use Rattle.pssm_flat.specs.declared.block.Block.{Block}
 use Rattle.pssm_flat.specs.declared.outline.Outline.{Outline}
 use Rattle.pssm_flat.specs.declared.outline.Outline.TheVariants as stages
-use Rattle.pssm_flat.specs.Text.{numbered, signal_line, region_lines, vertex_line, defer_line, transition_line, on_line}
-use Rattle.pssm_flat.specs.Flat.{IsLabel, IsRegionOwner, IsVertexOwner, HasSmallEnds, DefersAsState}
-use Rattle.pssm_flat.proofs.Items.{AllFit}
-use Rattle.pssm_flat.proofs.SignalLaws.{IsNewSignal}
-use Rattle.pssm_flat.proofs.ListLaws.{IsLaterSignal}
+use Rattle.pssm_flat.specs.Text.{signal_line, block_lines, machine_lines, head_lines}
+use Rattle.pssm_flat.specs.Flat.{AreNames, IsInteger, IsRegionOwner, IsWrittenVertex, IsWrittenTransition, IsNumbered, IsWrittenClass, IsWritten}
+use Rattle.pssm_flat.specs.inner.Outlines.{signal_of, object_of, itself, class_of, machine_of, setting_of}
 
 -- ---- lines
 
-abbrev pub vertex_part : List SignalDecl → ℕ → Vertex → List (List ℕ)
-vertex_part signals n v = vertex_line n v ∷ map (defer_line signals) v.defers
+-- the name with a number
+abbrev pub nth_name : List (List ℕ) → ℕ → List ℕ
+nth_name names n = option_map_or itself (slice_get names n) []
 
-abbrev pub else_part : Guard → List (List ℕ)
-else_part Always = []
-else_part Otherwise = codes "else" ∷ []
-else_part (When g) = []
+abbrev pub class_part : List ℕ → List ℕ
+class_part name = codes "class " ++ name
 
-abbrev pub transition_part : List SignalDecl → ℕ → Transition → List (List ℕ)
-transition_part signals n t = transition_line n t ∷ (map (on_line signals) t.triggers ++ else_part t.guard)
+abbrev pub object_part : List (List ℕ) → ObjectDecl → List ℕ
+object_part classes x = codes "object " ++ (x.name ++ (codes " " ++ nth_name classes x.class))
 
-abbrev pub signal_part : List SignalDecl → List (List ℕ)
-signal_part signals = codes "pssm-flat 1" ∷ map signal_line signals
+abbrev pub head_part : Head → List (List ℕ)
+head_part h = codes "pssm-flat 1" ∷ (map signal_line h.signals ++ (map class_part h.classes ++ map (object_part h.classes) h.objects))
 
-abbrev pub class_part : List SignalDecl → List ℕ → List (List ℕ)
-class_part signals class = signal_part signals ++ (codes "class " ++ class) ∷ []
-
-abbrev pub object_part : List SignalDecl → List ℕ → List ℕ → List (List ℕ)
-object_part signals class object = class_part signals class ++ (codes "object " ++ (object ++ (codes " " ++ class))) ∷ []
-
-abbrev pub head_part : List SignalDecl → List ℕ → List ℕ → List (List ℕ)
-head_part signals class object = object_part signals class object ++ (codes "machine " ++ class) ∷ []
-
-abbrev pub elements_part : Block → List (List ℕ)
-elements_part b = numbered region_lines 0 b.regions ++ (numbered (vertex_part b.signals) 0 b.vertices ++ numbered (transition_part b.signals) 0 b.transitions)
+abbrev pub done_part : Head → List Class → List (List ℕ)
+done_part h done = flat_map (machine_lines (setting_of h done)) done
 
 abbrev pub block_part : Block → List (List ℕ)
-block_part b = head_part b.signals b.class b.object ++ elements_part b
+block_part b = block_lines b.names (class_of b)
 
 -- the lines that have been read
-abbrev pub draft_lines : Outline → List (List ℕ)
-draft_lines stages.Start = []
-draft_lines (stages.Signals signals) = signal_part signals
-draft_lines (stages.Classed signals class) = class_part signals class
-draft_lines (stages.Placed signals class object) = object_part signals class object
-draft_lines (stages.Block b) = block_part b
-draft_lines (stages.Ended b) = block_part b ++ codes "end" ∷ []
+abbrev pub lines_of : Outline → List (List ℕ)
+lines_of stages.Start = []
+lines_of (stages.Heading h) = head_part h
+lines_of (stages.Open h done b) = head_part h ++ (done_part h done ++ block_part b)
+lines_of (stages.Ended s) = head_lines s ++ (flat_map (machine_lines s) s.classes ++ codes "end" ∷ [])
 
 -- ---- what the parts keep
 
-pub record AreSignals (signals : List SignalDecl) : Type 0 where
-  pub fit : AllFit IsNewSignal [] signals
-  pub few : length signals ≤ 256
+pub record IsGoodHead (h : Head) : Type 0 where
+  pub signal_names : AreNames (map signal_of h.signals)
+  pub few_signals : length h.signals ≤ 256
+  pub counts : AllByRecursion (λ (g : SignalDecl). g.count ≤ 8) h.signals
+  pub class_names : AreNames h.classes
+  pub few_classes : length h.classes ≤ 64
+  pub object_names : AreNames (map object_of h.objects)
+  pub few_objects : length h.objects ≤ 64
+  pub placed : AllByRecursion (λ (o : ObjectDecl). o.class < length h.classes) h.objects
 
-pub record IsReadVertex (signals : List SignalDecl) (v : Vertex) : Type 0 where
-  pub silent : IsSilentVertex v
-  pub owner : IsVertexOwner v.owner
-  pub label : IsLabel v.label
-  pub defers : AllFit (IsLaterSignal signals) [] v.defers
-  pub as_state : DefersAsState v
+abbrev pub var_of : VarDecl → List ℕ
+var_of v = v.name
 
-pub record IsReadTransition (signals : List SignalDecl) (t : Transition) : Type 0 where
-  pub silent : IsSilentTransition t
-  pub ends : HasSmallEnds t
-  pub triggers : AllFit (IsLaterSignal signals) [] t.triggers
+abbrev pub class_name_of : Class → List ℕ
+class_name_of x = x.name
 
-pub record IsReadBlock (b : Block) : Type 0 where
-  pub signals : AreSignals b.signals
-  pub class : IsName b.class
-  pub object : IsName b.object
-  pub regions : AllByRecursion IsRegionOwner b.regions
-  pub vertices : AllByRecursion (IsReadVertex b.signals) b.vertices
-  pub transitions : AllByRecursion (IsReadTransition b.signals) b.transitions
+-- the names that behaviours may use with these variables
+abbrev pub names_with : Head → List VarDecl → Names
+names_with h vars = record { vars = map var_of vars; objects = map object_of h.objects; signals = h.signals }
+
+pub record IsGoodBlock (h : Head) (b : Block) : Type 0 where
+  pub names_are : b.names ≡ names_with h b.vars
+  pub var_names : AreNames (map var_of b.vars)
+  pub few_vars : length b.vars ≤ 64
+  pub firsts : AllByRecursion (λ (v : VarDecl). IsInteger v.first) b.vars
+  -- Before the first region there is no other element.
+  pub begun : (0 < length b.regions) ⊎ ((b.vertices ≡ []) × (b.transitions ≡ []))
   pub few_regions : length b.regions ≤ 65536
   pub few_vertices : length b.vertices ≤ 65536
   pub few_transitions : length b.transitions ≤ 65536
-  -- Before the first region there is no other element.
-  pub begun : (0 < length b.regions) ⊎ ((b.vertices ≡ []) × (b.transitions ≡ []))
+  pub regions : AllByRecursion IsRegionOwner b.regions
+  pub vertices : AllByRecursion (IsWrittenVertex (length h.signals)) b.vertices
+  pub transitions : AllByRecursion (IsWrittenTransition (length h.signals)) b.transitions
+  pub numbered : IsNumbered b.names (machine_of b) b.program
 
-abbrev pub IsRead : Outline → Type 0
-IsRead stages.Start = Unit {0}
-IsRead (stages.Signals signals) = AreSignals signals
-IsRead (stages.Classed signals class) = AreSignals signals × IsName class
-IsRead (stages.Placed signals class object) = AreSignals signals × IsName class × IsName object
-IsRead (stages.Block b) = IsReadBlock b
-IsRead (stages.Ended b) = IsReadBlock b × (0 < length b.regions)
+-- classes whose blocks have been read
+abbrev pub AreGoodClasses : Head → List Class → Type 0
+AreGoodClasses h done = AllByRecursion (λ (x : Class). IsWrittenClass (names_with h x.vars) x) done
+
+-- the names of these classes and of the next one are the first of those in the head
+pub record IsNextClass (h : Head) (done : List Class) (name : List ℕ) : Type 0 where
+  pub later : List (List ℕ)
+  pub classes_are : h.classes ≡ map class_name_of done ++ name ∷ later
+
+abbrev pub IsGood : Outline → Type 0
+IsGood stages.Start = Unit {0}
+IsGood (stages.Heading h) = IsGoodHead h
+IsGood (stages.Open h done b) = IsGoodHead h × AreGoodClasses h done × IsNextClass h done b.name × IsGoodBlock h b
+IsGood (stages.Ended s) = IsWritten s

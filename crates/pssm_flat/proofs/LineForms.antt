@@ -1,13 +1,14 @@
 -- Each line of the grammar: what is read as one is spelled so, it is read again, and it has no line feed.
-use Rattle.std.proofs.Common.{◌≡◌, ℕ, ◌<◌, Bool, true, false, eqb, List, [], ◌∷◌, ◌++◌, Some, refl, sym, ap, subst, ◌∙◌, arith}
+use Rattle.std.proofs.Common.{◌≡◌, ℕ, suc, ◌<◌, ◌≤◌, ℤ, pos, negsuc, Bool, true, false, eqb, List, [], ◌∷◌, ◌++◌, Some, refl, sym, ap, subst, ◌∙◌, arith}
 use Rattle.std.specs.Prelude.{codes, not}
 use Rattle.std.specs.List.{list_all}
-use Rattle.std.specs.Str.{bytes_eq}
-use Rattle.std.specs.Fmt.{decimal}
+use Rattle.std.specs.Str.{IsUtf8, is_utf8, bytes_eq}
+use Rattle.std.specs.Fmt.{decimal, signed_decimal}
 use Rattle.std.proofs.lemmas.Bool.{and_parts, and_from, eqb-true}
 use Rattle.std.proofs.lemmas.Slice.Eq.{bytes_eq-Decides}
 use Rattle.std.proofs.lemmas.List.{append-nil}
 use Rattle.std.proofs.lemmas.Fmt.{digits_decimal}
+use Rattle.std.proofs.lemmas.Str.{IsUtf8-from_is_utf8, is_utf8-from_IsUtf8}
 use Rattle.pssm_model.specs.declared.elements.Owner.{Owner}
 use Rattle.pssm_model.specs.declared.elements.Owner.TheVariants as owners
 use Rattle.pssm_model.specs.declared.elements.VertexKind.{VertexKind}
@@ -16,27 +17,34 @@ use Rattle.pssm_model.specs.declared.elements.TransKind.TheVariants.{External, L
 use Rattle.pssm_spelling.specs.Spelling.{IsName, continues_name}
 use Rattle.pssm_spelling.specs.SpellingReading.{is_digit, stripped}
 use Rattle.pssm_spelling.proofs.SpellingLaws.{stripped_takes, name_takes, name_again, name_goes_on, digits_model}
+use Rattle.pssm_flat.specs.declared.action.ActionLine.{ActionLine}
+use Rattle.pssm_flat.specs.declared.action.ActionLine.TheVariants as actions
 use Rattle.pssm_flat.specs.declared.line.Line.{Line}
 use Rattle.pssm_flat.specs.declared.line.Line.TheVariants as lines
 use Rattle.pssm_flat.specs.Text.{owner_word, kind_word, transition_word, label_text}
-use Rattle.pssm_flat.specs.Flat.{is_label_byte, IsLabel}
-use Rattle.pssm_flat.specs.inner.Outlines.{is_inner, IsInner}
-use Rattle.pssm_flat.specs.inner.Lines.{line_text, named_taken, owner_taken, whole_line, signal_taken, object_taken, region_line_taken, vertex_line_taken, end_taken, transition_line_taken, vertex_of, transition_with, head_line_taken, block_line_taken, line_taken}
+use Rattle.pssm_flat.specs.Flat.{is_inner, IsLineText, is_label_byte, IsLabel, IsInteger}
+use Rattle.pssm_flat.specs.Faults.{action_word}
+use Rattle.pssm_flat.specs.inner.Outlines.{IsInner}
+use Rattle.pssm_flat.specs.inner.Lines.{line_text, named_taken, owner_taken, whole_line, behind_word, action_taken, signal_taken, object_taken, var_taken, region_line_taken, vertex_line_taken, end_taken, transition_line_taken, vertex_of, transition_with, head_line_taken, element_line_taken, part_line_taken, line_taken}
 use Rattle.pssm_flat.proofs.Bind.{bind_then, chosen_some, some_is}
+use Rattle.pssm_flat.proofs.FirstLaws.{count_takes, count_again, first_takes, first_again}
 use Rattle.pssm_flat.proofs.LineLaws.{behind, or_then, mapped, ended_takes, IsSmallOwner, named_takes, name_alone, index_takes, index_again, owner_takes, owner_again, kind_takes, kind_again, kind_is_name, transition_takes, transition_again, label_takes, label_again, label_ends}
 
 -- a line whose parts can stand in it
 abbrev pub IsGoodLine : Line → Type 0
 IsGoodLine lines.Header = Unit {0}
-IsGoodLine (lines.Signal name) = IsName name
+IsGoodLine (lines.Signal name count) = IsName name × (count ≤ 8)
 IsGoodLine (lines.Class name) = IsName name
 IsGoodLine (lines.Object name class) = IsName name × IsName class
 IsGoodLine (lines.Machine name) = IsName name
+IsGoodLine (lines.Var name first) = IsName name × IsInteger first
 IsGoodLine (lines.Region number owner) = (number < 65536) × IsSmallOwner owner
 IsGoodLine (lines.Vertex number owner kind label) = (number < 65536) × IsSmallOwner owner × IsLabel label
 IsGoodLine (lines.Defer signal) = IsName signal
 IsGoodLine (lines.Transition number source target kind) = (number < 65536) × (source.0 < 65536) × (target.0 < 65536)
 IsGoodLine (lines.On signal) = IsName signal
+IsGoodLine (lines.Action word text) = IsLineText text
+IsGoodLine lines.EmptyStep = Unit {0}
 IsGoodLine lines.Otherwise = Unit {0}
 IsGoodLine lines.End = Unit {0}
 
@@ -51,15 +59,48 @@ whole_takes word bytes x l e =
     let found = chosen_some (bytes_eq bytes word) (Some x) l e in
     ((bytes_eq-Decides bytes word).0 found.0, some_is x l found.1)
 
-signal_takes : (bytes name : List ℕ) → signal_taken bytes ≡ Some name → (bytes ≡ codes "signal " ++ (name ++ codes " 0")) × IsName name
+signal_takes : (bytes : List ℕ) (y : List ℕ × ℕ) → signal_taken bytes ≡ Some y → IsLineOf bytes (lines.Signal y.0 y.1)
 unfolding signal_taken
-signal_takes bytes name e =
-    bind_then _ _ _ e (λ (rest : List ℕ) at_rest e. bind_then _ _ _ e (λ (x : List ℕ × List ℕ) at_x e.
+signal_takes bytes y e =
+    bind_then _ _ _ e (λ (rest : List ℕ) at_rest e. bind_then _ _ _ e (λ (x : List ℕ × List ℕ) at_x e. bind_then _ _ _ e (λ (digit : List ℕ) at_digit e. bind_then _ _ _ e (λ (count : ℕ) at_count e.
     let is = name_takes rest x.0 x.1 at_x in
-    let end = chosen_some (bytes_eq x.1 (codes " 0")) (Some x.0) name e in
-    let spelled : rest ≡ x.0 ++ codes " 0" = is.parts ∙ behind x.0 ((bytes_eq-Decides x.1 (codes " 0")).0 end.0) in
-    let made : (bytes ≡ codes "signal " ++ (x.0 ++ codes " 0")) × IsName x.0 = (stripped_takes (codes "signal ") bytes rest at_rest ∙ behind (codes "signal ") spelled, is.name) in
-    subst (λ (t : List ℕ). (bytes ≡ codes "signal " ++ (t ++ codes " 0")) × IsName t) (some_is x.0 name end.1) made))
+    let counted = count_takes digit count at_count in
+    let made : IsLineOf bytes (lines.Signal x.0 count) =
+    (stripped_takes (codes "signal ") bytes rest at_rest ∙ behind (codes "signal ") (is.parts ∙ behind x.0 (stripped_takes (codes " ") x.1 digit at_digit ∙ behind (codes " ") counted.0)), (is.name, counted.1)) in
+    subst (λ (z : List ℕ × ℕ). IsLineOf bytes (lines.Signal z.0 z.1)) (some_is (x.0, count) y e) made))))
+
+var_takes : (bytes : List ℕ) (y : List ℕ × ℤ) → var_taken bytes ≡ Some y → IsLineOf bytes (lines.Var y.0 y.1)
+unfolding var_taken
+var_takes bytes y e =
+    bind_then _ _ _ e (λ (rest : List ℕ) at_rest e. bind_then _ _ _ e (λ (x : List ℕ × List ℕ) at_x e. bind_then _ _ _ e (λ (word : List ℕ) at_word e. bind_then _ _ _ e (λ (first : ℤ) at_first e.
+    let is = name_takes rest x.0 x.1 at_x in
+    let number = first_takes word first at_first in
+    let made : IsLineOf bytes (lines.Var x.0 first) =
+    (stripped_takes (codes "var ") bytes rest at_rest ∙ behind (codes "var ") (is.parts ∙ behind x.0 (stripped_takes (codes " ") x.1 word at_word ∙ behind (codes " ") number.0)), (is.name, number.1)) in
+    subst (λ (z : List ℕ × ℤ). IsLineOf bytes (lines.Var z.0 z.1)) (some_is (x.0, first) y e) made))))
+
+-- what stands behind a front has no line feed where the whole has none
+pub inner_behind : (front text : List ℕ) → IsInner (front ++ text) → IsInner text
+inner_behind [] text inner = inner
+inner_behind (c ∷ front) text inner = inner_behind front text (and_parts (is_inner c) (list_all is_inner (front ++ text)) inner).1
+
+abbrev Acts : List ℕ → ActionLine × List ℕ → Type 0
+Acts bytes y = (bytes ≡ action_word y.0 ++ y.1) × IsUtf8 y.1
+
+word_takes : (word : ActionLine) (bytes : List ℕ) (y : ActionLine × List ℕ) → behind_word word bytes ≡ Some y → Acts bytes y
+unfolding behind_word
+word_takes word bytes y e =
+    bind_then _ _ _ e (λ (text : List ℕ) at_text e.
+    let found = chosen_some (is_utf8 text) (Some (word, text)) y e in
+    subst (λ (z : ActionLine × List ℕ). Acts bytes z) (some_is (word, text) y found.1) (stripped_takes (action_word word) bytes text at_text, IsUtf8-from_is_utf8 text found.0))
+
+action_takes : (bytes : List ℕ) (y : ActionLine × List ℕ) → action_taken bytes ≡ Some y → Acts bytes y
+unfolding action_taken
+action_takes bytes y e =
+    or_then _ _ y e (word_takes actions.Entry bytes y)
+    (λ e. or_then _ _ y e (word_takes actions.Exit bytes y)
+    (λ e. or_then _ _ y e (word_takes actions.Step bytes y)
+    (λ e. or_then _ _ y e (word_takes actions.When bytes y) (word_takes actions.Effect bytes y))))
 
 object_takes : (bytes : List ℕ) (y : List ℕ × List ℕ) → object_taken bytes ≡ Some y → IsLineOf bytes (lines.Object y.0 y.1)
 unfolding object_taken
@@ -131,26 +172,36 @@ unfolding head_line_taken
 head_takes bytes l e =
     let P : Line → Type 0 = λ x. IsLineOf bytes x in
     or_then _ _ l e (λ e. let w = whole_takes (codes "pssm-flat 1") bytes lines.Header l e in subst P w.1 (w.0, tt))
-    (λ e. or_then _ _ l e (λ e. mapped lines.Signal _ l e (λ (name : List ℕ) at_name same. subst P same (signal_takes bytes name at_name)))
+    (λ e. or_then _ _ l e (λ e. mapped (λ (x : List ℕ × ℕ). lines.Signal x.0 x.1) _ l e (λ (x : List ℕ × ℕ) at_x same. subst P same (signal_takes bytes x at_x)))
     (λ e. or_then _ _ l e (λ e. mapped lines.Class _ l e (λ (name : List ℕ) at_name same. subst P same (named_takes (codes "class ") bytes name at_name)))
     (λ e. or_then _ _ l e (λ e. mapped (λ (x : List ℕ × List ℕ). lines.Object x.0 x.1) _ l e (λ (x : List ℕ × List ℕ) at_x same. subst P same (object_takes bytes x at_x)))
     (λ e. mapped lines.Machine _ l e (λ (name : List ℕ) at_name same. subst P same (named_takes (codes "machine ") bytes name at_name))))))
 
-block_takes : (bytes : List ℕ) (l : Line) → block_line_taken bytes ≡ Some l → IsLineOf bytes l
-unfolding block_line_taken
-block_takes bytes l e =
+element_takes : (bytes : List ℕ) (l : Line) → element_line_taken bytes ≡ Some l → IsLineOf bytes l
+unfolding element_line_taken
+element_takes bytes l e =
     let P : Line → Type 0 = λ x. IsLineOf bytes x in
-    or_then _ _ l e (λ e. region_takes bytes l e)
+    or_then _ _ l e (λ e. mapped (λ (x : List ℕ × ℤ). lines.Var x.0 x.1) _ l e (λ (x : List ℕ × ℤ) at_x same. subst P same (var_takes bytes x at_x)))
+    (λ e. or_then _ _ l e (λ e. region_takes bytes l e)
     (λ e. or_then _ _ l e (λ e. mapped vertex_of _ l e (λ (x : ℕ × Owner × VertexKind × List ℕ) at_x same. subst P same (vertex_takes bytes x at_x)))
-    (λ e. or_then _ _ l e (λ e. mapped lines.Defer _ l e (λ (name : List ℕ) at_name same. subst P same (named_takes (codes "defer ") bytes name at_name)))
-    (λ e. or_then _ _ l e (λ e. mapped transition_with _ l e (λ (x : ℕ × ℕ × ℕ × TransKind) at_x same. subst P same (transition_line_takes bytes x at_x)))
-    (λ e. or_then _ _ l e (λ e. mapped lines.On _ l e (λ (name : List ℕ) at_name same. subst P same (named_takes (codes "on ") bytes name at_name)))
-    (λ e. or_then _ _ l e (λ e. let w = whole_takes (codes "else") bytes lines.Otherwise l e in subst P w.1 (w.0, tt))
-    (λ e. let w = whole_takes (codes "end") bytes lines.End l e in subst P w.1 (w.0, tt)))))))
+    (λ e. mapped transition_with _ l e (λ (x : ℕ × ℕ × ℕ × TransKind) at_x same. subst P same (transition_line_takes bytes x at_x)))))
 
-pub line_takes : (bytes : List ℕ) (l : Line) → line_taken bytes ≡ Some l → IsLineOf bytes l
+part_takes : (bytes : List ℕ) (l : Line) → IsInner bytes → part_line_taken bytes ≡ Some l → IsLineOf bytes l
+unfolding part_line_taken
+part_takes bytes l inner e =
+    let P : Line → Type 0 = λ x. IsLineOf bytes x in
+    or_then _ _ l e (λ e. mapped lines.Defer _ l e (λ (name : List ℕ) at_name same. subst P same (named_takes (codes "defer ") bytes name at_name)))
+    (λ e. or_then _ _ l e (λ e. mapped lines.On _ l e (λ (name : List ℕ) at_name same. subst P same (named_takes (codes "on ") bytes name at_name)))
+    (λ e. or_then _ _ l e (λ e. mapped (λ (x : ActionLine × List ℕ). lines.Action x.0 x.1) _ l e (λ (x : ActionLine × List ℕ) at_x same.
+    let is = action_takes bytes x at_x in
+    subst P same (is.0, record { utf8 = is.1; inner = inner_behind (action_word x.0) x.1 (subst IsInner is.0 inner) })))
+    (λ e. or_then _ _ l e (λ e. let w = whole_takes (codes "step") bytes lines.EmptyStep l e in subst P w.1 (w.0, tt))
+    (λ e. or_then _ _ l e (λ e. let w = whole_takes (codes "else") bytes lines.Otherwise l e in subst P w.1 (w.0, tt))
+    (λ e. let w = whole_takes (codes "end") bytes lines.End l e in subst P w.1 (w.0, tt))))))
+
+pub line_takes : (bytes : List ℕ) (l : Line) → IsInner bytes → line_taken bytes ≡ Some l → IsLineOf bytes l
 unfolding line_taken
-line_takes bytes l e = or_then _ _ l e (λ e. head_takes bytes l e) (λ e. block_takes bytes l e)
+line_takes bytes l inner e = or_then _ _ l e (λ e. head_takes bytes l e) (λ e. or_then _ _ l e (λ e. element_takes bytes l e) (λ e. part_takes bytes l inner e))
 
 -- ---- each line is read again
 
@@ -158,12 +209,13 @@ owner_alone : (o : Owner) → IsSmallOwner o → owner_taken (owner_word o) ≡ 
 owner_alone o small = ap owner_taken (sym (append-nil (owner_word o))) ∙ owner_again o [] small tt
 
 pub line_again : (l : Line) → IsGoodLine l → line_taken (line_text l) ≡ Some l
-unfolding line_taken head_line_taken block_line_taken signal_taken object_taken named_taken region_line_taken vertex_line_taken end_taken transition_line_taken stripped
+unfolding line_taken head_line_taken element_line_taken part_line_taken signal_taken object_taken var_taken named_taken region_line_taken vertex_line_taken end_taken transition_line_taken action_taken behind_word stripped
 line_again lines.Header is = refl
-line_again (lines.Signal name) is = rw (name_again name (codes " 0") is refl) refl
+line_again (lines.Signal name count) is = rw (name_again name (codes " " ++ decimal count) is.0 refl, count_again count is.1) refl
 line_again (lines.Class name) is = rw (name_alone name is) refl
 line_again (lines.Object name class) is = rw (name_again name (codes " " ++ class) is.0 refl, name_alone class is.1) refl
 line_again (lines.Machine name) is = rw (name_alone name is) refl
+line_again (lines.Var name first) is = rw (name_again name (codes " " ++ signed_decimal first) is.0 refl, first_again first is.1) refl
 line_again (lines.Region number owner) is = rw (index_again number (codes " " ++ owner_word owner) is.0 refl, owner_alone owner is.1) refl
 line_again (lines.Vertex number owner kind label) is =
     let words : List ℕ = kind_word kind ++ label_text label in
@@ -184,6 +236,12 @@ line_again (lines.Transition number source target kind) is =
       transition_again kind,
     ) refl
 line_again (lines.On signal) is = rw (name_alone signal is) refl
+line_again (lines.Action actions.Entry text) is = rw (is_utf8-from_IsUtf8 text is.utf8) refl
+line_again (lines.Action actions.Exit text) is = rw (is_utf8-from_IsUtf8 text is.utf8) refl
+line_again (lines.Action actions.Step text) is = rw (is_utf8-from_IsUtf8 text is.utf8) refl
+line_again (lines.Action actions.When text) is = rw (is_utf8-from_IsUtf8 text is.utf8) refl
+line_again (lines.Action actions.Effect text) is = rw (is_utf8-from_IsUtf8 text is.utf8) refl
+line_again lines.EmptyStep is = refl
 line_again lines.Otherwise is = refl
 line_again lines.End is = refl
 
@@ -228,12 +286,24 @@ inner_transition External = refl
 inner_transition Local = refl
 inner_transition Internal = refl
 
+inner_first : (n : ℤ) → IsInteger n → IsInner (signed_decimal n)
+inner_first (pos n) is = inner_all is_digit refl (decimal n) (digits_decimal digits_model n (omega arith))
+inner_first (negsuc n) is = inner_all is_digit refl (decimal (suc n)) (digits_decimal digits_model (suc n) (omega arith))
+
+inner_word : (word : ActionLine) → IsInner (action_word word)
+inner_word actions.Entry = refl
+inner_word actions.Exit = refl
+inner_word actions.Step = refl
+inner_word actions.When = refl
+inner_word actions.Effect = refl
+
 pub line_inner : (l : Line) → IsGoodLine l → IsInner (line_text l)
 line_inner lines.Header is = refl
-line_inner (lines.Signal name) is = inner_append name (codes " 0") (inner_name name is) refl
+line_inner (lines.Signal name count) is = inner_append name (codes " " ++ decimal count) (inner_name name is.0) (inner_number count (let few = is.1 in omega arith))
 line_inner (lines.Class name) is = inner_name name is
 line_inner (lines.Object name class) is = inner_append name (codes " " ++ class) (inner_name name is.0) (inner_name class is.1)
 line_inner (lines.Machine name) is = inner_name name is
+line_inner (lines.Var name first) is = inner_append name (codes " " ++ signed_decimal first) (inner_name name is.0) (inner_first first is.1)
 line_inner (lines.Region number owner) is = inner_append (decimal number) (codes " " ++ owner_word owner) (inner_number number is.0) (inner_owner owner is.1)
 line_inner (lines.Vertex number owner kind label) is =
     inner_append (decimal number) _ (inner_number number is.0) (inner_append (owner_word owner) _ (inner_owner owner is.1) (inner_append (kind_word kind) (label_text label) (inner_kind kind) (inner_label label is.2)))
@@ -241,5 +311,7 @@ line_inner (lines.Defer signal) is = inner_name signal is
 line_inner (lines.Transition number source target kind) is =
     inner_append (decimal number) _ (inner_number number is.0) (inner_append (decimal source.0) _ (inner_number source.0 is.1) (inner_append (decimal target.0) _ (inner_number target.0 is.2) (inner_transition kind)))
 line_inner (lines.On signal) is = inner_name signal is
+line_inner (lines.Action word text) is = inner_append (action_word word) text (inner_word word) is.inner
+line_inner lines.EmptyStep is = refl
 line_inner lines.Otherwise is = refl
 line_inner lines.End is = refl

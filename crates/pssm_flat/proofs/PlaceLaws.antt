@@ -1,9 +1,9 @@
--- The lines of elements, counted.
-use Rattle.std.proofs.Common.{◌≡◌, ℕ, zero, suc, ◌+◌, List, [], ◌∷◌, ◌++◌, length, take, refl, sym, ap, ◌∙◌, arith}
+-- The line of an element, counted from the line behind its block.
+use Rattle.std.proofs.Common.{◌≡◌, inl, inr, ℕ, zero, suc, ◌+◌, ◌<◌, List, [], ◌∷◌, ◌++◌, length, take, refl, sym, ap, ◌∙◌, arith}
 use Rattle.std.specs.Prelude.{map, codes, sum_by}
-use Rattle.std.specs.List.{AllByRecursion}
 use Rattle.std.proofs.lemmas.List.{length-append}
 use Rattle.std.proofs.lemmas.List.Sums.{sum_by-cons}
+use Rattle.pssm_model.specs.declared.ids.ActId.{ActId}
 use Rattle.pssm_model.specs.declared.elements.Owner.{Owner}
 use Rattle.pssm_model.specs.declared.elements.Vertex.{Vertex}
 use Rattle.pssm_model.specs.declared.elements.Transition.{Transition}
@@ -11,101 +11,134 @@ use Rattle.pssm_model.specs.declared.elements.Guard.{Guard}
 use Rattle.pssm_model.specs.declared.elements.Guard.TheVariants.{Always, Otherwise, When}
 use Rattle.pssm_model.specs.declared.elements.Element.{Element}
 use Rattle.pssm_model.specs.declared.elements.Element.TheVariants as elements
-use Rattle.pssm_semantics.specs.declared.setting.SignalDecl.{SignalDecl}
-use Rattle.pssm_flat.specs.declared.block.Block.{Block}
-use Rattle.pssm_flat.specs.declared.outline.Outline.TheVariants as stages
-use Rattle.pssm_flat.specs.Text.{numbered, names_of, signal_line, region_lines, vertex_lines, transition_lines, defer_line, on_line}
-use Rattle.pssm_flat.specs.Faults.{line_of_element}
-use Rattle.pssm_flat.specs.inner.Outlines.{plain_class, machine_of, setting_of}
-use Rattle.pssm_flat.specs.inner.Places.{vertex_size, else_size, transition_size, machine_size, element_line}
-use Rattle.pssm_flat.proofs.Good.{vertex_part, else_part, transition_part, draft_lines, IsReadVertex, IsReadTransition, IsReadBlock}
-use Rattle.pssm_flat.proofs.Whole.{numbered_same, vertex_same, transition_same}
+use Rattle.pssm_semantics.specs.declared.setting.Names.{Names}
+use Rattle.pssm_semantics.specs.declared.setting.Class.{Class}
+use Rattle.pssm_semantics.specs.declared.setting.Program.{Program}
+use Rattle.pssm_semantics.specs.declared.setting.Setting.{Setting}
+use Rattle.pssm_flat.specs.Text.{numbered, names_of, machine_lines, block_lines, var_line, region_lines, vertex_lines, transition_lines, behaviour_lines, step_line, defer_line, guard_lines, on_line}
+use Rattle.pssm_flat.specs.Flat.{Leads, LeadsAct, LeadsGuard, LeadsVertex, LeadsTransition, IsNumbered, first_program}
+use Rattle.pssm_flat.specs.Faults.{lines_before_class, line_of_element}
+use Rattle.pssm_flat.specs.inner.Places.{number_size, act_size, vertex_size, guard_size, transition_size, machine_size, element_line}
+use Rattle.pssm_flat.proofs.Programs.{GoesOnTo, same_on, on_and_on, act_on, guard_on, steps_on, vertex_on, transition_on, leads_on, some_acts, own_lines, lines_found, own_guard, guard_found}
 
 map_length : {X Y : Type 0} (f : X → Y) (xs : List X) → length (map f xs) ≡ length xs
 map_length f [] = refl
 map_length f (x ∷ xs) = ap suc (map_length f xs)
 
-numbered_length : {X : Type 0} (f : ℕ → X → List (List ℕ)) (size : X → ℕ) (n : ℕ) (xs : List X) → ((k : ℕ) (x : X) → length (f k x) ≡ size x) → length (numbered f n xs) ≡ sum_by size xs
-numbered_length f size n [] each = refl
-numbered_length f size n (x ∷ xs) each =
-    let more = numbered_length f size (suc n) xs each in
-    let total : length (f n x) + length (numbered f (suc n) xs) ≡ size x + sum_by size xs = omega (arith, each n x, more) in
-    length-append (f n x) (numbered f (suc n) xs) ∙ total ∙ sym (sum_by-cons size x xs)
-
 regions_length : (n : ℕ) (xs : List Owner) → length (numbered region_lines n xs) ≡ length xs
 regions_length n [] = refl
 regions_length n (x ∷ xs) = ap suc (regions_length (suc n) xs)
 
-vertex_length : (s : List SignalDecl) (k : ℕ) (v : Vertex) → length (vertex_part s k v) ≡ vertex_size v
-vertex_length s k v = omega (arith, map_length (defer_line s) v.defers)
+-- a behaviour has one line where it has a number
+size_of_next : (n m : ℕ) → n ≡ m → 0 < m → number_size n ≡ 1
+size_of_next zero m e some = absurd (omega (arith, e, some))
+size_of_next (suc n) m e some = refl
 
-else_length : (g : Guard) → length (else_part g) ≡ else_size g
-else_length Always = refl
-else_length Otherwise = refl
-else_length (When g) = refl
+own_length : (word : List ℕ) (names : Names) (p : Program) (a : ActId) (q : Program) (leads : LeadsAct names p a q) → GoesOnTo first_program p → length (own_lines word names p a q leads) ≡ act_size a
+own_length word names p a q (inl none) first = sym (ap number_size none.0)
+own_length word names p a q (inr next) first = sym (size_of_next a.0 (length p.acts) next.number (some_acts p first))
 
-transition_length : (s : List SignalDecl) (k : ℕ) (t : Transition) → length (transition_part s k t) ≡ transition_size t
-transition_length s k t = omega (arith, length-append (map (on_line s) t.triggers) (else_part t.guard), map_length (on_line s) t.triggers, else_length t.guard)
+act_length : (word : List ℕ) (names : Names) (x : Class) (p : Program) (a : ActId) (q : Program) → LeadsAct names p a q → GoesOnTo first_program p → GoesOnTo q x.program → length (behaviour_lines word names x a) ≡ act_size a
+act_length word names x p a q leads first on = ap length (lines_found word names x p a q leads first on) ∙ own_length word names p a q leads first
 
-all_take : {X : Type 0} (P : X → Type 0) (n : ℕ) (xs : List X) → AllByRecursion P xs → AllByRecursion P (take n xs)
-all_take P zero [] all = tt
-all_take P zero (x ∷ xs) all = tt
-all_take P (suc n) [] all = tt
-all_take P (suc n) (x ∷ xs) all = (all.0, all_take P n xs all.1)
+own_guard_length : (names : Names) (p : Program) (g : Guard) (q : Program) (leads : LeadsGuard names p g q) → length (own_guard names p g q leads) ≡ guard_size g
+own_guard_length names p Always q leads = refl
+own_guard_length names p Otherwise q leads = refl
+own_guard_length names p (When g) q leads = refl
 
-vertices_length : (b : Block) (vs : List Vertex) → AllByRecursion (IsReadVertex b.signals) vs
-    → length (numbered (vertex_lines (names_of (setting_of b) (plain_class b.class (machine_of b))) (plain_class b.class (machine_of b))) 0 vs) ≡ sum_by vertex_size vs
-vertices_length b vs all =
-    let x = plain_class b.class (machine_of b) in
-    ap length (numbered_same (IsReadVertex b.signals) (vertex_lines (names_of (setting_of b) x) x) (vertex_part b.signals) 0 vs (λ k v is. vertex_same b k v is.silent) all)
-    ∙ numbered_length (vertex_part b.signals) vertex_size 0 vs (vertex_length b.signals)
+guard_length : (names : Names) (x : Class) (p : Program) (g : Guard) (q : Program) → LeadsGuard names p g q → GoesOnTo q x.program → length (guard_lines names x g) ≡ guard_size g
+guard_length names x p g q leads on = ap length (guard_found names x p g q leads on) ∙ own_guard_length names p g q leads
 
-transitions_length : (b : Block) (ts : List Transition) → AllByRecursion (IsReadTransition b.signals) ts
-    → length (numbered (transition_lines (names_of (setting_of b) (plain_class b.class (machine_of b))) (plain_class b.class (machine_of b))) 0 ts) ≡ sum_by transition_size ts
-transitions_length b ts all =
-    let x = plain_class b.class (machine_of b) in
-    ap length (numbered_same (IsReadTransition b.signals) (transition_lines (names_of (setting_of b) x) x) (transition_part b.signals) 0 ts (λ k t is. transition_same b k t is.silent) all)
-    ∙ numbered_length (transition_part b.signals) transition_size 0 ts (transition_length b.signals)
-
-head_length : (s : List SignalDecl) (c o : List ℕ) → length ((codes "pssm-flat 1" ∷ (map signal_line s ++ (c ∷ (o ∷ [])))) ++ []) ≡ length s + 3
-head_length s c o = omega (arith, length-append (codes "pssm-flat 1" ∷ (map signal_line s ++ (c ∷ (o ∷ [])))) [], length-append (map signal_line s) (c ∷ (o ∷ [])), map_length signal_line s)
-
--- the line that the code counts is the one of the element
-pub element_line_is : (b : Block) → IsReadBlock b → (e : Element) → element_line (length b.signals) (machine_of b) e ≡ line_of_element (setting_of b) 0 (plain_class b.class (machine_of b)) e
-element_line_is b read (elements.Region r) = omega (arith, head_length b.signals (codes "class " ++ b.class) (codes "object " ++ (b.object ++ (codes " " ++ b.class))))
-element_line_is b read (elements.Vertex v) =
-    omega (arith, head_length b.signals (codes "class " ++ b.class) (codes "object " ++ (b.object ++ (codes " " ++ b.class))), vertices_length b (take v.0 b.vertices) (all_take (IsReadVertex b.signals) v.0 b.vertices read.vertices))
-element_line_is b read (elements.Transition t) =
+vertex_length : (names : Names) (x : Class) (n : ℕ) (p : Program) (v : Vertex) (q : Program) → LeadsVertex names p v q → GoesOnTo first_program p → GoesOnTo q x.program → length (vertex_lines names x n v) ≡ vertex_size v
+vertex_length names x n p v q leads first on =
+    let entry_on = act_on names p v.entry leads.entered leads.entry in
+    let exit_on = act_on names leads.entered v.exit leads.left leads.exit in
+    let steps_go = steps_on names leads.left v.steps q leads.steps in
+    let left_on = on_and_on leads.left q x.program steps_go on in
+    let entered_on = on_and_on leads.entered leads.left x.program exit_on left_on in
+    let entry = act_length (codes "entry") names x p v.entry leads.entered leads.entry first entered_on in
+    let exit = act_length (codes "exit") names x leads.entered v.exit leads.left leads.exit (on_and_on first_program p leads.entered first entry_on) left_on in
+    let steps = map_length (step_line names x) v.steps in
+    let defers = map_length (defer_line names.signals) v.defers in
     omega (
       arith,
-      head_length b.signals (codes "class " ++ b.class) (codes "object " ++ (b.object ++ (codes " " ++ b.class))),
-      vertices_length b b.vertices read.vertices,
-      transitions_length b (take t.0 b.transitions) (all_take (IsReadTransition b.signals) t.0 b.transitions read.transitions),
+      entry,
+      exit,
+      steps,
+      defers,
+      length-append (behaviour_lines (codes "entry") names x v.entry) (behaviour_lines (codes "exit") names x v.exit ++ (map (step_line names x) v.steps ++ map (defer_line names.signals) v.defers)),
+      length-append (behaviour_lines (codes "exit") names x v.exit) (map (step_line names x) v.steps ++ map (defer_line names.signals) v.defers),
+      length-append (map (step_line names x) v.steps) (map (defer_line names.signals) v.defers),
     )
 
--- how many lines a whole text has
-pub whole_length : (b : Block) → length (draft_lines (stages.Ended b)) ≡ length b.signals + 5 + machine_size (machine_of b)
-whole_length b =
-    let s = b.signals in
-    let signals : List (List ℕ) = codes "pssm-flat 1" ∷ map signal_line s in
-    let class : List (List ℕ) = (codes "class " ++ b.class) ∷ [] in
-    let object : List (List ℕ) = (codes "object " ++ (b.object ++ (codes " " ++ b.class))) ∷ [] in
-    let machine : List (List ℕ) = (codes "machine " ++ b.class) ∷ [] in
-    let regions = numbered region_lines 0 b.regions in
-    let vertices = numbered (vertex_part s) 0 b.vertices in
-    let transitions = numbered (transition_part s) 0 b.transitions in
-    let end : List (List ℕ) = codes "end" ∷ [] in
+transition_length : (names : Names) (x : Class) (n : ℕ) (p : Program) (t : Transition) (q : Program) → LeadsTransition names p t q → GoesOnTo first_program p → GoesOnTo q x.program → length (transition_lines names x n t) ≡ transition_size t
+transition_length names x n p t q leads first on =
+    let effect_go = act_on names leads.guarded t.effect q leads.effect in
+    let guard = guard_length names x p t.guard leads.guarded leads.guard (on_and_on leads.guarded q x.program effect_go on) in
+    let effect = act_length (codes "effect") names x leads.guarded t.effect q leads.effect (on_and_on first_program p leads.guarded first (guard_on names p t.guard leads.guarded leads.guard)) on in
+    let triggers = map_length (on_line names.signals) t.triggers in
     omega (
       arith,
-      length-append ((((signals ++ class) ++ object) ++ machine) ++ (regions ++ (vertices ++ transitions))) end,
-      length-append (((signals ++ class) ++ object) ++ machine) (regions ++ (vertices ++ transitions)),
-      length-append ((signals ++ class) ++ object) machine,
-      length-append (signals ++ class) object,
-      length-append signals class,
-      map_length signal_line s,
-      length-append regions (vertices ++ transitions),
-      length-append vertices transitions,
-      regions_length 0 b.regions,
-      numbered_length (vertex_part s) vertex_size 0 b.vertices (vertex_length s),
-      numbered_length (transition_part s) transition_size 0 b.transitions (transition_length s),
+      guard,
+      effect,
+      triggers,
+      length-append (map (on_line names.signals) t.triggers) (guard_lines names x t.guard ++ behaviour_lines (codes "effect") names x t.effect),
+      length-append (guard_lines names x t.guard) (behaviour_lines (codes "effect") names x t.effect),
     )
+
+-- the lines of the first elements
+all_length : {X : Type 0} (Step : Program → X → Program → Type 0) (f : ℕ → X → List (List ℕ)) (size : X → ℕ) (x : Program) → ((p : Program) (i : X) (q : Program) → Step p i q → GoesOnTo p q)
+    → ((n : ℕ) (p : Program) (i : X) (q : Program) → Step p i q → GoesOnTo first_program p → GoesOnTo q x → length (f n i) ≡ size i)
+    → (n k : ℕ) (p : Program) (xs : List X) (q : Program) → Leads Step p xs q → GoesOnTo first_program p → GoesOnTo q x → length (numbered f n (take k xs)) ≡ sum_by size (take k xs)
+all_length Step f size x on each n zero p [] q leads first to = refl
+all_length Step f size x on each n zero p (i ∷ xs) q leads first to = refl
+all_length Step f size x on each n (suc k) p [] q leads first to = refl
+all_length Step f size x on each n (suc k) p (i ∷ xs) q leads first to =
+    let more = leads_on Step on leads.0 xs q leads.2 in
+    let here = each n p i leads.0 leads.1 first (on_and_on leads.0 q x more to) in
+    let rest = all_length Step f size x on each (suc n) k leads.0 xs q leads.2 (on_and_on first_program p leads.0 first (on p i leads.0 leads.1)) to in
+    let total : length (f n i) + length (numbered f (suc n) (take k xs)) ≡ size i + sum_by size (take k xs) = omega (arith, here, rest) in
+    length-append (f n i) (numbered f (suc n) (take k xs)) ∙ total ∙ sym (sum_by-cons size i (take k xs))
+
+take_all : {X : Type 0} (xs : List X) → take (length xs) xs ≡ xs
+take_all [] = refl
+take_all (x ∷ xs) = ap (λ t. x ∷ t) (take_all xs)
+
+module _ (names : Names) (x : Class) (written : IsNumbered names x.machine x.program) where
+  to_middle : GoesOnTo first_program written.middle
+  to_middle = leads_on (LeadsVertex names) (vertex_on names) first_program x.machine.vertices written.middle written.vertices
+
+  to_end : GoesOnTo written.middle x.program
+  to_end = leads_on (LeadsTransition names) (transition_on names) written.middle x.machine.transitions x.program written.transitions
+
+  pub vertices_length : (k : ℕ) → length (numbered (vertex_lines names x) 0 (take k x.machine.vertices)) ≡ sum_by vertex_size (take k x.machine.vertices)
+  vertices_length k =
+      all_length (LeadsVertex names) (vertex_lines names x) vertex_size x.program (vertex_on names) (vertex_length names x) 0 k first_program x.machine.vertices written.middle written.vertices (same_on first_program first_program refl) to_end
+
+  pub transitions_length : (k : ℕ) → length (numbered (transition_lines names x) 0 (take k x.machine.transitions)) ≡ sum_by transition_size (take k x.machine.transitions)
+  transitions_length k =
+      all_length (LeadsTransition names) (transition_lines names x) transition_size x.program (transition_on names) (transition_length names x) 0 k written.middle x.machine.transitions x.program written.transitions to_middle (same_on x.program x.program refl)
+
+  all_vertices : length (numbered (vertex_lines names x) 0 x.machine.vertices) ≡ sum_by vertex_size x.machine.vertices
+  all_vertices = ap (λ vs. length (numbered (vertex_lines names x) 0 vs)) (sym (take_all x.machine.vertices)) ∙ vertices_length (length x.machine.vertices) ∙ ap (sum_by vertex_size) (take_all x.machine.vertices)
+
+  all_transitions : length (numbered (transition_lines names x) 0 x.machine.transitions) ≡ sum_by transition_size x.machine.transitions
+  all_transitions =
+      ap (λ ts. length (numbered (transition_lines names x) 0 ts)) (sym (take_all x.machine.transitions)) ∙ transitions_length (length x.machine.transitions) ∙ ap (sum_by transition_size) (take_all x.machine.transitions)
+
+  -- how many lines a block has
+  pub block_length : length (block_lines names x) ≡ suc (length x.vars) + machine_size x.machine
+  block_length =
+      let vars = map var_line x.vars in
+      let regions = numbered region_lines 0 x.machine.regions in
+      let vertices = numbered (vertex_lines names x) 0 x.machine.vertices in
+      let transitions = numbered (transition_lines names x) 0 x.machine.transitions in
+      omega (arith, map_length var_line x.vars, regions_length 0 x.machine.regions, all_vertices, all_transitions, length-append vars (regions ++ (vertices ++ transitions)), length-append regions (vertices ++ transitions), length-append vertices transitions)
+
+-- the line that is counted from behind is that of the element
+pub element_line_is : (s : Setting) (c : ℕ) (x : Class) (behind : ℕ) → IsNumbered (names_of s x) x.machine x.program → behind ≡ suc (length (lines_before_class s c ++ machine_lines s x)) → (e : Element) → element_line behind x.machine e ≡ line_of_element s c x e
+element_line_is s c x behind written at (elements.Region r) = omega (arith, at, length-append (lines_before_class s c) (machine_lines s x), block_length (names_of s x) x written)
+element_line_is s c x behind written at (elements.Vertex v) =
+    omega (arith, at, length-append (lines_before_class s c) (machine_lines s x), block_length (names_of s x) x written, vertices_length (names_of s x) x written v.0)
+element_line_is s c x behind written at (elements.Transition t) =
+    omega (arith, at, length-append (lines_before_class s c) (machine_lines s x), block_length (names_of s x) x written, all_vertices (names_of s x) x written, transitions_length (names_of s x) x written t.0)

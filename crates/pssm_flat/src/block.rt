@@ -1,141 +1,58 @@
 //! The block of a machine, as far as it has been read.
 ghost use Rattle.std.specs.Prelude.{◌≡◌, ◌≤◌, length, IfOk};
-ghost use Rattle.pssm_flat.specs.inner.Outlines.{kept as kept_if, names_region_owner, names_vertex_owner, is_state as is_state_kind, is_always as is_always_guard, plain_vertex, plain_transition, takes_region, takes_vertex, takes_transition, with_region, with_vertex, deferring as deferring_too, with_defer, with_transition, triggered as triggered_too, with_trigger, otherwise as otherwise_guarded, with_else, with_line};
+ghost use Rattle.std.specs.Option.{option_map};
+ghost use Rattle.pssm_acts.specs.Answers.{Answers};
+ghost use Rattle.pssm_flat.specs.inner.Outlines.{kept as kept_if, kept_by, takes_region, takes_vertex, takes_transition, last_vertex, with_var, with_region, with_vertex, with_transition, with_defer, with_trigger, with_else, with_behaviour, with_empty_step, with_condition, with_effect, with_action, with_line, IsSmallBlock};
 
-use crate::line::Line;
-use crate::refusal::{kept, nothing};
-use crate::rows::{pop, push};
-use crate::signals::add_signal;
-use pssm_model::{
-    ActId, Guard, Owner, Row, SignalId, Text, TransKind, Transition, Vertex, VertexId, VertexKind,
+use crate::action::ActionLine;
+use crate::elements::{
+    behaving, deferring, is_empty, is_plain, may_own_region, may_own_vertex, plain,
+    takes_behaviour, triggered, untriggered,
 };
-use pssm_semantics::SignalDecl;
+use crate::head::is_among;
+use crate::line::Line;
+use crate::numbering::{act_added, guard_added, program_out};
+use crate::rows::{pop, push};
+use pssm_acts::ActFault;
+use pssm_model::{
+    ActId, Duplicate, Guard, Owner, Row, Text, TransKind, Transition, Vertex, VertexId, VertexKind,
+};
+use pssm_semantics::{Names, Program, VarDecl};
 use std::alloc::{AllocError, Global};
 
-/// The names and the elements that have been read, in the order of their lines.
+/// How many variables a class may have (this profile's choice).
+const VARS_AT_MOST: usize = 64;
+
+/// What has been read of a class in the order of its lines, and the names that its behaviours may use.
 #[derive(Drop)]
 pub(crate) struct Block {
-    pub signals: Row<SignalDecl>,
-    pub class: Text,
-    pub object: Text,
+    pub name: Text,
+    pub names: Names,
+    pub vars: Row<VarDecl>,
     pub regions: Row<Owner>,
     pub vertices: Row<Vertex>,
     pub transitions: Row<Transition>,
-}
-
-fn may_own_region(owner: Owner) -> bool
-    ensures { result ≡ names_region_owner owner }
-{
-    match owner {
-        Owner::Top | Owner::State(_) => true,
-        Owner::Region(_) => false,
-    }
-}
-
-fn may_own_vertex(owner: Owner) -> bool
-    ensures { result ≡ names_vertex_owner owner }
-{
-    match owner {
-        Owner::Region(_) | Owner::State(_) => true,
-        Owner::Top => false,
-    }
-}
-
-fn is_state(kind: VertexKind) -> bool
-    ensures { result ≡ is_state_kind kind }
-{
-    match kind {
-        VertexKind::State => true,
-        _ => false,
-    }
-}
-
-fn is_always(guard: Guard) -> bool
-    ensures { result ≡ is_always_guard guard }
-{
-    match guard {
-        Guard::Always => true,
-        Guard::Otherwise | Guard::When(_) => false,
-    }
-}
-
-// A vertex without behaviours and deferred signals.
-fn plain(alloc: Global, owner: Owner, kind: VertexKind, label: Text) -> Vertex
-    ensures { result ≡ plain_vertex owner kind label }
-{
-    Vertex {
-        owner,
-        kind,
-        label,
-        entry: ActId(0),
-        exit: ActId(0),
-        steps: Row::from_vec(Vec::new(alloc)),
-        defers: Row::from_vec(Vec::new(alloc)),
-    }
-}
-
-// A transition without triggers, guard and effect.
-fn untriggered(alloc: Global, source: VertexId, target: VertexId, kind: TransKind) -> Transition
-    ensures { result ≡ plain_transition source target kind }
-{
-    Transition {
-        source,
-        target,
-        kind,
-        triggers: Row::from_vec(Vec::new(alloc)),
-        guard: Guard::Always,
-        effect: ActId(0),
-    }
-}
-
-// The vertex with one more deferred signal, where it is a State (UML 2.5.1, 14.2.3.4, deferred events).
-#[tactic(auto, unfolding(crate::specs::inner::Outlines::deferring))]
-fn deferring(
-    alloc: Global,
-    signals: &[SignalDecl],
-    mut vertex: Vertex,
-    name: &[u8],
-) -> Result<Option<Vertex>, AllocError>
-    requires { length signals.now ≤ 256 }
-    ensures { IfOk result (λ r. r ≡ deferring_too signals.now vertex name.now) }
-{
-    if !is_state(vertex.kind) {
-        return Ok(nothing(vertex));
-    }
-    let taken = add_signal(alloc, signals, &mut vertex.defers, name);
-    kept(taken, vertex)
-}
-
-// The transition with one more trigger, where it has no guard yet.
-#[tactic(auto, unfolding(crate::specs::inner::Outlines::triggered))]
-fn triggered(
-    alloc: Global,
-    signals: &[SignalDecl],
-    mut transition: Transition,
-    name: &[u8],
-) -> Result<Option<Transition>, AllocError>
-    requires { length signals.now ≤ 256 }
-    ensures { IfOk result (λ r. r ≡ triggered_too signals.now transition name.now) }
-{
-    if !is_always(transition.guard) {
-        return Ok(nothing(transition));
-    }
-    let taken = add_signal(alloc, signals, &mut transition.triggers, name);
-    kept(taken, transition)
-}
-
-// The transition with `else` as its guard, where it has none yet.
-fn otherwise(mut transition: Transition) -> Option<Transition>
-    ensures { result ≡ otherwise_guarded transition }
-{
-    if !is_always(transition.guard) {
-        return nothing(transition);
-    }
-    transition.guard = Guard::Otherwise;
-    Some(transition)
+    pub program: Program,
 }
 
 impl Block {
+    // Puts one more variable, where its line may stand here.
+    #[tactic(auto, unfolding(crate::specs::inner::Outlines::with_var))]
+    fn add_var(&mut self, alloc: Global, name: Text, first: i64) -> Result<bool, AllocError>
+        ensures { IfOk result (λ taken. kept_if taken self.new ≡ with_var self.old name first) }
+    {
+        if !self.regions.as_slice().is_empty()
+            || self.vars.as_slice().len() >= VARS_AT_MOST
+            || is_among(self.names.vars.as_slice(), name.as_slice())
+        {
+            return Ok(false);
+        }
+        let known = name.duplicate(alloc)?;
+        push(alloc, &mut self.names.vars, known)?;
+        push(alloc, &mut self.vars, VarDecl { name, first })?;
+        Ok(true)
+    }
+
     // Whether the line of this region may stand here.
     fn takes_region(&self, number: u16, owner: Owner) -> bool
         ensures { result ≡ takes_region self.now number owner }
@@ -144,24 +61,6 @@ impl Block {
             && self.transitions.as_slice().is_empty()
             && usize::from(number) == self.regions.as_slice().len()
             && may_own_region(owner)
-    }
-
-    // Whether the line of this vertex may stand here.
-    fn takes_vertex(&self, number: u16, owner: Owner) -> bool
-        ensures { result ≡ takes_vertex self.now number owner }
-    {
-        !self.regions.as_slice().is_empty()
-            && self.transitions.as_slice().is_empty()
-            && usize::from(number) == self.vertices.as_slice().len()
-            && may_own_vertex(owner)
-    }
-
-    // Whether the line of the transition with this number may stand here.
-    fn takes_transition(&self, number: u16) -> bool
-        ensures { result ≡ takes_transition self.now number }
-    {
-        !self.regions.as_slice().is_empty()
-            && usize::from(number) == self.transitions.as_slice().len()
     }
 
     // Puts one more region, where its line may stand here.
@@ -173,6 +72,16 @@ impl Block {
         }
         push(alloc, &mut self.regions, owner)?;
         Ok(true)
+    }
+
+    // Whether the line of this vertex may stand here.
+    fn takes_vertex(&self, number: u16, owner: Owner) -> bool
+        ensures { result ≡ takes_vertex self.now number owner }
+    {
+        !self.regions.as_slice().is_empty()
+            && self.transitions.as_slice().is_empty()
+            && usize::from(number) == self.vertices.as_slice().len()
+            && may_own_vertex(owner)
     }
 
     // Puts one more vertex, where its line may stand here.
@@ -193,25 +102,85 @@ impl Block {
         Ok(true)
     }
 
+    // Takes the last vertex off, where no transition has been read.
+    fn pop_vertex(&mut self, alloc: Global) -> Option<Vertex>
+        ensures popped { option_map (λ last. (self.new.vertices, last)) result ≡ last_vertex self.old }
+        ensures others { self.new ≡ record self.old { vertices = self.new.vertices } }
+    {
+        if self.transitions.as_slice().is_empty() {
+            pop(alloc, &mut self.vertices)
+        } else {
+            None
+        }
+    }
+
+    // Gives the last vertex one more behaviour, where its line may stand here.
+    #[tactic(auto, unfolding(crate::specs::inner::Outlines::with_behaviour))]
+    fn add_behaviour(
+        &mut self,
+        alloc: Global,
+        word: ActionLine,
+        text: &[u8],
+    ) -> Result<bool, ActFault>
+        requires { IsSmallBlock self.old }
+        ensures { Answers (with_behaviour self.old word text.now) (kept_by result self.new) }
+    {
+        let Some(last) = self.pop_vertex(alloc) else {
+            return Ok(false);
+        };
+        if !takes_behaviour(word, &last) {
+            return Ok(false);
+        }
+        let program = program_out(alloc, &mut self.program);
+        let Some((act, program)) = act_added(alloc, &self.names, program, text)? else {
+            return Ok(false);
+        };
+        self.program = program;
+        let vertex = behaving(alloc, word, last, act)?;
+        push(alloc, &mut self.vertices, vertex)?;
+        Ok(true)
+    }
+
+    // Gives the last vertex one more do step, an empty one, where its line may stand here.
+    #[tactic(auto, unfolding(crate::specs::inner::Outlines::with_empty_step))]
+    fn add_empty_step(&mut self, alloc: Global) -> Result<bool, AllocError>
+        ensures { IfOk result (λ taken. kept_if taken self.new ≡ with_empty_step self.old) }
+    {
+        let Some(last) = self.pop_vertex(alloc) else {
+            return Ok(false);
+        };
+        if !takes_behaviour(ActionLine::Step, &last) {
+            return Ok(false);
+        }
+        let vertex = behaving(alloc, ActionLine::Step, last, ActId(0))?;
+        push(alloc, &mut self.vertices, vertex)?;
+        Ok(true)
+    }
+
     // Lets the last vertex defer one more signal, where its line may stand here.
     #[tactic(auto, unfolding(crate::specs::inner::Outlines::with_defer))]
     fn add_defer(&mut self, alloc: Global, signal: &[u8]) -> Result<bool, AllocError>
-        requires { length self.old.signals ≤ 256 }
+        requires { length self.old.names.signals ≤ 256 }
         ensures { IfOk result (λ taken. kept_if taken self.new ≡ with_defer self.old signal.now) }
     {
-        if !self.transitions.as_slice().is_empty() {
-            return Ok(false);
-        }
-        let Some(last) = pop(alloc, &mut self.vertices) else {
+        let Some(last) = self.pop_vertex(alloc) else {
             return Ok(false);
         };
-        match deferring(alloc, self.signals.as_slice(), last, signal)? {
+        match deferring(alloc, self.names.signals.as_slice(), last, signal)? {
             Some(vertex) => {
                 push(alloc, &mut self.vertices, vertex)?;
                 Ok(true)
             }
             None => Ok(false),
         }
+    }
+
+    // Whether the line of the transition with this number may stand here.
+    fn takes_transition(&self, number: u16) -> bool
+        ensures { result ≡ takes_transition self.now number }
+    {
+        !self.regions.as_slice().is_empty()
+            && usize::from(number) == self.transitions.as_slice().len()
     }
 
     // Puts one more transition, where its line may stand here.
@@ -240,13 +209,13 @@ impl Block {
     // Gives the last transition one more trigger, where its line may stand here.
     #[tactic(auto, unfolding(crate::specs::inner::Outlines::with_trigger))]
     fn add_trigger(&mut self, alloc: Global, signal: &[u8]) -> Result<bool, AllocError>
-        requires { length self.old.signals ≤ 256 }
+        requires { length self.old.names.signals ≤ 256 }
         ensures { IfOk result (λ taken. kept_if taken self.new ≡ with_trigger self.old signal.now) }
     {
         let Some(last) = pop(alloc, &mut self.transitions) else {
             return Ok(false);
         };
-        match triggered(alloc, self.signals.as_slice(), last, signal)? {
+        match triggered(alloc, self.names.signals.as_slice(), last, signal)? {
             Some(transition) => {
                 push(alloc, &mut self.transitions, transition)?;
                 Ok(true)
@@ -260,24 +229,82 @@ impl Block {
     fn add_else(&mut self, alloc: Global) -> Result<bool, AllocError>
         ensures { IfOk result (λ taken. kept_if taken self.new ≡ with_else self.old) }
     {
-        let Some(last) = pop(alloc, &mut self.transitions) else {
+        let Some(mut last) = pop(alloc, &mut self.transitions) else {
             return Ok(false);
         };
-        match otherwise(last) {
-            Some(transition) => {
-                push(alloc, &mut self.transitions, transition)?;
-                Ok(true)
-            }
-            None => Ok(false),
+        if !is_plain(&last) {
+            return Ok(false);
+        }
+        last.guard = Guard::Otherwise;
+        push(alloc, &mut self.transitions, last)?;
+        Ok(true)
+    }
+
+    // Gives the last transition a guard, where its line may stand here.
+    #[tactic(auto, unfolding(crate::specs::inner::Outlines::with_condition))]
+    fn add_condition(&mut self, alloc: Global, text: &[u8]) -> Result<bool, ActFault>
+        requires { IsSmallBlock self.old }
+        ensures { Answers (with_condition self.old text.now) (kept_by result self.new) }
+    {
+        let Some(mut last) = pop(alloc, &mut self.transitions) else {
+            return Ok(false);
+        };
+        if !is_plain(&last) {
+            return Ok(false);
+        }
+        let program = program_out(alloc, &mut self.program);
+        let Some((guard, program)) = guard_added(alloc, &self.names, program, text)? else {
+            return Ok(false);
+        };
+        self.program = program;
+        last.guard = Guard::When(guard);
+        push(alloc, &mut self.transitions, last)?;
+        Ok(true)
+    }
+
+    // Gives the last transition an effect, where its line may stand here.
+    #[tactic(auto, unfolding(crate::specs::inner::Outlines::with_effect))]
+    fn add_effect(&mut self, alloc: Global, text: &[u8]) -> Result<bool, ActFault>
+        requires { IsSmallBlock self.old }
+        ensures { Answers (with_effect self.old text.now) (kept_by result self.new) }
+    {
+        let Some(mut last) = pop(alloc, &mut self.transitions) else {
+            return Ok(false);
+        };
+        if !is_empty(last.effect) {
+            return Ok(false);
+        }
+        let program = program_out(alloc, &mut self.program);
+        let Some((act, program)) = act_added(alloc, &self.names, program, text)? else {
+            return Ok(false);
+        };
+        self.program = program;
+        last.effect = act;
+        push(alloc, &mut self.transitions, last)?;
+        Ok(true)
+    }
+
+    // Takes one more line with an action text. False where it cannot stand here.
+    fn add_action(&mut self, alloc: Global, word: ActionLine, text: &[u8]) -> Result<bool, ActFault>
+        requires { IsSmallBlock self.old }
+        ensures { Answers (with_action self.old word text.now) (kept_by result self.new) }
+    {
+        match word {
+            ActionLine::When => self.add_condition(alloc, text),
+            ActionLine::Effect => self.add_effect(alloc, text),
+            behaviour => self.add_behaviour(alloc, behaviour, text),
         }
     }
 
-    /// Takes one more line of the elements. False where it cannot stand here.
-    pub fn take(&mut self, alloc: Global, line: Line) -> Result<bool, AllocError>
-        requires { length self.old.signals ≤ 256 }
-        ensures { IfOk result (λ taken. kept_if taken self.new ≡ with_line self.old line) }
+    /// Takes one more line behind the first. False where it cannot stand here.
+    ///
+    /// A fault is that of the action text of a line that could stand here with another text, or want of memory.
+    pub fn take(&mut self, alloc: Global, line: Line) -> Result<bool, ActFault>
+        requires { IsSmallBlock self.old }
+        ensures { Answers (with_line self.old line) (kept_by result self.new) }
     {
-        match line {
+        let taken = match line {
+            Line::Var { name, first } => self.add_var(alloc, name, first),
             Line::Region { number, owner } => self.add_region(alloc, number, owner),
             Line::Vertex {
                 number,
@@ -293,11 +320,14 @@ impl Block {
                 kind,
             } => self.add_transition(alloc, number, source, target, kind),
             Line::On { signal } => self.add_trigger(alloc, signal.as_slice()),
+            Line::EmptyStep => self.add_empty_step(alloc),
             Line::Otherwise => self.add_else(alloc),
+            Line::Action { word, text } => return self.add_action(alloc, word, text.as_slice()),
             other => {
                 drop(other);
                 Ok(false)
             }
-        }
+        };
+        Ok(taken?)
     }
 }

@@ -4,10 +4,16 @@
 //! This crate knows nothing of files, journals or runs.
 #![tactic(auto)]
 
+mod action;
 mod behaviours;
 mod block;
+mod closing;
+mod elements;
 mod fault;
+mod head;
+mod laws;
 mod line;
+mod numbering;
 mod outline;
 mod parts;
 mod pieces;
@@ -15,11 +21,11 @@ mod places;
 mod reading;
 mod refusal;
 mod rows;
-mod setting;
 mod signals;
 mod words;
 mod writing;
 
 pub use fault::FlatFault;
+pub use laws::read_settings;
 pub use reading::{one_reading, read_flat};
 pub use writing::write_flat;

@@ -1,20 +1,22 @@
 //! The lines of the flat form, one by one.
 ghost use Rattle.std.specs.Prelude.{◌≡◌, IfOk};
 ghost use Rattle.std.specs.Option.{option_map};
-ghost use Rattle.pssm_flat.specs.inner.Lines.{signal_taken, object_taken, region_line_taken, vertex_line_taken, transition_line_taken, head_line_taken, block_line_taken, line_taken};
+ghost use Rattle.pssm_flat.specs.inner.Lines.{signal_taken, object_taken, var_taken, region_line_taken, vertex_line_taken, transition_line_taken, head_line_taken, element_line_taken, part_line_taken, line_taken};
 
-use crate::parts::{end_at, label_at, named, owner_at};
+use crate::action::{ActionLine, action_at};
+use crate::parts::{count_at, end_at, first_at, label_at, named, owner_at};
 use crate::words::{kind_of, transition_of};
 use pssm_model::{Owner, Text, TransKind, VertexId, VertexKind};
 use pssm_spelling::{index_at, name_at, strip};
 use std::alloc::{AllocError, Global};
 
-/// A line of the grammar (this profile's choice). `Otherwise` is the line `else`.
+/// A line of the grammar (this profile's choice). `EmptyStep` is the line `step`, and `Otherwise` the line `else`.
 #[derive(Drop)]
 pub(crate) enum Line {
     Header,
     Signal {
         name: Text,
+        count: u8,
     },
     Class {
         name: Text,
@@ -25,6 +27,10 @@ pub(crate) enum Line {
     },
     Machine {
         name: Text,
+    },
+    Var {
+        name: Text,
+        first: i64,
     },
     Region {
         number: u16,
@@ -48,6 +54,11 @@ pub(crate) enum Line {
     On {
         signal: Text,
     },
+    Action {
+        word: ActionLine,
+        text: Text,
+    },
+    EmptyStep,
     Otherwise,
     End,
 }
@@ -58,18 +69,16 @@ fn text_of(alloc: Global, bytes: &[u8]) -> Result<Text, AllocError>
     Ok(Text::from_vec(bytes.to_vec(alloc)?))
 }
 
-/// `signal NAME 0`: the name.
+/// `signal NAME COUNT`: the name and the count.
 #[tactic(auto, unfolding(crate::specs::inner::Lines::signal_taken))]
-fn signal_at(bytes: &[u8]) -> Option<&[u8]>
-    ensures { option_map (λ x. x.now) result ≡ signal_taken bytes.now }
+fn signal_at(bytes: &[u8]) -> Option<(&[u8], u8)>
+    ensures { option_map (λ x. (x.0.now, x.1)) result ≡ signal_taken bytes.now }
 {
     let rest = strip(bytes, b"signal ")?;
-    let (name, end) = name_at(rest)?;
-    if end == b" 0".as_slice() {
-        Some(name)
-    } else {
-        None
-    }
+    let (name, rest) = name_at(rest)?;
+    let digit = strip(rest, b" ")?;
+    let count = count_at(digit)?;
+    Some((name, count))
 }
 
 /// `object NAME CLASS`: both names.
@@ -81,6 +90,18 @@ fn object_at(bytes: &[u8]) -> Option<(&[u8], &[u8])>
     let (name, rest) = name_at(rest)?;
     let class = named(b" ", rest)?;
     Some((name, class))
+}
+
+/// `var NAME INT`: the name and the first value.
+#[tactic(auto, unfolding(crate::specs::inner::Lines::var_taken))]
+fn var_at(bytes: &[u8]) -> Option<(&[u8], i64)>
+    ensures { option_map (λ x. (x.0.now, x.1)) result ≡ var_taken bytes.now }
+{
+    let rest = strip(bytes, b"var ")?;
+    let (name, rest) = name_at(rest)?;
+    let word = strip(rest, b" ")?;
+    let first = first_at(word)?;
+    Some((name, first))
 }
 
 /// `region rI OWNER`.
@@ -137,9 +158,9 @@ fn head_line_of(alloc: Global, bytes: &[u8]) -> Result<Option<Line>, AllocError>
     if bytes == b"pssm-flat 1".as_slice() {
         return Ok(Some(Line::Header));
     }
-    if let Some(name) = signal_at(bytes) {
+    if let Some((name, count)) = signal_at(bytes) {
         let name = text_of(alloc, name)?;
-        return Ok(Some(Line::Signal { name }));
+        return Ok(Some(Line::Signal { name, count }));
     }
     if let Some(name) = named(b"class ", bytes) {
         let name = text_of(alloc, name)?;
@@ -157,11 +178,15 @@ fn head_line_of(alloc: Global, bytes: &[u8]) -> Result<Option<Line>, AllocError>
     Ok(None)
 }
 
-/// A line of a block behind its first, or the last line of the text.
-#[tactic(auto, unfolding(crate::specs::inner::Lines::block_line_taken))]
-fn block_line_of(alloc: Global, bytes: &[u8]) -> Result<Option<Line>, AllocError>
-    ensures { IfOk result (λ l. l ≡ block_line_taken bytes.now) }
+/// A line of a variable or an element.
+#[tactic(auto, unfolding(crate::specs::inner::Lines::element_line_taken))]
+fn element_line_of(alloc: Global, bytes: &[u8]) -> Result<Option<Line>, AllocError>
+    ensures { IfOk result (λ l. l ≡ element_line_taken bytes.now) }
 {
+    if let Some((name, first)) = var_at(bytes) {
+        let name = text_of(alloc, name)?;
+        return Ok(Some(Line::Var { name, first }));
+    }
     if let Some(line) = region_at(bytes) {
         return Ok(Some(line));
     }
@@ -174,10 +199,6 @@ fn block_line_of(alloc: Global, bytes: &[u8]) -> Result<Option<Line>, AllocError
             label,
         }));
     }
-    if let Some(signal) = named(b"defer ", bytes) {
-        let signal = text_of(alloc, signal)?;
-        return Ok(Some(Line::Defer { signal }));
-    }
     if let Some((number, source, target, kind)) = transition_at(bytes) {
         return Ok(Some(Line::Transition {
             number,
@@ -186,9 +207,28 @@ fn block_line_of(alloc: Global, bytes: &[u8]) -> Result<Option<Line>, AllocError
             kind,
         }));
     }
+    Ok(None)
+}
+
+/// A line of a part of the element before it, or the last line of the text.
+#[tactic(auto, unfolding(crate::specs::inner::Lines::part_line_taken))]
+fn part_line_of(alloc: Global, bytes: &[u8]) -> Result<Option<Line>, AllocError>
+    ensures { IfOk result (λ l. l ≡ part_line_taken bytes.now) }
+{
+    if let Some(signal) = named(b"defer ", bytes) {
+        let signal = text_of(alloc, signal)?;
+        return Ok(Some(Line::Defer { signal }));
+    }
     if let Some(signal) = named(b"on ", bytes) {
         let signal = text_of(alloc, signal)?;
         return Ok(Some(Line::On { signal }));
+    }
+    if let Some((word, text)) = action_at(bytes) {
+        let text = text_of(alloc, text)?;
+        return Ok(Some(Line::Action { word, text }));
+    }
+    if bytes == b"step".as_slice() {
+        return Ok(Some(Line::EmptyStep));
     }
     if bytes == b"else".as_slice() {
         return Ok(Some(Line::Otherwise));
@@ -207,5 +247,8 @@ pub(crate) fn line_of(alloc: Global, bytes: &[u8]) -> Result<Option<Line>, Alloc
     if let Some(line) = head_line_of(alloc, bytes)? {
         return Ok(Some(line));
     }
-    block_line_of(alloc, bytes)
+    if let Some(line) = element_line_of(alloc, bytes)? {
+        return Ok(Some(line));
+    }
+    part_line_of(alloc, bytes)
 }

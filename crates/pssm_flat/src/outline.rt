@@ -1,189 +1,196 @@
 //! What has been read of a text.
-ghost use Rattle.std.specs.Prelude.{◌≡◌, ◌≤◌, length, IfOk};
+ghost use Rattle.std.specs.Prelude.{◌≡◌, ◌≤◌, ◌++◌, ◌∷◌, [], length, map, IfOk, Option, Some, IfErr};
 ghost use Rattle.std.specs.Option.{option_map};
-ghost use Rattle.pssm_flat.specs.inner.Outlines.{with_declared, empty_block, after_start, after_signals, after_class, after_object, with_line, going_on, after_block, after_line, signals_of, closed};
+ghost use Rattle.pssm_acts.specs.Answers.{Answers};
+ghost use Rattle.pssm_flat.specs.inner.Outlines.{empty_block, is_next_class, after_start, after_head, with_head_line, opened as opened_as, ended as ended_as, behind_blocks, names_in, object_of, with_line, lifted, IsSmallHead, IsSmallBlock};
 
 use crate::block::Block;
+use crate::head::Head;
 use crate::line::Line;
+use crate::numbering::first_program;
 use crate::refusal::{kept, nothing, refused};
-use crate::rows::push;
-use crate::signals::is_named;
-use pssm_model::{Row, Text};
-use pssm_semantics::SignalDecl;
+use pssm_acts::ActFault;
+use pssm_model::{Duplicate, Row, Text};
+use pssm_semantics::{Class, Names, ObjectDecl, Setting};
 use std::alloc::{AllocError, Global};
-
-/// How many signals a setting may have (this profile's choice).
-const SIGNALS_AT_MOST: usize = 256;
 
 /// What has been read of a text, up to the end of a line.
 ///
-/// `Start`: nothing. `Signals`: the header and signals. `Classed`: the class too. `Placed`: its object too.
-/// `Block`: the first line of the block and more of it. `Ended`: the whole text.
+/// `Start`: nothing. `Heading`: the header and lines before the first block. `Open`: blocks of classes to their ends,
+/// and some of the next one. `Ended`: the whole text.
 #[derive(Drop)]
 pub(crate) enum Outline {
     Start,
-    Signals(Row<SignalDecl>),
-    Classed(Row<SignalDecl>, Text),
-    Placed(Row<SignalDecl>, Text, Text),
-    Block(Block),
-    Ended(Block),
+    Heading(Head),
+    Open {
+        head: Head,
+        done: Row<Class>,
+        block: Block,
+    },
+    Ended(Setting),
 }
 
-// What is read with one more signal, where its name is new.
-fn declared(
+// The names of objects.
+fn names_of_objects(alloc: Global, objects: &[ObjectDecl]) -> Result<Row<Text>, AllocError>
+    ensures { IfOk result (λ names. names ≡ map object_of objects.now) }
+{
+    let mut names = Vec::new(alloc);
+    for object in objects {
+        names.push(object.name.copy(alloc)?)?;
+    }
+    Ok(Row::from_vec(names))
+}
+
+// The names that behaviours may use where no variable has been read.
+fn names_of(alloc: Global, head: &Head) -> Result<Names, AllocError>
+    ensures { IfOk result (λ names. names ≡ names_in head.now) }
+{
+    let objects = names_of_objects(alloc, head.objects.as_slice())?;
+    match head.signals.duplicate(alloc) {
+        Ok(signals) => Ok(Names {
+            vars: Row::from_vec(Vec::new(alloc)),
+            objects,
+            signals,
+        }),
+        Err(fault) => refused(objects, fault),
+    }
+}
+
+// A block of which the first line has been read.
+fn begun(alloc: Global, head: &Head, name: Text) -> Result<Block, AllocError>
+    ensures { IfOk result (λ block. block ≡ empty_block head.now name) }
+{
+    let names = match names_of(alloc, head) {
+        Ok(names) => names,
+        Err(fault) => return refused(name, fault),
+    };
+    match first_program(alloc) {
+        Ok(program) => Ok(Block {
+            name,
+            names,
+            vars: Row::from_vec(Vec::new(alloc)),
+            regions: Row::from_vec(Vec::new(alloc)),
+            vertices: Row::from_vec(Vec::new(alloc)),
+            transitions: Row::from_vec(Vec::new(alloc)),
+            program,
+        }),
+        Err(fault) => refused((name, names), fault),
+    }
+}
+
+/// Whether the next class behind so many has the name.
+pub(crate) fn is_next(head: &Head, done: usize, name: &[u8]) -> bool
+    ensures { result ≡ is_next_class head.now done name.now }
+{
+    match head.classes.as_slice().get(done) {
+        Some(next) => next.as_slice() == name,
+        None => false,
+    }
+}
+
+// The next block begun, where its first line has the name of the next class.
+fn opened(
     alloc: Global,
-    mut signals: Row<SignalDecl>,
+    head: Head,
+    done: Row<Class>,
     name: Text,
 ) -> Result<Option<Outline>, AllocError>
-    ensures { IfOk result (λ r. r ≡ with_declared signals name) }
+    ensures { IfOk result (λ r. r ≡ opened_as head done name) }
 {
-    if signals.as_slice().len() >= SIGNALS_AT_MOST
-        || is_named(signals.as_slice(), name.as_slice())
-    {
-        return Ok(nothing((signals, name)));
+    if !is_next(&head, done.as_slice().len(), name.as_slice()) {
+        return Ok(nothing((head, done, name)));
     }
-    match push(alloc, &mut signals, SignalDecl { name, count: 0 }) {
-        Ok(()) => Ok(Some(Outline::Signals(signals))),
-        Err(fault) => refused(signals, fault),
+    match begun(alloc, &head, name) {
+        Ok(block) => Ok(Some(Outline::Open { head, done, block })),
+        Err(fault) => refused((head, done), fault),
     }
 }
 
-fn after_nothing(alloc: Global, line: Line) -> Option<Outline>
+// The whole text, where all blocks have been read.
+fn ended(head: Head, done: Row<Class>) -> Option<Outline>
+    ensures { result ≡ ended_as head done }
+{
+    if head.classes.as_slice().len() != done.as_slice().len() {
+        return nothing((head, done));
+    }
+    let Head {
+        signals,
+        classes,
+        objects,
+    } = head;
+    drop(classes);
+    Some(Outline::Ended(Setting {
+        signals,
+        classes: done,
+        objects,
+    }))
+}
+
+/// What is read with the line behind the blocks of these classes.
+pub(crate) fn after_blocks(
+    alloc: Global,
+    head: Head,
+    done: Row<Class>,
+    line: Line,
+) -> Result<Option<Outline>, AllocError>
+    ensures { IfOk result (λ r. r ≡ behind_blocks head done line) }
+{
+    match line {
+        Line::Machine { name } => opened(alloc, head, done, name),
+        Line::End => Ok(ended(head, done)),
+        other => Ok(nothing(((head, done), other))),
+    }
+}
+
+/// What is read with a line behind nothing.
+pub(crate) fn after_nothing(alloc: Global, line: Line) -> Option<Outline>
     ensures { result ≡ after_start line }
 {
     match line {
-        Line::Header => Some(Outline::Signals(Row::from_vec(Vec::new(alloc)))),
+        Line::Header => Some(Outline::Heading(Head::new(alloc))),
         other => nothing(other),
     }
 }
 
-fn after_the_signals(
+// The head with one more line.
+fn headed(alloc: Global, mut head: Head, line: Line) -> Result<Option<Outline>, AllocError>
+    requires { IsSmallHead head }
+    ensures { IfOk result (λ r. r ≡ option_map Outline.Heading (with_head_line head line)) }
+{
+    let taken = head.take(alloc, line);
+    Ok(kept(taken, head)?.map(Outline::Heading))
+}
+
+/// What is read with a line behind the head.
+pub(crate) fn after_the_head(
     alloc: Global,
-    signals: Row<SignalDecl>,
+    head: Head,
     line: Line,
 ) -> Result<Option<Outline>, AllocError>
-    ensures { IfOk result (λ r. r ≡ after_signals signals line) }
+    requires { IsSmallHead head }
+    ensures { IfOk result (λ r. r ≡ after_head head line) }
 {
     match line {
-        Line::Signal { name } => declared(alloc, signals, name),
-        Line::Class { name } => Ok(Some(Outline::Classed(signals, name))),
-        other => Ok(nothing((signals, other))),
+        Line::Machine { name } => opened(alloc, head, Row::from_vec(Vec::new(alloc)), name),
+        Line::End => Ok(ended(head, Row::from_vec(Vec::new(alloc)))),
+        other => headed(alloc, head, other),
     }
 }
 
-// The object placed, where it is said to be of the class.
-fn placed(signals: Row<SignalDecl>, class: Text, object: Text, of_class: &[u8]) -> Option<Outline>
-    ensures { result ≡ after_class signals class (Line.Object object of_class.now) }
-{
-    if of_class == class.as_slice() {
-        Some(Outline::Placed(signals, class, object))
-    } else {
-        nothing((signals, class, object))
-    }
-}
-
-fn after_the_class(signals: Row<SignalDecl>, class: Text, line: Line) -> Option<Outline>
-    ensures { result ≡ after_class signals class line }
-{
-    match line {
-        Line::Object {
-            name,
-            class: of_class,
-        } => placed(signals, class, name, of_class.as_slice()),
-        other => nothing((signals, class, other)),
-    }
-}
-
-// A block of which no element has been read.
-fn begun(alloc: Global, signals: Row<SignalDecl>, class: Text, object: Text) -> Block
-    ensures { result ≡ empty_block signals class object }
-{
-    Block {
-        signals,
-        class,
-        object,
-        regions: Row::from_vec(Vec::new(alloc)),
-        vertices: Row::from_vec(Vec::new(alloc)),
-        transitions: Row::from_vec(Vec::new(alloc)),
-    }
-}
-
-// The block begun, where its first line has the name of the class.
-fn opened(
+/// What is read with one more line of a block.
+pub(crate) fn grown(
     alloc: Global,
-    signals: Row<SignalDecl>,
-    class: Text,
-    object: Text,
-    name: &[u8],
-) -> Option<Outline>
-    ensures { result ≡ after_object signals class object (Line.Machine name.now) }
-{
-    if name == class.as_slice() {
-        Some(Outline::Block(begun(alloc, signals, class, object)))
-    } else {
-        nothing((signals, class, object))
-    }
-}
-
-fn after_the_object(
-    alloc: Global,
-    signals: Row<SignalDecl>,
-    class: Text,
-    object: Text,
+    head: Head,
+    done: Row<Class>,
+    mut block: Block,
     line: Line,
-) -> Option<Outline>
-    ensures { result ≡ after_object signals class object line }
+) -> Result<Option<Outline>, ActFault>
+    requires { IsSmallBlock block }
+    ensures { Answers (lifted (Outline.Open head done) (with_line block line)) result }
 {
-    match line {
-        Line::Machine { name } => opened(alloc, signals, class, object, name.as_slice()),
-        other => nothing(((signals, class, object), other)),
-    }
-}
-
-fn ended(block: Block) -> Option<Outline>
-    ensures { result ≡ closed block }
-{
-    if block.regions.as_slice().is_empty() {
-        nothing(block)
-    } else {
-        Some(Outline::Ended(block))
-    }
-}
-
-// The block with one more line of its elements.
-fn grown(alloc: Global, mut block: Block, line: Line) -> Result<Option<Outline>, AllocError>
-    requires { length block.signals ≤ 256 }
-    ensures { IfOk result (λ r. r ≡ going_on (with_line block line)) }
-{
-    let taken = block.take(alloc, line);
-    Ok(kept(taken, block)?.map(Outline::Block))
-}
-
-fn after_the_block(alloc: Global, block: Block, line: Line) -> Result<Option<Outline>, AllocError>
-    requires { length block.signals ≤ 256 }
-    ensures { IfOk result (λ r. r ≡ after_block block line) }
-{
-    match line {
-        Line::End => Ok(ended(block)),
-        more => grown(alloc, block, more),
-    }
-}
-
-impl Outline {
-    /// What is read with one more line. None where the line cannot stand there.
-    pub fn after(self, alloc: Global, line: Line) -> Result<Option<Outline>, AllocError>
-        requires { length (signals_of self) ≤ 256 }
-        ensures { IfOk result (λ r. r ≡ after_line self line) }
-    {
-        match self {
-            Outline::Start => Ok(after_nothing(alloc, line)),
-            Outline::Signals(signals) => after_the_signals(alloc, signals, line),
-            Outline::Classed(signals, class) => Ok(after_the_class(signals, class, line)),
-            Outline::Placed(signals, class, object) => {
-                Ok(after_the_object(alloc, signals, class, object, line))
-            }
-            Outline::Block(block) => after_the_block(alloc, block, line),
-            Outline::Ended(block) => Ok(nothing((block, line))),
-        }
+    match block.take(alloc, line) {
+        Ok(true) => Ok(Some(Outline::Open { head, done, block })),
+        Ok(false) => Ok(nothing((head, done, block))),
+        Err(fault) => refused((head, done, block), fault),
     }
 }

@@ -1,15 +1,15 @@
 //! The parts of a line: each function reads what stands at the front, and gives the bytes behind it.
 //!
 //! None of them takes memory: names and labels are lent from the text.
-ghost use Rattle.std.specs.Prelude.{◌≡◌};
+ghost use Rattle.std.specs.Prelude.{◌≡◌, ◌<◌, ◌^◌, negsuc};
 ghost use Rattle.std.specs.List.{list_all};
 ghost use Rattle.std.specs.Option.{option_map, option_copied};
 ghost use Rattle.std.specs.Str.{is_utf8};
 ghost use Rattle.pssm_flat.specs.Flat.{is_label_byte};
-ghost use Rattle.pssm_flat.specs.inner.Lines.{named_taken, top_taken, region_taken, vertex_taken, owner_taken, label_of as label_word, label_taken, end_taken};
+ghost use Rattle.pssm_flat.specs.inner.Lines.{named_taken, count_taken, natural_first, negative_first, first_taken, top_taken, region_taken, vertex_taken, owner_taken, label_of as label_word, label_taken, end_taken};
 
 use pssm_model::{Owner, RegionId, VertexId};
-use pssm_spelling::{index_at, name_at, strip};
+use pssm_spelling::{index_at, magnitude, name_at, spells_natural, strip};
 
 /// A word and a name, and nothing behind it: the name.
 #[tactic(auto, unfolding(crate::specs::inner::Lines::named_taken))]
@@ -79,7 +79,7 @@ fn stand_in_label(bytes: &[u8]) -> bool
 
 /// Whether the bytes are UTF-8.
 #[tactic(auto, using(crate::proofs::LabelLaws::reads_utf8, crate::proofs::LabelLaws::reads_no_utf8))]
-fn is_text(bytes: &[u8]) -> bool
+pub(crate) fn is_text(bytes: &[u8]) -> bool
     ensures { result ≡ is_utf8 bytes.now }
 {
     match std::str::from_utf8(bytes) {
@@ -117,4 +117,64 @@ pub(crate) fn end_at(bytes: &[u8]) -> Option<(u16, &[u8])>
 {
     let digits = strip(bytes, b" v")?;
     index_at(digits)
+}
+
+/// One digit from 0 to 8, and nothing behind it: how many parameters a signal has.
+pub(crate) fn count_at(bytes: &[u8]) -> Option<u8>
+    ensures { result ≡ count_taken bytes.now }
+{
+    match bytes {
+        [digit @ b'0'..=b'8'] => Some(*digit - b'0'),
+        _ => None,
+    }
+}
+
+// The first number past the greatest of 64 bits with a sign.
+const LIMIT: u64 = 1 << 63;
+
+// The number below zero before which so many others stand.
+fn below_zero(others: u64) -> i64
+    requires few { others < 2 ^ 63 }
+    ensures { result ≡ negsuc others }
+{
+    -1 - others as i64
+}
+
+#[tactic(auto, unfolding(crate::specs::inner::Lines::natural_first))]
+fn natural_at(digits: &[u8]) -> Option<i64>
+    ensures { result ≡ natural_first digits.now }
+{
+    if !spells_natural(digits) {
+        return None;
+    }
+    let value = magnitude(digits);
+    if value >= LIMIT {
+        return None;
+    }
+    Some(value as i64)
+}
+
+#[tactic(auto, unfolding(crate::specs::inner::Lines::negative_first))]
+fn negative_at(digits: &[u8]) -> Option<i64>
+    ensures { result ≡ negative_first digits.now }
+{
+    if !spells_natural(digits) {
+        return None;
+    }
+    let value = magnitude(digits);
+    if value == 0 || value > LIMIT {
+        return None;
+    }
+    Some(below_zero(value - 1))
+}
+
+/// A number of 64 bits, with `-` before it where it is below zero, and nothing behind it.
+#[tactic(auto, unfolding(crate::specs::inner::Lines::first_taken))]
+pub(crate) fn first_at(word: &[u8]) -> Option<i64>
+    ensures { result ≡ first_taken word.now }
+{
+    match word {
+        [b'-', digits @ ..] => negative_at(digits),
+        _ => natural_at(word),
+    }
 }

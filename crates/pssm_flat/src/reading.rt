@@ -1,26 +1,28 @@
 //! A setting from its flat text.
-ghost use Rattle.std.specs.Prelude.{◌≡◌, ◌≢◌, ◌⊎◌, ◌≤◌, ◌<◌, ◌+◌, ◌∷◌, [], ℕ, List, length, take, IfOk, IfErr, sum_by, Option, Some};
+ghost use Rattle.std.specs.Prelude.{◌≡◌, ◌≢◌, ◌⊎◌, ◌≤◌, ◌<◌, ◌+◌, ◌∷◌, [], ℕ, List, length, take, IfOk, IfErr, Option, Some, Ok, None};
 ghost use Rattle.std.specs.List.{prefix_len};
 ghost use Rattle.std.specs.Option.{option_map};
-ghost use Rattle.pssm_model.specs.declared.elements.Vertex.{Vertex};
-ghost use Rattle.pssm_model.specs.declared.elements.Transition.{Transition};
 ghost use Rattle.pssm_semantics.specs.declared.setting.Setting.{Setting};
 ghost use Rattle.pssm_flat.specs.declared.fault.FlatFault.{FlatFault};
 ghost use Rattle.pssm_flat.specs.Text.{flat_text};
-ghost use Rattle.pssm_flat.specs.Flat.{IsFlat};
+ghost use Rattle.pssm_flat.specs.Flat.{is_inner, IsFlat};
 ghost use Rattle.pssm_semantics.specs.Proper.{IsProper};
 ghost use Rattle.pssm_flat.specs.Faults.{IsFlatFault};
-ghost use Rattle.pssm_flat.specs.inner.Outlines.{after_bytes, signals_of, is_inner, line_front, HasRead, IsNoNext, Stops};
+ghost use Rattle.pssm_flat.specs.inner.Outlines.{told_of, after_block as after_block_line, after_line, after_bytes, machine_of, IsInner, line_front, IsSmallBlock, IsSmall, open_size, AreShaped, IsShaped, HasRead, IsNoNext, StopsAt};
+ghost use Rattle.pssm_flat.specs.inner.Places.{machine_size};
 
 use crate::block::Block;
+use crate::closing::after_block;
 use crate::fault::FlatFault;
-use crate::line::line_of;
-use crate::outline::Outline;
-use crate::refusal::{nothing, refused};
-use crate::setting::setting_of;
-use pssm_semantics::Setting;
+use crate::head::Head;
+use crate::line::{Line, line_of};
+use crate::outline::{Outline, after_nothing, after_the_head, grown};
+use crate::refusal::refused;
+use pssm_acts::ActFault;
+use pssm_model::Row;
+use pssm_semantics::{Class, Setting};
 use pssm_spelling::strip;
-use std::alloc::{AllocError, Global};
+use std::alloc::Global;
 
 // How many bytes stand before the first line feed.
 fn line_len(bytes: &[u8]) -> usize
@@ -40,46 +42,90 @@ fn line_at(bytes: &[u8]) -> Option<(&[u8], &[u8])>
     Some((line, rest))
 }
 
-// What is read with the line of these bytes. None where it cannot stand there.
-#[tactic(auto, unfolding(crate::specs::inner::Outlines::after_bytes))]
-fn after_text(alloc: Global, outline: Outline, bytes: &[u8]) -> Result<Option<Outline>, AllocError>
-    requires { length (signals_of outline) ≤ 256 }
-    ensures { IfOk result (λ r. r ≡ after_bytes outline bytes.now) }
+// What was read, or the fault of the line with this number.
+fn told(read: Result<Option<Outline>, ActFault>, line: u32) -> Result<Outline, FlatFault>
+    ensures { result ≡ told_of line read }
 {
-    match line_of(alloc, bytes) {
-        Ok(Some(line)) => outline.after(alloc, line),
-        Ok(None) => Ok(nothing(outline)),
-        Err(fault) => refused(outline, fault),
+    match read {
+        Ok(Some(next)) => Ok(next),
+        Ok(None) => Err(FlatFault::BadLine { line }),
+        Err(ActFault::NoMemory) => Err(FlatFault::NoMemory),
+        Err(fault) => Err(FlatFault::Act { line, fault }),
+    }
+}
+
+// What is read with one more line where a block is open; the line has the number.
+fn after_open(
+    alloc: Global,
+    head: Head,
+    done: Row<Class>,
+    block: Block,
+    line: Line,
+    number: u32,
+) -> Result<Outline, FlatFault>
+    requires small { IsSmallBlock block }
+    requires room { machine_size (machine_of block) ≤ number }
+    ensures read { IfOk result (λ next. after_block_line head done block line ≡ Ok (Some next)) }
+    ensures shaped { IfOk result (λ next. AreShaped done → IsShaped next) }
+    ensures stuck { IfErr result (IsNoNext (Outline.Open head done block) (after_block_line head done block line) number) }
+{
+    match line {
+        Line::Machine { name } => {
+            after_block(alloc, head, done, block, Line::Machine { name }, number)
+        }
+        Line::End => after_block(alloc, head, done, block, Line::End, number),
+        more => told(grown(alloc, head, done, block, more), number),
+    }
+}
+
+// What is read with one more line, which has the number.
+fn next_of(alloc: Global, outline: Outline, line: Line, number: u32) -> Result<Outline, FlatFault>
+    requires small { IsSmall outline }
+    requires room { open_size outline ≤ number }
+    ensures read { IfOk result (λ next. after_line outline line ≡ Ok (Some next)) }
+    ensures shaped { IfOk result (λ next. IsShaped outline → IsShaped next) }
+    ensures stuck { IfErr result (IsNoNext outline (after_line outline line) number) }
+{
+    match outline {
+        Outline::Start => told(Ok(after_nothing(alloc, line)), number),
+        Outline::Heading(head) => told(Ok(after_the_head(alloc, head, line)?), number),
+        Outline::Open { head, done, block } => {
+            after_open(alloc, head, done, block, line, number)
+        }
+        Outline::Ended(setting) => { refused((setting, line), FlatFault::BadLine { line: number }) }
     }
 }
 
 // What is read with the line of these bytes, which has the number.
-fn next_of(alloc: Global, outline: Outline, bytes: &[u8], line: u32) -> Result<Outline, FlatFault>
-    requires { length (signals_of outline) ≤ 256 }
-    ensures read { IfOk result (λ next. after_bytes outline bytes.now ≡ Some next) }
-    ensures stuck { IfErr result (IsNoNext outline bytes.now line) }
+#[tactic(auto, unfolding(crate::specs::inner::Outlines::after_bytes))]
+fn next_at(alloc: Global, outline: Outline, bytes: &[u8], number: u32) -> Result<Outline, FlatFault>
+    requires inner { IsInner bytes.now }
+    requires small { IsSmall outline }
+    requires room { open_size outline ≤ number }
+    ensures read { IfOk result (λ next. after_bytes outline bytes.now ≡ Ok (Some next)) }
+    ensures shaped { IfOk result (λ next. IsShaped outline → IsShaped next) }
+    ensures stuck { IfErr result (IsNoNext outline (after_bytes outline bytes.now) number) }
 {
-    match after_text(alloc, outline, bytes)? {
-        Some(next) => Ok(next),
-        None => Err(FlatFault::BadLine { line }),
+    match line_of(alloc, bytes) {
+        Ok(Some(line)) => next_of(alloc, outline, line, number),
+        Ok(None) => refused(outline, FlatFault::BadLine { line: number }),
+        Err(_) => refused(outline, FlatFault::NoMemory),
     }
 }
 
 // All that the lines of a text say, up to its last line.
 #[derive(Drop)]
 struct Whole<'a> {
-    block: Block,
+    setting: Setting,
     rest: &'a [u8],
     line: u32,
 }
 
 // What the lines say up to the last line of a text, the bytes behind it, and the number of the line there.
-//
-// `BadLine`: a line cannot stand where it stands.
 fn whole_of(alloc: Global, bytes: &[u8]) -> Result<Whole<'_>, FlatFault>
     requires { length bytes.now ≤ 16777216 }
-    ensures read { IfOk result (λ w. HasRead bytes.now (Outline.Ended w.block) w.rest.now w.line) }
-    ensures stops { IfErr result (Stops bytes.now) }
+    ensures read { IfOk result (λ w. HasRead bytes.now (Outline.Ended w.setting) w.rest.now w.line) }
+    ensures stops { IfErr result (λ f. (f ≡ FlatFault.NoMemory) ⊎ StopsAt bytes.now f) }
 {
     let mut outline = Outline::Start;
     let mut rest = bytes;
@@ -88,11 +134,17 @@ fn whole_of(alloc: Global, bytes: &[u8]) -> Result<Whole<'_>, FlatFault>
         let Some((text, after)) = line_at(rest) else {
             return refused(outline, FlatFault::BadLine { line });
         };
-        let next = next_of(alloc, outline, text, line)?;
+        let next = next_at(alloc, outline, text, line)?;
         rest = after;
         line += 1;
         match next {
-            Outline::Ended(block) => return Ok(Whole { block, rest, line }),
+            Outline::Ended(setting) => {
+                return Ok(Whole {
+                    setting,
+                    rest,
+                    line,
+                });
+            }
             open => outline = open,
         }
     }
@@ -101,8 +153,10 @@ fn whole_of(alloc: Global, bytes: &[u8]) -> Result<Whole<'_>, FlatFault>
 /// The setting that the whole text spells: what is read has exactly that text, and each such text is read unless
 /// memory runs out.
 ///
-/// `BadLine`: the line is the first that cannot stand there. `Shape`: the machine lacks the shape of one, and the
-/// element that the fault names stands on the line (this profile's choice). `NoMemory`: memory ran out.
+/// `BadLine`: the line is the first that cannot stand there. `Shape`: a machine whose block was read to its end lacks
+/// the shape of one, and the element that the fault names stands on the line. `Act`: the action text of the line has
+/// this fault, and with a right one in its place the line could stand there (this profile's choice). `NoMemory`: memory
+/// ran out.
 pub fn read_flat(alloc: Global, bytes: &[u8]) -> Result<Setting, FlatFault>
     requires { length bytes.now ≤ 16777216 }
     ensures flat { IfOk result IsFlat }
@@ -113,9 +167,15 @@ pub fn read_flat(alloc: Global, bytes: &[u8]) -> Result<Setting, FlatFault>
     // A refusal has its cause, on its line.
     ensures fault { IfErr result (λ f. (f ≡ FlatFault.NoMemory) ⊎ IsFlatFault bytes.now f) }
 {
-    match whole_of(alloc, bytes) {
-        Ok(Whole { block, rest, line }) => setting_of(alloc, block, rest, line),
-        Err(fault) => Err(fault),
+    let Whole {
+        setting,
+        rest,
+        line,
+    } = whole_of(alloc, bytes)?;
+    if rest.is_empty() {
+        Ok(setting)
+    } else {
+        refused(setting, FlatFault::BadLine { line })
     }
 }
 

@@ -7,8 +7,8 @@ use pssm_model::Row;
 use std::alloc::{AllocError, Global};
 use std::mem;
 
-// The items of a row, which has none afterwards.
-fn taken_out<T: Drop>(alloc: Global, row: &mut Row<T>) -> Vec<T>
+/// The items of a row, which has none afterwards.
+pub(crate) fn taken_out<T: Drop>(alloc: Global, row: &mut Row<T>) -> Vec<T>
     ensures items { result.items ≡ row.old }
     ensures empty { row.new ≡ [] }
 {
@@ -33,13 +33,4 @@ pub(crate) fn pop<T: Drop>(alloc: Global, row: &mut Row<T>) -> Option<T>
     let last = items.pop()?;
     *row = Row::from_vec(items);
     Some(last)
-}
-
-/// A row of one item.
-pub(crate) fn single<T: Drop>(alloc: Global, item: T) -> Result<Row<T>, AllocError>
-    ensures { IfOk result (λ row. row ≡ item ∷ []) }
-{
-    let mut items = Vec::new(alloc);
-    items.push(item)?;
-    Ok(Row::from_vec(items))
 }

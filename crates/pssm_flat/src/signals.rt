@@ -1,19 +1,13 @@
 //! Signals by their names.
 ghost use Rattle.std.specs.Prelude.{◌≡◌, ◌≤◌, ◌<◌, length, IfOk, IfSome, position};
 ghost use Rattle.std.specs.Str.{bytes_eq};
-ghost use Rattle.pssm_flat.specs.inner.Outlines.{kept, has_name, next_number, number_from, with_signal};
+ghost use Rattle.pssm_flat.specs.inner.Outlines.{kept, number_from, with_signal};
+ghost use Rattle.pssm_flat.specs.Flat.{next_number};
 
 use crate::rows::push;
 use pssm_model::{Row, SignalId};
 use pssm_semantics::SignalDecl;
 use std::alloc::{AllocError, Global};
-
-/// Whether one of these signals has the name.
-pub(crate) fn is_named(signals: &[SignalDecl], name: &[u8]) -> bool
-    ensures { result ≡ has_name signals.now name.now }
-{
-    signals.iter().any(|s| s.name.as_slice() == name)
-}
 
 // The place of the first of these signals that has the name.
 fn place_of(signals: &[SignalDecl], name: &[u8]) -> Option<usize>

@@ -1,27 +1,20 @@
--- The settings and entries that the code runs so far have lines of the grammar.
-use Rattle.std.proofs.Common.{◌≡◌, ℕ, ◌<◌, ◌≤◌, List, [], ◌∷◌, length, sym, ap, subst, ◌∙◌, arith, inl, inr}
-use Rattle.std.specs.Prelude.{◌≢◌, All, map, AllPairs}
+-- The names of a setting with at most one of each kind differ, and the entries of the runs of settings that the code runs are spelled.
+use Rattle.std.proofs.Common.{◌≡◌, ℕ, ◌≤◌, List, [], ◌∷◌, length, map, All, sym, subst, arith, inl, inr}
+use Rattle.std.specs.Prelude.{◌≢◌, AllPairs}
 use Rattle.std.specs.List.{AllByRecursion}
+use Rattle.std.proofs.lemmas.List.{length-map}
 use Rattle.std.proofs.lemmas.List.Elements.{recursion_from_All}
-use Rattle.std.proofs.lemmas.List.{get_or-map, length-map}
 use Rattle.pssm_model.specs.declared.steps.How.{How}
-use Rattle.pssm_semantics.specs.declared.entry.Out.{Out}
+use Rattle.pssm_model.specs.declared.steps.Firing.{Firing}
 use Rattle.pssm_semantics.specs.declared.entry.Entry.{Entry}
 use Rattle.pssm_semantics.specs.declared.entry.Entry.TheVariants.{Post, Start, Take, Done, Exit, Effect, Enter, Opened, Pick, DoStep}
 use Rattle.pssm_semantics.specs.declared.setting.SignalDecl.{SignalDecl}
 use Rattle.pssm_semantics.specs.declared.setting.ObjectDecl.{ObjectDecl}
 use Rattle.pssm_semantics.specs.declared.setting.Class.{Class}
 use Rattle.pssm_semantics.specs.declared.setting.Setting.{Setting}
-use Rattle.pssm_spelling.specs.Spelling.{IsName}
-use Rattle.pssm_semantics.specs.Built.{IsBuilt, IsPlainSignal, IsBuiltEntry}
-use Rattle.pssm_journal.specs.Naming.{AreApart, NamesDiffer, HasSpelledNames, HasStart, IsSpelledEntry}
-
--- values that differ pairwise under a function are apart as its values
-apart_map : {X : Type 0} (f : X → List ℕ) (xs : List X) → AllPairs (λ a b. f a ≢ f b) xs → AllPairs (λ a b. a ≢ b) (map f xs)
-apart_map f [] apart i j d before within = absurd (omega (arith, within))
-apart_map f (x ∷ xs) apart i j d before within = λ same.
-    let inside : j < length (x ∷ xs) = omega (arith, within, length-map (x ∷ xs) f) in
-    apart i j x before inside (sym (get_or-map f (x ∷ xs) i x d (omega (arith, before, inside))) ∙ same ∙ get_or-map f (x ∷ xs) j x d inside)
+use Rattle.pssm_semantics.specs.Names.{AreApart, NamesDiffer}
+use Rattle.pssm_semantics.specs.Built.{IsBuiltFiring, IsBuiltEntry}
+use Rattle.pssm_journal.specs.Naming.{HasStart, HaveStarts, IsSpelledEntry}
 
 -- one name, or none, is apart from all others
 apart_few : (names : List (List ℕ)) → length names ≤ 1 → AllPairs (λ a b. a ≢ b) names
@@ -39,51 +32,23 @@ few_names_differ setting objects signals marks = record {
   marks = few_marks setting.classes (recursion_from_All (λ c. length c.program.marks ≤ 1) setting.classes marks);
 }
 
--- names of a setting that the code runs so far
-pub built_names_differ : (setting : Setting) → IsBuilt setting → NamesDiffer setting
-built_names_differ setting built = record {
-  objects = (apart_few (map (λ (d : ObjectDecl). d.name) setting.objects) (omega (arith, one, length-map setting.objects (λ (d : ObjectDecl). d.name))), omega (arith, one, length-map setting.objects (λ (d : ObjectDecl). d.name)));
-  signals = (apart_map (λ (d : SignalDecl). d.name) setting.signals built.signals_differ, omega (arith, built.few_signals, length-map setting.signals (λ (d : SignalDecl). d.name)));
-  marks = subst (λ cs. AllByRecursion (λ (c : Class). AreApart 65536 c.program.marks) cs) (sym built.classes) (no_marks, tt);
-} where
-  one : length setting.objects ≡ 1
-  one = ap (λ (ds : List ObjectDecl). length ds) built.objects
-
-  no_marks : AreApart 65536 built.class.program.marks
-  no_marks = subst (λ ms. AreApart 65536 ms) (sym built.class_is.marks) (apart_few [] (omega arith), omega arith)
-
--- names that are spelled
-signal_names : (signals : List SignalDecl) → AllByRecursion IsPlainSignal signals → AllByRecursion (λ d. IsName d.name) signals
-signal_names [] plain = tt
-signal_names (s ∷ signals) plain = (plain.0.name, signal_names signals plain.1)
-
-pub built_names_spelled : (setting : Setting) → IsBuilt setting → HasSpelledNames setting
-built_names_spelled setting built = record {
-  objects = subst (λ ds. AllByRecursion (λ (d : ObjectDecl). IsName d.name) ds) (sym built.objects) (built.object_name, tt);
-  signals = signal_names setting.signals built.signals_are;
-  marks = subst (λ cs. AllByRecursion (λ (c : Class). AllByRecursion IsName c.program.marks) cs) (sym built.classes) (subst (λ ms. AllByRecursion IsName ms) (sym built.class_is.marks) tt, tt);
-}
-
-no_more_than : (xs : List Out) → xs ≡ [] → length xs ≤ 64
-no_more_than xs none = let n : length xs ≡ 0 = ap (λ (t : List Out). length t) none in omega (arith, n)
+firing_starts : (firing : Firing) → IsBuiltFiring firing → HaveStarts firing
+firing_starts firing (inl none) = subst (λ rs. AllByRecursion HasStart rs) (sym none) tt
+firing_starts firing (inr one) = subst (λ rs. AllByRecursion HasStart rs) (sym one.1) (omega arith, tt)
 
 -- the entries of their runs
-pub plain_is_spelled : (e : Entry) → IsBuiltEntry e → IsSpelledEntry e
-plain_is_spelled (Post o s args) plain = tt
-plain_is_spelled (Start o) plain = tt
-plain_is_spelled (Take o number firing) plain =
-    elim plain.1 [
-      | inl none ↦ (plain.0, subst (λ rs. AllByRecursion HasStart rs) (sym none) tt)
-      | inr one ↦ (plain.0, subst (λ rs. AllByRecursion HasStart rs) (sym one.1) (omega arith, tt))
-    ]
-plain_is_spelled (Done o state firing) plain = absurd plain
-plain_is_spelled (Exit o state xs) plain = no_more_than xs plain
-plain_is_spelled (Effect o t xs) plain = no_more_than xs plain
-plain_is_spelled (Enter o state xs) plain = no_more_than xs plain
-plain_is_spelled (Opened o region mode how) plain =
-    elim plain.1 [
+pub built_is_spelled : (e : Entry) → IsBuiltEntry e → IsSpelledEntry e
+built_is_spelled (Post o s args) is = tt
+built_is_spelled (Start o) is = tt
+built_is_spelled (Take o number firing) is = (is.numbered, firing_starts firing is.form)
+built_is_spelled (Done o state firing) is = absurd is.form
+built_is_spelled (Exit o state xs) is = is.form
+built_is_spelled (Effect o t xs) is = is.form
+built_is_spelled (Enter o state xs) is = is.form
+built_is_spelled (Opened o region mode how) is =
+    elim is.form.1 [
       | inl none ↦ subst (λ (h : How). IsSpelledEntry (Opened o region mode h)) (sym none) tt
       | inr one ↦ subst (λ (h : How). IsSpelledEntry (Opened o region mode h)) (sym one.1) (omega arith)
     ]
-plain_is_spelled (Pick o choice route) plain = absurd plain
-plain_is_spelled (DoStep o state step xs) plain = absurd plain
+built_is_spelled (Pick o choice route) is = absurd is.form
+built_is_spelled (DoStep o state step xs) is = absurd is.form

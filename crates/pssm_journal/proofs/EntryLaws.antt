@@ -1,6 +1,7 @@
 -- What is looked up of an entry, step by step.
 use Rattle.std.proofs.Common.{◌≡◌, Bool, true, false, List, [], ◌∷◌, ◌++◌, length, take, drop, Option, Some, None, refl, sym, ap, subst, ◌∙◌, append_assoc, ◌↔◌}
-use Rattle.std.specs.Prelude.{IsTrue, IfNone, option_map, All}
+use Rattle.std.specs.Prelude.{IsTrue, IfNone, option_map, All, MatchOption}
+use Rattle.std.specs.List.{AllByRecursion}
 use Rattle.pssm_semantics.specs.declared.line.Line.{Line}
 use Rattle.std.proofs.lemmas.List.{append-nil, take_at, drop_at}
 use Rattle.std.proofs.lemmas.List.Elements.{All-same, All-take, All-drop, All-append}
@@ -8,13 +9,19 @@ use Rattle.std.proofs.lemmas.Option.{same_Some}
 use Rattle.pssm_semantics.specs.declared.entry.ObjectId.{ObjectId}
 use Rattle.pssm_semantics.specs.declared.entry.Out.{Out}
 use Rattle.pssm_semantics.specs.declared.entry.Entry.{Entry}
+use Rattle.pssm_semantics.specs.declared.line.Line.TheVariants.{Post, Start, Take, Done, Exit, Effect, Enter, Opened, Pick, DoStep}
 use Rattle.pssm_semantics.specs.declared.line.LineOut.{LineOut}
 use Rattle.pssm_semantics.specs.declared.setting.Class.{Class}
 use Rattle.pssm_semantics.specs.declared.setting.Setting.{Setting}
 use Rattle.pssm_semantics.specs.Settings.{class_of}
 use Rattle.pssm_semantics.specs.Journal.{object_of}
 use Rattle.pssm_semantics.specs.Known.{NamesKnown}
-use Rattle.pssm_journal.specs.inner.LineReading.{◌>>=◌}
+use Rattle.pssm_lines.specs.declared.parts.OutsText.{OutsText}
+use Rattle.pssm_lines.specs.declared.parts.OutParts.{OutParts}
+use Rattle.pssm_lines.specs.Grammar.{IsSpelledOut, IsLine}
+use Rattle.pssm_lines.specs.Parts.{ShowsOut, ShowsOuts}
+use Rattle.pssm_journal.specs.inner.LineOuts.{HasSpelledOuts}
+use Rattle.pssm_journal.specs.Entries.{◌>>=◌}
 use Rattle.pssm_journal.specs.Entries.{out_named, outs_named, KeepsNames, IsEntryOf, BreaksNames}
 
 -- ---- outputs in a loop
@@ -44,6 +51,63 @@ outs_stop setting o front x xs e =
 pub outs_end : (setting : Setting) (o : ObjectId) (front : List Out) → with_front front (outs_named setting o []) ≡ Some front
 unfolding outs_named
 outs_end setting o front = ap (λ (t : List Out). Some t) (append-nil front)
+
+-- ---- outputs of a text
+
+-- Of the outputs of a line some are known, and the rest of the text spells the others.
+pub record IsPartly (setting : Setting) (o : ObjectId) (front : List Out) (rest : OutsText) (spelled : List LineOut) : Type 0 where
+  pub others : List LineOut
+  pub are : AllByRecursion IsSpelledOut others
+  pub shown : ShowsOuts rest others
+  pub whole : with_front front (outs_named setting o others) ≡ outs_named setting o spelled
+
+pub partly_none : (setting : Setting) (o : ObjectId) (outs : OutsText) (spelled : List LineOut) → AllByRecursion IsSpelledOut spelled → ShowsOuts outs spelled → IsPartly setting o [] outs spelled
+partly_none setting o outs spelled are shown = record { others = spelled; are = are; shown = shown; whole = with_none (outs_named setting o spelled) }
+
+-- what a look at the text finds
+abbrev pub IsNextOut : OutsText → Option (OutParts × OutsText) → Type 0
+IsNextOut outs o = (spelled : List LineOut) → AllByRecursion IsSpelledOut spelled → ShowsOuts outs spelled
+    → MatchOption o (spelled ≡ []) (λ x. (first : LineOut) × (others : List LineOut) × (spelled ≡ first ∷ others) × ShowsOut x.0 first × ShowsOuts x.1 others)
+
+-- There is no other.
+pub partly_all : (setting : Setting) (o : ObjectId) (front : List Out) (rest : OutsText) (spelled : List LineOut) → IsPartly setting o front rest spelled → IsNextOut rest None → Some front ≡ outs_named setting o spelled
+partly_all setting o front rest spelled p next =
+    let none : p.others ≡ [] = next p.others p.are p.shown in
+    sym (outs_end setting o front) ∙ ap (λ (xs : List LineOut). with_front front (outs_named setting o xs)) (sym none) ∙ p.whole
+
+-- There is one more, of which this is known.
+pub partly_more : (setting : Setting) (o : ObjectId) (front more : List Out) (rest after : OutsText) (out : OutParts) (known : Option Out) (y : Out) (spelled : List LineOut) → IsPartly setting o front rest spelled
+    → IsNextOut rest (Some (out, after)) → ((line : LineOut) → ShowsOut out line → known ≡ out_named setting o line) → known ≡ Some y → more ≡ front ++ y ∷ [] → IsPartly setting o more after spelled
+partly_more setting o front more rest after out known y spelled p next named is grown =
+    let one = next p.others p.are p.shown in
+    let are : AllByRecursion IsSpelledOut (one.0 ∷ one.1) = subst (λ (xs : List LineOut). AllByRecursion IsSpelledOut xs) one.2 p.are in
+    record {
+      others = one.1;
+      are = are.1;
+      shown = one.4;
+      whole = ap (λ (xs : List Out). with_front xs (outs_named setting o one.1)) grown ∙ sym (outs_more setting o front one.0 one.1 y (sym (named one.0 one.3) ∙ is))
+          ∙ ap (λ (xs : List LineOut). with_front front (outs_named setting o xs)) (sym one.2) ∙ p.whole;
+    }
+
+-- There is one more, which is not known.
+pub partly_stop : (setting : Setting) (o : ObjectId) (front : List Out) (rest after : OutsText) (out : OutParts) (known : Option Out) (spelled : List LineOut) → IsPartly setting o front rest spelled
+    → IsNextOut rest (Some (out, after)) → ((line : LineOut) → ShowsOut out line → known ≡ out_named setting o line) → known ≡ None → None ≡ outs_named setting o spelled
+partly_stop setting o front rest after out known spelled p next named is =
+    let one = next p.others p.are p.shown in
+    sym (outs_stop setting o front one.0 one.1 (sym (named one.0 one.3) ∙ is)) ∙ ap (λ (xs : List LineOut). with_front front (outs_named setting o xs)) (sym one.2) ∙ p.whole
+
+-- The outputs of a line of the grammar are spelled as outputs are.
+pub outs_of_grammar : (l : Line) → IsLine l → HasSpelledOuts l
+outs_of_grammar (Post object signal args) h = tt
+outs_of_grammar (Start object) h = tt
+outs_of_grammar (Take object number firing) h = tt
+outs_of_grammar (Done object state firing) h = tt
+outs_of_grammar (Exit object state outs) h = h.2.1
+outs_of_grammar (Effect object t outs) h = h.2.1
+outs_of_grammar (Enter object state outs) h = h.2.1
+outs_of_grammar (Opened object region mode how) h = tt
+outs_of_grammar (Pick object choice route) h = tt
+outs_of_grammar (DoStep object state step outs) h = h.3.1
 
 -- ---- the first rule
 

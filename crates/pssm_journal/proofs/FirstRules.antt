@@ -10,7 +10,7 @@ use Rattle.pssm_semantics.specs.Rules.{Holds}
 use Rattle.pssm_semantics.specs.Verdict.{IsFirstBroken, number_of}
 use Rattle.pssm_journal.specs.Entries.{IsEntryOf, BreaksNames}
 use Rattle.pssm_journal.specs.Judged.{BreaksRule, by_entry, by_names}
-use Rattle.pssm_journal.proofs.Fronts.{one_entry}
+use Rattle.pssm_journal.proofs.EntryLists.{one_entry}
 
 rule_at : ℕ → Rule
 rule_at n = cond (eqb n 1) A1 (cond (eqb n 2) A2 (cond (eqb n 3) A3 (cond (eqb n 4) A4 (cond (eqb n 5) A5 (cond (eqb n 6) A6 (cond (eqb n 7) A7 (cond (eqb n 8) A8 (cond (eqb n 9) A9 (cond (eqb n 10) A10 (cond (eqb n 11) A11 A12))))))))))

@@ -1,5 +1,5 @@
 -- The bytes of a journal are judged in one way.
-use Rattle.std.proofs.Common.{◌≡◌, ℕ, suc, ◌+◌, List, [], ◌∷◌, ◌++◌, length, refl, sym, ap, subst, ◌∙◌, append_assoc, arith, inl, inr}
+use Rattle.std.proofs.Common.{◌≡◌, ℕ, suc, ◌+◌, true, false, List, [], ◌∷◌, ◌++◌, length, refl, sym, ap, subst, ◌∙◌, append_assoc, arith, inl, inr}
 use Rattle.std.specs.List.{AllByRecursion}
 use Rattle.std.proofs.lemmas.List.{append-nil, append_cancel_left, length-append}
 use Rattle.std.proofs.lemmas.List.Sums.{sum_by-append, sum_by-cons}
@@ -10,14 +10,17 @@ use Rattle.pssm_semantics.specs.declared.line.Line.{Line}
 use Rattle.pssm_semantics.specs.declared.setting.Setting.{Setting}
 use Rattle.pssm_semantics.specs.Rules.{Holds}
 use Rattle.pssm_semantics.specs.Pool.{output_count}
-use Rattle.pssm_journal.specs.LineText.{header_line, text_of, journal_text}
-use Rattle.pssm_journal.specs.Grammar.{IsTakenLine, BeginsNoLine, IsBadText, no_header, no_line}
+use Rattle.pssm_lines.specs.declared.fault.LineFault.{LineFault}
+use Rattle.pssm_lines.specs.LineText.{line_text, header_line, text_of, journal_text}
+use Rattle.pssm_lines.specs.Faults.{IsJournalLine, IsFaultOf, HasFault, in_header, in_line}
+use Rattle.pssm_lines.proofs.Spellings.{lines_apart}
+use Rattle.pssm_lines.proofs.OneFault.{no_line_fault, no_header_fault, one_reading, no_fault_at_all}
 use Rattle.pssm_journal.specs.Entries.{AreEntries}
 use Rattle.pssm_journal.specs.Judged.{Judged, Accepted, Refused, Limited, BadText, PassesLimits, line_output_count, IsKept, BreaksRule, by_entry, by_names, IsAccepted, IsRefusedText, IsOverLimit, IsBadJournal, IsJudged}
 use Rattle.pssm_journal.proofs.OutputCounts.{line_outputs, entry_output_count}
-use Rattle.pssm_journal.proofs.Fronts.{line_and, lines_apart, unfold_line, some_line, no_lines, Compared, shorter, longer, compare, one_entry, same_entries, IsEntryBetween, entry_between}
+use Rattle.pssm_journal.proofs.Fronts.{one_more_line, line_and, unfold_line, some_line, no_lines, Compared, shorter, longer, compare}
+use Rattle.pssm_journal.proofs.EntryLists.{one_entry, same_entries, IsEntryBetween, entry_between}
 use Rattle.pssm_journal.proofs.FirstRules.{one_rule}
-use Rattle.pssm_journal.proofs.Streams.{one_more_line}
 
 -- ---- what ends a reading
 
@@ -56,7 +59,7 @@ pub record IsStopped (setting : Setting) (bytes : List ℕ) (position : ℕ) : T
   pub rest : List ℕ
   pub text : bytes ≡ journal_text lines ++ line_and line rest
   pub kept : IsKept setting lines journal
-  pub is_line : IsTakenLine line
+  pub is_line : IsJournalLine line
   pub ends : Ends setting lines line
   pub position_is : position ≡ length journal + 1
 
@@ -101,7 +104,7 @@ whole_text : (ls : List Line) (bytes : List ℕ) → bytes ≡ journal_text ls �
 whole_text ls bytes e = e ∙ sym (append-nil (journal_text ls))
 
 -- the lines after a front are lines
-back_lines : (ls more : List Line) → AllByRecursion IsTakenLine (ls ++ more) → AllByRecursion IsTakenLine more
+back_lines : (ls more : List Line) → AllByRecursion IsJournalLine (ls ++ more) → AllByRecursion IsJournalLine more
 back_lines [] more p = p
 back_lines (l ∷ ls) more p = back_lines ls more p.1
 
@@ -113,23 +116,19 @@ same_journals : (setting : Setting) (ls ms : List Line) (J K : List Entry) → I
 same_journals setting ls ms J K p q e = same_entries setting ms J K (subst (λ (t : List Line). AreEntries setting t J) e p.entries_are) q.entries_are
 
 -- what follows the front of a journal that is kept cannot begin with the line that ends a reading
-ended_within : (setting : Setting) (ls ms more : List Line) (l : Line) (K : List Entry) (x y : List ℕ) → IsKept setting ms K → Ends setting ls l → IsTakenLine l → ms ≡ ls ++ more → line_and l x ≡ text_of more ++ y → (more ≡ []) × (line_and l x ≡ y)
+ended_within : (setting : Setting) (ls ms more : List Line) (l : Line) (K : List Entry) (x y : List ℕ) → IsKept setting ms K → Ends setting ls l → IsJournalLine l → ms ≡ ls ++ more → line_and l x ≡ text_of more ++ y → (more ≡ []) × (line_and l x ≡ y)
 ended_within setting ls ms [] l K x y q ends is_line e f = (refl, f)
 ended_within setting ls ms (n ∷ more) l K x y q ends is_line e f =
-    let lines : AllByRecursion IsTakenLine (n ∷ more) = back_lines ls (n ∷ more) (subst (λ (t : List Line). AllByRecursion IsTakenLine t) e q.lines_are) in
-    let both = lines_apart l n x (text_of more ++ y) is_line lines.0 (f ∙ unfold_line n more y) in
+    let lines : AllByRecursion IsJournalLine (n ∷ more) = back_lines ls (n ∷ more) (subst (λ (t : List Line). AllByRecursion IsJournalLine t) e q.lines_are) in
+    let both = lines_apart l n x (text_of more ++ y) is_line.line lines.0.line (f ∙ unfold_line n more y) in
     absurd (ends more K (subst (λ (t : List Line). IsKept setting t K) (e ∙ ap (λ (t : Line). ls ++ t ∷ more) (sym both.0)) q))
 
--- Where no line begins, a reading cannot go on by one.
-no_line_within : (ms more : List Line) (x rest : List ℕ) → BeginsNoLine rest → AllByRecursion IsTakenLine (ms ++ more) → rest ≡ text_of more ++ x → (more ≡ []) × (rest ≡ x)
-no_line_within ms [] x rest none p e = (refl, e)
-no_line_within ms (n ∷ more) x rest none p e =
-    let lines : AllByRecursion IsTakenLine (n ∷ more) = back_lines ms (n ∷ more) p in
-    absurd (none n (text_of more ++ x) lines.0 (e ∙ unfold_line n more x))
-
--- the text of a journal has its first line
-has_header : (ls : List Line) (bytes x : List ℕ) → bytes ≡ journal_text ls ++ x → ((more : List ℕ) → bytes ≡ header_line ++ more → ⊥) → ⊥
-has_header ls bytes x e lacks = lacks (text_of ls ++ x) (e ∙ append_assoc header_line (text_of ls) x)
+-- Where there is a fault, a reading cannot go on by a line.
+no_line_within : (ms more : List Line) (x rest : List ℕ) (n : ℕ) (f : LineFault) → IsFaultOf true n rest f → AllByRecursion IsJournalLine (ms ++ more) → rest ≡ text_of more ++ x → (more ≡ []) × (rest ≡ x)
+no_line_within ms [] x rest n f fault p e = (refl, e)
+no_line_within ms (l ∷ more) x rest n f fault p e =
+    let lines : AllByRecursion IsJournalLine (l ∷ more) = back_lines ms (l ∷ more) p in
+    absurd (no_line_fault l n (text_of more ++ x) f lines.0 (subst (λ (t : List ℕ). IsFaultOf true n t f) (e ∙ unfold_line l more x) fault))
 
 accepted_twice : (setting : Setting) (bytes : List ℕ) (m n : ℕ) → IsAccepted setting bytes m → IsAccepted setting bytes n → m ≡ n
 accepted_twice setting bytes m n p q = by_lines (compare p.lines q.lines [] [] p.kept.lines_are q.kept.lines_are (after_header p.lines q.lines bytes [] [] (whole_text p.lines bytes p.text) (whole_text q.lines bytes q.text))) where
@@ -146,27 +145,26 @@ accepted_stopped setting bytes m n p q = by_lines (compare p.lines q.lines [] (l
   by_lines (shorter more e f) = some_line q.line q.rest (sym (no_lines more (line_and q.line q.rest) f).1)
   by_lines (longer more e f) = some_line q.line q.rest (sym (ended_within setting q.lines p.lines more q.line p.journal q.rest [] p.kept q.ends q.is_line e f).1)
 
-accepted_bad : (setting : Setting) (bytes : List ℕ) (m : ℕ) → IsAccepted setting bytes m → IsBadJournal setting bytes → ⊥
-accepted_bad setting bytes m p q = by_text q.bad where
-  by_text : IsBadText bytes q.lines → ⊥
-  by_text (no_header e lacks) = has_header p.lines bytes [] (whole_text p.lines bytes p.text) lacks
-  by_text (no_line rest e some lines none) = by_lines (compare p.lines q.lines [] rest p.kept.lines_are lines (after_header p.lines q.lines bytes [] rest (whole_text p.lines bytes p.text) e)) where
-    by_lines : Compared p.lines q.lines [] rest → ⊥
-    by_lines (shorter more e f) = some (no_lines more rest f).1
-    by_lines (longer more e f) = some (no_line_within q.lines more [] rest none (subst (λ (t : List Line). AllByRecursion IsTakenLine t) e p.kept.lines_are) f).1
+accepted_bad : (setting : Setting) (bytes : List ℕ) (m : ℕ) (f : LineFault) → IsAccepted setting bytes m → IsBadJournal setting bytes f → ⊥
+accepted_bad setting bytes m f p q = no_fault_at_all p.lines q.lines f p.kept.lines_are (subst (λ (t : List ℕ). HasFault t q.lines f) p.text q.bad)
 
-stopped_bad : (setting : Setting) (bytes : List ℕ) (n : ℕ) → IsStopped setting bytes n → IsBadJournal setting bytes → ⊥
-stopped_bad setting bytes n p q = by_text q.bad where
-  by_text : IsBadText bytes q.lines → ⊥
-  by_text (no_header e lacks) = has_header p.lines bytes (line_and p.line p.rest) p.text lacks
-  by_text (no_line rest e some lines none) = by_lines (compare p.lines q.lines (line_and p.line p.rest) rest p.kept.lines_are lines (after_header p.lines q.lines bytes (line_and p.line p.rest) rest p.text e)) where
+stopped_bad : (setting : Setting) (bytes : List ℕ) (n : ℕ) (f : LineFault) → IsStopped setting bytes n → IsBadJournal setting bytes f → ⊥
+stopped_bad setting bytes n f p q = by_text q.bad where
+  by_text : HasFault bytes q.lines f → ⊥
+  by_text (in_header none fault) =
+      no_header_fault (text_of p.lines ++ line_and p.line p.rest) f (subst (λ (t : List ℕ). IsFaultOf false 1 t f) (p.text ∙ append_assoc header_line (text_of p.lines) (line_and p.line p.rest)) fault)
+  by_text (in_line rest e lines fault) = by_lines (compare p.lines q.lines (line_and p.line p.rest) rest p.kept.lines_are lines (after_header p.lines q.lines bytes (line_and p.line p.rest) rest p.text e)) where
+    -- the fault stands where the line does
+    no_fault_here : line_and p.line p.rest ≡ rest → ⊥
+    no_fault_here same = no_line_fault p.line (2 + length q.lines) p.rest f p.is_line (subst (λ (t : List ℕ). IsFaultOf true (2 + length q.lines) t f) (sym same) fault)
+
     by_lines : Compared p.lines q.lines (line_and p.line p.rest) rest → ⊥
-    by_lines (shorter more e f) =
-        let ended = ended_within setting p.lines q.lines more p.line q.journal p.rest rest q.kept p.ends p.is_line e f in
-        none p.line p.rest p.is_line (sym ended.1)
-    by_lines (longer more e f) =
-        let ended = no_line_within q.lines more (line_and p.line p.rest) rest none (subst (λ (t : List Line). AllByRecursion IsTakenLine t) e p.kept.lines_are) f in
-        none p.line p.rest p.is_line ended.1
+    by_lines (shorter more e f) = no_fault_here (ended_within setting p.lines q.lines more p.line q.journal p.rest rest q.kept p.ends p.is_line e f).1
+    by_lines (longer more e same) =
+        no_fault_here (sym (no_line_within q.lines more (line_and p.line p.rest) rest (2 + length q.lines) f fault (subst (λ (t : List Line). AllByRecursion IsJournalLine t) e p.kept.lines_are) same).1)
+
+bad_twice : (setting : Setting) (bytes : List ℕ) (f g : LineFault) → IsBadJournal setting bytes f → IsBadJournal setting bytes g → f ≡ g
+bad_twice setting bytes f g p q = (one_reading bytes p.lines q.lines f g p.bad q.bad).fault
 
 -- two readings that stop do so at one line of one journal
 pub record StopsAtOne (setting : Setting) (bytes : List ℕ) (m n : ℕ) (p : IsStopped setting bytes m) (q : IsStopped setting bytes n) : Type 0 where
@@ -179,7 +177,7 @@ stopped_twice setting bytes m n p q = by_lines (compare p.lines q.lines (line_an
   by_same : p.lines ≡ q.lines → line_and p.line p.rest ≡ line_and q.line q.rest → StopsAtOne setting bytes m n p q
   by_same e f =
       let journals : p.journal ≡ q.journal = same_journals setting p.lines q.lines p.journal q.journal p.kept q.kept e in
-      record { journals = journals; line = (lines_apart p.line q.line p.rest q.rest p.is_line q.is_line f).0; positions = p.position_is ∙ ap (λ (J : List Entry). length J + 1) journals ∙ sym q.position_is }
+      record { journals = journals; line = (lines_apart p.line q.line p.rest q.rest p.is_line.line q.is_line.line f).0; positions = p.position_is ∙ ap (λ (J : List Entry). length J + 1) journals ∙ sym q.position_is }
 
   by_lines : Compared p.lines q.lines (line_and p.line p.rest) (line_and q.line q.rest) → StopsAtOne setting bytes m n p q
   by_lines (shorter more e f) =
@@ -209,7 +207,7 @@ pub judged_once : (setting : Setting) (bytes : List ℕ) (a b : Judged) → IsJu
 judged_once setting bytes (Accepted m) (Accepted n) p q = ap (λ k. Accepted k) (accepted_twice setting bytes m n p q)
 judged_once setting bytes (Accepted m) (Refused n s) p q = absurd (accepted_stopped setting bytes m n p (refused_stops setting bytes n s q))
 judged_once setting bytes (Accepted m) (Limited n) p q = absurd (accepted_stopped setting bytes m n p (limit_stops setting bytes n q))
-judged_once setting bytes (Accepted m) BadText p q = absurd (accepted_bad setting bytes m p q)
+judged_once setting bytes (Accepted m) (BadText g) p q = absurd (accepted_bad setting bytes m g p q)
 judged_once setting bytes (Refused m r) (Accepted n) p q = absurd (accepted_stopped setting bytes n m q (refused_stops setting bytes m r p))
 judged_once setting bytes (Refused m r) (Refused n s) p q =
     let both = refused_twice setting bytes m n r s p q in
@@ -217,12 +215,12 @@ judged_once setting bytes (Refused m r) (Refused n s) p q =
     let rule : r ≡ s = both.1 in
     cc
 judged_once setting bytes (Refused m r) (Limited n) p q = absurd (refused_limited setting bytes m n r p q)
-judged_once setting bytes (Refused m r) BadText p q = absurd (stopped_bad setting bytes m (refused_stops setting bytes m r p) q)
+judged_once setting bytes (Refused m r) (BadText g) p q = absurd (stopped_bad setting bytes m g (refused_stops setting bytes m r p) q)
 judged_once setting bytes (Limited m) (Accepted n) p q = absurd (accepted_stopped setting bytes n m q (limit_stops setting bytes m p))
 judged_once setting bytes (Limited m) (Refused n s) p q = absurd (refused_limited setting bytes n m s q p)
 judged_once setting bytes (Limited m) (Limited n) p q = ap (λ k. Limited k) (limited_twice setting bytes m n p q)
-judged_once setting bytes (Limited m) BadText p q = absurd (stopped_bad setting bytes m (limit_stops setting bytes m p) q)
-judged_once setting bytes BadText (Accepted n) p q = absurd (accepted_bad setting bytes n q p)
-judged_once setting bytes BadText (Refused n s) p q = absurd (stopped_bad setting bytes n (refused_stops setting bytes n s q) p)
-judged_once setting bytes BadText (Limited n) p q = absurd (stopped_bad setting bytes n (limit_stops setting bytes n q) p)
-judged_once setting bytes BadText BadText p q = refl
+judged_once setting bytes (Limited m) (BadText g) p q = absurd (stopped_bad setting bytes m g (limit_stops setting bytes m p) q)
+judged_once setting bytes (BadText f) (Accepted n) p q = absurd (accepted_bad setting bytes n f q p)
+judged_once setting bytes (BadText f) (Refused n s) p q = absurd (stopped_bad setting bytes n f (refused_stops setting bytes n s q) p)
+judged_once setting bytes (BadText f) (Limited n) p q = absurd (stopped_bad setting bytes n f (limit_stops setting bytes n q) p)
+judged_once setting bytes (BadText f) (BadText g) p q = ap (λ k. BadText k) (bad_twice setting bytes f g p q)

@@ -1,131 +1,210 @@
--- A line of the grammar has no line feed, and is not longer than a line may be.
-use Rattle.std.proofs.Common.{◌≡◌, ℕ, ◌+◌, ◌<◌, ◌≤◌, Bool, true, false, eqb, leb, List, [], ◌∷◌, ◌++◌, length, refl, sym, subst, arith, inl, inr}
-use Rattle.std.specs.Prelude.{codes}
-use Rattle.std.specs.List.{list_all, AllByRecursion}
-use Rattle.std.specs.Fmt.{decimal}
-use Rattle.std.proofs.lemmas.Bool.{and_parts, and_from, leb-true, not_from_false, ne_eqb, eqb-true}
+-- The line of an entry that the code runs so far is not longer than a line may be.
+use Rattle.std.proofs.Common.{◌≡◌, ℕ, ℤ, pos, negsuc, suc, ◌+◌, ◌*◌, map, ◌<◌, ◌≤◌, true, leb, List, [], ◌∷◌, ◌++◌, length, Option, Some, None, refl, sym, ap, subst, ◌∙◌, arith, inl, inr}
+use Rattle.std.specs.Prelude.{codes, FitsSigned}
+use Rattle.std.specs.Int.{w64}
+use Rattle.std.specs.List.{AllByRecursion, flat_map, join_with_byte, sum_by}
+use Rattle.std.specs.Fmt.{decimal, signed_decimal}
+use Rattle.std.proofs.lemmas.Bool.{leb-true}
 use Rattle.std.proofs.lemmas.List.{length-append}
-use Rattle.std.proofs.lemmas.Fmt.{digits_decimal, length-decimal-le}
+use Rattle.std.proofs.lemmas.List.Concat.{length-flat_map}
+use Rattle.std.proofs.lemmas.List.Sums.{sum_by-cons}
+use Rattle.std.proofs.lemmas.Fmt.{length-decimal-le}
+use Rattle.std.proofs.lemmas.Option.{same_Some}
 use Rattle.pssm_model.specs.declared.steps.Firing.{Firing}
+use Rattle.pssm_model.specs.declared.steps.Mode.TheVariants.{Plain}
 use Rattle.pssm_model.specs.declared.steps.How.{How}
+use Rattle.pssm_semantics.specs.declared.entry.ObjectId.{ObjectId}
+use Rattle.pssm_semantics.specs.declared.entry.Entry.{Entry}
+use Rattle.pssm_semantics.specs.declared.entry.Entry.TheVariants as entries
 use Rattle.pssm_semantics.specs.declared.line.Line.{Line}
 use Rattle.pssm_semantics.specs.declared.line.Line.TheVariants.{Post, Start, Take, Done, Exit, Effect, Enter, Opened, Pick, DoStep}
-use Rattle.pssm_spelling.specs.Spelling.{IsName, continues_name}
-use Rattle.pssm_spelling.specs.SpellingReading.{is_digit}
-use Rattle.pssm_spelling.proofs.SpellingLaws.{digits_model, name_goes_on}
-use Rattle.pssm_journal.specs.LineText.{line_text, firing_text, routes_text, how_text}
-use Rattle.pssm_semantics.specs.Built.{IsBuiltFiring, IsBuiltWay}
-use Rattle.pssm_journal.specs.Grammar.{IsTakenLine, IsSpelledFiring, IsSpelledHow, IsSpelledRoute}
-use Rattle.pssm_journal.specs.Reading.{is_no_feed, has_no_feed}
-use Rattle.pssm_journal.proofs.Feeds.{no_feed_append}
+use Rattle.pssm_semantics.specs.declared.line.LineOut.{LineOut}
+use Rattle.pssm_semantics.specs.declared.line.LineOut.TheVariants.{Mark, Send}
+use Rattle.pssm_semantics.specs.declared.setting.Setting.{Setting}
+use Rattle.pssm_semantics.specs.Built.{IsBuiltFiring, IsBuiltWay, HasBuiltForm, IsBuiltEntry}
+use Rattle.pssm_spelling.specs.Spelling.{IsName}
+use Rattle.pssm_lines.specs.LineText.{line_text, firing_text, routes_text, how_text, args_text, call_text, out_text, outs_text}
+use Rattle.pssm_lines.specs.Grammar.{IsLine, IsSpelledFiring, IsSpelledHow, IsSpelledRoute, AreArgs, IsSpelledOut, AreSpelledOuts}
+use Rattle.pssm_lines.specs.Faults.{IsJournalLine}
+use Rattle.pssm_journal.specs.Entries.{◌>>=◌, object_named, signal_named, outs_named, object_name, entry_at, entry_named, IsEntryOf}
+use Rattle.pssm_journal.proofs.OutputCounts.{step_some}
 
--- no line feed, and at most so many bytes
+-- ---- lengths
+
+-- at most so many bytes
 pub record IsShort (most : ℕ) (bytes : List ℕ) : Type 0 where
-  pub clean : has_no_feed bytes ≡ true
   pub few : length bytes ≤ most
 
 short_append : (j k : ℕ) (a b : List ℕ) → IsShort j a → IsShort k b → IsShort (j + k) (a ++ b)
-short_append j k a b p q = record { clean = no_feed_append a b p.clean q.clean; few = omega (arith, length-append a b, p.few, q.few) }
+short_append j k a b p q = record { few = omega (arith, length-append a b, p.few, q.few) }
 
 short_more : (j k : ℕ) (a : List ℕ) → j ≤ k → IsShort j a → IsShort k a
-short_more j k a le p = record { clean = p.clean; few = omega (arith, p.few) }
-
--- characters of a kind that has no line feed
-clean_by : (p : ℕ → Bool) → ((c : ℕ) → p c ≡ true → is_no_feed c ≡ true) → (xs : List ℕ) → list_all p xs ≡ true → has_no_feed xs ≡ true
-clean_by p h [] e = refl
-clean_by p h (x ∷ xs) e =
-    let both = and_parts (p x) (list_all p xs) e in
-    and_from (is_no_feed x) (has_no_feed xs) (h x both.0) (clean_by p h xs both.1)
-
-digit_no_feed : (c : ℕ) → is_digit c ≡ true → is_no_feed c ≡ true
-digit_no_feed c e =
-    let low : 48 ≤ c = leb-true 48 c (and_parts (leb 48 c) (leb c 57) e).0 in
-    not_from_false (eqb c 10) (ne_eqb c 10 (λ (z : c ≡ 10). absurd (omega arith)))
-
-no_name : continues_name 10 ≡ true → ⊥
-no_name e = absurd cc
-
-name_no_feed : (c : ℕ) → continues_name c ≡ true → is_no_feed c ≡ true
-name_no_feed c e = by_test (eqb c 10) refl where
-  by_test : (t : Bool) → eqb c 10 ≡ t → is_no_feed c ≡ true
-  by_test true same = let is : c ≡ 10 = eqb-true c 10 same in absurd (no_name (subst (λ (k : ℕ). continues_name k ≡ true) is e))
-  by_test false other = not_from_false (eqb c 10) other
+short_more j k a le p = record { few = omega (arith, p.few) }
 
 short_name : (text : List ℕ) → IsName text → IsShort 64 text
-short_name text name = record { clean = clean_by continues_name name_no_feed text (name_goes_on text name.spelled); few = name.short }
+short_name text name = record { few = name.short }
 
 short_number : (n : ℕ) → n < 4294967296 → IsShort 10 (decimal n)
-short_number n small = record { clean = clean_by is_digit digit_no_feed (decimal n) (digits_decimal digits_model n (omega arith)); few = length-decimal-le 10 n (omega arith) (omega arith) (omega arith) }
+short_number n small = record { few = length-decimal-le 10 n (omega arith) (omega arith) (omega arith) }
 
 -- a word of the grammar
-short_word : (word : List ℕ) → has_no_feed word ≡ true → leb (length word) 16 ≡ true → IsShort 16 word
-short_word word clean few = record { clean = clean; few = leb-true (length word) 16 few }
+short_word : (word : List ℕ) → leb (length word) 16 ≡ true → IsShort 16 word
+short_word word few = record { few = leb-true (length word) 16 few }
 
 short_nothing : IsShort 16 []
-short_nothing = short_word [] refl refl
+short_nothing = short_word [] refl
 
 -- a number at the end of a line
 short_last : (n : ℕ) → n < 65536 → IsShort 26 (decimal n ++ [])
 short_last n small = short_append 10 16 (decimal n) [] (short_number n (omega arith)) short_nothing
 
 short_firing : (firing : Firing) → IsBuiltFiring firing → IsSpelledFiring firing → IsShort 42 (firing_text firing)
-short_firing firing (inl none) spelled = subst (λ rs. IsShort 42 (routes_text rs)) (sym none) (short_more 16 42 (codes "-") (omega arith) (short_word (codes "-") refl refl))
+short_firing firing (inl none) spelled = subst (λ rs. IsShort 42 (routes_text rs)) (sym none) (short_more 16 42 (codes "-") (omega arith) (short_word (codes "-") refl))
 short_firing firing (inr one) spelled =
     let t = one.0 in
     let here = subst (λ rs. AllByRecursion IsSpelledRoute rs) one.1 spelled in
-    subst (λ rs. IsShort 42 (routes_text rs)) (sym one.1) (short_append 16 26 (codes "t") (decimal t.0 ++ []) (short_word (codes "t") refl refl) (short_last t.0 here.0.1.0))
+    subst (λ rs. IsShort 42 (routes_text rs)) (sym one.1) (short_append 16 26 (codes "t") (decimal t.0 ++ []) (short_word (codes "t") refl) (short_last t.0 here.0.1.0))
 
 short_way : (how : How) → IsBuiltWay how → IsSpelledHow how → IsShort 42 (codes " default " ++ how_text how)
-short_way how (inl none) spelled = subst (λ h. IsShort 42 (codes " default " ++ how_text h)) (sym none) (short_more 16 42 (codes " default none") (omega arith) (short_word (codes " default none") refl refl))
+short_way how (inl none) spelled = subst (λ h. IsShort 42 (codes " default " ++ how_text h)) (sym none) (short_more 16 42 (codes " default none") (omega arith) (short_word (codes " default none") refl))
 short_way how (inr one) spelled =
     let t = one.0 in
     let here = subst IsSpelledHow one.1 spelled in
-    subst (λ h. IsShort 42 (codes " default " ++ how_text h)) (sym one.1) (short_append 16 26 (codes " default by t") (decimal t.0 ++ []) (short_word (codes " default by t") refl refl) (short_last t.0 here.1.0))
+    subst (λ h. IsShort 42 (codes " default " ++ how_text h)) (sym one.1) (short_append 16 26 (codes " default by t") (decimal t.0 ++ []) (short_word (codes " default by t") refl) (short_last t.0 here.1.0))
 
--- a kind, an object, a letter and a number
-short_place : (kind letter object : List ℕ) (n : ℕ) → IsShort 16 kind → IsShort 16 letter → IsName object → n < 65536 → IsShort 200 (kind ++ (object ++ (letter ++ (decimal n ++ []))))
-short_place kind letter object n kind_short letter_short name small =
-    short_more 122 200 (kind ++ (object ++ (letter ++ (decimal n ++ [])))) (omega arith)
-    (short_append 16 106 kind (object ++ (letter ++ (decimal n ++ []))) kind_short
-    (short_append 64 42 object (letter ++ (decimal n ++ [])) (short_name object name)
-    (short_append 16 26 letter (decimal n ++ []) letter_short (short_last n small))))
+-- ---- lists
 
-abbrev IsShortLine : Line → Type 0
-IsShortLine l = IsShort 200 (line_text l)
+-- each piece with a byte before it
+pub joined_length : {X : Type 0} (c : ℕ) (f : X → List ℕ) (xs : List X) → length (join_with_byte c (map f xs)) ≤ sum_by (λ x. length (f x) + 1) xs
+joined_length c f [] = omega arith
+joined_length c f (x ∷ []) = omega (arith, sum_by-cons (λ y. length (f y) + 1) x [])
+joined_length c f (x ∷ y ∷ xs) =
+    let rest = joined_length c f (y ∷ xs) in
+    omega (arith, rest, length-append (f x) (c ∷ join_with_byte c (map f (y ∷ xs))), sum_by-cons (λ z. length (f z) + 1) x (y ∷ xs))
 
--- each line of the grammar
-pub short_line : (l : Line) → IsTakenLine l → IsShort 200 (line_text l)
+-- pieces of which none is longer than this
+sum_most : {X : Type 0} (P : X → Type 0) (f : X → ℕ) (most : ℕ) (xs : List X) → ((x : X) → P x → f x ≤ most) → AllByRecursion P xs → sum_by f xs ≤ length xs * most
+sum_most P f most [] each all = omega arith
+sum_most P f most (x ∷ xs) each all =
+    let rest = sum_most P f most xs each all.1 in
+    let first = each x all.0 in
+    omega (arith, rest, first, sum_by-cons f x xs)
+
+-- ---- arguments and outputs
+
+short_signed : (z : ℤ) → FitsSigned w64 z → length (signed_decimal z) ≤ 20
+short_signed (pos n) fits = length-decimal-le 20 n (omega arith) (omega (arith, fits)) (omega (arith, fits))
+short_signed (negsuc n) fits = let digits = length-decimal-le 19 (suc n) (omega arith) (omega (arith, fits)) (omega (arith, fits)) in omega (arith, digits)
+
+short_args : (args : List ℤ) → AreArgs args → IsShort 200 (args_text args)
+short_args args are =
+    let joined = joined_length 44 signed_decimal args in
+    let most = sum_most (FitsSigned w64) (λ z. length (signed_decimal z) + 1) 21 args (λ z fits. let few = short_signed z fits in omega (arith, few)) are.1 in
+    let numbers : IsShort 168 (join_with_byte 44 (map signed_decimal args)) = record { few = omega (arith, joined, most, are.0) } in
+    short_append 16 184 (codes "(") (join_with_byte 44 (map signed_decimal args) ++ codes ")") (short_word (codes "(") refl)
+    (short_append 168 16 (join_with_byte 44 (map signed_decimal args)) (codes ")") numbers (short_word (codes ")") refl))
+
+short_call : (object signal : List ℕ) (args : List ℤ) → IsName object → IsName signal → AreArgs args → IsShort 344 (call_text object signal args)
+short_call object signal args name called are =
+    short_append 64 280 object (codes "." ++ (signal ++ args_text args)) (short_name object name)
+    (short_append 16 264 (codes ".") (signal ++ args_text args) (short_word (codes ".") refl)
+    (short_append 64 200 signal (args_text args) (short_name signal called) (short_args args are)))
+
+short_out : (out : LineOut) → IsSpelledOut out → IsShort 360 (out_text out)
+short_out (Mark mark args) h =
+    short_more 280 360 (codes "!" ++ (mark ++ args_text args)) (omega arith)
+    (short_append 16 264 (codes "!") (mark ++ args_text args) (short_word (codes "!") refl) (short_append 64 200 mark (args_text args) (short_name mark h.0) (short_args args h.1)))
+short_out (Send object signal args) h =
+    short_append 16 344 (codes ">") (call_text object signal args) (short_word (codes ">") refl) (short_call object signal args h.0 h.1 h.2)
+
+short_outs : (outs : List LineOut) → AreSpelledOuts outs → IsShort 24064 (outs_text outs)
+short_outs outs are =
+    let most = sum_most IsSpelledOut (λ out. length (codes " " ++ out_text out)) 376 outs
+    (λ out spelled. (short_append 16 360 (codes " ") (out_text out) (short_word (codes " ") refl) (short_out out spelled)).few) are.1 in
+    record { few = omega (arith, length-flat_map (λ out. codes " " ++ out_text out) outs, most, are.0) }
+
+-- ---- lines
+
+-- a kind, an object, a letter, a number, and what follows
+short_place : (kind letter object more : List ℕ) (n : ℕ) → IsShort 16 kind → IsShort 16 letter → IsName object → n < 65536 → IsShort 24064 more
+    → IsShort 24200 (kind ++ (object ++ (letter ++ (decimal n ++ more))))
+short_place kind letter object more n kind_short letter_short name small more_short =
+    short_more 24170 24200 (kind ++ (object ++ (letter ++ (decimal n ++ more)))) (omega arith)
+    (short_append 16 24154 kind (object ++ (letter ++ (decimal n ++ more))) kind_short
+    (short_append 64 24090 object (letter ++ (decimal n ++ more)) (short_name object name)
+    (short_append 16 24074 letter (decimal n ++ more) letter_short
+    (short_append 10 24064 (decimal n) more (short_number n (omega (arith, small))) more_short))))
+
+-- a line of a form that entries which the code runs so far write
+abbrev pub IsBuiltLine : Line → Type 0
+IsBuiltLine (Post object signal args) = Unit {0}
+IsBuiltLine (Start object) = Unit {0}
+IsBuiltLine (Take object number firing) = IsBuiltFiring firing
+IsBuiltLine (Exit object state outs) = Unit {0}
+IsBuiltLine (Effect object transition outs) = Unit {0}
+IsBuiltLine (Enter object state outs) = Unit {0}
+IsBuiltLine (Opened object region mode how) = (mode ≡ Plain) × IsBuiltWay how
+IsBuiltLine _ = ⊥
+
+-- each such line of the grammar
+pub short_line : (l : Line) → IsBuiltLine l × IsLine l → IsShort 24200 (line_text l)
 short_line (Post object signal args) h =
-    subst (λ x. IsShortLine (Post object signal x)) (sym h.0)
-    (short_more 176 200 (line_text (Post object signal [])) (omega arith)
-    (short_append 16 160 (codes "post ") (object ++ (codes "." ++ (signal ++ codes "()"))) (short_word (codes "post ") refl refl)
-    (short_append 64 96 object (codes "." ++ (signal ++ codes "()")) (short_name object h.1.0)
-    (short_append 16 80 (codes ".") (signal ++ codes "()") (short_word (codes ".") refl refl)
-    (short_append 64 16 signal (codes "()") (short_name signal h.1.1) (short_word (codes "()") refl refl))))))
+    short_more 360 24200 (line_text (Post object signal args)) (omega arith)
+    (short_append 16 344 (codes "post ") (call_text object signal args) (short_word (codes "post ") refl) (short_call object signal args h.1.0 h.1.1 h.1.2))
 short_line (Start object) h =
-    short_more 80 200 (codes "start " ++ object) (omega arith) (short_append 16 64 (codes "start ") object (short_word (codes "start ") refl refl) (short_name object h.1))
+    short_more 80 24200 (codes "start " ++ object) (omega arith) (short_append 16 64 (codes "start ") object (short_word (codes "start ") refl) (short_name object h.1))
 short_line (Take object number firing) h =
-    short_more 164 200 (line_text (Take object number firing)) (omega arith)
-    (short_append 16 148 (codes "take ") (object ++ (codes " " ++ (decimal number ++ (codes " " ++ firing_text firing)))) (short_word (codes "take ") refl refl)
+    short_more 164 24200 (line_text (Take object number firing)) (omega arith)
+    (short_append 16 148 (codes "take ") (object ++ (codes " " ++ (decimal number ++ (codes " " ++ firing_text firing)))) (short_word (codes "take ") refl)
     (short_append 64 84 object (codes " " ++ (decimal number ++ (codes " " ++ firing_text firing))) (short_name object h.1.0)
-    (short_append 16 68 (codes " ") (decimal number ++ (codes " " ++ firing_text firing)) (short_word (codes " ") refl refl)
+    (short_append 16 68 (codes " ") (decimal number ++ (codes " " ++ firing_text firing)) (short_word (codes " ") refl)
     (short_append 10 58 (decimal number) (codes " " ++ firing_text firing) (short_number number h.1.2)
-    (short_append 16 42 (codes " ") (firing_text firing) (short_word (codes " ") refl refl) (short_firing firing h.0 h.1.3))))))
+    (short_append 16 42 (codes " ") (firing_text firing) (short_word (codes " ") refl) (short_firing firing h.0 h.1.3))))))
 short_line (Exit object state outs) h =
-    subst (λ x. IsShortLine (Exit object state x)) (sym h.0) (short_place (codes "exit ") (codes " v") object state.0 (short_word (codes "exit ") refl refl) (short_word (codes " v") refl refl) h.1.0 h.1.1)
+    short_place (codes "exit ") (codes " v") object (outs_text outs) state.0 (short_word (codes "exit ") refl) (short_word (codes " v") refl) h.1.0 h.1.1 (short_outs outs h.1.2)
 short_line (Effect object t outs) h =
-    subst (λ x. IsShortLine (Effect object t x)) (sym h.0) (short_place (codes "effect ") (codes " t") object t.0 (short_word (codes "effect ") refl refl) (short_word (codes " t") refl refl) h.1.0 h.1.1)
+    short_place (codes "effect ") (codes " t") object (outs_text outs) t.0 (short_word (codes "effect ") refl) (short_word (codes " t") refl) h.1.0 h.1.1 (short_outs outs h.1.2)
 short_line (Enter object state outs) h =
-    subst (λ x. IsShortLine (Enter object state x)) (sym h.0) (short_place (codes "enter ") (codes " v") object state.0 (short_word (codes "enter ") refl refl) (short_word (codes " v") refl refl) h.1.0 h.1.1)
+    short_place (codes "enter ") (codes " v") object (outs_text outs) state.0 (short_word (codes "enter ") refl) (short_word (codes " v") refl) h.1.0 h.1.1 (short_outs outs h.1.2)
 short_line (Opened object r mode how) h =
     let tail = codes " default " ++ how_text how in
-    subst (λ x. IsShortLine (Opened object r x how)) (sym h.0.0)
-    (short_more 148 200 (codes "open " ++ (object ++ (codes " r" ++ (decimal r.0 ++ tail)))) (omega arith)
-    (short_append 16 132 (codes "open ") (object ++ (codes " r" ++ (decimal r.0 ++ tail))) (short_word (codes "open ") refl refl)
+    subst (λ x. IsShort 24200 (line_text (Opened object r x how))) (sym h.0.0)
+    (short_more 148 24200 (codes "open " ++ (object ++ (codes " r" ++ (decimal r.0 ++ tail)))) (omega arith)
+    (short_append 16 132 (codes "open ") (object ++ (codes " r" ++ (decimal r.0 ++ tail))) (short_word (codes "open ") refl)
     (short_append 64 68 object (codes " r" ++ (decimal r.0 ++ tail)) (short_name object h.1.0)
-    (short_append 16 52 (codes " r") (decimal r.0 ++ tail) (short_word (codes " r") refl refl)
+    (short_append 16 52 (codes " r") (decimal r.0 ++ tail) (short_word (codes " r") refl)
     (short_append 10 42 (decimal r.0) tail (short_number r.0 (omega (arith, h.1.1)))
     (short_way how h.0.1 h.1.2))))))
 short_line (Done object state firing) h = absurd h.0
 short_line (Pick object choice route) h = absurd h.0
 short_line (DoStep object state step outs) h = absurd h.0
+
+-- ---- the forms of lines
+
+-- The line of such an entry has such a form.
+form_at : (setting : Setting) (o : ObjectId) (line : Line) (e : Entry) → entry_at setting o line ≡ Some e → HasBuiltForm e → IsBuiltLine line
+unfolding entry_at
+form_at setting o (Post object signal args) e is built = tt
+form_at setting o (Start object) e is built = tt
+form_at setting o (Take object number firing) e is built = subst HasBuiltForm (sym (same_Some (entries.Take o number firing) e is)) built
+form_at setting o (Done object state firing) e is built = subst HasBuiltForm (sym (same_Some (entries.Done o state firing) e is)) built
+form_at setting o (Exit object state outs) e is built = tt
+form_at setting o (Effect object t outs) e is built = tt
+form_at setting o (Enter object state outs) e is built = tt
+form_at setting o (Opened object region mode how) e is built = subst HasBuiltForm (sym (same_Some (entries.Opened o region mode how) e is)) built
+form_at setting o (Pick object choice route) e is built = subst HasBuiltForm (sym (same_Some (entries.Pick o choice route) e is)) built
+form_at setting o (DoStep object state step outs) e is built =
+    let xs = step_some (outs_named setting o outs) (λ xs. Some (entries.DoStep o state step xs)) e is in
+    subst HasBuiltForm (sym (same_Some (entries.DoStep o state step xs.0) e xs.2)) built
+
+built_form : (setting : Setting) (line : Line) (e : Entry) → IsEntryOf setting line e → HasBuiltForm e → IsBuiltLine line
+unfolding entry_named
+built_form setting line e is built =
+    let o = step_some (object_named setting (object_name line)) (λ o. entry_at setting o line) e is in
+    form_at setting o.0 line e o.2 built
+
+-- It is a line that a journal may have.
+pub built_line : (setting : Setting) (e : Entry) (line : Line) → IsBuiltEntry e → IsEntryOf setting line e → IsLine line → IsJournalLine line
+built_line setting e line built is grammar =
+    let short = short_line line (built_form setting line e is built.form, grammar) in
+    record { line = grammar; short = omega (arith, short.few) }

@@ -18,7 +18,7 @@ use Rattle.pssm_semantics.specs.declared.setting.Class.{Class}
 use Rattle.pssm_semantics.specs.declared.setting.Setting.{Setting}
 use Rattle.pssm_semantics.specs.Settings.{class_of}
 use Rattle.pssm_journal.specs.Entries.{numbered, object_named, signal_named, mark_named}
-use Rattle.pssm_journal.specs.Naming.{AreApart, NamesDiffer}
+use Rattle.pssm_semantics.specs.Names.{AreApart, NamesDiffer}
 use Rattle.pssm_journal.specs.inner.EntryLine.{name_of_object, name_of_signal, name_of_mark}
 
 -- ---- names among names

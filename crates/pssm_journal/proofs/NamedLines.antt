@@ -1,12 +1,14 @@
 -- The line of an entry whose names are the setting's.
-use Rattle.std.proofs.Common.{◌≡◌, ℕ, ◌<◌, ◌≤◌, List, [], ◌∷◌, length, zero, suc, Option, Some, None, refl, sym, ap, subst, ◌∙◌, arith}
-use Rattle.std.specs.Prelude.{map, All, option_map, slice_get}
+use Rattle.std.proofs.Common.{◌≡◌, ℕ, ◌<◌, ◌≤◌, List, [], ◌∷◌, ◌++◌, append_assoc, length, zero, suc, Option, Some, None, Result, Ok, Err, refl, sym, ap, subst, ◌∙◌, arith}
+use Rattle.std.specs.Prelude.{map, All, option_map, slice_get, codes, OnOk}
+use Rattle.std.specs.Fmt.{decimal}
 use Rattle.std.specs.Option.{option_map_or}
 use Rattle.std.specs.List.{AllByRecursion}
 use Rattle.std.proofs.lemmas.List.{length-map}
 use Rattle.std.proofs.lemmas.List.Elements.{recursion_from_All}
 use Rattle.std.proofs.lemmas.Option.{option_and_then_some}
 use Rattle.pssm_model.specs.declared.ids.SignalId.{SignalId}
+use Rattle.pssm_model.specs.declared.ids.VertexId.{VertexId}
 use Rattle.pssm_model.specs.declared.ids.MarkId.{MarkId}
 use Rattle.pssm_model.specs.declared.steps.Route.{Route}
 use Rattle.pssm_model.specs.declared.steps.How.TheVariants.{By, Restore, Nothing}
@@ -22,11 +24,12 @@ use Rattle.pssm_semantics.specs.declared.setting.Setting.{Setting}
 use Rattle.pssm_semantics.specs.Settings.{class_of, HasCount}
 use Rattle.pssm_semantics.specs.Journal.{object_of}
 use Rattle.pssm_semantics.specs.Known.{IsOutOf, NamesKnown}
-use Rattle.pssm_semantics.specs.Built.{IsBuiltEntry}
-use Rattle.pssm_journal.specs.inner.LineReading.{◌>>=◌}
-use Rattle.pssm_journal.specs.Grammar.{IsLine, IsBuiltLine, IsSpelledRoute, IsSpelledOut, AreSpelledOuts}
-use Rattle.pssm_journal.specs.Entries.{object_name, object_named, signal_named, mark_named, out_named, outs_named, entry_at, entry_named, IsEntryOf, KeepsNames}
-use Rattle.pssm_journal.specs.Naming.{AreApart, NamesDiffer, HasSpelledNames, HasStart, IsSpelledEntry}
+use Rattle.pssm_journal.specs.Entries.{◌>>=◌}
+use Rattle.pssm_lines.specs.LineText.{line_text, outs_text}
+use Rattle.pssm_lines.specs.Grammar.{IsLine, IsSpelledRoute, IsSpelledOut, AreSpelledOuts}
+use Rattle.pssm_journal.specs.Entries.{object_name, object_named, signal_named, mark_named, own_mark_named, out_named, outs_named, entry_at, entry_named, IsEntryOf, KeepsNames}
+use Rattle.pssm_journal.specs.Naming.{HasStart, IsSpelledEntry, IsWritten}
+use Rattle.pssm_semantics.specs.Names.{AreApart, NamesDiffer, HasSpelledNames}
 use Rattle.pssm_journal.specs.inner.EntryLine.{name_of_object, name_of_signal, name_of_mark, out_line, line_of_entry, RouteFits, OutFits, EntryFits}
 use Rattle.pssm_spelling.specs.Spelling.{IsName}
 use Rattle.pssm_journal.proofs.NameLaws.{object_named_back, signal_named_back, mark_named_back, each_of}
@@ -59,8 +62,14 @@ element_at (x ∷ xs) (suc i) low = element_at xs i (omega arith)
 -- ---- the line writes the entry
 
 -- a step that goes on with a value
-bind_at : {A B : Type 0} (o : Option A) (f : A → Option B) (x : A) → o ≡ Some x → (o >>= f) ≡ f x
+pub bind_at : {A B : Type 0} (o : Option A) (f : A → Option B) (x : A) → o ≡ Some x → (o >>= f) ≡ f x
 bind_at {A = A} o f x e = ap (λ (p : Option A). p >>= f) e
+
+own_mark_back : (setting : Setting) (o : ObjectId) (class : Class) (k : MarkId) (n : List ℕ) → NamesDiffer setting → AreApart 65536 class.program.marks → class_of setting o ≡ Some class → slice_get class.program.marks k.0 ≡ Some n
+    → own_mark_named setting o (name_of_mark setting o k) ≡ Some k
+unfolding own_mark_named
+own_mark_back setting o class k n differ apart at here =
+    bind_at (class_of setting o) (λ c. mark_named c (name_of_mark setting o k)) class at ∙ mark_named_back setting o class k n differ apart at here
 
 out_back : (setting : Setting) (o : ObjectId) (class : Class) (x : Out) → NamesDiffer setting → class_of setting o ≡ Some class → IsOutOf setting class x → out_named setting o (out_line setting o x) ≡ Some x
 unfolding out_named
@@ -68,8 +77,7 @@ out_back setting o class (outs.Mark k args) differ at known =
     let n = element_at class.program.marks k.0 known in
     let declared = declared_of setting o class at in
     let apart = each_of (λ c. AreApart 65536 c.program.marks) setting.classes declared.object.class class differ.marks declared.class_here in
-    bind_at (class_of setting o) (λ c. mark_named c (name_of_mark setting o k) >>= λ m. Some (outs.Mark m args)) class at
-    ∙ bind_at (mark_named class (name_of_mark setting o k)) (λ m. Some (outs.Mark m args)) k (mark_named_back setting o class k n.0 differ apart at n.1)
+    bind_at (own_mark_named setting o (name_of_mark setting o k)) (λ m. Some (outs.Mark m args)) k (own_mark_back setting o class k n.0 differ apart at n.1)
 out_back setting o class (outs.Send to s args) differ at known =
     let d = element_at setting.objects to.0 known.0 in
     let g = signal_of_count setting s (length args) known.1 in
@@ -126,21 +134,6 @@ line_writes setting e differ keeps =
     ap (λ (n : List ℕ). object_named setting n >>= λ o. entry_at setting o (line_of_entry setting e)) (object_name_is setting e)
     ∙ bind_at (object_named setting (name_of_object setting (object_of e))) (λ o. entry_at setting o (line_of_entry setting e)) (object_of e) (object_named_back setting (object_of e) declared.object differ declared.here)
     ∙ entry_back setting some.0 e differ some.1 some.2
-
--- ---- the line of a plain entry is plain
-
-pub line_is_plain : (setting : Setting) (e : Entry) → IsBuiltEntry e → IsBuiltLine (line_of_entry setting e)
-unfolding line_of_entry
-line_is_plain setting (Post o s args) plain = plain
-line_is_plain setting (Start o) plain = tt
-line_is_plain setting (Take o number firing) plain = plain.1
-line_is_plain setting (Done o state firing) plain = absurd plain
-line_is_plain setting (Exit o state xs) plain = ap (λ (ys : List Out). map (out_line setting o) ys) plain
-line_is_plain setting (Effect o t xs) plain = ap (λ (ys : List Out). map (out_line setting o) ys) plain
-line_is_plain setting (Enter o state xs) plain = ap (λ (ys : List Out). map (out_line setting o) ys) plain
-line_is_plain setting (Opened o region mode how) plain = plain
-line_is_plain setting (Pick o choice route) plain = absurd plain
-line_is_plain setting (DoStep o state step xs) plain = absurd plain
 
 -- ---- the line of a spelled entry is spelled
 
@@ -214,3 +207,37 @@ line_is_spelled setting e keeps fits names spelled =
     let some = keeps [] in
     let declared = declared_of setting (object_of e) some.0 some.1 in
     spelled_at_class setting some.0 declared.object e names declared.here some.1 some.2 spelled fits
+
+-- ---- the text of the line
+
+-- What was written is the line of the entry.
+pub written : (setting : Setting) (e : Entry) (before mid after : List ℕ) → NamesDiffer setting → KeepsNames setting e → EntryFits e → mid ≡ before ++ line_text (line_of_entry setting e) → after ≡ mid ++ 10 ∷ []
+    → IsWritten setting e before after
+written setting e before mid after differ keeps fits line feed = record {
+  line = line_of_entry setting e;
+  writes = line_writes setting e differ keeps;
+  spelled = line_is_spelled setting e keeps fits;
+  text = feed ∙ ap (λ t. t ++ 10 ∷ []) line ∙ append_assoc before (line_text (line_of_entry setting e)) (10 ∷ []);
+}
+
+-- What was written behind the front of the line of a step of a do-activity.
+pub step_written : {E : Type 0} (r : Result (Unit {0}) E) (old mid new object shown : List ℕ) (state step : ℕ)
+    → mid ≡ old ++ (codes "do " ++ (object ++ (codes " v" ++ (decimal state ++ (codes " " ++ decimal step))))) → OnOk r (new ≡ mid ++ shown)
+    → OnOk r (new ≡ old ++ (codes "do " ++ (object ++ (codes " v" ++ (decimal state ++ (codes " " ++ (decimal step ++ shown)))))))
+step_written (Ok u) old mid new object shown state step front others =
+    others ∙ ap (λ t. t ++ shown) front ∙ regrouped old (codes "do ") object (codes " v") (decimal state) (codes " ") (decimal step) shown where
+      regrouped : (a b c d e f g h : List ℕ) → (a ++ (b ++ (c ++ (d ++ (e ++ (f ++ g)))))) ++ h ≡ a ++ (b ++ (c ++ (d ++ (e ++ (f ++ (g ++ h))))))
+      regrouped a b c d e f g h = simp append_assoc
+step_written (Err e) old mid new object shown state step front others = tt
+
+pub step_line : {E : Type 0} (r : Result (Unit {0}) E) (setting : Setting) (o own : ObjectId) (e : Entry) (state : VertexId) (step : ℕ) (xs ys : List Out) (old mid new object : List ℕ)
+    → e ≡ DoStep o state step xs → own ≡ object_of e → object ≡ name_of_object setting own → ys ≡ xs
+    → mid ≡ old ++ (codes "do " ++ (object ++ (codes " v" ++ (decimal state.0 ++ (codes " " ++ decimal step))))) → OnOk r (new ≡ mid ++ outs_text (map (out_line setting own) ys))
+    → OnOk r (new ≡ old ++ line_text (line_of_entry setting e))
+unfolding line_of_entry
+step_line r setting o own e state step xs ys old mid new object is own_is name outs front others =
+    let same : own ≡ o = own_is ∙ ap object_of is in
+    let front_is = subst (λ n. mid ≡ old ++ (codes "do " ++ (n ++ (codes " v" ++ (decimal state.0 ++ (codes " " ++ decimal step)))))) (name ∙ ap (λ x. name_of_object setting x) same) front in
+    let shown = subst (λ x. OnOk r (new ≡ mid ++ outs_text (map (out_line setting x) xs))) same (subst (λ zs. OnOk r (new ≡ mid ++ outs_text (map (out_line setting own) zs))) outs others) in
+    subst (λ x. OnOk r (new ≡ old ++ line_text (line_of_entry setting x))) (sym is)
+    (step_written r old mid new (name_of_object setting o) (outs_text (map (out_line setting o) xs)) state.0 step front_is shown)

@@ -10,7 +10,7 @@ use Rattle.pssm_semantics.specs.declared.line.Line.TheVariants.{Post, Start, Tak
 use Rattle.pssm_semantics.specs.declared.line.LineOut.{LineOut}
 use Rattle.pssm_semantics.specs.declared.setting.Setting.{Setting}
 use Rattle.pssm_semantics.specs.Pool.{posts_of_entry, outs_of}
-use Rattle.pssm_journal.specs.inner.LineReading.{◌>>=◌}
+use Rattle.pssm_journal.specs.Entries.{◌>>=◌}
 use Rattle.pssm_journal.specs.Entries.{object_named, signal_named, out_named, outs_named, object_name, entry_at, entry_named, IsEntryOf}
 use Rattle.pssm_journal.specs.Judged.{line_output_count}
 

@@ -17,7 +17,12 @@ use Rattle.pssm_semantics.specs.declared.setting.Class.{Class}
 use Rattle.pssm_semantics.specs.declared.setting.Setting.{Setting}
 use Rattle.pssm_semantics.specs.Settings.{class_of}
 use Rattle.pssm_semantics.specs.Rules.{Holds}
-use Rattle.pssm_journal.specs.inner.LineReading.{◌>>=◌}
+
+-- goes on with the value, where there is one
+infixl 10 ◌>>=◌
+abbrev pub ◌>>=◌ : {A B : Type 0} → Option A → (A → Option B) → Option B
+None >>= f = None
+(Some x) >>= f = f x
 
 -- a place, where it is below the limit of its type
 abbrev pub numbered : ℕ → Option ℕ → Option ℕ
@@ -35,11 +40,16 @@ signal_named setting name = option_map (λ i. let s : SignalId = record { 0 = i 
 unfoldable pub mark_named : Class → List ℕ → Option MarkId
 mark_named class name = option_map (λ i. let k : MarkId = record { 0 = i } in k) (numbered 65536 (position (λ mark. bytes_eq mark name) class.program.marks))
 
+-- the mark of a name in the class of an object
+unfoldable pub own_mark_named : Setting → ObjectId → List ℕ → Option MarkId
+own_mark_named setting o name = do
+  class ← class_of setting o
+  mark_named class name
+
 -- an output of an object
 unfoldable pub out_named : Setting → ObjectId → LineOut → Option Out
 out_named setting o (Mark name args) = do
-  class ← class_of setting o
-  mark ← mark_named class name
+  mark ← own_mark_named setting o name
   Some (outs.Mark mark args)
 out_named setting o (Send object signal args) = do
   target ← object_named setting object
@@ -112,11 +122,3 @@ abbrev pub AreEntries : Setting → List Line → List Entry → Type 0
 AreEntries setting [] [] = Unit {0}
 AreEntries setting (l ∷ lines) (e ∷ J) = IsEntryOf setting l e × AreEntries setting lines J
 AreEntries setting _ _ = ⊥
-
--- a line of a kind that has no outputs
-abbrev pub HasNoOuts : Line → Type 0
-HasNoOuts (Exit object state outs) = ⊥
-HasNoOuts (Effect object transition outs) = ⊥
-HasNoOuts (Enter object state outs) = ⊥
-HasNoOuts (DoStep object state step outs) = ⊥
-HasNoOuts _ = Unit {0}

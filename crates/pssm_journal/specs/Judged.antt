@@ -11,16 +11,17 @@ use Rattle.pssm_semantics.specs.Rules.{Holds}
 use Rattle.pssm_semantics.specs.Pool.{output_count}
 use Rattle.pssm_semantics.specs.Admissible.{IsAdmissibleIn, KeepsJournalLimits}
 use Rattle.pssm_semantics.specs.Verdict.{IsFirstBroken}
-use Rattle.pssm_journal.specs.LineText.{journal_text}
-use Rattle.pssm_journal.specs.Grammar.{IsTakenLine, IsBadText}
+use Rattle.pssm_lines.specs.declared.fault.LineFault.{LineFault}
+use Rattle.pssm_lines.specs.LineText.{journal_text}
+use Rattle.pssm_lines.specs.Faults.{IsJournalLine, HasFault}
 use Rattle.pssm_journal.specs.Entries.{IsEntryOf, BreaksNames, AreEntries}
 
--- accepted with the number of its entries, refused at an entry, from 1, by a rule, over the limits at an entry, or no text of a journal
+-- accepted with the number of its entries, refused at an entry, from 1, by a rule, over the limits at an entry, or no text of a journal, with its first fault
 pub data Judged : Type 0 where
   Accepted : ℕ → Judged
   Refused : ℕ → Rule → Judged
   Limited : ℕ → Judged
-  BadText : Judged
+  BadText : LineFault → Judged
 
 -- how many posts, sends and marks a line writes
 abbrev pub line_output_count : Line → ℕ
@@ -35,9 +36,9 @@ line_output_count _ = 0
 abbrev pub PassesLimits : List Entry → Line → Type 0
 PassesLimits J line = (1000000 < length J + 1) ⊎ (2000000 < output_count J + line_output_count line)
 
--- Lines of the grammar write entries that break no rule, and no more than the limits allow.
+-- Lines that a journal may have write entries that break no rule, and no more than the limits allow.
 pub record IsKept (setting : Setting) (lines : List Line) (J : List Entry) : Type 0 where
-  pub lines_are : AllByRecursion IsTakenLine lines
+  pub lines_are : AllByRecursion IsJournalLine lines
   pub entries_are : AreEntries setting lines J
   pub admissible : IsAdmissibleIn setting J
   pub limits : KeepsJournalLimits J
@@ -63,7 +64,7 @@ pub record IsRefusedText (setting : Setting) (bytes : List ℕ) (position : ℕ)
   pub rest : List ℕ
   pub text : bytes ≡ journal_text (lines ++ line ∷ []) ++ rest
   pub kept : IsKept setting lines journal
-  pub is_line : IsTakenLine line
+  pub is_line : IsJournalLine line
   pub within : PassesLimits journal line → ⊥
   pub breaks : BreaksRule setting journal line rule
   pub position_is : position ≡ length journal + 1
@@ -76,15 +77,15 @@ pub record IsOverLimit (setting : Setting) (bytes : List ℕ) (position : ℕ) :
   pub rest : List ℕ
   pub text : bytes ≡ journal_text (lines ++ line ∷ []) ++ rest
   pub kept : IsKept setting lines journal
-  pub is_line : IsTakenLine line
+  pub is_line : IsJournalLine line
   pub passes : PassesLimits journal line
   pub position_is : position ≡ length journal + 1
 
--- The bytes are no text of a journal, and no entry before that breaks a rule or passes the limits.
-pub record IsBadJournal (setting : Setting) (bytes : List ℕ) : Type 0 where
+-- The bytes are no text of a journal and have this fault, and no entry before it breaks a rule or passes the limits.
+pub record IsBadJournal (setting : Setting) (bytes : List ℕ) (fault : LineFault) : Type 0 where
   pub lines : List Line
   pub journal : List Entry
-  pub bad : IsBadText bytes lines
+  pub bad : HasFault bytes lines fault
   pub kept : IsKept setting lines journal
 
 -- what is to be said of the bytes: of each line in order it is first asked whether it is one, then whether it passes the limits, then what it writes
@@ -92,4 +93,4 @@ abbrev pub IsJudged : Setting → List ℕ → Judged → Type 0
 IsJudged setting bytes (Accepted entries) = IsAccepted setting bytes entries
 IsJudged setting bytes (Refused position rule) = IsRefusedText setting bytes position rule
 IsJudged setting bytes (Limited position) = IsOverLimit setting bytes position
-IsJudged setting bytes BadText = IsBadJournal setting bytes
+IsJudged setting bytes (BadText fault) = IsBadJournal setting bytes fault

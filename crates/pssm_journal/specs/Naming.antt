@@ -1,29 +1,17 @@
 -- The settings and entries for which a line says neither more nor less than its entry.
-use Rattle.std.specs.Prelude.{◌≢◌, ◌<◌, ◌≤◌, ℕ, List, length, map, AllPairs}
+use Rattle.std.specs.Prelude.{◌≡◌, ◌<◌, ◌≤◌, ℕ, List, [], ◌∷◌, ◌++◌, length}
 use Rattle.std.specs.List.{AllByRecursion}
 use Rattle.pssm_model.specs.declared.steps.Route.{Route}
 use Rattle.pssm_model.specs.declared.steps.Firing.{Firing}
 use Rattle.pssm_model.specs.declared.steps.How.TheVariants.{By, Restore, Nothing}
 use Rattle.pssm_semantics.specs.declared.entry.Entry.{Entry}
 use Rattle.pssm_semantics.specs.declared.entry.Entry.TheVariants.{Post, Start, Take, Done, Exit, Effect, Enter, Opened, Pick, DoStep}
+use Rattle.pssm_semantics.specs.declared.line.Line.{Line}
 use Rattle.pssm_semantics.specs.declared.setting.Setting.{Setting}
-use Rattle.pssm_spelling.specs.Spelling.{IsName}
-
--- The names differ, and there are not more of them than numbers of this many values.
-abbrev pub AreApart : ℕ → List (List ℕ) → Type 0
-AreApart count names = AllPairs (λ a b. a ≢ b) names × (length names ≤ count)
-
--- The names of objects differ, those of signals do, and those of the marks of a class do (UML 2.5.1 7.4.3, namespaces).
-pub record NamesDiffer (setting : Setting) : Type 0 where
-  pub objects : AreApart 256 (map (λ d. d.name) setting.objects)
-  pub signals : AreApart 65536 (map (λ d. d.name) setting.signals)
-  pub marks : AllByRecursion (λ c. AreApart 65536 c.program.marks) setting.classes
-
--- The names of objects, signals and marks are names (this profile's choice).
-pub record HasSpelledNames (setting : Setting) : Type 0 where
-  pub objects : AllByRecursion (λ d. IsName d.name) setting.objects
-  pub signals : AllByRecursion (λ d. IsName d.name) setting.signals
-  pub marks : AllByRecursion (λ c. AllByRecursion IsName c.program.marks) setting.classes
+use Rattle.pssm_semantics.specs.Names.{HasSpelledNames}
+use Rattle.pssm_lines.specs.LineText.{line_text}
+use Rattle.pssm_lines.specs.Grammar.{IsLine}
+use Rattle.pssm_journal.specs.Entries.{IsEntryOf}
 
 -- The route starts somewhere.
 abbrev pub HasStart : Route → Type 0
@@ -46,3 +34,10 @@ IsSpelledEntry (Opened o region mode (Restore state)) = Unit {0}
 IsSpelledEntry (Opened o region mode Nothing) = Unit {0}
 IsSpelledEntry (Pick o choice route) = HasStart route
 IsSpelledEntry (DoStep o state step outs) = length outs ≤ 64
+
+-- The text goes on with the line of the entry and its line feed; where names are spelled and the entry is within the limits of a line, this is a line of the grammar.
+pub record IsWritten (setting : Setting) (e : Entry) (before after : List ℕ) : Type 0 where
+  pub line : Line
+  pub writes : IsEntryOf setting line e
+  pub spelled : HasSpelledNames setting → IsSpelledEntry e → IsLine line
+  pub text : after ≡ before ++ (line_text line ++ 10 ∷ [])

@@ -1,2 +1,3 @@
 pub mod EntryLine
-pub mod LineReading
+pub mod Places
+pub mod LineOuts

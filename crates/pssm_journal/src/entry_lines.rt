@@ -1,15 +1,21 @@
 //! The line of an entry of each kind, with the names of a setting.
 ghost use Rattle.std.specs.Prelude.{◌≡◌, map, IfOk};
-ghost use Rattle.std.specs.List.{AllByRecursion};
 ghost use Rattle.pssm_semantics.specs.declared.entry.Entry.TheVariants as entries;
-ghost use Rattle.pssm_journal.specs.inner.EntryLine.{name_of_object, out_line, line_of_entry, OutFits, EntryFits};
+ghost use Rattle.pssm_journal.specs.inner.EntryLine.{name_of_object, out_line, line_of_entry};
 
-use crate::line::text_of;
 use crate::names::{mark_name, object_name, signal_name};
-use crate::ranges::{Ranged, index};
-use pssm_model::{Firing, How, Mode, RegionId, Route, Row, SignalId, Text, TransId, VertexId};
+use pssm_model::{
+    Duplicate, Firing, How, Mode, RegionId, Route, Row, SignalId, Text, TransId, VertexId,
+};
 use pssm_semantics::{Args, Line, LineOut, ObjectId, Out, Setting};
 use std::alloc::{AllocError as NoMemory, Global};
+
+// A text of these bytes.
+fn text_of(alloc: Global, bytes: &[u8]) -> Result<Text, NoMemory>
+    ensures { IfOk result (λ t. t ≡ bytes.now) }
+{
+    Ok(Text::from_vec(bytes.to_vec(alloc)?))
+}
 
 // An output of an object, with its names.
 fn named_out(
@@ -18,13 +24,12 @@ fn named_out(
     own: ObjectId,
     out: &Out,
 ) -> Result<LineOut, NoMemory>
-    ensures same { IfOk result (λ x. x ≡ out_line setting.now own out.now) }
-    ensures fits { IfOk result (λ _. OutFits out.now) }
+    ensures { IfOk result (λ x. x ≡ out_line setting.now own out.now) }
 {
     match out {
         Out::Mark { mark, args } => Ok(LineOut::Mark {
             mark: text_of(alloc, mark_name(setting, own, *mark))?,
-            args: args.again(alloc)?,
+            args: args.copy(alloc)?,
         }),
         Out::Send {
             object,
@@ -33,7 +38,7 @@ fn named_out(
         } => Ok(LineOut::Send {
             object: text_of(alloc, object_name(setting, *object))?,
             signal: text_of(alloc, signal_name(setting, *signal))?,
-            args: args.again(alloc)?,
+            args: args.copy(alloc)?,
         }),
     }
 }
@@ -45,8 +50,7 @@ fn named_outs(
     own: ObjectId,
     outs: &[Out],
 ) -> Result<Row<LineOut>, NoMemory>
-    ensures same { IfOk result (λ xs. xs ≡ map (out_line setting.now own) outs.now) }
-    ensures fits { IfOk result (λ _. AllByRecursion OutFits outs.now) }
+    ensures { IfOk result (λ xs. xs ≡ map (out_line setting.now own) outs.now) }
 {
     let mut named = Vec::with_capacity(alloc, outs.len())?;
     for out in outs {
@@ -71,22 +75,21 @@ pub fn post_line(
     signal: SignalId,
     args: &Args,
 ) -> Result<Line, NoMemory>
-    ensures same { IfOk result (λ line. line ≡ line_of_entry setting.now (entries.Post own signal args.now)) }
-    ensures fits { IfOk result (λ _. EntryFits (entries.Post own signal args.now)) }
+    ensures { IfOk result (λ line. line ≡ line_of_entry setting.now (entries.Post own signal args.now)) }
 {
     let object = own_name(alloc, setting, own)?;
     let signal = text_of(alloc, signal_name(setting, signal))?;
     Ok(Line::Post {
         object,
         signal,
-        args: args.again(alloc)?,
+        args: args.copy(alloc)?,
     })
 }
 
 /// The line of a start.
 #[tactic(auto, unfolding(crate::specs::inner::EntryLine::line_of_entry))]
 pub fn start_line(alloc: Global, setting: &Setting, own: ObjectId) -> Result<Line, NoMemory>
-    ensures same { IfOk result (λ line. line ≡ line_of_entry setting.now (entries.Start own)) }
+    ensures { IfOk result (λ line. line ≡ line_of_entry setting.now (entries.Start own)) }
 {
     Ok(Line::Start {
         object: own_name(alloc, setting, own)?,
@@ -102,14 +105,13 @@ pub fn take_line(
     number: u32,
     firing: &Firing,
 ) -> Result<Line, NoMemory>
-    ensures same { IfOk result (λ line. line ≡ line_of_entry setting.now (entries.Take own number firing.now)) }
-    ensures fits { IfOk result (λ _. EntryFits (entries.Take own number firing.now)) }
+    ensures { IfOk result (λ line. line ≡ line_of_entry setting.now (entries.Take own number firing.now)) }
 {
     let object = own_name(alloc, setting, own)?;
     Ok(Line::Take {
         object,
         number,
-        firing: firing.again(alloc)?,
+        firing: firing.duplicate(alloc)?,
     })
 }
 
@@ -122,14 +124,13 @@ pub fn done_line(
     state: VertexId,
     firing: &Firing,
 ) -> Result<Line, NoMemory>
-    ensures same { IfOk result (λ line. line ≡ line_of_entry setting.now (entries.Done own state firing.now)) }
-    ensures fits { IfOk result (λ _. EntryFits (entries.Done own state firing.now)) }
+    ensures { IfOk result (λ line. line ≡ line_of_entry setting.now (entries.Done own state firing.now)) }
 {
     let object = own_name(alloc, setting, own)?;
     Ok(Line::Done {
         object,
-        state: VertexId(index(state.0)),
-        firing: firing.again(alloc)?,
+        state,
+        firing: firing.duplicate(alloc)?,
     })
 }
 
@@ -142,13 +143,12 @@ pub fn exit_line(
     state: VertexId,
     outs: &Row<Out>,
 ) -> Result<Line, NoMemory>
-    ensures same { IfOk result (λ line. line ≡ line_of_entry setting.now (entries.Exit own state outs.now)) }
-    ensures fits { IfOk result (λ _. EntryFits (entries.Exit own state outs.now)) }
+    ensures { IfOk result (λ line. line ≡ line_of_entry setting.now (entries.Exit own state outs.now)) }
 {
     let object = own_name(alloc, setting, own)?;
     Ok(Line::Exit {
         object,
-        state: VertexId(index(state.0)),
+        state,
         outs: named_outs(alloc, setting, own, outs.as_slice())?,
     })
 }
@@ -162,13 +162,12 @@ pub fn effect_line(
     transition: TransId,
     outs: &Row<Out>,
 ) -> Result<Line, NoMemory>
-    ensures same { IfOk result (λ line. line ≡ line_of_entry setting.now (entries.Effect own transition outs.now)) }
-    ensures fits { IfOk result (λ _. EntryFits (entries.Effect own transition outs.now)) }
+    ensures { IfOk result (λ line. line ≡ line_of_entry setting.now (entries.Effect own transition outs.now)) }
 {
     let object = own_name(alloc, setting, own)?;
     Ok(Line::Effect {
         object,
-        transition: TransId(index(transition.0)),
+        transition,
         outs: named_outs(alloc, setting, own, outs.as_slice())?,
     })
 }
@@ -182,13 +181,12 @@ pub fn enter_line(
     state: VertexId,
     outs: &Row<Out>,
 ) -> Result<Line, NoMemory>
-    ensures same { IfOk result (λ line. line ≡ line_of_entry setting.now (entries.Enter own state outs.now)) }
-    ensures fits { IfOk result (λ _. EntryFits (entries.Enter own state outs.now)) }
+    ensures { IfOk result (λ line. line ≡ line_of_entry setting.now (entries.Enter own state outs.now)) }
 {
     let object = own_name(alloc, setting, own)?;
     Ok(Line::Enter {
         object,
-        state: VertexId(index(state.0)),
+        state,
         outs: named_outs(alloc, setting, own, outs.as_slice())?,
     })
 }
@@ -203,15 +201,14 @@ pub fn opened_line(
     mode: Mode,
     how: &How,
 ) -> Result<Line, NoMemory>
-    ensures same { IfOk result (λ line. line ≡ line_of_entry setting.now (entries.Opened own region mode how.now)) }
-    ensures fits { IfOk result (λ _. EntryFits (entries.Opened own region mode how.now)) }
+    ensures { IfOk result (λ line. line ≡ line_of_entry setting.now (entries.Opened own region mode how.now)) }
 {
     let object = own_name(alloc, setting, own)?;
     Ok(Line::Opened {
         object,
-        region: RegionId(index(region.0)),
+        region,
         mode,
-        how: how.again(alloc)?,
+        how: how.duplicate(alloc)?,
     })
 }
 
@@ -224,14 +221,13 @@ pub fn pick_line(
     choice: VertexId,
     route: &Route,
 ) -> Result<Line, NoMemory>
-    ensures same { IfOk result (λ line. line ≡ line_of_entry setting.now (entries.Pick own choice route.now)) }
-    ensures fits { IfOk result (λ _. EntryFits (entries.Pick own choice route.now)) }
+    ensures { IfOk result (λ line. line ≡ line_of_entry setting.now (entries.Pick own choice route.now)) }
 {
     let object = own_name(alloc, setting, own)?;
     Ok(Line::Pick {
         object,
-        choice: VertexId(index(choice.0)),
-        route: route.again(alloc)?,
+        choice,
+        route: route.duplicate(alloc)?,
     })
 }
 
@@ -245,14 +241,13 @@ pub fn do_step_line(
     step: u16,
     outs: &Row<Out>,
 ) -> Result<Line, NoMemory>
-    ensures same { IfOk result (λ line. line ≡ line_of_entry setting.now (entries.DoStep own state step outs.now)) }
-    ensures fits { IfOk result (λ _. EntryFits (entries.DoStep own state step outs.now)) }
+    ensures { IfOk result (λ line. line ≡ line_of_entry setting.now (entries.DoStep own state step outs.now)) }
 {
     let object = own_name(alloc, setting, own)?;
     Ok(Line::DoStep {
         object,
-        state: VertexId(index(state.0)),
-        step: index(step),
+        state,
+        step,
         outs: named_outs(alloc, setting, own, outs.as_slice())?,
     })
 }

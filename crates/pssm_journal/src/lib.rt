@@ -1,39 +1,35 @@
-//! The text of a journal, and the entries that its lines write.
+//! The entries that the lines of a journal write.
 //!
-//! A journal is the line `pssm-journal 1` and then one line for each entry, each ended by a line feed (this
-//! profile's choice). The grammar of lines, the one spelling of each line, what makes bytes no text of a journal, and
-//! what is to be said of the bytes under a setting stand in this crate's `specs/`. A [`LineReader`] takes the bytes in
-//! whatever pieces they come and gives the lines, and [`entry_of`] gives the entry of a line. This crate knows nothing
-//! of whether an entry may follow: that is for the crates above.
+//! A line names objects, signals and marks, and an entry has their numbers in a setting. What entry a line writes, and
+//! what is to be said of the bytes of a journal under a setting, stand in this crate's `specs/`. A [`Namespace`] is made
+//! once of a setting and finds names; [`entry_of_parts`] gives the entry of a line's parts as they lie in a text, and
+//! [`put_entry`] writes the line of an entry; [`entry_of`] and [`line_of`] do the same for lines with names of their own.
+//! How lines are spelled is known below (`pssm_lines`), and whether an entry may follow is for the crates above.
 #![tactic(auto)]
 
-mod batch;
 mod entry;
 mod entry_lines;
-mod fault;
 mod judged;
 mod known;
 mod laws;
-mod line;
-#[cfg(test)]
-mod line_tests;
 mod names;
+mod namespace;
 mod naming;
-#[cfg(test)]
-mod naming_tests;
-mod parts;
+mod outputs;
+mod places;
 mod ranges;
-mod reader;
-mod spelled;
 #[cfg(test)]
 mod tests;
 mod writing;
 
-pub use entry::entry_of;
-pub use fault::LineFault;
+pub use entry::{entry_of, entry_of_parts};
 pub use judged::one_judgement;
-pub use laws::{built_lines, one_spelling, read_again};
+pub use laws::{built_lines, read_again};
+pub use namespace::Namespace;
 pub use naming::line_of;
+pub use pssm_lines::{
+    Fed, Front, LineFault, LineParts, LineReader, OutParts, OutsText, front_of, next_out,
+    one_fault, one_spelling, write_line,
+};
 pub use pssm_semantics::{Entry, Line, LineOut, Out, Rule};
-pub use reader::{Fed, LineReader};
-pub use writing::write_line;
+pub use writing::put_entry;

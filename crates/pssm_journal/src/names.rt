@@ -1,38 +1,44 @@
 //! What the names of a line stand for in a setting, and which name a number has.
-ghost use Rattle.std.specs.Prelude.{◌≡◌, position};
+ghost use Rattle.std.specs.Prelude.{◌≡◌, ℕ, position, Some, option_map};
 ghost use Rattle.std.specs.Option.{option_copied};
 ghost use Rattle.std.specs.Str.{bytes_eq};
+ghost use Rattle.pssm_semantics.specs.declared.setting.Setting.{Setting};
 ghost use Rattle.pssm_semantics.specs.Settings.{class_of};
-ghost use Rattle.pssm_journal.specs.Entries.{object_named, signal_named, mark_named};
+ghost use Rattle.pssm_journal.specs.Entries.{numbered, object_named, signal_named, mark_named, own_mark_named};
 ghost use Rattle.pssm_journal.specs.inner.EntryLine.{name_of_object, name_of_signal, name_of_mark};
 
-use pssm_model::{MarkId, SignalId, Text};
-use pssm_semantics::{Class, ObjectDecl, ObjectId, Setting, SignalDecl};
+use crate::places::Named;
+use pssm_model::{MarkId, SignalId};
+use pssm_semantics::{Class, ObjectId, Setting};
 
-fn object_place(objects: &[ObjectDecl], name: &[u8]) -> Option<usize>
-    ensures { result ≡ position (λ d. bytes_eq d.name name.now) objects.now }
-{
-    objects.iter().position(|d| d.name.as_slice() == name)
+/// What names stand for in a setting, the first of several that have one name.
+pub trait Names {
+    ghost setting: { Self → Setting };
+
+    /// The object of a name.
+    fn object(&self, name: &[u8]) -> Option<ObjectId>
+        ensures { result ≡ object_named (setting self.now) name.now };
+
+    /// The signal of a name.
+    fn signal(&self, name: &[u8]) -> Option<SignalId>
+        ensures { result ≡ signal_named (setting self.now) name.now };
+
+    /// The mark of a name in the class of an object.
+    fn mark(&self, own: ObjectId, name: &[u8]) -> Option<MarkId>
+        ensures { result ≡ own_mark_named (setting self.now) own name.now };
 }
 
-fn signal_place(signals: &[SignalDecl], name: &[u8]) -> Option<usize>
-    ensures { result ≡ position (λ d. bytes_eq d.name name.now) signals.now }
+// The first place at which one of these has the name.
+fn place_among<T: Named>(named: &[T], name: &[u8]) -> Option<usize>
+    ensures { result ≡ position (λ x. bytes_eq (T.name_of x) name.now) named.now }
 {
-    signals.iter().position(|d| d.name.as_slice() == name)
+    named.iter().position(|x| x.name() == name)
 }
 
-fn mark_place(marks: &[Text], name: &[u8]) -> Option<usize>
-    ensures { result ≡ position (λ mark. bytes_eq mark name.now) marks.now }
+/// The object at a place, where there may be so many.
+pub fn object_id(place: usize) -> Option<ObjectId>
+    ensures { result ≡ option_map (λ i. record { 0 = i }) (numbered 256 (Some place)) }
 {
-    marks.iter().position(|mark| mark.as_slice() == name)
-}
-
-/// The object of a name, the first if there are several.
-#[tactic(auto, unfolding(crate::specs::Entries::object_named))]
-pub fn object_of(setting: &Setting, name: &Text) -> Option<ObjectId>
-    ensures { result ≡ object_named setting.now name.now }
-{
-    let place = object_place(setting.objects.as_slice(), name.as_slice())?;
     if place < 256 {
         Some(ObjectId(place as u8))
     } else {
@@ -40,12 +46,10 @@ pub fn object_of(setting: &Setting, name: &Text) -> Option<ObjectId>
     }
 }
 
-/// The signal of a name, the first if there are several.
-#[tactic(auto, unfolding(crate::specs::Entries::signal_named))]
-pub fn signal_of(setting: &Setting, name: &Text) -> Option<SignalId>
-    ensures { result ≡ signal_named setting.now name.now }
+/// The signal at a place, where there may be so many.
+pub fn signal_id(place: usize) -> Option<SignalId>
+    ensures { result ≡ option_map (λ i. record { 0 = i }) (numbered 65536 (Some place)) }
 {
-    let place = signal_place(setting.signals.as_slice(), name.as_slice())?;
     if place < 65_536 {
         Some(SignalId(place as u16))
     } else {
@@ -53,16 +57,34 @@ pub fn signal_of(setting: &Setting, name: &Text) -> Option<SignalId>
     }
 }
 
-/// The mark of a name in a class, the first if there are several.
-#[tactic(auto, unfolding(crate::specs::Entries::mark_named))]
-pub fn mark_of(class: &Class, name: &Text) -> Option<MarkId>
-    ensures { result ≡ mark_named class.now name.now }
+/// The mark at a place, where there may be so many.
+pub fn mark_id(place: usize) -> Option<MarkId>
+    ensures { result ≡ option_map (λ i. record { 0 = i }) (numbered 65536 (Some place)) }
 {
-    let place = mark_place(class.program.marks.as_slice(), name.as_slice())?;
     if place < 65_536 {
         Some(MarkId(place as u16))
     } else {
         None
+    }
+}
+
+impl Names for Setting {
+    ghost setting = { λ s. s };
+
+    #[tactic(auto, unfolding(crate::specs::Entries::object_named))]
+    fn object(&self, name: &[u8]) -> Option<ObjectId> {
+        object_id(place_among(self.objects.as_slice(), name)?)
+    }
+
+    #[tactic(auto, unfolding(crate::specs::Entries::signal_named))]
+    fn signal(&self, name: &[u8]) -> Option<SignalId> {
+        signal_id(place_among(self.signals.as_slice(), name)?)
+    }
+
+    #[tactic(auto, unfolding(crate::specs::Entries::own_mark_named, crate::specs::Entries::mark_named))]
+    fn mark(&self, own: ObjectId, name: &[u8]) -> Option<MarkId> {
+        let class = class_at(self, own)?;
+        mark_id(place_among(class.program.marks.as_slice(), name)?)
     }
 }
 

@@ -1,89 +1,78 @@
-//! Copies of the parts of an entry. Where a number is read it is known to be in the range of its type, and so the
-//! copies say it of all numbers of a part.
-ghost use Rattle.std.specs.Prelude.{◌≡◌, IfOk, FitsSigned};
+//! Numbers within the ranges of their types. Where a number is read it is known to be in range, and so a look at all
+//! numbers of an entry says it of each.
+ghost use Rattle.std.specs.Prelude.{FitsSigned};
 ghost use Rattle.std.specs.Int.{w64};
 ghost use Rattle.std.specs.List.{AllByRecursion};
-ghost use Rattle.pssm_journal.specs.Grammar.{IsIndex, AreArgs};
-ghost use Rattle.pssm_journal.specs.inner.EntryLine.{RouteFits, FiringFits, HowFits};
+ghost use Rattle.pssm_lines.specs.Grammar.{IsIndex, AreArgs};
+ghost use Rattle.pssm_journal.specs.inner.EntryLine.{RouteFits, FiringFits, HowFits, OutFits, EntryFits};
 
-use pssm_model::{Firing, How, Route, Row, TransId, VertexId};
-use pssm_semantics::Args;
-use std::alloc::{AllocError as NoMemory, Global};
+use pssm_model::{Firing, How, RegionId, Route, TransId, VertexId};
+use pssm_semantics::{Args, Entry, Out};
 
 /// A part whose numbers have a range.
-pub trait Ranged: Drop {
+pub trait Ranged {
     ghost fits: { Self → Type 0 };
 
-    /// A second value, equal to this one.
-    fn again(&self, alloc: Global) -> Result<Self, NoMemory>
-        ensures same { IfOk result (λ other. other ≡ self.now) }
-        ensures fits { IfOk result (λ _. fits self.now) };
+    /// Looks at its numbers.
+    fn look(&self)
+        ensures { fits self.now };
 }
 
-/// The number of an element or of a do step.
-pub fn index(n: u16) -> u16
-    ensures same { result ≡ n }
-    ensures fits { IsIndex n }
-{
-    n
-}
+// Looks at the number of an element or of a do step.
+fn look_at(_n: u16)
+    ensures { IsIndex _n }
+{}
 
-fn copies<T: Ranged>(alloc: Global, parts: &[T]) -> Result<Vec<T>, NoMemory>
-    ensures same { IfOk result (λ v. v.items ≡ parts.now) }
-    ensures fits { IfOk result (λ _. AllByRecursion T.fits parts.now) }
+// Looks at the numbers of all parts.
+fn look_at_all<T: Ranged>(parts: &[T])
+    ensures { AllByRecursion T.fits parts.now }
 {
-    let mut others = Vec::with_capacity(alloc, parts.len())?;
     for part in parts {
-        others.push(part.again(alloc)?)?;
+        part.look();
     }
-    Ok(others)
 }
 
 impl Ranged for i64 {
     ghost fits = { λ n. FitsSigned w64 n };
 
-    fn again(&self, _alloc: Global) -> Result<i64, NoMemory> {
-        Ok(*self)
+    fn look(&self) {
+        let _n = *self;
     }
 }
 
 impl Ranged for TransId {
     ghost fits = { λ t. IsIndex t.0 };
 
-    fn again(&self, _alloc: Global) -> Result<TransId, NoMemory> {
-        Ok(TransId(index(self.0)))
+    fn look(&self) {
+        look_at(self.0);
     }
 }
 
 impl Ranged for Route {
     ghost fits = { RouteFits };
 
-    fn again(&self, alloc: Global) -> Result<Route, NoMemory> {
-        Ok(Route {
-            starts: Row::from_vec(copies(alloc, self.starts.as_slice())?),
-            rest: Row::from_vec(copies(alloc, self.rest.as_slice())?),
-        })
+    fn look(&self) {
+        look_at_all(self.starts.as_slice());
+        look_at_all(self.rest.as_slice());
     }
 }
 
 impl Ranged for Firing {
     ghost fits = { FiringFits };
 
-    fn again(&self, alloc: Global) -> Result<Firing, NoMemory> {
-        Ok(Firing {
-            routes: Row::from_vec(copies(alloc, self.routes.as_slice())?),
-        })
+    fn look(&self) {
+        look_at_all(self.routes.as_slice());
     }
 }
 
 impl Ranged for How {
     ghost fits = { HowFits };
 
-    fn again(&self, alloc: Global) -> Result<How, NoMemory> {
+    fn look(&self) {
         match self {
-            How::By(route) => Ok(How::By(route.again(alloc)?)),
-            How::Restore(state) => Ok(How::Restore(VertexId(index(state.0)))),
-            How::Nothing => Ok(How::Nothing),
+            How::By(route) => route.look(),
+            How::Restore(state) => look_at(state.0),
+            How::Nothing => {}
         }
     }
 }
@@ -91,7 +80,66 @@ impl Ranged for How {
 impl Ranged for Args {
     ghost fits = { AreArgs };
 
-    fn again(&self, alloc: Global) -> Result<Args, NoMemory> {
-        Ok(Args::from_vec(copies(alloc, self.as_slice())?))
+    fn look(&self) {
+        look_at_all(self.as_slice());
+    }
+}
+
+impl Ranged for Out {
+    ghost fits = { OutFits };
+
+    fn look(&self) {
+        match self {
+            Out::Mark { args, .. } | Out::Send { args, .. } => args.look(),
+        }
+    }
+}
+
+impl Ranged for Entry {
+    ghost fits = { EntryFits };
+
+    fn look(&self) {
+        match self {
+            Entry::Post { args, .. } => args.look(),
+            Entry::Start { .. } => {}
+            Entry::Take { number, firing, .. } => {
+                let _number = *number;
+                firing.look();
+            }
+            Entry::Done { state, firing, .. } => {
+                look_at(state.0);
+                firing.look();
+            }
+            Entry::Exit { state, outs, .. } | Entry::Enter { state, outs, .. } => {
+                look_at(state.0);
+                look_at_all(outs.as_slice());
+            }
+            Entry::Effect {
+                transition,
+                outs,
+                ..
+            } => {
+                look_at(transition.0);
+                look_at_all(outs.as_slice());
+            }
+            Entry::Opened { region, how, .. } => {
+                look_at(region.0);
+                how.look();
+            }
+            Entry::Pick { choice, route, .. } => {
+                look_at(choice.0);
+                route.look();
+            }
+            Entry::DoStep {
+                state,
+                step,
+                outs,
+                ..
+            } => {
+                look_at(state.0);
+                look_at(*step);
+                look_at_all(outs.as_slice());
+            }
+        }
     }
 }

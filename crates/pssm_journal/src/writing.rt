@@ -1,54 +1,78 @@
-//! The text of a line.
-ghost use Rattle.std.specs.Prelude.{◌≡◌, [], ◌∷◌, ◌++◌, IfOk, OnOk, codes};
+//! The text of an entry's line, with no line between the two.
+ghost use Rattle.std.specs.Prelude.{◌≡◌, ◌++◌, OnOk, map, codes};
 ghost use Rattle.std.specs.Fmt.{decimal};
 ghost use Rattle.pssm_semantics.specs.declared.line.Line.TheVariants as lines;
-ghost use Rattle.pssm_journal.specs.Entries.{HasNoOuts};
-ghost use Rattle.pssm_journal.specs.LineText.{line_text, mode_text};
+ghost use Rattle.pssm_lines.specs.LineText.{line_text, out_text, outs_text};
+ghost use Rattle.pssm_journal.specs.Entries.{KeepsNames};
+ghost use Rattle.pssm_journal.specs.Naming.{IsWritten};
+ghost use Rattle.pssm_semantics.specs.Names.{NamesDiffer};
+ghost use Rattle.pssm_journal.specs.inner.EntryLine.{out_line, line_of_entry};
+ghost use Rattle.pssm_journal.specs.inner.LineOuts.{HasNoOuts};
 
-use crate::spelled::{Spelled, put_call, put_outs};
-use pssm_model::{How, Mode, RegionId, Text};
-use pssm_semantics::Line;
+use crate::known::object_of;
+use crate::names::{mark_name, object_name, signal_name};
+use crate::ranges::Ranged;
+use pssm_lines::{Spelled, mode_name, put_call, put_place};
+use pssm_model::{How, Mode, RegionId, VertexId};
+use pssm_semantics::{Entry, ObjectId, Out, Setting};
 use std::alloc::{AllocError as NoMemory, Global};
 
-// Writes the kind of a line, its object, and a number behind a word.
-fn put_place(
+// Writes an output of an object.
+fn put_out(
     alloc: Global,
     text: &mut Vec<u8>,
-    kind: &[u8],
-    object: &Text,
-    word: &[u8],
-    number: u32,
+    setting: &Setting,
+    own: ObjectId,
+    out: &Out,
 ) -> Result<(), NoMemory>
-    ensures { OnOk result (text.new.items ≡ text.old.items ++ (kind.now ++ (object.now ++ (word.now ++ decimal number)))) }
+    ensures { OnOk result (text.new.items ≡ text.old.items ++ out_text (out_line setting.now own out.now)) }
 {
-    text.extend_from_slice(kind)?;
-    text.extend_from_slice(object.as_slice())?;
-    text.extend_from_slice(word)?;
-    number.put(alloc, text)
-}
-
-// The name of a mode.
-fn mode_name(mode: Mode) -> &'static [u8]
-    ensures { result.now ≡ mode_text mode }
-{
-    match mode {
-        Mode::Plain => b"default",
-        Mode::Shallow => b"shallow",
-        Mode::Deep => b"deep",
+    match out {
+        Out::Mark { mark, args } => {
+            text.push(b'!')?;
+            text.extend_from_slice(mark_name(setting, own, *mark))?;
+            args.put(alloc, text)
+        }
+        Out::Send {
+            object,
+            signal,
+            args,
+        } => {
+            text.push(b'>')?;
+            let object = object_name(setting, *object);
+            put_call(alloc, text, object, signal_name(setting, *signal), args)
+        }
     }
 }
 
+// Writes the outputs of an object, each with a space before it.
+fn put_outs(
+    alloc: Global,
+    text: &mut Vec<u8>,
+    setting: &Setting,
+    own: ObjectId,
+    outs: &[Out],
+) -> Result<(), NoMemory>
+    ensures { OnOk result (text.new.items ≡ text.old.items ++ outs_text (map (out_line setting.now own) outs.now)) }
+{
+    for out in outs {
+        text.push(b' ')?;
+        put_out(alloc, text, setting, own, out)?;
+    }
+    Ok(())
+}
+
 // Writes the line of an opening.
+#[tactic(auto, unfolding(crate::specs::inner::EntryLine::line_of_entry))]
 fn put_opened(
     alloc: Global,
     text: &mut Vec<u8>,
-    object: &Text,
+    object: &[u8],
     region: RegionId,
     mode: Mode,
     how: &How,
 ) -> Result<(), NoMemory>
-    ensures { OnOk result (text.new.items ≡
-        text.old.items ++ line_text (lines.Opened object.now region mode how.now)) }
+    ensures { OnOk result (text.new.items ≡ text.old.items ++ line_text (lines.Opened object.now region mode how.now)) }
 {
     put_place(alloc, text, b"open ", object, b" r", u32::from(region.0))?;
     text.push(b' ')?;
@@ -57,52 +81,44 @@ fn put_opened(
     how.put(alloc, text)
 }
 
-// Writes a line without outputs, without its line feed.
-fn put_line_without_outs(alloc: Global, text: &mut Vec<u8>, line: &Line) -> Result<(), NoMemory>
-    ensures { OnOk result (HasNoOuts line.now → text.new.items ≡ text.old.items ++ line_text line.now) }
+// Writes the line of an entry without outputs, without its line feed.
+#[tactic(auto, unfolding(crate::specs::inner::EntryLine::line_of_entry))]
+fn put_plain(
+    alloc: Global,
+    text: &mut Vec<u8>,
+    setting: &Setting,
+    entry: &Entry,
+) -> Result<(), NoMemory>
+    ensures { OnOk result (HasNoOuts (line_of_entry setting.now entry.now)
+        → text.new.items ≡ text.old.items ++ line_text (line_of_entry setting.now entry.now)) }
 {
-    match line {
-        Line::Post {
-            object,
-            signal,
-            args,
-        } => {
+    let object = object_name(setting, object_of(entry));
+    match entry {
+        Entry::Post { signal, args, .. } => {
             text.extend_from_slice(b"post ")?;
-            put_call(alloc, text, object, signal, args)
+            put_call(alloc, text, object, signal_name(setting, *signal), args)
         }
-        Line::Start { object } => {
+        Entry::Start { .. } => {
             text.extend_from_slice(b"start ")?;
-            text.extend_from_slice(object.as_slice())
+            text.extend_from_slice(object)
         }
-        Line::Take {
-            object,
-            number,
-            firing,
-        } => {
+        Entry::Take { number, firing, .. } => {
             put_place(alloc, text, b"take ", object, b" ", *number)?;
             text.push(b' ')?;
             firing.put(alloc, text)
         }
-        Line::Done {
-            object,
-            state,
-            firing,
-        } => {
+        Entry::Done { state, firing, .. } => {
             put_place(alloc, text, b"done ", object, b" v", u32::from(state.0))?;
             text.push(b' ')?;
             firing.put(alloc, text)
         }
-        Line::Opened {
-            object,
+        Entry::Opened {
             region,
             mode,
             how,
+            ..
         } => put_opened(alloc, text, object, *region, *mode, how),
-        Line::Pick {
-            object,
-            choice,
-            route,
-        } => {
+        Entry::Pick { choice, route, .. } => {
             put_place(alloc, text, b"pick ", object, b" v", u32::from(choice.0))?;
             text.push(b' ')?;
             route.put(alloc, text)
@@ -111,63 +127,82 @@ fn put_line_without_outs(alloc: Global, text: &mut Vec<u8>, line: &Line) -> Resu
     }
 }
 
-// Writes a line without its line feed.
-fn put_line(alloc: Global, text: &mut Vec<u8>, line: &Line) -> Result<(), NoMemory>
-    ensures { OnOk result (text.new.items ≡ text.old.items ++ line_text line.now) }
+// Writes the front of the line of a step of a do-activity, up to its outputs.
+fn put_step(
+    alloc: Global,
+    text: &mut Vec<u8>,
+    object: &[u8],
+    state: VertexId,
+    step: u16,
+) -> Result<(), NoMemory>
+    ensures { OnOk result (text.new.items ≡ text.old.items
+        ++ (codes "do " ++ (object.now ++ (codes " v" ++ (decimal state.0 ++ (codes " " ++ decimal step)))))) }
 {
-    match line {
-        Line::Exit {
-            object,
-            state,
-            outs,
-        } => {
+    put_place(alloc, text, b"do ", object, b" v", u32::from(state.0))?;
+    text.push(b' ')?;
+    u32::from(step).put(alloc, text)
+}
+
+// Writes the line of an entry, without its line feed.
+#[tactic(auto, unfolding(crate::specs::inner::EntryLine::line_of_entry))]
+fn put_named(
+    alloc: Global,
+    text: &mut Vec<u8>,
+    setting: &Setting,
+    entry: &Entry,
+) -> Result<(), NoMemory>
+    ensures { OnOk result (text.new.items ≡ text.old.items ++ line_text (line_of_entry setting.now entry.now)) }
+{
+    let own = object_of(entry);
+    let object = object_name(setting, own);
+    match entry {
+        Entry::Exit { state, outs, .. } => {
             put_place(alloc, text, b"exit ", object, b" v", u32::from(state.0))?;
-            put_outs(alloc, text, outs.as_slice())
+            put_outs(alloc, text, setting, own, outs.as_slice())
         }
-        Line::Effect {
-            object,
+        Entry::Effect {
             transition,
             outs,
+            ..
         } => {
-            put_place(
-                alloc,
-                text,
-                b"effect ",
-                object,
-                b" t",
-                u32::from(transition.0),
-            )?;
-            put_outs(alloc, text, outs.as_slice())
+            let number = u32::from(transition.0);
+            put_place(alloc, text, b"effect ", object, b" t", number)?;
+            put_outs(alloc, text, setting, own, outs.as_slice())
         }
-        Line::Enter {
-            object,
-            state,
-            outs,
-        } => {
+        Entry::Enter { state, outs, .. } => {
             put_place(alloc, text, b"enter ", object, b" v", u32::from(state.0))?;
-            put_outs(alloc, text, outs.as_slice())
+            put_outs(alloc, text, setting, own, outs.as_slice())
         }
-        Line::DoStep {
-            object,
+        Entry::DoStep {
             state,
             step,
             outs,
+            ..
         } => {
-            put_place(alloc, text, b"do ", object, b" v", u32::from(state.0))?;
-            text.push(b' ')?;
-            u32::from(*step).put(alloc, text)?;
-            put_outs(alloc, text, outs.as_slice())
+            put_step(alloc, text, object, *state, *step)?;
+            put_outs(alloc, text, setting, own, outs.as_slice())
         }
-        _ => put_line_without_outs(alloc, text, line),
+        _ => put_plain(alloc, text, setting, entry),
     }
 }
 
-/// The bytes of a line, its line feed included.
-pub fn write_line(alloc: Global, line: &Line) -> Result<Vec<u8>, NoMemory>
-    ensures { IfOk result (λ bytes. bytes.items ≡ line_text line.now ++ 10 ∷ []) }
+/// Writes the line of an entry of the setting at the end of a text, its line feed included: the line of
+/// [`crate::line_of`], and nothing is taken from the allocator but for the text.
+///
+/// It takes an entry that keeps the first rule of a run, and a setting in which names differ. Where memory runs out
+/// the text may have got a front of the line.
+pub fn put_entry(
+    alloc: Global,
+    text: &mut Vec<u8>,
+    setting: &Setting,
+    entry: &Entry,
+) -> Result<(), NoMemory>
+    requires names { KeepsNames setting.now entry.now }
+    requires differ { NamesDiffer setting.now }
+    ensures { OnOk result (IsWritten setting.now entry.now text.old.items text.new.items) }
 {
-    let mut text = Vec::new(alloc);
-    put_line(alloc, &mut text, line)?;
+    entry.look();
+    put_named(alloc, text, setting, entry)?;
     text.push(b'\n')?;
-    Ok(text)
+    Ok(())
 }

@@ -1,6 +1,6 @@
 -- Of each bytes something is to be said as a journal of the setting.
-use Rattle.std.proofs.Common.{◌≡◌, ◌+◌, ◌<◌, ℕ, zero, suc, List, [], ◌∷◌, ◌++◌, length, Option, Some, None, refl, sym, ap, subst, ◌∙◌, inl, inr, arith}
-use Rattle.std.proofs.lemmas.Bool.{cases_lt}
+use Rattle.std.proofs.Common.{◌≡◌, ◌+◌, ◌<◌, ℕ, zero, suc, true, false, List, [], ◌∷◌, ◌++◌, length, Option, Some, None, refl, sym, ap, subst, ◌∙◌, inl, inr, arith}
+use Rattle.std.proofs.lemmas.Bool.{cases_lt, false≢true}
 use Rattle.std.proofs.lemmas.List.{append-nil, length-append}
 use Rattle.pssm_semantics.specs.declared.entry.Entry.{Entry}
 use Rattle.pssm_semantics.specs.declared.entry.Rule.{Rule}
@@ -12,14 +12,15 @@ use Rattle.pssm_semantics.specs.Verdict.{IsFirstBroken, number_of}
 use Rattle.pssm_semantics.specs.Admissible.{MayFollow}
 use Rattle.pssm_semantics.proofs.Admissible.{IsAdmissible-nil}
 use Rattle.pssm_semantics.proofs.Appending.{admissible_push, every_push}
-use Rattle.pssm_journal.specs.LineText.{line_text, header_line, journal_text}
-use Rattle.pssm_journal.specs.Grammar.{IsTakenLine, no_header, no_line}
+use Rattle.pssm_lines.specs.LineText.{line_text, header_line, journal_text}
+use Rattle.pssm_lines.specs.Faults.{IsJournalLine, in_header, in_line}
 use Rattle.pssm_journal.specs.Entries.{entry_named, IsEntryOf}
 use Rattle.pssm_journal.specs.Judged.{Judged, Accepted, Refused, Limited, BadText, PassesLimits, IsKept, BreaksRule, by_entry, by_names, IsJudged}
-use Rattle.pssm_journal.proofs.Streams.{one_more_line}
-use Rattle.pssm_system.proofs.Kept.{same_rule, number_above, number_below}
+use Rattle.pssm_journal.proofs.Fronts.{one_more_line}
+use Rattle.pssm_object.proofs.Kept.{same_rule, number_above, number_below}
 use Rattle.pssm_judge.proofs.FollowingLaws.{entries_append}
 use Rattle.pssm_judge.proofs.RunLaws.{limits_push}
+use Rattle.pssm_judge.proofs.SomeFault.{some_fault}
 
 -- An entry breaks a rule first, or breaks none.
 module _ (setting : Setting) (J : List Entry) (e : Entry) (no_first : (rule : Rule) → IsFirstBroken (Holds setting) J e rule → ⊥) where
@@ -46,7 +47,7 @@ module _ (setting : Setting) (J : List Entry) (e : Entry) (no_first : (rule : Ru
 
 module _ (setting : Setting) (bytes : List ℕ) (unsaid : (judged : Judged) → IsJudged setting bytes judged → ⊥) where
   -- A line that stands behind lines that are kept.
-  module _ (lines : List Line) (J : List Entry) (rest after : List ℕ) (line : Line) (text : bytes ≡ journal_text lines ++ rest) (kept : IsKept setting lines J) (is_line : IsTakenLine line)
+  module _ (lines : List Line) (J : List Entry) (rest after : List ℕ) (line : Line) (text : bytes ≡ journal_text lines ++ rest) (kept : IsKept setting lines J) (is_line : IsJournalLine line)
       (begins : rest ≡ line_text line ++ 10 ∷ after) where
     with_line : bytes ≡ journal_text (lines ++ line ∷ []) ++ after
     with_line = text ∙ ap (λ (t : List ℕ). journal_text lines ++ t) begins ∙ sym (one_more_line lines line after)
@@ -63,7 +64,7 @@ module _ (setting : Setting) (bytes : List ℕ) (unsaid : (judged : Judged) → 
     module _ (never_more : (K : List Entry) → bytes ≡ journal_text (lines ++ line ∷ []) ++ after → IsKept setting (lines ++ line ∷ []) K → length after < length rest → ⊥) where
       goes_on : (e : Entry) → IsEntryOf setting line e → MayFollow setting J e → ⊥
       goes_on e writes follows = never_more (J ++ e ∷ []) with_line (record {
-        lines_are = every_push IsTakenLine lines line kept.lines_are is_line;
+        lines_are = every_push IsJournalLine lines line kept.lines_are is_line;
         entries_are = entries_append setting lines (line ∷ []) J (e ∷ []) kept.entries_are (writes, tt);
         admissible = admissible_push setting J e kept.admissible follows;
         limits = limits_push setting J line e writes within;
@@ -73,28 +74,23 @@ module _ (setting : Setting) (bytes : List ℕ) (unsaid : (judged : Judged) → 
       never_line None none = breaks_none A1 (by_names (λ e writes keeps. absurd (cc)) refl)
       never_line (Some e) writes = breaks_or_follows setting J e (λ rule first. breaks_none rule (by_entry e writes first)) (goes_on e writes)
 
-  -- No lines are kept: they are all, or what follows them is no line, or a line with which something is to be said or one more is kept.
+  -- No lines are kept: they are all, or what follows them has a fault, or a line with which something is to be said or one more is kept.
   never_kept : (fuel : ℕ) (lines : List Line) (J : List Entry) (rest : List ℕ) → bytes ≡ journal_text lines ++ rest → IsKept setting lines J → length rest < fuel → ⊥
   never_kept zero lines J rest text kept few = absurd (omega (arith, few))
   never_kept (suc fuel) lines J [] text kept few =
       unsaid (Accepted (length J)) (record { lines = lines; journal = J; text = text ∙ append-nil (journal_text lines); kept = kept; entries_are = refl })
-  never_kept (suc fuel) lines J (c ∷ rest) text kept few = unsaid BadText (record {
-    lines = lines;
-    journal = J;
-    bad = no_line (c ∷ rest) text (λ none. absurd (cc)) kept.lines_are (λ line after is_line begins.
-        never_line lines J (c ∷ rest) after line text kept is_line begins
-        (λ K more also less. never_kept fuel (lines ++ line ∷ []) K after more also (omega (arith, few, less)))
-        (entry_named setting line) refl);
-    kept = kept;
-  })
+  never_kept (suc fuel) lines J (c ∷ rest) text kept few =
+      some_fault true (2 + length lines) (c ∷ rest) (λ both. absurd (let none : c ∷ rest ≡ [] = both.1 in cc))
+      (λ line after is_line begins.
+      never_line lines J (c ∷ rest) after line text kept is_line begins
+      (λ K more also less. never_kept fuel (lines ++ line ∷ []) K after more also (omega (arith, few, less)))
+      (entry_named setting line) refl)
+      (λ fault here. unsaid (BadText fault) (record { lines = lines; journal = J; bad = in_line (c ∷ rest) text kept.lines_are here; kept = kept }))
 
 -- There are no bytes of which nothing is to be said.
 pub something_said : (setting : Setting) (bytes : List ℕ) → ((judged : Judged) → IsJudged setting bytes judged → ⊥) → ⊥
 something_said setting bytes unsaid =
     let kept : IsKept setting [] [] = record { lines_are = tt; entries_are = tt; admissible = IsAdmissible-nil (Holds setting); limits = record { entries = omega arith; outputs = omega arith } } in
-    unsaid BadText (record {
-      lines = [];
-      journal = [];
-      bad = no_header refl (λ rest begins. never_kept setting bytes unsaid (suc (length rest)) [] [] rest (begins ∙ ap (λ (t : List ℕ). t ++ rest) (sym (append-nil header_line))) kept (omega arith));
-      kept = kept;
-    })
+    some_fault false 1 bytes (λ both. false≢true both.0)
+    (λ rest begins. never_kept setting bytes unsaid (suc (length rest)) [] [] rest (begins ∙ ap (λ (t : List ℕ). t ++ rest) (sym (append-nil header_line))) kept (omega arith))
+    (λ fault here. unsaid (BadText fault) (record { lines = []; journal = []; bad = in_header refl here; kept = kept }))

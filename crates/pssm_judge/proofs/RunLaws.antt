@@ -1,6 +1,6 @@
 -- What one line more does to a run.
-use Rattle.std.proofs.Common.{◌≡◌, ◌+◌, ◌<◌, ◌≤◌, ◌⊎◌, ◌↔◌, ℕ, Bool, true, false, Option, Some, List, [], ◌∷◌, ◌++◌, length, sym, ap, subst, ◌∙◌, arith, inl, inr, length-append}
-use Rattle.std.specs.Prelude.{IsTrue, IfSome}
+use Rattle.std.proofs.Common.{◌≡◌, ◌+◌, ◌<◌, ◌≤◌, ◌⊎◌, ◌↔◌, ℕ, Bool, true, false, Option, Some, None, List, [], ◌∷◌, ◌++◌, length, sym, ap, subst, ◌∙◌, arith, inl, inr, length-append}
+use Rattle.std.specs.Prelude.{IsTrue, IfSome, IfNone}
 use Rattle.std.proofs.lemmas.List.Sums.{sum_by_push}
 use Rattle.pssm_semantics.specs.declared.entry.Entry.{Entry}
 use Rattle.pssm_semantics.specs.declared.line.Line.{Line}
@@ -8,7 +8,7 @@ use Rattle.pssm_semantics.specs.declared.setting.Setting.{Setting}
 use Rattle.pssm_semantics.specs.Pool.{output_count}
 use Rattle.pssm_semantics.specs.Admissible.{MayFollow, IsAdmissibleIn, KeepsJournalLimits}
 use Rattle.pssm_semantics.proofs.Appending.{admissible_push}
-use Rattle.pssm_journal.specs.Entries.{IsEntryOf, KeepsNames}
+use Rattle.pssm_journal.specs.Entries.{IsEntryOf, KeepsNames, BreaksNames}
 use Rattle.pssm_journal.specs.Judged.{line_output_count, PassesLimits}
 use Rattle.pssm_journal.proofs.OutputCounts.{entry_output_count, line_outputs}
 use Rattle.pssm_system.specs.History.{History}
@@ -33,13 +33,16 @@ limits_push setting J line e is within =
 
 -- The run has taken the entry of the line.
 pub takes_line : (old new : History) (line : Line) (e : Entry) → IsAdmissibleIn old.setting old.journal → IsEntryOf old.setting line e → (PassesLimits old.journal line → ⊥)
-    → MayFollow old.setting old.journal e → new ≡ record { setting = old.setting; journal = old.journal ++ e ∷ [] } → TakesLine old new line
-takes_line old new line e admissible is within follows after = record {
+    → MayFollow old.setting old.journal e → new.setting ≡ old.setting → new.journal ≡ old.journal ++ e ∷ [] → TakesLine old new line
+takes_line old new line e admissible is within follows same grown = record {
   entry = e;
   is = is;
-  after = after;
-  admissible = subst (λ (h : History). IsAdmissibleIn h.setting h.journal) (sym after) (admissible_push old.setting old.journal e admissible follows);
-  limits = subst (λ (h : History). KeepsJournalLimits h.journal) (sym after) (limits_push old.setting old.journal line e is within);
+  setting_is = same;
+  journal_is = grown;
+  admissible =
+      subst (λ (s : Setting). IsAdmissibleIn s new.journal) (sym same)
+      (subst (λ (J : List Entry). IsAdmissibleIn old.setting J) (sym grown) (admissible_push old.setting old.journal e admissible follows));
+  limits = subst (λ (J : List Entry). KeepsJournalLimits J) (sym grown) (limits_push old.setting old.journal line e is within);
 }
 
 -- The test on the limits failed: the line does not pass them.
@@ -49,7 +52,14 @@ keeps_within J line entries outputs further passes e o f test failed p =
     let met : passes ≡ true = test.1 (rw (e, o, f) p) in
     cc
 
--- what was found of a line: its entry, whose names are known
-pub found_entry : (s t : Setting) (line : Line) (o : Option Entry) (e : Entry) → s ≡ t → o ≡ Some e → IfSome o (λ x. IsEntryOf s line x × KeepsNames s x) → IsEntryOf t line e × KeepsNames t e
-found_entry s t line o e same is known =
-    subst (λ (x : Setting). IsEntryOf x line e × KeepsNames x e) same (subst (λ (p : Option Entry). IfSome p (λ x. IsEntryOf s line x × KeepsNames s x)) is known)
+-- what was found of a line: its entry
+pub found_writes : (s t : Setting) (line : Line) (o : Option Entry) (e : Entry) → s ≡ t → o ≡ Some e → IfSome o (IsEntryOf s line) → IsEntryOf t line e
+found_writes s t line o e same is found = subst (λ (x : Setting). IsEntryOf x line e) same (subst (λ (p : Option Entry). IfSome p (IsEntryOf s line)) is found)
+
+-- its names are known
+pub found_keeps : (s t : Setting) (o : Option Entry) (e : Entry) → s ≡ t → o ≡ Some e → IfSome o (KeepsNames s) → KeepsNames t e
+found_keeps s t o e same is found = subst (λ (x : Setting). KeepsNames x e) same (subst (λ (p : Option Entry). IfSome p (KeepsNames s)) is found)
+
+-- nothing was found
+pub found_none : (s t : Setting) (line : Line) (o : Option Entry) → s ≡ t → o ≡ None → IfNone o (BreaksNames s line) → BreaksNames t line
+found_none s t line o same is none = subst (λ (x : Setting). BreaksNames x line) same (subst (λ (p : Option Entry). IfNone p (BreaksNames s line)) is none)

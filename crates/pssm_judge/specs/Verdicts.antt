@@ -6,7 +6,7 @@ use Rattle.pssm_semantics.specs.declared.entry.Entry.{Entry}
 use Rattle.pssm_semantics.specs.declared.line.Line.{Line}
 use Rattle.pssm_semantics.specs.declared.setting.Setting.{Setting}
 use Rattle.pssm_semantics.specs.Laws.{CompletesInTime}
-use Rattle.pssm_journal.specs.LineText.{journal_text}
+use Rattle.pssm_lines.specs.LineText.{journal_text}
 use Rattle.pssm_journal.specs.Judged.{Judged, Accepted, Refused, Limited, BadText, IsKept, IsJudged}
 use Rattle.pssm_judge.specs.declared.run.Stop.{Stop}
 use Rattle.pssm_judge.specs.declared.run.Stop.TheVariants as stops
@@ -31,7 +31,7 @@ IsVerdictOn setting bytes (Refuse entry rule) = IsJudged setting bytes (Refused 
 
 -- what the bytes deserve where there is no verdict; want of memory says nothing of them
 abbrev pub IsFaultOn : Setting → List ℕ → JudgeFault → Type 0
-IsFaultOn setting bytes (Text fault) = IsJudged setting bytes BadText
+IsFaultOn setting bytes (Text fault) = IsJudged setting bytes (BadText fault)
 IsFaultOn setting bytes (Limit entry) = IsJudged setting bytes (Limited entry)
 IsFaultOn setting bytes NoMemory = Unit {0}
 IsFaultOn setting bytes _ = ⊥
@@ -46,9 +46,9 @@ pub record IsVerdictFor (setting : Setting) (contents : Contents) (path : List �
 abbrev pub ReadsJudged : Setting → Contents → List ℕ → Judged → Type 0
 ReadsJudged setting contents path judged = (bytes : List ℕ) × ReadsWhole contents path 16777216 bytes × IsJudged setting bytes judged
 
--- Why there is no verdict: the text is bad, or passes the limits; the path holds too much; or the count of its faults rose. Want of memory is told without a cause.
+-- Why there is no verdict: the text has this fault, or passes the limits; the path holds too much; or the count of its faults rose. Want of memory is told without a cause.
 abbrev pub IsFaultFor : Setting → Contents → ℕ → ℕ → List ℕ → JudgeFault → Type 0
-IsFaultFor setting contents before after path (Text fault) = ReadsJudged setting contents path BadText
+IsFaultFor setting contents before after path (Text fault) = ReadsJudged setting contents path (BadText fault)
 IsFaultFor setting contents before after path (Limit entry) = ReadsJudged setting contents path (Limited entry)
 IsFaultFor setting contents before after path TooLarge = HoldsMore contents path 16777216
 IsFaultFor setting contents before after path ReadFault = Rose before after

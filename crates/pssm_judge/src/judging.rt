@@ -1,5 +1,5 @@
 //! `judge`: what a journal deserves under a setting.
-ghost use Rattle.std.specs.Prelude.{◌≡◌, IfOk, IfErr};
+ghost use Rattle.std.specs.Prelude.{◌≡◌, [], IfOk, IfErr};
 ghost use Rattle.pssm_base.specs.Faults.{NoneFell};
 ghost use Rattle.pssm_base.specs.Reading.{SameContent};
 ghost use Rattle.pssm_semantics.specs.Built.{IsBuilt};
@@ -8,23 +8,19 @@ ghost use Rattle.pssm_judge.specs.Verdicts.{IsVerdictOn, IsVerdictFor, IsFaultOn
 use crate::run::Run;
 use crate::verdict::{JudgeFault, Verdict};
 use pssm_base::{Inputs, WholeFault, read_whole};
-use pssm_journal::LineReader;
+use pssm_journal::{Front, LineFault, front_of};
 use pssm_semantics::Setting;
 use std::alloc::Global;
 
 // The most bytes that a journal may have.
 const LIMIT: u64 = 16_777_216;
 
-// How many bytes the reader of lines is handed at a time: few, so that the lines of each piece
-// take the memory that those before them gave back.
-const PIECE: usize = 512;
-
 /// Judges the journal that stands under `path`, as one of a run of the setting.
 ///
 /// The lines are decided in order, and the first that stops the judging decides: a line that is none of the journal
-/// form is [`JudgeFault::Text`]; the entry by which the entries pass 1,000,000, or the posts, sends and marks pass
-/// 2,000,000, is [`JudgeFault::Limit`]; and an entry that breaks a rule is [`Verdict::Refuse`]. Where no line stops it
-/// all was read, and the answer is [`Verdict::Accept`].
+/// form is [`JudgeFault::Text`], with the byte at which it goes wrong; the entry by which the entries pass 1,000,000, or
+/// the posts, sends and marks pass 2,000,000, is [`JudgeFault::Limit`]; and an entry that breaks a rule is
+/// [`Verdict::Refuse`]. Where no line stops it all was read, and the answer is [`Verdict::Accept`].
 ///
 /// It answers [`JudgeFault::TooLarge`] where the path holds more than 16,777,216 bytes,
 /// [`JudgeFault::ReadFault`] where a read failed, and [`JudgeFault::NoMemory`] where there was not enough memory. The
@@ -63,21 +59,37 @@ fn judge_bytes(alloc: Global, setting: Setting, journal: &[u8]) -> Result<Verdic
     ensures fault { IfErr result (IsFaultOn setting journal.now) }
 {
     let mut run = Run::new(alloc, setting)?;
-    let mut reader = LineReader::new(alloc);
+    let told = judge_lines(alloc, &mut run, journal);
+    // (a call: a drop at the end of the body would be one for each part of the run)
+    drop(run);
+    told
+}
+
+// What the bytes deserve as a journal of a run that is still to begin.
+fn judge_lines(alloc: Global, run: &mut Run, journal: &[u8]) -> Result<Verdict, JudgeFault>
+    requires { run.old.journal ≡ [] }
+    ensures verdict { IfOk result (IsVerdictOn run.old.setting journal.now) }
+    ensures fault { IfErr result (IsFaultOn run.old.setting journal.now) }
+{
+    let mut begun = false;
+    let mut line = 1;
     let mut rest = journal;
-    while !rest.is_empty() {
-        let (piece, after) = rest.split_at(rest.len().min(PIECE));
-        let fed = reader.feed(piece)?;
-        if let Some(stop) = run.follow(alloc, fed.lines.as_slice())? {
-            return stop.answer();
+    while !(begun && rest.is_empty()) {
+        match front_of(alloc, begun, line, rest)? {
+            Front::Header { rest: after } => {
+                begun = true;
+                rest = after;
+            }
+            Front::Line { parts, rest: after } => {
+                if let Some(stop) = run.take(alloc, parts)? {
+                    return stop.answer();
+                }
+                rest = after;
+            }
+            Front::Open => return Err(JudgeFault::Text(LineFault::NoEnd { line })),
+            Front::Fault(fault) => return Err(JudgeFault::Text(fault)),
         }
-        if let Some(fault) = fed.fault {
-            return Err(JudgeFault::Text(fault));
-        }
-        rest = after;
+        line += 1;
     }
-    match reader.finish() {
-        Some(fault) => Err(JudgeFault::Text(fault)),
-        None => Ok(Verdict::Accept { entries: run.len() }),
-    }
+    Ok(Verdict::Accept { entries: run.len() })
 }

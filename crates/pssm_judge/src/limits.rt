@@ -1,8 +1,11 @@
 //! The limits of a journal.
-ghost use Rattle.std.specs.Prelude.{◌≡◌, ◌+◌, ◌≤◌, ◌<◌, ◌⊎◌, ◌↔◌, IsTrue};
+ghost use Rattle.std.specs.Prelude.{◌≡◌, ◌+◌, ◌≤◌, ◌<◌, ◌⊎◌, ◌↔◌, IsTrue, count_by, ◌==◌};
+ghost use Rattle.pssm_semantics.specs.declared.line.Line.{Line};
+ghost use Rattle.pssm_lines.specs.Grammar.{IsLine};
+ghost use Rattle.pssm_lines.specs.Parts.{Shows};
 ghost use Rattle.pssm_journal.specs.Judged.{line_output_count};
 
-use pssm_semantics::Line;
+use pssm_journal::{LineParts, OutsText};
 
 // The most entries that a journal may have.
 const MOST_ENTRIES: usize = 1_000_000;
@@ -10,25 +13,33 @@ const MOST_ENTRIES: usize = 1_000_000;
 // The most posts, sends and marks that a journal may have.
 const MOST_OUTPUTS: usize = 2_000_000;
 
-/// How many posts, sends and marks a line writes.
-pub fn output_count(line: &Line) -> usize
-    ensures { result ≡ line_output_count line.now }
+// How many outputs a text spells: each has a space before it, and no other space is there.
+fn spaces(outs: OutsText<'_>) -> usize
+    ensures { result ≡ count_by (λ c. c == 32) outs.entry.bytes.now }
 {
-    match line {
-        Line::Post { .. } => 1,
-        Line::Exit { outs, .. }
-        | Line::Effect { outs, .. }
-        | Line::Enter { outs, .. }
-        | Line::DoStep { outs, .. } => outs.as_slice().len(),
-        Line::Start { .. }
-        | Line::Take { .. }
-        | Line::Done { .. }
-        | Line::Opened { .. }
-        | Line::Pick { .. } => 0,
+    outs.bytes.iter().filter(|c| **c == b' ').count()
+}
+
+/// How many posts, sends and marks a line writes, from its parts.
+pub fn output_count(parts: &LineParts<'_>) -> usize
+    ensures { (line : Line) → IsLine line → Shows parts.now line → result ≡ line_output_count line }
+{
+    match parts {
+        LineParts::Post { .. } => 1,
+        LineParts::Exit { outs, .. }
+        | LineParts::Effect { outs, .. }
+        | LineParts::Enter { outs, .. }
+        | LineParts::DoStep { outs, .. } => spaces(*outs),
+        LineParts::Start { .. }
+        | LineParts::Take { .. }
+        | LineParts::Done { .. }
+        | LineParts::Opened { .. }
+        | LineParts::Pick { .. } => 0,
     }
 }
 
-/// Whether a journal of so many entries and outputs passes its limits by one entry more, with so many `further` outputs.
+/// Whether a journal of so many entries and outputs passes its limits by one entry more, with so many `further`
+/// outputs.
 pub fn passes_limits(entries: usize, outputs: usize, further: usize) -> bool
     requires { outputs ≤ 2000000 }
     ensures { IsTrue result ↔ ((1000000 < entries + 1) ⊎ (2000000 < outputs + further)) }

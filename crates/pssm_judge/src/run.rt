@@ -1,15 +1,17 @@
 //! `Run`: the run that a journal has told so far.
-ghost use Rattle.std.specs.Prelude.{◌≡◌, [], length, IfOk, IfNone, IfSome, MatchOption};
+ghost use Rattle.std.specs.Prelude.{◌≡◌, [], length, IfOk, IfNone, IfSome};
+ghost use Rattle.pssm_semantics.specs.declared.line.Line.{Line};
 ghost use Rattle.pssm_semantics.specs.Built.{IsBuilt};
-ghost use Rattle.pssm_semantics.specs.Admissible.{IsAdmissibleIn, KeepsJournalLimits};
 ghost use Rattle.pssm_semantics.specs.Laws.{CompletesInTime};
-ghost use Rattle.pssm_judge.specs.inner.Following.{Follows, TakesLine, StopsAt, StopsAmong};
+ghost use Rattle.pssm_lines.specs.Grammar.{IsLine};
+ghost use Rattle.pssm_lines.specs.Parts.{Shows};
+ghost use Rattle.pssm_judge.specs.inner.Following.{TakesLine, StopsAt};
 ghost use Rattle.pssm_judge.specs.Verdicts.{answer_to};
 
 use crate::limits::{output_count, passes_limits};
 use crate::verdict::{JudgeFault, Verdict};
-use pssm_journal::entry_of;
-use pssm_semantics::{Line, Rule, Setting};
+use pssm_journal::{LineParts, Namespace, entry_of_parts};
+use pssm_semantics::{Rule, Setting};
 use pssm_system::System;
 use std::alloc::{AllocError as NoMemory, Global};
 use std::marker::Model;
@@ -35,10 +37,11 @@ impl Stop {
     }
 }
 
-/// The run that a journal has told so far, and how many posts, sends and marks are in it.
+/// The run that a journal has told so far, the namespace of its setting, and how many posts, sends and marks are in it.
 #[derive(Drop)]
 pub struct Run {
     system: System,
+    namespace: Namespace,
     outputs: usize,
 }
 
@@ -57,17 +60,20 @@ impl Model for Run {
 
     ghost view = { λ r. r.system };
 
-    ghost invariant = { λ r. r.outputs ≡ count r.system.journal };
+    ghost invariant = { λ r. (r.namespace ≡ r.system.setting) × (r.outputs ≡ count r.system.journal) };
 }
 
 impl Run {
     /// A run with no entry yet.
     pub fn new(alloc: Global, setting: Setting) -> Result<Run, NoMemory>
         requires { IsBuilt setting }
-        ensures start { IfOk result (λ run. run ≡ record { setting = setting; journal = [] }) }
+        ensures setting { IfOk result (λ run. run.setting ≡ setting) }
+        ensures start { IfOk result (λ run. run.journal ≡ []) }
     {
+        let namespace = Namespace::new(alloc, &setting)?;
         Ok(Run {
             system: System::new(alloc, setting)?,
+            namespace,
             outputs: 0,
         })
     }
@@ -80,18 +86,23 @@ impl Run {
         self.system.entries().len() as u32
     }
 
-    /// Takes the entry that the line writes, unless the journal passes its limits by it or it breaks a rule.
-    pub fn take(&mut self, alloc: Global, line: &Line) -> Result<Option<Stop>, NoMemory>
-        ensures takes { IfOk result (λ stop. IfNone stop (TakesLine self.old self.new line.now)) }
-        ensures stops { IfOk result (λ stop. IfSome stop (StopsAt self.old.setting self.old.journal line.now)) }
+    /// Takes the entry that a line writes, unless the journal passes its limits by it or it breaks a rule. The line is
+    /// the one of the grammar that the parts show.
+    pub fn take(&mut self, alloc: Global, parts: LineParts<'_>) -> Result<Option<Stop>, NoMemory>
+        requires { (line : Line) × IsLine line × Shows parts line }
+        ensures takes { IfOk result (λ stop. (line : Line) → IsLine line → Shows parts.entry line
+            → IfNone stop (TakesLine self.old self.new line)) }
+        ensures stops { IfOk result (λ stop. (line : Line) → IsLine line → Shows parts.entry line
+            → IfSome stop (StopsAt self.old.setting self.old.journal line)) }
     {
         let entries = self.system.entries().len();
         let entry = entries as u32 + 1;
-        let outputs = output_count(line);
+        let outputs = output_count(&parts);
         if passes_limits(entries, self.outputs, outputs) {
             return Ok(Some(Stop::Limit { entry }));
         }
-        let Some(told) = entry_of(alloc, self.system.setting(), line)? else {
+        let setting = self.system.setting();
+        let Some(told) = entry_of_parts(alloc, setting, &self.namespace, parts)? else {
             return Ok(Some(Stop::Refuse {
                 entry,
                 rule: Rule::A1,
@@ -102,21 +113,6 @@ impl Run {
         }
         self.system.apply(told)?;
         self.outputs += outputs;
-        Ok(None)
-    }
-
-    /// Takes the entries of the lines in order, up to the first at which the judging ends.
-    pub fn follow(&mut self, alloc: Global, lines: &[Line]) -> Result<Option<Stop>, NoMemory>
-        requires admissible { IsAdmissibleIn self.old.setting self.old.journal }
-        requires limits { KeepsJournalLimits self.old.journal }
-        ensures { IfOk result (λ stop. MatchOption stop (Follows self.old self.new lines.now)
-            (StopsAmong self.old lines.now)) }
-    {
-        for line in lines {
-            if let Some(stop) = self.take(alloc, line)? {
-                return Ok(Some(stop));
-            }
-        }
         Ok(None)
     }
 }

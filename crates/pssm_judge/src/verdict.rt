@@ -19,7 +19,8 @@ pub enum Verdict {
 /// Why there is no verdict.
 #[derive(Clone, Copy, PartialEq, Eq, Debug)]
 pub enum JudgeFault {
-    /// The bytes are no text of a journal, and no entry before that breaks a rule or passes the limits.
+    /// The bytes are no text of a journal: this is their first fault, and no entry before it breaks a rule or passes
+    /// the limits.
     Text(LineFault),
     /// With this entry, counted from 1, and with none before, there are more than 1,000,000 entries or more than
     /// 2,000,000 posts, sends and marks. No earlier entry breaks a rule.

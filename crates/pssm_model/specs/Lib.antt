@@ -14,7 +14,6 @@ pub mod WellFormed
 pub mod Nested
 pub mod Order
 pub mod BuiltMachine
-pub mod Silent
 pub mod NotBuilt
 pub mod Proper
 pub mod Equal

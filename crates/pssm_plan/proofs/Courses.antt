@@ -1,6 +1,7 @@
 -- The steps of a machine of States in regions, and the rosters that list what they call.
-use Rattle.std.proofs.Common.{◌≡◌, ◌↔◌, ◌<◌, ℕ, List, length, get_or, Contains, IsTrue, Some, sym, ap, subst, ⊎_elim, arith, ◌∙◌}
+use Rattle.std.proofs.Common.{◌≡◌, ◌↔◌, ◌<◌, ℕ, List, length, get_or, Contains, IsTrue, Some, refl, sym, subst, ⊎_elim, arith, ◌∙◌}
 use Rattle.std.proofs.lemmas.Option.{slice_get_within}
+use Rattle.std.proofs.lemmas.List.Elements.{Contains-get_or}
 use Rattle.pssm_model.specs.declared.ids.RegionId.{RegionId}
 use Rattle.pssm_model.specs.declared.ids.TransId.{TransId}
 use Rattle.pssm_model.specs.declared.elements.DraftMachine.{DraftMachine}
@@ -31,32 +32,27 @@ use Rattle.pssm_plan.proofs.NestedSteps.{gone_directly, late_from_initial, exit_
 use Rattle.pssm_plan.proofs.SingleItems.{called_is, called_of, before_is, before_of}
 use Rattle.pssm_config.specs.Tables.{Tables, configuration_of}
 use Rattle.pssm_plan.specs.declared.roster.Call.{Call}
-use Rattle.pssm_plan.specs.declared.roster.Pair.{Pair}
-use Rattle.pssm_plan.specs.Agenda.{Agenda}
+use Rattle.pssm_plan.specs.Agenda.{Agenda, course_of}
+use Rattle.pssm_plan.specs.Waiting.{HoldsUp, IsExact}
 use Rattle.pssm_plan.specs.Plans.{IsPlanOf}
-use Rattle.pssm_plan.specs.inner.Marks.{IsListed, IsMarked, the_pair, IsSettled, ArePairwise}
+use Rattle.pssm_plan.specs.inner.Marks.{IsListed, IsMarked, IsSettled, ArePairwise}
 use Rattle.pssm_plan.specs.inner.Sequence.{IsSequence, IsItemOf, IsRoster}
 use Rattle.pssm_plan.proofs.Spans.{vertex_there, entered_there}
 use Rattle.pssm_plan.proofs.Rewriting.{marked_along, listed_along, alike_back}
+use Rattle.pssm_plan.proofs.Settling.{set_or_not, exact_along, exact_same}
+use Rattle.pssm_plan.proofs.StandingItems.{one_call}
 
 -- a roster of the same items in the same places
-pub roster_along : (m : DraftMachine) (a b : List Call) (order : List Pair) → length b ≡ length a
-    → ((k : ℕ) (d : Call) → k < length a → (get_or b k d).item ≡ (get_or a k d).item) → IsRoster m a order → IsRoster m b order
-roster_along m a b order long same r = record {
+pub roster_along : (m : DraftMachine) (a b : List Call) → length b ≡ length a
+    → ((k : ℕ) (d : Call) → k < length a → (get_or b k d).item ≡ (get_or a k d).item) → IsRoster m a → IsRoster m b
+roster_along m a b long same r = record {
   items = λ x h. r.items x (back x h);
   once = λ i j d lt inside e.
       (let low : i < length a = omega (arith, long) in
       let high : j < length a = omega (arith, long) in
       r.once i j d lt high (sym (same i d low) ∙ e ∙ same j d high));
-  sequenced = λ p. (
-    λ h. (let s = (r.sequenced p).0 h in (on p.first s.0, on p.second s.1, s.2)),
-    λ h. (r.sequenced p).1 (back p.first h.0, back p.second h.1, h.2),
-  );
 }
   where
-    on : (x : Item) → IsListed a x → IsListed b x
-    on x h = listed_along a b x long same h
-
     back : (x : Item) → IsListed b x → IsListed a x
     back x h = listed_along b a x (sym long) (λ k d lt. sym (same k d (omega (arith, long)))) h
 
@@ -135,26 +131,20 @@ module _ {m : DraftMachine} (b : IsPlainlyNested m) (shape : HasShape m) (head :
 -- a settled roster of what the step calls is its plan
 module _ {m : DraftMachine} (b : IsPlainlyNested m) (shape : HasShape m) (head : Head) (tables : Tables) (ran : List (Item × How))
     (gone : HasGone m head (configuration_of tables) ran) where
-  pub settled_plan : (calls new : List Call) (order : List Pair) → IsRoster m calls order
+  pub settled_plan : (calls new : List Call) → IsRoster m calls
       → ((x : Item) → IsListed calls x ↔ IsCalledOver m (course_by head (configuration_of tables) ran) x)
       → ((x : Item) → IsMarked calls x ↔ HasRun (course_by head (configuration_of tables) ran) x)
-      → ArePairwise (IsSettled calls order) calls new → IsPlanOf m (record { head = head; at_head = tables; ran = ran; calls = new; order = order })
-  settled_plan calls new order r listed marked settled = record {
+      → ArePairwise (IsSettled (IsSequence m) calls) calls new → IsPlanOf m (record { head = head; at_head = tables; ran = ran; calls = new })
+  settled_plan calls new r listed marked settled = record {
     step = gone;
     called = λ x. (λ h. called x ((listed x).0 (back x h)), λ h. on x ((listed x).1 (over x h)));
-    once = (roster_along m calls new order settled.0 same_items r).once;
+    once = (roster_along m calls new settled.0 same_items r).once;
     ran = λ x. (
       λ h. (marked x).0 (marked_along new calls x (alike_back calls new alike) h),
       λ h. marked_along calls new x alike ((marked x).1 h),
     );
-    order = λ p. (
-      λ h. (let s = (r.sequenced p).0 h in
-          let first = called p.first ((listed p.first).0 s.0) in
-          let second = called p.second ((listed p.second).0 s.1) in
-          (first, second, (both p.first p.second first second).0 s.2)),
-      λ h. (r.sequenced p).1 ((listed p.first).1 (over p.first h.0), (listed p.second).1 (over p.second h.1), (both p.first p.second h.0 h.1).1 h.2),
-    );
     blocked = λ call inside. (is_blocked call inside, blocks call inside);
+    exact = λ call inside. exact call inside;
   }
     where
       same_items : (k : ℕ) (d : Call) → k < length calls → (get_or new k d).item ≡ (get_or calls k d).item
@@ -183,37 +173,73 @@ module _ {m : DraftMachine} (b : IsPlainlyNested m) (shape : HasShape m) (head :
       there : (call : Call) (inside : Contains new call) → inside.0 < length calls
       there call inside = omega (arith, inside.1, settled.0)
 
-      same : (call : Call) (inside : Contains new call) → (get_or calls inside.0 call).item ≡ call.item
-      same call inside = sym (same_items inside.0 call (there call inside)) ∙ ap (λ (c : Call). c.item) inside.2
+      called_at : (call : Call) → Contains new call → Called m (course_by head (configuration_of tables) ran) call.item
+      called_at call inside = called call.item ((listed call.item).0 (back call.item (call, inside, refl)))
 
-      is_blocked : (call : Call) (inside : Contains new call) → IsTrue call.blocked
-          → (x : Item) × Contains order (the_pair x call.item) × (HasRun (course_by head (configuration_of tables) ran) x → ⊥)
+      exact : (call : Call) → Contains new call → IsExact (Before m (course_by head (configuration_of tables) ran)) new call
+      exact call inside =
+          let s = settled.1 inside.0 call (there call inside) in
+          let here = subst (λ (c : Call). IsExact (IsSequence m) calls c) inside.2 s.exact in
+          exact_same (IsSequence m) (Before m (course_by head (configuration_of tables) ran)) new call
+          (λ k d lt. both (get_or new k d).item call.item (called_at (get_or new k d) (Contains-get_or new k d lt)) (called_at call inside))
+          (exact_along (IsSequence m) calls new call alike here)
+
+      run_at : (call : Call) → Contains new call → (IsTrue call.ran → ⊥) → HasRun (course_by head (configuration_of tables) ran) call.item → ⊥
+      run_at call inside not run =
+          let mark = marked_along calls new call.item alike ((marked call.item).1 run) in
+          not (subst (λ (c : Call). IsTrue c.ran)
+          (one_call new (roster_along m calls new settled.0 same_items r).once mark.0 call mark.1 inside mark.2) mark.3)
+
+      is_blocked : (call : Call) → Contains new call → IsTrue call.blocked
+          → (x : Item) × Called m (course_by head (configuration_of tables) ran) x × Before m (course_by head (configuration_of tables) ran) x call.item
+          × (HasRun (course_by head (configuration_of tables) ran) x → ⊥)
       is_blocked call inside true =
-          let s = settled.1 inside.0 call (there call inside) in
-          let h = s.blocked.0 (subst (λ (c : Call). IsTrue c.blocked) (sym inside.2) true) in
-          (h.0, subst (λ (i : Item). Contains order (the_pair h.0 i)) (same call inside) h.1, λ run. h.2 ((marked h.0).1 run))
+          let waits = (exact call inside).waits true in
+          let on = get_or new call.seen call in
+          let here : Contains new on = Contains-get_or new call.seen call waits.0 in
+          let up = waits.1 call in
+          (on.item, called_at on here, up.0, run_at on here up.1)
 
-      blocks : (call : Call) (inside : Contains new call)
-          → (x : Item) × Contains order (the_pair x call.item) × (HasRun (course_by head (configuration_of tables) ran) x → ⊥) → IsTrue call.blocked
+      blocks : (call : Call) → Contains new call
+          → (x : Item) × Called m (course_by head (configuration_of tables) ran) x × Before m (course_by head (configuration_of tables) ran) x call.item
+          × (HasRun (course_by head (configuration_of tables) ran) x → ⊥) → IsTrue call.blocked
       blocks call inside h =
-          let s = settled.1 inside.0 call (there call inside) in
-          subst (λ (c : Call). IsTrue c.blocked) inside.2
-          (s.blocked.1 (h.0, subst (λ (i : Item). Contains order (the_pair h.0 i)) (sym (same call inside)) h.1, λ told. h.2 ((marked h.0).0 told)))
+          ⊎_elim
+          (λ is. is)
+          (λ free. (
+          let is = exact call inside in
+          let at = on h.0 ((listed h.0).1 (over h.0 h.1)) in
+          let all = is.through free in
+          let low : at.1.0 < call.seen = omega (arith, at.1.1) in
+          let before = subst (λ (i : Item). Before m (course_by head (configuration_of tables) ran) i call.item) (sym at.2) h.2 in
+          let waiting : IsTrue (at.0).ran → ⊥ = (λ ran. h.3 ((marked h.0).0 (marked_along new calls h.0 (alike_back calls new alike) (at.0, at.1, at.2, ran)))) in
+          absurd (is.passed at.1.0 at.0 low at.1.1
+          (subst (λ (c : Call). HoldsUp (Before m (course_by head (configuration_of tables) ran)) c call.item) (sym at.1.2) (before, waiting)))
+          ))
+          (set_or_not call.blocked)
 
 -- the roster of a plan
-pub plan_roster : (m : DraftMachine) (b : IsPlainlyNested m) (shape : HasShape m) (plan : Agenda) → IsPlanOf m plan → IsRoster m plan.calls plan.order
-plan_roster m b shape plan h = record {
-  items = λ x listed. called_there b shape plan.head (configuration_of plan.at_head) plan.ran h.step x
-      (over_of b shape plan.head (configuration_of plan.at_head) plan.ran h.step x ((h.called x).0 listed));
-  once = h.once;
-  sequenced = λ p. (
-    λ inside. (let s = (h.order p).0 inside in (
-      (h.called p.first).1 s.0,
-      (h.called p.second).1 s.1,
-      (before_both b shape plan.head (configuration_of plan.at_head) plan.ran h.step p.first p.second s.0 s.1).1 s.2,
-    )),
-    λ s. (let first = (h.called p.first).0 s.0 in
-        let second = (h.called p.second).0 s.1 in
-        (h.order p).1 (first, second, (before_both b shape plan.head (configuration_of plan.at_head) plan.ran h.step p.first p.second first second).0 s.2)),
-  );
-}
+module _ (m : DraftMachine) (b : IsPlainlyNested m) (shape : HasShape m) (plan : Agenda) (h : IsPlanOf m plan) where
+  pub plan_roster : IsRoster m plan.calls
+  plan_roster = record {
+    items = λ x listed. called_there b shape plan.head (configuration_of plan.at_head) plan.ran h.step x
+        (over_of b shape plan.head (configuration_of plan.at_head) plan.ran h.step x ((h.called x).0 listed));
+    once = h.once;
+  }
+
+  -- its calls say exactly for which they wait, as is seen from the items
+  pub plan_exact : (call : Call) → Contains plan.calls call → IsExact (IsSequence m) plan.calls call
+  plan_exact call inside =
+      exact_same (Before m (course_of plan)) (IsSequence m) plan.calls call (λ k d lt. (back k d lt, on k d lt)) (h.exact call inside)
+    where
+      both : (k : ℕ) (d : Call) → k < length plan.calls → IsSequence m (get_or plan.calls k d).item call.item ↔ Before m (course_of plan) (get_or plan.calls k d).item call.item
+      both k d lt =
+          let on = get_or plan.calls k d in
+          before_both b shape plan.head (configuration_of plan.at_head) plan.ran h.step on.item call.item
+          ((h.called on.item).0 (on, Contains-get_or plan.calls k d lt, refl)) ((h.called call.item).0 (call, inside, refl))
+
+      back : (k : ℕ) (d : Call) → k < length plan.calls → Before m (course_of plan) (get_or plan.calls k d).item call.item → IsSequence m (get_or plan.calls k d).item call.item
+      back k d lt before = (both k d lt).1 before
+
+      on : (k : ℕ) (d : Call) → k < length plan.calls → IsSequence m (get_or plan.calls k d).item call.item → Before m (course_of plan) (get_or plan.calls k d).item call.item
+      on k d lt first = (both k d lt).0 first

@@ -1,46 +1,43 @@
 -- A roster that grows in a loop: by what the numbers, or the elements of a list, so far have added.
-use Rattle.std.proofs.Common.{◌≡◌, ◌⊎◌, ◌↔◌, ◌+◌, ◌<◌, ℕ, List, [], length, get_or, take, Contains, arith, sym, subst, ap, inl, inr, ⊎_elim}
+use Rattle.std.proofs.Common.{append_assoc, ◌++◌, ◌∙◌, ◌≡◌, ◌⊎◌, ◌↔◌, ◌+◌, ◌<◌, ℕ, List, [], length, get_or, take, Contains, arith, sym, subst, ap, inl, inr, ⊎_elim}
 use Rattle.std.proofs.lemmas.List.{append-nil}
 use Rattle.std.proofs.lemmas.Bool.{cases_lt}
 use Rattle.pssm_model.specs.declared.ids.VertexId.{VertexId}
 use Rattle.pssm_model.specs.declared.elements.DraftMachine.{DraftMachine}
 use Rattle.pssm_model.specs.declared.steps.Item.{Item}
 use Rattle.pssm_plan.specs.declared.roster.Call.{Call}
-use Rattle.pssm_plan.specs.declared.roster.Pair.{Pair}
 use Rattle.pssm_plan.specs.inner.Marks.{IsLonger}
 use Rattle.pssm_plan.specs.inner.Sequence.{IsRoster, IsExtended}
-use Rattle.pssm_plan.proofs.Rosters.{longer_further}
 use Rattle.pssm_plan.proofs.Taken.{none_taken, taken_cases, taken_more, taken_here}
 
 pub longer_same : {X : Type 0} (xs : List X) → IsLonger xs xs
 longer_same {X} xs = ([], sym (append-nil xs))
 
--- the roster has grown by these items
-pub record HasGrown (m : DraftMachine) (old : List Call) (before : List Pair) (Added : Item → Type 0) (calls : List Call) (order : List Pair) : Type 0 where
-  pub calls_longer : IsLonger old calls
-  pub order_longer : IsLonger before order
-  pub extended : IsExtended m old Added calls order
+-- what is longer than what is longer
+pub longer_further : {X : Type 0} (a b c : List X) → IsLonger a b → IsLonger b c → IsLonger a c
+longer_further {X} a b c h g = (h.0 ++ g.0, g.1 ∙ ap (λ (z : List X). z ++ g.0) h.1 ∙ append_assoc a h.0 g.0)
 
-module _ (m : DraftMachine) (old : List Call) (before : List Pair) where
-  pub grown_none : (P : Item → Type 0) → ((x : Item) → P x → ⊥) → IsRoster m old before → HasGrown m old before P old before
+-- the roster has grown by these items
+pub record HasGrown (m : DraftMachine) (old : List Call) (Added : Item → Type 0) (calls : List Call) : Type 0 where
+  pub longer : IsLonger old calls
+  pub extended : IsExtended m old Added calls
+
+module _ (m : DraftMachine) (old : List Call) where
+  pub grown_none : (P : Item → Type 0) → ((x : Item) → P x → ⊥) → IsRoster m old → HasGrown m old P old
   grown_none P none r = record {
-    calls_longer = longer_same old;
-    order_longer = longer_same before;
+    longer = longer_same old;
     extended = record {
       roster = r;
       listed = λ x. (λ h. inl h, λ h. ⊎_elim (λ was. was) (λ p. absurd (none x p)) h);
       marked = λ x. (λ h. h, λ h. h);
-      kept = λ call was. was;
-      free = λ call is blocked. is;
+      fresh = λ call is. inl is;
     };
   }
 
-  pub grown_more : (P Q R : Item → Type 0) (calls new : List Call) (order next : List Pair) → ((x : Item) → R x ↔ (P x ⊎ Q x))
-      → HasGrown m old before P calls order → IsLonger calls new → IsLonger order next → IsExtended m calls Q new next
-      → HasGrown m old before R new next
-  grown_more P Q R calls new order next same h calls_more order_more g = record {
-    calls_longer = longer_further old calls new h.calls_longer calls_more;
-    order_longer = longer_further before order next h.order_longer order_more;
+  pub grown_more : (P Q R : Item → Type 0) (calls new : List Call) → ((x : Item) → R x ↔ (P x ⊎ Q x))
+      → HasGrown m old P calls → IsLonger calls new → IsExtended m calls Q new → HasGrown m old R new
+  grown_more P Q R calls new same h more g = record {
+    longer = longer_further old calls new h.longer more;
     extended = record {
       roster = g.roster;
       listed = λ x. (
@@ -57,8 +54,7 @@ module _ (m : DraftMachine) (old : List Call) (before : List Pair) where
             l,
       );
       marked = λ x. (λ l. (h.extended.marked x).0 ((g.marked x).0 l), λ l. (g.marked x).1 ((h.extended.marked x).1 l));
-      kept = λ call was. g.kept call (h.extended.kept call was);
-      free = λ call is blocked. h.extended.free call (g.free call is blocked) blocked;
+      fresh = λ call is. ⊎_elim (λ was. h.extended.fresh call was) (λ new. inr new) (g.fresh call is);
     };
   }
 
@@ -113,10 +109,10 @@ pub or_same : {A B C D : Type 0} → A ↔ (B ⊎ C) → C ↔ D → A ↔ (B �
 or_same h g = (λ a. ⊎_elim (λ b. inl b) (λ c. inr (g.0 c)) (h.0 a), λ s. h.1 (⊎_elim (λ b. inl b) (λ d. inr (g.1 d)) s))
 
 -- one more element of a list adds what it adds
-pub grown_by_one : {X : Type 0} (m : DraftMachine) (old : List Call) (before : List Pair) (Q : X → Item → Type 0) (P : Item → Type 0)
-    (xs : List X) (i : ℕ) (d : X) (calls new : List Call) (order next : List Pair) → i < length xs → ((x : Item) → Q (get_or xs i d) x ↔ P x)
-    → HasGrown m old before (AddedBy Q (take i xs)) calls order → IsLonger calls new → IsLonger order next → IsExtended m calls P new next
-    → HasGrown m old before (AddedBy Q (take (i + 1) xs)) new next
-grown_by_one m old before Q P xs i d calls new order next lt same h a b g =
-    grown_more m old before (AddedBy Q (take i xs)) P (AddedBy Q (take (i + 1) xs)) calls new order next
-    (λ x. or_same (by_more Q xs i d x lt) (same x)) h a b g
+pub grown_by_one : {X : Type 0} (m : DraftMachine) (old : List Call) (Q : X → Item → Type 0) (P : Item → Type 0)
+    (xs : List X) (i : ℕ) (d : X) (calls new : List Call) → i < length xs → ((x : Item) → Q (get_or xs i d) x ↔ P x)
+    → HasGrown m old (AddedBy Q (take i xs)) calls → IsLonger calls new → IsExtended m calls P new
+    → HasGrown m old (AddedBy Q (take (i + 1) xs)) new
+grown_by_one m old Q P xs i d calls new lt same h more g =
+    grown_more m old (AddedBy Q (take i xs)) P (AddedBy Q (take (i + 1) xs)) calls new
+    (λ x. or_same (by_more Q xs i d x lt) (same x)) h more g

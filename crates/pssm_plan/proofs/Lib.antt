@@ -1,12 +1,12 @@
 pub mod Taken
 pub mod Spans
-pub mod Rosters
 pub mod Extending
 pub mod Growing
 pub mod Rewriting
 pub mod Leading
 pub mod Courses
 pub mod Settling
+pub mod Telling
 pub mod StandingItems
 pub mod Making
 pub mod Running
@@ -17,6 +17,7 @@ pub mod MoreItems
 pub mod NestedRoutes
 pub mod NestedSteps
 pub mod Ranks
+pub mod Owners
 pub mod ReadyItems
 pub mod Known
 pub mod KnownPlaces

@@ -24,7 +24,6 @@ use Rattle.pssm_model.specs.Changes.{Agree, nothing_yet}
 use Rattle.pssm_plan.specs.inner.Views.{nothing_held}
 use Rattle.pssm_config.specs.Tables.{Tables, configuration_of}
 use Rattle.pssm_plan.specs.declared.roster.Call.{Call}
-use Rattle.pssm_plan.specs.declared.roster.Pair.{Pair}
 use Rattle.pssm_plan.specs.Plans.{IsPlanOf}
 use Rattle.pssm_plan.specs.inner.Marks.{IsListed, IsMarked}
 use Rattle.pssm_plan.specs.inner.Calling.{IsTopOpening, IsOfRoutes, IsOfLeg, IsMadeOf}
@@ -38,11 +37,11 @@ none_marked x h = nothing_in_nil h.0 h.1
 
 module _ {m : DraftMachine} (b : IsPlainlyNested m) (shape : HasShape m) (head : Head) (tables : Tables) where
   -- a roster of what the head calls is its plan
-  pub made_plan : (Added : Item → Type 0) (calls : List Call) (order : List Pair) → ((route : Route) → FiresBy head route → IsStateRoute m route)
+  pub made_plan : (Added : Item → Type 0) (calls : List Call) → ((route : Route) → FiresBy head route → IsStateRoute m route)
       → ((x : Item) → Added x ↔ IsCalledOver m (course_by head (configuration_of tables) []) x)
-      → IsMadeOf m Added calls order → IsPlanOf m (record { head = head; at_head = tables; ran = []; calls = calls; order = order })
-  made_plan Added calls order fires same made =
-      settled_plan b shape head tables [] (begun fires) made.first calls order made.extended.roster
+      → IsMadeOf m Added calls → IsPlanOf m (record { head = head; at_head = tables; ran = []; calls = calls })
+  made_plan Added calls fires same made =
+      settled_plan b shape head tables [] (begun fires) made.first calls made.extended.roster
       (λ x. (
         λ h. ⊎_elim (λ none. absurd (none_listed x none)) (λ added. (same x).0 added) ((made.extended.listed x).0 h),
         λ h. (made.extended.listed x).1 (inr ((same x).1 h)),

@@ -15,7 +15,6 @@ use Rattle.pssm_plan.specs.declared.roster.Call.{Call}
 use Rattle.pssm_plan.specs.Agenda.{Agenda, course_of}
 use Rattle.pssm_plan.specs.Plans.{IsOfCall, IsPlanOf}
 use Rattle.pssm_plan.specs.Standings.{stands_ready, ready_calls, IsItemAt, ListsReady}
-use Rattle.pssm_plan.specs.inner.Marks.{the_pair}
 use Rattle.pssm_plan.proofs.StandingItems.{one_call}
 
 -- the calls around one that stands as ready
@@ -80,9 +79,8 @@ module _ (m : DraftMachine) (plan : Agenda) (h : IsPlanOf m plan) where
         };
         cleared = λ x is before. ⊎_elim
             (λ ran. ran)
-            (λ waits. (let pair = (h.order (the_pair x item)).1 (is, called, before) in
-            let here = subst (λ (i : Item). Contains plan.order (the_pair x i)) (sym same) pair in
-            let blocked : IsTrue call.blocked = (h.blocked call inside).1 (x, here, waits) in
+            (λ waits. (let here = subst (λ (i : Item). Before m (course_of plan) x i) (sym same) before in
+            let blocked : IsTrue call.blocked = (h.blocked call inside).1 (x, is, here, waits) in
             let no = flags.1 in absurd (cc)))
             (run_known (course_of plan) x);
       }
@@ -94,9 +92,8 @@ module _ (m : DraftMachine) (plan : Agenda) (h : IsPlanOf m plan) where
       let stands = ready_both call.ran call.blocked
       (λ ran. ready.waiting.not_run ((h.ran item).0 (call, listed.1, listed.2, ran)))
       (λ blocked. (let on = (h.blocked call listed.1).0 blocked in
-      let pair = (h.order (the_pair on.0 call.item)).0 on.1 in
-      let before = subst (λ (i : Item). Before m (course_of plan) on.0 i) listed.2 pair.2 in
-      on.2 (ready.cleared on.0 pair.0 before))) in
+      let before = subst (λ (i : Item). Before m (course_of plan) on.0 i) listed.2 on.2 in
+      on.3 (ready.cleared on.0 on.1 before))) in
       (call, kept plan.calls call listed.1 stands, listed.2)
 
   pub lists_ready : ListsReady m (course_of plan) (ready_calls plan)

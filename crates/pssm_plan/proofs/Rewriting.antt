@@ -3,8 +3,7 @@ use Rattle.std.proofs.Common.{◌≡◌, ◌≢◌, ◌+◌, ◌<◌, ◌≤◌,
 use Rattle.std.proofs.lemmas.List.{get_or-set_same, get_or-set_other, length-set, get_or_default}
 use Rattle.pssm_model.specs.declared.steps.Item.{Item}
 use Rattle.pssm_plan.specs.declared.roster.Call.{Call}
-use Rattle.pssm_plan.specs.declared.roster.Pair.{Pair}
-use Rattle.pssm_plan.specs.inner.Marks.{IsListed, IsMarked, IsBlocked, ArePairwise}
+use Rattle.pssm_plan.specs.inner.Marks.{IsListed, IsMarked, ArePairwise}
 use Rattle.pssm_plan.proofs.Growing.{lower_or_same}
 
 -- the calls below a number are rewritten, and the others are as they were
@@ -66,7 +65,3 @@ listed_along a b x long same listed =
     let lt : k < length b = omega (arith, long, listed.1.1) in
     let at = get_or b k listed.0 in
     (at, (k, lt, get_or_default b k at listed.0 lt), same k listed.0 listed.1.1 ∙ ap (λ (c : Call). c.item) listed.1.2 ∙ listed.2)
-
--- what blocks an item in the one list blocks it in the other
-pub blocked_along : (a b : List Call) (order : List Pair) (x : Item) → AreAlike a b → IsBlocked a order x → IsBlocked b order x
-blocked_along a b order x h blocked = (blocked.0, blocked.1, λ marked. blocked.2 (marked_along b a blocked.0 (alike_back a b h) marked))

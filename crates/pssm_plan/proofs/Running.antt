@@ -25,7 +25,6 @@ use Rattle.pssm_plan.proofs.NestedRoutes.{route_is_single}
 use Rattle.pssm_plan.proofs.MoreItems.{called_more, run_more}
 use Rattle.pssm_config.specs.Tables.{configuration_of}
 use Rattle.pssm_plan.specs.declared.roster.Call.{Call}
-use Rattle.pssm_plan.specs.declared.roster.Pair.{Pair}
 use Rattle.pssm_plan.specs.Agenda.{Agenda, course_of}
 use Rattle.pssm_plan.specs.Plans.{IsPlanOf}
 use Rattle.pssm_plan.specs.inner.Marks.{IsListed, IsMarked, IsTold, ArePairwise}
@@ -163,12 +162,12 @@ told_marks grown now item told listed x = (down, up)
         h
 
 -- the plan once a ready item has run
-pub run_plan : {m : DraftMachine} (b : IsPlainlyNested m) (shape : HasShape m) (plan : Agenda) (item : Item) (how : How) (new : List Call) (order : List Pair)
-    → IsPlanOf m plan → IsReady m (course_of plan) item → (truth : Truth) → IsWayNow m truth (course_of plan) item how → IsRunIn m plan.calls item how new order
-    → IsPlanOf m (record { head = plan.head; at_head = plan.at_head; ran = plan.ran ++ (item, how) ∷ []; calls = new; order = order })
-run_plan {m} b shape plan item how new order h ready truth way run =
-    settled_plan b shape plan.head plan.at_head (plan.ran ++ (item, how) ∷ []) (more item how h.step ready truth way) run.now new order
-    (roster_along m run.grown run.now order run.told.0 same_items run.extended.roster) (λ x. (down x, up x)) marked run.settled
+pub run_plan : {m : DraftMachine} (b : IsPlainlyNested m) (shape : HasShape m) (plan : Agenda) (item : Item) (how : How) (new : List Call)
+    → IsPlanOf m plan → IsReady m (course_of plan) item → (truth : Truth) → IsWayNow m truth (course_of plan) item how → IsRunIn m plan.calls item how new
+    → IsPlanOf m (record { head = plan.head; at_head = plan.at_head; ran = plan.ran ++ (item, how) ∷ []; calls = new })
+run_plan {m} b shape plan item how new h ready truth way run =
+    settled_plan b shape plan.head plan.at_head (plan.ran ++ (item, how) ∷ []) (more item how h.step ready truth way) run.now new
+    (roster_along m run.grown run.now run.told.0 same_items run.extended.roster) (λ x. (down x, up x)) marked run.settled
   where
     same_items : (k : ℕ) (d : Call) → k < length run.grown → (get_or run.now k d).item ≡ (get_or run.grown k d).item
     same_items k d lt = (run.told.1 k d lt).item_is

@@ -1,17 +1,18 @@
 -- How items stand, read off a plan.
-use Rattle.std.proofs.Common.{◌≡◌, ◌≢◌, ◌↔◌, ◌<◌, ℕ, List, get_or, Contains, AllPairs, IsTrue, Bool, true, false, not, refl, sym, ap, subst, ⊎_elim, arith, ◌∙◌}
+use Rattle.std.proofs.Common.{◌≡◌, ◌≢◌, ◌↔◌, ◌<◌, ℕ, List, length, get_or, Contains, AllPairs, IsTrue, Bool, true, false, not, refl, sym, ap, subst, ⊎_elim, arith, ◌∙◌}
 use Rattle.std.proofs.lemmas.Bool.{cases_lt, false≢true}
 use Rattle.std.proofs.lemmas.List.{get_or_default}
 use Rattle.pssm_model.specs.declared.elements.DraftMachine.{DraftMachine}
 use Rattle.pssm_model.specs.declared.steps.Item.{Item}
-use Rattle.pssm_model.specs.Items.{HasRunOut}
+use Rattle.pssm_model.specs.Items.{Before, IsWaiting, HasRunOut}
 use Rattle.pssm_plan.proofs.ReadyItems.{run_known}
 use Rattle.pssm_plan.specs.declared.roster.Call.{Call}
 use Rattle.pssm_plan.specs.declared.standing.Standing.TheVariants.{Ready, NotCalled, Ran, Waits}
 use Rattle.pssm_plan.specs.Agenda.{Agenda, course_of}
+use Rattle.pssm_plan.specs.Waiting.{HoldsUp}
 use Rattle.pssm_plan.specs.Plans.{IsPlanOf}
 use Rattle.pssm_plan.specs.Standings.{StandsAs}
-use Rattle.pssm_plan.specs.inner.Marks.{IsListed, IsMarked, IsBlocked, AreBlocked, the_pair}
+use Rattle.pssm_plan.specs.inner.Marks.{IsListed, IsMarked}
 
 -- of two calls of one item the second has run where the first has
 module _ (calls : List Call) (once : AllPairs (λ a b. a.item ≢ b.item) calls) where
@@ -35,6 +36,10 @@ module _ (calls : List Call) (once : AllPairs (λ a b. a.item ≢ b.item) calls)
 pub is_false : (b : Bool) → b ≡ false → IsTrue b → ⊥
 is_false b e is = false≢true (sym e ∙ is)
 
+pub is_set : (b : Bool) → not b ≡ false → IsTrue b
+is_set true e = refl
+is_set false e = absurd (false≢true (sym e))
+
 pub is_not : (b : Bool) → not b ≡ true → IsTrue b → ⊥
 is_not true e is = false≢true e
 is_not false e is = false≢true is
@@ -46,61 +51,38 @@ module _ (m : DraftMachine) (plan : Agenda) (h : IsPlanOf m plan) where
   pub stands_ran : (item : Item) → IsListed plan.calls item → IsMarked plan.calls item → StandsAs m (course_of plan) item Ran
   stands_ran item listed marked = ((h.called item).0 listed, (h.ran item).0 marked)
 
-  pub stands_waiting : (item on : Item) → IsListed plan.calls item → (IsMarked plan.calls item → ⊥) → Contains plan.order (the_pair on item)
-      → (IsMarked plan.calls on → ⊥) → StandsAs m (course_of plan) item (Waits on)
-  stands_waiting item on listed not pair not_on =
-      let s = (h.order (the_pair on item)).0 pair in (
-        record { called = s.1; not_run = λ ran. not ((h.ran item).1 ran) },
-        record { called = s.0; not_run = λ ran. not_on ((h.ran on).1 ran) },
-        s.2,
-      )
-
-  pub stands_ready : (item : Item) → IsListed plan.calls item → (IsMarked plan.calls item → ⊥) → (IsBlocked plan.calls plan.order item → ⊥)
-      → StandsAs m (course_of plan) item Ready
-  stands_ready item listed not free = record {
-    waiting = record { called = (h.called item).0 listed; not_run = λ ran. not ((h.ran item).1 ran) };
-    cleared = λ x called before. ⊎_elim
-        (λ ran. ran)
-        (λ waits. absurd (free (x, (h.order (the_pair x item)).1 (called, (h.called item).0 listed, before), λ marked. waits ((h.ran x).0 marked))))
-        (run_known (course_of plan) x);
+  -- a call that is not marked is of an item that has not run
+  pub call_waiting : (call : Call) → Contains plan.calls call → (IsTrue call.ran → ⊥) → IsWaiting m (course_of plan) call.item
+  call_waiting call inside not = record {
+    called = (h.called call.item).0 (call, inside, refl);
+    not_run = λ ran. (let marked = (h.ran call.item).1 ran in
+        not (subst (λ (c : Call). IsTrue c.ran) (one_call plan.calls h.once marked.0 call marked.1 inside marked.2) marked.3));
   }
 
   -- what the call of an item says of it
   module _ (item : Item) (call : Call) (inside : Contains plan.calls call) (same : call.item ≡ item) where
-    listed_so : IsListed plan.calls item
-    listed_so = (call, inside, same)
-
-    not_marked : (IsTrue call.ran → ⊥) → IsMarked plan.calls item → ⊥
-    not_marked not marked =
-        not (subst (λ (c : Call). IsTrue c.ran) (one_call plan.calls h.once marked.0 call marked.1 inside (marked.2 ∙ sym same)) marked.3)
-
-    not_blocked : (IsTrue call.blocked → ⊥) → IsBlocked plan.calls plan.order item → ⊥
-    not_blocked not blocked =
-        not ((h.blocked call inside).1 (
-          blocked.0,
-          subst (λ (x : Item). Contains plan.order (the_pair blocked.0 x)) (sym same) blocked.1,
-          λ ran. blocked.2 ((h.ran blocked.0).1 ran),
-        ))
-
     pub call_ran : IsTrue call.ran → StandsAs m (course_of plan) item Ran
-    call_ran ran = stands_ran item listed_so (call, inside, same, ran)
+    call_ran ran = stands_ran item (call, inside, same) (call, inside, same, ran)
 
     pub call_free : (IsTrue call.ran → ⊥) → (IsTrue call.blocked → ⊥) → StandsAs m (course_of plan) item Ready
-    call_free not free = stands_ready item listed_so (not_marked not) (not_blocked free)
+    call_free not free = subst (λ (x : Item). StandsAs m (course_of plan) x Ready) same (record {
+      waiting = call_waiting call inside not;
+      cleared = λ x called before. ⊎_elim
+          (λ ran. ran)
+          (λ waits. absurd (free ((h.blocked call inside).1 (x, called, before, waits))))
+          (run_known (course_of plan) x);
+    })
 
-    pub call_clear : (IsTrue call.ran → ⊥) → (IsBlocked plan.calls plan.order item → ⊥) → StandsAs m (course_of plan) item Ready
-    call_clear not free = stands_ready item listed_so (not_marked not) free
+    pub call_waits : (on : Call) → (IsTrue call.ran → ⊥) → IsTrue call.blocked → get_or plan.calls call.seen on ≡ on → StandsAs m (course_of plan) item (Waits on.item)
+    call_waits on not blocked at =
+        let waits = (h.exact call inside).waits blocked in
+        let up = subst (λ (c : Call). HoldsUp (Before m (course_of plan)) c call.item) at (waits.1 on) in
+        subst (λ (x : Item). StandsAs m (course_of plan) x (Waits on.item)) same
+        (call_waiting call inside not, call_waiting on (call.seen, waits.0, at) up.1, up.0)
 
-    pub call_waits : (on : Item) → (IsTrue call.ran → ⊥) → Contains plan.order (the_pair on item) → (IsMarked plan.calls on → ⊥)
-        → StandsAs m (course_of plan) item (Waits on)
-    call_waits on not pair not_on = stands_waiting item on listed_so (not_marked not) pair not_on
-
-  -- the calls of a plan say exactly whether they wait
-  pub plan_blocked : AreBlocked plan.calls plan.order
-  plan_blocked call inside = (
-    λ says. (let is = (h.blocked call inside).0 says in (is.0, is.1, λ marked. is.2 ((h.ran is.0).0 marked))),
-    λ is. (h.blocked call inside).1 (is.0, is.1, λ ran. is.2 ((h.ran is.0).1 ran)),
-  )
+    -- the place that it has seen is that of a call
+    pub call_within : IsTrue call.blocked → call.seen < length plan.calls
+    call_within blocked = ((h.exact call inside).waits blocked).0
 
   pub all_ran : ((call : Call) → Contains plan.calls call → IsTrue call.ran) ↔ HasRunOut m (course_of plan)
   all_ran = (

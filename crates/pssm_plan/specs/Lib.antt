@@ -1,4 +1,5 @@
 pub mod Agenda
+pub mod Waiting
 pub mod Plans
 pub mod Standings
 pub mod Steadiness

@@ -7,8 +7,8 @@ use Rattle.pssm_model.specs.Items.{Called, Before}
 use Rattle.pssm_model.specs.Order.{HasGone}
 use Rattle.pssm_config.specs.Tables.{configuration_of}
 use Rattle.pssm_plan.specs.declared.roster.Call.{Call}
-use Rattle.pssm_plan.specs.declared.roster.Pair.{Pair}
 use Rattle.pssm_plan.specs.Agenda.{Agenda, course_of}
+use Rattle.pssm_plan.specs.Waiting.{IsExact}
 
 -- The item is one of a call.
 abbrev pub IsOfCall : List Call → Item → Type 0
@@ -19,14 +19,13 @@ abbrev pub IsOfRunCall : List Call → Item → Type 0
 IsOfRunCall calls item = (call : Call) × Contains calls call × (call.item ≡ item) × IsTrue call.ran
 
 -- The plan is that of its step in the machine: its calls are exactly the called items, each once, marked as run exactly where they have run and as
--- blocked exactly where one that comes before has not, and its order has exactly the called items of which one comes before the other
+-- blocked exactly where a called one that comes before has not, and each says which is the first that it waits for
 -- (UML 2.5.1 14.2.3.9, transition execution sequence).
 pub record IsPlanOf (m : DraftMachine) (plan : Agenda) : Type 0 where
   pub step : HasGone m plan.head (configuration_of plan.at_head) plan.ran
   pub called : (item : Item) → IsOfCall plan.calls item ↔ Called m (course_of plan) item
   pub once : AllPairs (λ a b. a.item ≢ b.item) plan.calls
   pub ran : (item : Item) → IsOfRunCall plan.calls item ↔ HasRun (course_of plan) item
-  pub order : (p : Pair) → Contains plan.order p
-      ↔ (Called m (course_of plan) p.first × Called m (course_of plan) p.second × Before m (course_of plan) p.first p.second)
-  pub blocked : (call : Call) → Contains plan.calls call
-      → IsTrue call.blocked ↔ ((on : Item) × Contains plan.order (record { first = on; second = call.item }) × (HasRun (course_of plan) on → ⊥))
+  pub blocked : (call : Call) → Contains plan.calls call → IsTrue call.blocked
+      ↔ ((on : Item) × Called m (course_of plan) on × Before m (course_of plan) on call.item × (HasRun (course_of plan) on → ⊥))
+  pub exact : (call : Call) → Contains plan.calls call → IsExact (Before m (course_of plan)) plan.calls call

@@ -11,6 +11,7 @@ mod plan;
 mod ready;
 mod roster;
 mod standing;
+mod waiting;
 
 pub use laws::{ready_items, step_length};
 pub use plan::Plan;

@@ -14,7 +14,7 @@ ghost use Rattle.pssm_plan.specs.Plans.{IsPlanOf};
 ghost use Rattle.pssm_plan.specs.Standings.{StandsAs, ListsReady, IsItemAt, ready_calls};
 
 use crate::ready::{count_ready, ready_item};
-use crate::roster::{Roster, call_of, have_all_run, obstacle};
+use crate::roster::{Roster, call_at, call_of, have_all_run};
 use crate::standing::Standing;
 use pssm_config::Config;
 use pssm_model::{Firing, How, Item, Machine};
@@ -39,8 +39,8 @@ struct Step {
 /// The plan of a step (UML 2.5.1, 14.2.3.9, run to completion): the items that it calls, which of them have run, and
 /// which wait for others.
 ///
-/// A clause sees the step as far as it has come, the lists of its called items and of their order. `IsPlanOf` says that all
-/// this is that of a step of a machine.
+/// A clause sees the step as far as it has come, and the list of its called items. `IsPlanOf` says that all this is
+/// that of a step of a machine.
 #[derive(Drop)]
 pub struct Plan {
     beginning: Beginning,
@@ -56,7 +56,7 @@ impl Model for Plan {
     ghost use Rattle.pssm_plan.specs.inner.Views.{head_of, tables_of, steps_of};
     ghost use Rattle.std.specs.Prelude.{◌<◌, ◌^◌, length};
 
-    ghost view = { λ p. record { head = head_of p.beginning; at_head = tables_of p.beginning; ran = steps_of p.ran.items; calls = p.roster.calls.items; order = p.roster.order.items } };
+    ghost view = { λ p. record { head = head_of p.beginning; at_head = tables_of p.beginning; ran = steps_of p.ran.items; calls = p.roster.calls.items } };
 
     ghost invariant = { λ p. length p.roster.calls.items < 2 ^ 32 };
 }
@@ -67,7 +67,7 @@ impl Plan {
         ensures { (m : DraftMachine) → IsPlanOf m self.now → StandsAs m (course_of self.now) item result }
     {
         let calls = self.roster.calls.as_slice();
-        let Some(call) = call_of(calls, item) else {
+        let Some(call) = call_of(calls, item, self.ran.len()) else {
             return Standing::NotCalled;
         };
         if call.ran {
@@ -76,8 +76,8 @@ impl Plan {
         if !call.blocked {
             return Standing::Ready;
         }
-        match obstacle(calls, self.roster.order.as_slice(), item) {
-            Some(on) => Standing::Waits { on },
+        match call_at(calls, call.seen) {
+            Some(on) => Standing::Waits { on: on.item },
             None => Standing::Ready,
         }
     }
@@ -172,7 +172,7 @@ impl Plan {
             how: Snapshot::of(how),
         };
         self.ran.push(step)?;
-        let outcome = self.roster.run(machine, item, how);
+        let outcome = self.roster.run(machine, item, how, ran);
         if outcome.is_err() {
             self.ran.truncate(ran);
         }

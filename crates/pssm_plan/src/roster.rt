@@ -1,28 +1,24 @@
-//! The items that a step calls, and which of them come before which.
-ghost use Rattle.std.specs.Prelude.{◌≡◌, ◌↔◌, ◌⊎◌, ◌≤◌, ◌∷◌, [], ◌++◌, IsTrue, MatchOption, Contains, OnOk, length};
+//! The items that a step calls.
+ghost use Rattle.std.specs.Prelude.{◌≡◌, ◌≢◌, ◌↔◌, ◌<◌, ◌≤◌, [], length, slice_index_or};
+ghost use Rattle.std.specs.Prelude.{IsTrue, AllPairs, IfSome, MatchOption, Contains, OnOk};
 ghost use Rattle.pssm_model.specs.declared.steps.Item.{Item};
 ghost use Rattle.pssm_plan.specs.declared.roster.Call.{Call};
-ghost use Rattle.pssm_plan.specs.declared.roster.Pair.{Pair};
-ghost use Rattle.pssm_plan.specs.inner.Marks.{IsListed, IsMarked, IsBlocked, the_pair, IsLonger, IsTold, IsSettled, IsBlockedAs, IsSettledAt, IsResettled, ArePairwise};
-ghost use Rattle.pssm_plan.specs.inner.Sequence.{IsItemOf, IsSequence, IsLink, AreItemsOf, IsRoster, IsExtended};
+ghost use Rattle.pssm_plan.specs.inner.Marks.{IsListed, IsMarked, IsLonger, IsTold, ArePairwise};
+ghost use Rattle.pssm_plan.specs.inner.Sequence.{IsItemOf, IsRoster, IsExtended};
 
-use crate::arrows::comes_before;
-use pssm_model::{Item, Machine, VertexId};
+use pssm_model::{Item, Machine};
 use std::alloc::{AllocError as NoMemory, Global};
 
 /// An item that a step calls: whether it has run, and whether an item that comes before it has not.
+///
+/// No call before the place that it has seen holds it up. Where it is blocked, the call at that
+/// place does; else it has seen them all.
 #[derive(Clone, Copy)]
 pub struct Call {
     pub item: Item,
     pub ran: bool,
     pub blocked: bool,
-}
-
-/// Two items that a step calls, of which the first comes before the second.
-#[derive(Clone, Copy)]
-pub struct Pair {
-    pub first: Item,
-    pub second: Item,
+    pub seen: u32,
 }
 
 /// Whether two items are one and the same.
@@ -44,16 +40,61 @@ pub fn is_listed(calls: &[Call], item: Item) -> bool
     false
 }
 
-/// The call of an item, where it is listed.
-pub fn call_of(calls: &[Call], item: Item) -> Option<Call>
-    ensures { MatchOption result (IsListed calls.now item → ⊥) (λ call. Contains calls.now call × (call.item ≡ item)) }
+// The place of an item, where it is listed at a place from the first one on.
+fn place_from(calls: &[Call], item: Item, first: usize) -> Option<usize>
+    ensures { IfSome result (λ k. (k < length calls.now) × ((d : Call) → (slice_index_or calls.now k d).item ≡ item)) }
 {
-    for call in calls {
-        if same_item(call.item, item) {
-            return Some(*call);
+    for k in first..calls.len() {
+        if same_item(calls[k].item, item) {
+            return Some(k);
         }
     }
     None
+}
+
+// The place of an item, where it is listed.
+fn first_place(calls: &[Call], item: Item) -> Option<usize>
+    ensures { MatchOption result (IsListed calls.now item → ⊥)
+        (λ k. (k < length calls.now) × ((d : Call) → (slice_index_or calls.now k d).item ≡ item)) }
+{
+    for k in 0..calls.len() {
+        if same_item(calls[k].item, item) {
+            return Some(k);
+        }
+    }
+    None
+}
+
+// The place of an item, where it is listed. It is looked for from the hint on, and then everywhere.
+fn place_of(calls: &[Call], item: Item, hint: usize) -> Option<usize>
+    ensures { MatchOption result (IsListed calls.now item → ⊥)
+        (λ k. (k < length calls.now) × ((d : Call) → (slice_index_or calls.now k d).item ≡ item)) }
+{
+    match place_from(calls, item, hint) {
+        Some(k) => Some(k),
+        None => first_place(calls, item),
+    }
+}
+
+/// The call of an item, where it is listed. It is looked for from the hint on first.
+pub fn call_of(calls: &[Call], item: Item, hint: usize) -> Option<Call>
+    ensures { MatchOption result (IsListed calls.now item → ⊥) (λ call. Contains calls.now call × (call.item ≡ item)) }
+{
+    match place_of(calls, item, hint) {
+        Some(k) => Some(calls[k]),
+        None => None,
+    }
+}
+
+/// The call at a place of the list, where it has as many.
+pub fn call_at(calls: &[Call], place: u32) -> Option<Call>
+    ensures { MatchOption result (length calls.now ≤ place)
+        (λ call. (place < length calls.now) × (slice_index_or calls.now place call ≡ call)) }
+{
+    match calls.get(place as usize) {
+        Some(call) => Some(*call),
+        None => None,
+    }
 }
 
 /// Whether the item is listed as one that has run.
@@ -80,157 +121,57 @@ pub fn have_all_run(calls: &[Call]) -> bool
     true
 }
 
-// Whether the pair says that the item waits for one that has not run.
-fn blocks(calls: &[Call], pair: Pair, item: Item) -> bool
-    ensures { IsTrue result ↔ ((pair.second ≡ item) × (IsMarked calls.now pair.first → ⊥)) }
+// Says of the call of an item that it has run. It is looked for from the hint on first.
+fn tell_one(calls: &mut [Call], item: Item, hint: usize)
+    requires once { AllPairs (λ a b. a.item ≢ b.item) calls.old }
+    ensures { ArePairwise (IsTold item) calls.old calls.new }
 {
-    same_item(pair.second, item) && !has_run(calls, pair.first)
-}
-
-/// An item that comes before this one and has not run.
-pub fn obstacle(calls: &[Call], order: &[Pair], item: Item) -> Option<Item>
-    ensures { MatchOption result (IsBlocked calls.now order.now item → ⊥) (λ on. Contains order.now (the_pair on item) × (IsMarked calls.now on → ⊥)) }
-{
-    for pair in order {
-        if blocks(calls, *pair, item) {
-            return Some(pair.first);
-        }
-    }
-    None
-}
-
-// Notes two items, where the first comes before the second.
-fn note(machine: &Machine, order: &mut Vec<Pair>, first: Item, second: Item) -> Result<(), NoMemory>
-    requires first { IsItemOf machine.now first }
-    requires second { IsItemOf machine.now second }
-    ensures longer { IsLonger order.old.items order.new.items }
-    ensures noted { OnOk result ((p : Pair) → Contains order.new.items p
-        ↔ (Contains order.old.items p ⊎ ((p ≡ the_pair first second) × IsSequence machine.now first second))) }
-{
-    if comes_before(machine, first, second) {
-        order.push(Pair { first, second })?;
-    }
-    Ok(())
-}
-
-// Notes each pair of the item and a listed one, where one comes before the other.
-fn link(
-    machine: &Machine,
-    calls: &[Call],
-    order: &mut Vec<Pair>,
-    item: Item,
-) -> Result<(), NoMemory>
-    requires items { AreItemsOf machine.now calls.now }
-    requires item { IsItemOf machine.now item }
-    ensures longer { IsLonger order.old.items order.new.items }
-    ensures linked { OnOk result ((p : Pair) → Contains order.new.items p
-        ↔ (Contains order.old.items p ⊎ IsLink machine.now calls.now item p)) }
-{
-    for call in calls {
-        note(machine, order, call.item, item)?;
-        note(machine, order, item, call.item)?;
-    }
-    Ok(())
-}
-
-// Whether the call has run, now that the item has.
-fn has_now_run(call: Call, item: Item) -> bool
-    ensures { IsTold item call (record call { ran = result }) }
-{
-    call.ran || same_item(call.item, item)
-}
-
-// Whether the call is blocked, as said where it is one of the item.
-fn blocked_as(call: Call, item: Item, blocked: bool) -> bool
-    ensures { IsBlockedAs item blocked call (record call { blocked = result }) }
-{
-    if same_item(call.item, item) {
-        blocked
-    } else {
-        call.blocked
+    if let Some(k) = place_of(calls, item, hint) {
+        calls[k].ran = true;
     }
 }
 
-// Says of the calls of an item that it waits for another, or that it does not.
-fn mark_blocked(calls: &mut [Call], item: Item, blocked: bool)
-    ensures { ArePairwise (IsBlockedAs item blocked) calls.old calls.new }
-{
-    for call in calls.iter_mut() {
-        call.blocked = blocked_as(*call, item, blocked);
-    }
-}
-
-// Says of the calls of an item whether it waits for another.
-fn settle_item(calls: &mut [Call], order: &[Pair], item: Item)
-    ensures { ArePairwise (IsSettledAt calls.old order.now item) calls.old calls.new }
-{
-    let blocked = obstacle(calls, order, item).is_some();
-    mark_blocked(calls, item, blocked);
-}
-
-// Whether the pair is a new one or says that another item waits for this one.
-fn is_due(place: usize, pair: Pair, item: Item, from: usize) -> bool
-    ensures { IsTrue result ↔ ((from ≤ place) ⊎ (pair.first ≡ item)) }
-{
-    from <= place || same_item(pair.first, item)
-}
-
-// Says of each item that comes after this one, or second in a pair from this place on, whether it waits for another.
-fn settle_after(calls: &mut [Call], order: &[Pair], item: Item, from: usize)
-    ensures { ArePairwise (IsResettled calls.old order.now item from (length order.now)) calls.old calls.new }
-{
-    for k in 0..order.len() {
-        let pair = order[k];
-        if is_due(k, pair, item, from) {
-            settle_item(calls, order, pair.second);
-        }
-    }
-}
-
-/// The items that a step calls, and the pairs of them of which one comes before the other.
+/// The items that a step calls, each once.
 #[derive(Drop)]
 pub struct Roster {
     pub calls: Vec<Call>,
-    pub order: Vec<Pair>,
 }
 
 impl Roster {
     /// A roster without items.
     pub fn new(alloc: Global) -> Roster
         ensures calls { result.calls.items ≡ [] }
-        ensures order { result.order.items ≡ [] }
     {
         Roster {
             calls: Vec::new(alloc),
-            order: Vec::new(alloc),
         }
     }
 
     // Lists an item that is not listed yet.
     fn push(&mut self, machine: &Machine, item: Item) -> Result<(), NoMemory>
-        requires roster { IsRoster machine.now self.old.calls.items self.old.order.items }
+        requires roster { IsRoster machine.now self.old.calls.items }
         requires item { IsItemOf machine.now item }
         requires fresh { IsListed self.old.calls.items item → ⊥ }
         ensures calls { IsLonger self.old.calls.items self.new.calls.items }
-        ensures order { IsLonger self.old.order.items self.new.order.items }
-        ensures added { OnOk result (IsExtended machine.now self.old.calls.items (λ x. x ≡ item) self.new.calls.items self.new.order.items) }
+        ensures added { OnOk result (IsExtended machine.now self.old.calls.items (λ x. x ≡ item) self.new.calls.items) }
     {
         let call = Call {
             item,
             ran: false,
             blocked: false,
+            seen: 0,
         };
         self.calls.push(call)?;
-        link(machine, self.calls.as_slice(), &mut self.order, item)
+        Ok(())
     }
 
     /// Lists an item where it is wanted and not listed yet.
     pub fn add(&mut self, machine: &Machine, item: Item, wanted: bool) -> Result<(), NoMemory>
-        requires roster { IsRoster machine.now self.old.calls.items self.old.order.items }
+        requires roster { IsRoster machine.now self.old.calls.items }
         requires item { IsTrue wanted → IsItemOf machine.now item }
         ensures calls { IsLonger self.old.calls.items self.new.calls.items }
-        ensures order { IsLonger self.old.order.items self.new.order.items }
-        ensures added { OnOk result (IsExtended machine.now self.old.calls.items (λ x. IsTrue wanted × (x ≡ item)) self.new.calls.items self.new.order.items) }
+        ensures added { OnOk result (IsExtended machine.now self.old.calls.items
+            (λ x. IsTrue wanted × (x ≡ item)) self.new.calls.items) }
     {
         if wanted && !is_listed(self.calls.as_slice(), item) {
             self.push(machine, item)
@@ -239,30 +180,11 @@ impl Roster {
         }
     }
 
-    /// Says of an item that it has run.
-    pub fn tell(&mut self, item: Item)
+    /// Says of an item that it has run. It is looked for from the hint on first.
+    pub fn tell(&mut self, item: Item, hint: usize)
+        requires once { AllPairs (λ a b. a.item ≢ b.item) self.old.calls.items }
         ensures told { ArePairwise (IsTold item) self.old.calls.items self.new.calls.items }
-        ensures order { self.new.order.items ≡ self.old.order.items }
     {
-        for call in self.calls.iter_mut() {
-            call.ran = has_now_run(*call, item);
-        }
-    }
-
-    /// Says of each item that comes after this one, or second in a pair from this place on, whether it waits for another.
-    pub fn settle(&mut self, item: Item, from: usize)
-        ensures settled { ArePairwise (IsResettled self.old.calls.items self.old.order.items item from (length self.old.order.items)) self.old.calls.items self.new.calls.items }
-        ensures order { self.new.order.items ≡ self.old.order.items }
-    {
-        settle_after(self.calls.as_mut_slice(), self.order.as_slice(), item, from);
-    }
-
-    /// Says of each item whether it waits for another, where none is said to wait yet.
-    pub fn settle_new(&mut self)
-        requires { (call : Call) → Contains self.old.calls.items call → IsTrue call.blocked → ⊥ }
-        ensures settled { ArePairwise (IsSettled self.old.calls.items self.old.order.items) self.old.calls.items self.new.calls.items }
-        ensures order { self.new.order.items ≡ self.old.order.items }
-    {
-        self.settle(Item::Pick(VertexId(0)), 0);
+        tell_one(self.calls.as_mut_slice(), item, hint);
     }
 }

@@ -29,3 +29,29 @@ mutual
 -- So it may be run.
 pub ActFits-args : (vocabulary : Vocabulary) → SendsFew vocabulary → (act : Act) → ActFits vocabulary act → ActArgsFit act
 ActFits-args vocabulary few act fits = λ k d h. stmt_args vocabulary few (slice_index_or act.stmts k d) (fits.0 k d h)
+
+-- what fits where some sends may be made fits where others may, if each of the first is one of the second
+abbrev pub SendsMore : Vocabulary → (Option ObjectId → SignalId → ℕ → Type 0) → Type 0
+SendsMore vocabulary Sends = (to : Option ObjectId) (signal : SignalId) (n : ℕ) → vocabulary.Sends to signal n → Sends to signal n
+
+module _ (vocabulary : Vocabulary) (Sends : Option ObjectId → SignalId → ℕ → Type 0) (more : SendsMore vocabulary Sends) where
+  abbrev wider : Vocabulary
+  wider = record { vars = vocabulary.vars; marks = vocabulary.marks; Sends = Sends }
+
+  mutual
+    stmt_wider : (stmt : Stmt) → StmtFits vocabulary stmt → StmtFits wider stmt
+    stmt_wider (Assign x e) fits = fits
+    stmt_wider (Choose' c shape body otherwise) fits = (fits.0, block_wider body fits.1, otherwise_wider otherwise fits.2)
+    stmt_wider (Send to signal args) fits = (more to signal (length args) fits.0, fits.1)
+    stmt_wider (Mark mark args) fits = fits
+
+    block_wider : {n : _} → (block : Row_of-Stmt n) → BlockFits vocabulary block → BlockFits wider block
+    block_wider end_of-Stmt fits = tt
+    block_wider (more_of-Stmt stmt rest) fits = (stmt_wider stmt fits.0, block_wider rest fits.1)
+
+    otherwise_wider : (otherwise : Held-Stmt-Choose-2) → OtherwiseFits vocabulary otherwise → OtherwiseFits wider otherwise
+    otherwise_wider None' fits = tt
+    otherwise_wider (Some' shape block) fits = block_wider block fits
+
+  pub ActFits-wider : (act : Act) → ActFits vocabulary act → ActFits wider act
+  ActFits-wider act fits = ((λ k d h. stmt_wider (slice_index_or act.stmts k d) (fits.0 k d h)), fits.1)

@@ -1,38 +1,82 @@
--- A setting without behaviours whose machine the code runs is one that the code runs.
+-- Each class of a setting that the code runs is a class that the code runs.
+use Rattle.std.proofs.Common.{◌≡◌, ◌≤◌, ℕ, List, All, length, Option, Some, None, slice_get, subst, arith}
+use Rattle.std.specs.Option.{option_and_then}
+use Rattle.std.proofs.lemmas.List.Elements.{All-weaker}
+use Rattle.std.proofs.lemmas.Option.{slice_get_within, get_or_from_slice_get}
+use Rattle.pssm_model.specs.declared.ids.SignalId.{SignalId}
 use Rattle.pssm_model.specs.declared.elements.Element.{Element}
 use Rattle.pssm_model.specs.Shapes.{HasShape}
 use Rattle.pssm_model.specs.WellFormed.{KeepsModelRules}
 use Rattle.pssm_model.specs.NotBuilt.{IsNotBuilt}
 use Rattle.pssm_model.specs.BuiltMachine.{IsBuiltMachine}
+use Rattle.pssm_model.proofs.ElementLaws.{mapped_some}
+use Rattle.pssm_semantics.specs.declared.entry.ObjectId.{ObjectId}
+use Rattle.pssm_semantics.specs.declared.tree.Act.{Act}
+use Rattle.pssm_semantics.specs.declared.setting.Class.{Class}
+use Rattle.pssm_semantics.specs.declared.setting.ObjectDecl.{ObjectDecl}
+use Rattle.pssm_semantics.specs.declared.setting.SignalDecl.{SignalDecl}
 use Rattle.pssm_semantics.specs.declared.setting.Setting.{Setting}
-use Rattle.pssm_semantics.specs.Built.{IsSilent, IsBuilt}
+use Rattle.pssm_semantics.specs.Settings.{class_of, HasCount}
+use Rattle.pssm_semantics.specs.Fits.{Vocabulary, ActFits}
+use Rattle.pssm_semantics.specs.Proper.{ProgramFits, CanSend, ClassFits, IsProper}
+use Rattle.pssm_semantics.specs.Classes.{IsProperClass}
+use Rattle.pssm_semantics.specs.Built.{IsBuiltClass, IsBuilt}
+use Rattle.pssm_semantics.specs.Arguments.{ActArgsFit}
+use Rattle.pssm_semantics.proofs.ArgumentLaws.{ActFits-args, ActFits-wider}
 
-pub built_setting : {setting : Setting} (s : IsSilent setting) → IsBuiltMachine s.class.machine → IsBuilt setting
-built_setting s machine = record {
-  class = s.class;
-  object = s.object;
-  signals_are = s.signals_are;
-  signals_differ = s.signals_differ;
-  few_signals = s.few_signals;
-  classes = s.classes;
-  objects = s.objects;
-  class_is = record {
-    empty = s.class_is.empty;
-    name = s.class_is.name;
-    vars = s.class_is.vars;
-    acts = s.class_is.acts;
-    nothing = s.class_is.nothing;
-    guards = s.class_is.guards;
-    marks = s.class_is.marks;
-    machine = machine;
-  };
-  object_name = s.object_name;
-  object_class = s.object_class;
-  triggers = s.triggers;
-  defers = s.defers;
-}
+-- what holds of each element of a list holds of the one at a place
+pub all_there : {X : Type 0} (P : X → Type 0) (xs : List X) (k : ℕ) (x : X) → All P xs → slice_get xs k ≡ Some x → P x
+all_there P xs k x all there = subst P (get_or_from_slice_get xs k x x there) (all k x (slice_get_within xs k x there))
 
--- so is one whose machine has its shape, keeps the rules of models and has no element that is not built
-pub silent_runs : {setting : Setting} (s : IsSilent setting) → HasShape s.class.machine → KeepsModelRules s.class.machine
-    → ((e : Element) → IsNotBuilt s.class.machine e → ⊥) → IsBuilt setting
-silent_runs s shape rules built = built_setting s (record { shape = shape; rules = rules; silent = s.class_is.machine; built = built })
+-- a signal of a proper setting has at most eight parameters
+few_parameters : (setting : Setting) → IsProper setting → (signal : SignalId) (n : ℕ) → HasCount setting signal n → n ≤ 8
+few_parameters setting proper signal n has =
+    let found = mapped_some (λ (d : SignalDecl). d.count) (slice_get setting.signals signal.0) n has in
+    let few = all_there (λ (d : SignalDecl). d.count ≤ 8) setting.signals signal.0 found.0 proper.counts found.1 in
+    omega (arith, few, found.2)
+
+module _ (setting : Setting) (proper : IsProper setting) (class : Class) (fits : ClassFits setting class) where
+  -- a class that fits in a proper setting is proper by itself
+  proper_class : IsProperClass class
+  proper_class =
+      let program = fits.program in
+      record {
+        machine = program.machine;
+        vertices = program.vertices;
+        transitions = program.transitions;
+        acts = All-weaker
+            (ActFits (record { vars = length class.vars; marks = length class.program.marks; Sends = CanSend setting }))
+            (ActFits (record { vars = length class.vars; marks = length class.program.marks; Sends = λ to signal n. n ≤ 8 }))
+            (ActFits-wider (record { vars = length class.vars; marks = length class.program.marks; Sends = CanSend setting }) (λ to signal n. n ≤ 8)
+            (λ to signal n send. few_parameters setting proper signal n send.1))
+            class.program.acts program.acts;
+        guards = program.guards;
+        first_act = program.first_act;
+        names = program.names;
+        limits = program.limits;
+      }
+
+-- the class of an object is one of the setting
+pub class_there : (setting : Setting) (o : ObjectId) (class : Class) → class_of setting o ≡ Some class → (k : ℕ) × (slice_get setting.classes k ≡ Some class)
+class_there setting o class is = by (slice_get setting.objects o.0) is
+  where
+    by : (found : Option ObjectDecl) → option_and_then (λ (d : ObjectDecl). slice_get setting.classes d.class) found ≡ Some class
+        → (k : ℕ) × (slice_get setting.classes k ≡ Some class)
+    by None e = absurd (cc)
+    by (Some d) e = (d.class, e)
+
+-- The class of each object of a setting that the code runs is one that the code runs, and fits in the setting.
+pub built_class : (setting : Setting) → IsBuilt setting → (o : ObjectId) (class : Class) → class_of setting o ≡ Some class
+    → IsBuiltClass class × ClassFits setting class
+built_class setting b o class is =
+    let at = class_there setting o class is in
+    let fits = all_there (ClassFits setting) setting.classes at.0 class b.proper.classes at.1 in
+    let machine = all_there (λ (c : Class). IsBuiltMachine c.machine) setting.classes at.0 class b.machines at.1 in
+    (record { well_formed = record { proper = proper_class setting b.proper class fits; rules = machine.rules }; machine = machine }, fits)
+
+-- So its behaviours may be run.
+pub acts_run : (class : Class) → IsBuiltClass class → (k : ℕ) (act : Act) → slice_get class.program.acts k ≡ Some act → ActArgsFit act
+acts_run class b k act there =
+    let vocabulary : Vocabulary = record { vars = length class.vars; marks = length class.program.marks; Sends = λ to signal n. n ≤ 8 } in
+    ActFits-args vocabulary (λ to signal n few. few) act
+    (all_there (ActFits vocabulary) class.program.acts k act b.well_formed.proper.acts there)

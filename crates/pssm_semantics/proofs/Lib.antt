@@ -17,6 +17,8 @@ pub mod Takes
 pub mod Meaning
 pub mod Blocks
 pub mod ArgumentLaws
-pub mod BuiltSettings
 pub mod ProperSettings
+pub mod BuiltSettings
+pub mod Outcomes
+pub mod EightParameters
 pub mod Configurations

@@ -1,5 +1,5 @@
--- The posts, sends and marks of a journal: its signals are among them, and a plain entry has at most one.
-use Rattle.std.proofs.Common.{◌≡◌, ◌≤◌, ◌+◌, ◌++◌, ℕ, List, [], ◌∷◌, length, ap, arith, length-append}
+-- The posts, sends and marks of a journal: its signals are among them, and a built entry has at most 64.
+use Rattle.std.proofs.Common.{◌≡◌, ◌≤◌, ◌+◌, ◌*◌, ◌++◌, ℕ, List, [], ◌∷◌, length, ap, arith, length-append}
 use Rattle.std.specs.List.{AllByRecursion, flat_map}
 use Rattle.std.proofs.lemmas.List.Sums.{sum_by-cons, sum_by_push}
 use Rattle.pssm_semantics.specs.declared.entry.Out.{Out}
@@ -34,27 +34,24 @@ outputs_in e = length (posts_of_entry e) + length (outs_of e)
 pub output_count-append : (J : List Entry) (e : Entry) → output_count (J ++ e ∷ []) ≡ output_count J + outputs_in e
 output_count-append J e = sum_by_push outputs_in J e
 
-none_in : (outs : List Out) → outs ≡ [] → length outs ≤ 1
-none_in outs none = let few = ap length none in omega arith
+-- a built entry has at most 64
+pub outputs_in-built : (e : Entry) → IsBuiltEntry e → outputs_in e ≤ 64
+outputs_in-built (Post o g args) is = omega arith
+outputs_in-built (Start o) is = omega arith
+outputs_in-built (Take o number firing) is = omega arith
+outputs_in-built (Done o v firing) is = absurd is.form
+outputs_in-built (Exit o v outs) is = let few = is.form in omega (arith, few)
+outputs_in-built (Effect o t outs) is = let few = is.form in omega (arith, few)
+outputs_in-built (Enter o v outs) is = let few = is.form in omega (arith, few)
+outputs_in-built (Opened o r mode how) is = omega arith
+outputs_in-built (Pick o v route) is = absurd is.form
+outputs_in-built (DoStep o v k outs) is = absurd is.form
 
--- a plain entry has no more than one, and that where it is a post
-pub outputs_in-plain : (e : Entry) → IsBuiltEntry e → outputs_in e ≤ 1
-outputs_in-plain (Post o g args) is = omega arith
-outputs_in-plain (Start o) is = omega arith
-outputs_in-plain (Take o number firing) is = omega arith
-outputs_in-plain (Done o v firing) is = absurd is
-outputs_in-plain (Exit o v outs) is = let few = none_in outs is in omega arith
-outputs_in-plain (Effect o t outs) is = let few = none_in outs is in omega arith
-outputs_in-plain (Enter o v outs) is = let few = none_in outs is in omega arith
-outputs_in-plain (Opened o r mode how) is = omega arith
-outputs_in-plain (Pick o v route) is = absurd is
-outputs_in-plain (DoStep o v k outs) is = absurd is
-
--- so a journal of plain entries has no more than it has entries
-pub output_count-plain : (J : List Entry) → AllByRecursion IsBuiltEntry J → output_count J ≤ length J
-output_count-plain [] all = omega arith
-output_count-plain (e ∷ J) all =
-    let rest = output_count-plain J all.1 in
-    let first = outputs_in-plain e all.0 in
+-- so a journal of built entries has at most 64 times as many as it has entries
+pub output_count-built : (J : List Entry) → AllByRecursion IsBuiltEntry J → output_count J ≤ 64 * length J
+output_count-built [] all = omega arith
+output_count-built (e ∷ J) all =
+    let rest = output_count-built J all.1 in
+    let first = outputs_in-built e all.0 in
     let both = sum_by-cons outputs_in e J in
     omega arith

@@ -1,94 +1,29 @@
--- The premise of what is built, the settings that the code runs: one class with a machine that the code runs, one object, and signals without arguments;
--- and the entries of their runs.
--- Later work widens this premise; no definition changes with it.
-use Rattle.std.specs.Prelude.{◌≡◌, ◌≢◌, ◌⊎◌, ◌<◌, ◌≤◌, ℕ, [], ◌∷◌, length, AllPairs}
-use Rattle.std.specs.List.{AllByRecursion}
-use Rattle.pssm_model.specs.declared.ids.SignalId.{SignalId}
+-- The premises of what is built: the classes and settings that the code runs, and the entries of the runs of these. Later work widens these premises; no
+-- definition changes with them.
+use Rattle.std.specs.Prelude.{◌≡◌, ◌⊎◌, ◌<◌, ◌≤◌, [], ◌∷◌, length, All}
 use Rattle.pssm_model.specs.declared.ids.TransId.{TransId}
-use Rattle.pssm_model.specs.declared.elements.Transition.{Transition}
 use Rattle.pssm_model.specs.declared.steps.Firing.{Firing}
 use Rattle.pssm_model.specs.declared.steps.Mode.TheVariants.{Plain}
 use Rattle.pssm_model.specs.declared.steps.How.{How}
 use Rattle.pssm_model.specs.declared.steps.How.TheVariants.{By, Nothing}
-use Rattle.pssm_model.specs.declared.elements.Vertex.{Vertex}
 use Rattle.pssm_model.specs.BuiltMachine.{IsBuiltMachine}
-use Rattle.pssm_model.specs.Silent.{IsSilentMachine}
 use Rattle.pssm_model.specs.Routes.{single_route}
 use Rattle.pssm_semantics.specs.declared.entry.Entry.{Entry}
 use Rattle.pssm_semantics.specs.declared.entry.Entry.TheVariants.{Post, Start, Take, Exit, Effect, Enter, Opened}
-use Rattle.pssm_semantics.specs.declared.setting.SignalDecl.{SignalDecl}
-use Rattle.pssm_semantics.specs.declared.setting.ObjectDecl.{ObjectDecl}
 use Rattle.pssm_semantics.specs.declared.setting.Class.{Class}
 use Rattle.pssm_semantics.specs.declared.setting.Setting.{Setting}
-use Rattle.pssm_semantics.specs.declared.tree.Act.{Act}
-use Rattle.pssm_spelling.specs.Spelling.{IsName}
+use Rattle.pssm_semantics.specs.Proper.{IsProper}
+use Rattle.pssm_semantics.specs.Classes.{IsWellFormedClass}
 
--- a signal without arguments
-pub record IsPlainSignal (x : SignalDecl) : Type 0 where
-  pub name : IsName x.name
-  pub count : x.count ≡ 0
+-- a class by itself that is well formed, with a machine that the code runs
+pub record IsBuiltClass (class : Class) : Type 0 where
+  pub well_formed : IsWellFormedClass class
+  pub machine : IsBuiltMachine class.machine
 
--- a class without variables, guards and marks, whose one behaviour is the empty one, with a machine that the code runs
-pub record IsPlainClass (x : Class) : Type 0 where
-  pub empty : Act
-  pub name : IsName x.name
-  pub vars : x.vars ≡ []
-  pub acts : x.program.acts ≡ empty ∷ []
-  pub nothing : empty.stmts ≡ []
-  pub guards : x.program.guards ≡ []
-  pub marks : x.program.marks ≡ []
-  pub machine : IsBuiltMachine x.machine
-
--- the triggers are signals of the setting, in strictly ascending number
-pub record ListsSignals (signal_count : ℕ) (x : Transition) : Type 0 where
-  pub known : AllByRecursion (λ (g : SignalId). g.0 < signal_count) x.triggers
-  pub ascending : AllPairs (λ (g h : SignalId). g.0 < h.0) x.triggers
-
--- the deferred signals are signals of the setting, in strictly ascending number
-pub record DefersSignals (signal_count : ℕ) (x : Vertex) : Type 0 where
-  pub known : AllByRecursion (λ (g : SignalId). g.0 < signal_count) x.defers
-  pub ascending : AllPairs (λ (g h : SignalId). g.0 < h.0) x.defers
-
--- a class without variables, guards and marks, whose one behaviour is the empty one, with a machine of any form without behaviours
-pub record IsSilentClass (x : Class) : Type 0 where
-  pub empty : Act
-  pub name : IsName x.name
-  pub vars : x.vars ≡ []
-  pub acts : x.program.acts ≡ empty ∷ []
-  pub nothing : empty.stmts ≡ []
-  pub guards : x.program.guards ≡ []
-  pub marks : x.program.marks ≡ []
-  pub machine : IsSilentMachine x.machine
-
--- one such class, one object of it, and signals without arguments, of which the readers and writers of a model's text know
-pub record IsSilent (setting : Setting) : Type 0 where
-  pub class : Class
-  pub object : ObjectDecl
-  pub signals_are : AllByRecursion IsPlainSignal setting.signals
-  pub signals_differ : AllPairs (λ (a b : SignalDecl). a.name ≢ b.name) setting.signals
-  pub few_signals : length setting.signals ≤ 256
-  pub classes : setting.classes ≡ class ∷ []
-  pub objects : setting.objects ≡ object ∷ []
-  pub class_is : IsSilentClass class
-  pub object_name : IsName object.name
-  pub object_class : object.class ≡ 0
-  pub triggers : AllByRecursion (ListsSignals (length setting.signals)) class.machine.transitions
-  pub defers : AllByRecursion (DefersSignals (length setting.signals)) class.machine.vertices
-
--- one class, one object of it, and the signals
+-- a proper setting every class of which has a machine that the code runs
 pub record IsBuilt (setting : Setting) : Type 0 where
-  pub class : Class
-  pub object : ObjectDecl
-  pub signals_are : AllByRecursion IsPlainSignal setting.signals
-  pub signals_differ : AllPairs (λ (a b : SignalDecl). a.name ≢ b.name) setting.signals
-  pub few_signals : length setting.signals ≤ 256
-  pub classes : setting.classes ≡ class ∷ []
-  pub objects : setting.objects ≡ object ∷ []
-  pub class_is : IsPlainClass class
-  pub object_name : IsName object.name
-  pub object_class : object.class ≡ 0
-  pub triggers : AllByRecursion (ListsSignals (length setting.signals)) class.machine.transitions
-  pub defers : AllByRecursion (DefersSignals (length setting.signals)) class.machine.vertices
+  pub proper : IsProper setting
+  pub machines : All (λ c. IsBuiltMachine c.machine) setting.classes
 
 -- Nothing fires, or one transition does.
 abbrev pub IsBuiltFiring : Firing → Type 0
@@ -98,14 +33,24 @@ IsBuiltFiring firing = (firing.routes ≡ []) ⊎ ((t : TransId) × (firing.rout
 abbrev pub IsBuiltWay : How → Type 0
 IsBuiltWay how = (how ≡ Nothing) ⊎ ((t : TransId) × (how ≡ By (single_route t)))
 
--- the entries of a run of such a setting: no arguments, no outputs, signal numbers from 1, openings by default, by no way or by the route of one transition,
--- firings of at most one such route, and no completion, pick or do step
-abbrev pub IsBuiltEntry : Entry → Type 0
-IsBuiltEntry (Post o signal args) = args ≡ []
-IsBuiltEntry (Start o) = Unit {0}
-IsBuiltEntry (Take o number firing) = (0 < number) × IsBuiltFiring firing
-IsBuiltEntry (Exit o state outs) = outs ≡ []
-IsBuiltEntry (Effect o transition outs) = outs ≡ []
-IsBuiltEntry (Enter o state outs) = outs ≡ []
-IsBuiltEntry (Opened o region mode how) = (mode ≡ Plain) × IsBuiltWay how
-IsBuiltEntry _ = ⊥
+-- an entry of an object of a class that the code runs: at most 64 outputs, openings by default, by no way or by the route of one
+-- transition, firings of at most one such route, and no completion, pick or do step (this profile's choice of entries)
+abbrev pub HasBuiltForm : Entry → Type 0
+HasBuiltForm (Post o signal args) = Unit {0}
+HasBuiltForm (Start o) = Unit {0}
+HasBuiltForm (Take o number firing) = IsBuiltFiring firing
+HasBuiltForm (Exit o state outs) = length outs ≤ 64
+HasBuiltForm (Effect o transition outs) = length outs ≤ 64
+HasBuiltForm (Enter o state outs) = length outs ≤ 64
+HasBuiltForm (Opened o region mode how) = (mode ≡ Plain) × IsBuiltWay how
+HasBuiltForm _ = ⊥
+
+-- A take names a number from 1 (this profile's choice).
+abbrev pub CountsFromOne : Entry → Type 0
+CountsFromOne (Take o number firing) = 0 < number
+CountsFromOne _ = Unit {0}
+
+-- an entry of a run of a setting that the code runs
+pub record IsBuiltEntry (e : Entry) : Type 0 where
+  pub form : HasBuiltForm e
+  pub numbered : CountsFromOne e

@@ -13,8 +13,11 @@ pub mod Verdict
 pub mod Admissible
 pub mod Fits
 pub mod Proper
+pub mod Names
 pub mod Laws
 pub mod Equal
 pub mod Arguments
 pub mod Work
+pub mod Classes
+pub mod Tasks
 pub mod later

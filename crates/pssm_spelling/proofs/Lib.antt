@@ -1,3 +1,5 @@
 pub mod SpellingLaws
 pub mod WordNumbers
 pub mod FrontLaws
+pub mod StripLaws
+pub mod NameLaws

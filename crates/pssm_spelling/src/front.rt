@@ -2,7 +2,7 @@
 //!
 //! Each function reads from the left and gives the value with the bytes after it, or `None` where the text
 //! does not begin so. None of them takes memory.
-ghost use Rattle.std.specs.Prelude.{◌≡◌, ◌≤◌, ◌<◌, ◌^◌, ◌↔◌, IsTrue, IfSome, length};
+ghost use Rattle.std.specs.Prelude.{◌≡◌, ◌≤◌, ◌<◌, ◌^◌, ◌↔◌, IsTrue, IfSome, [], ◌∷◌, length};
 ghost use Rattle.std.specs.List.{prefix_len, list_all};
 ghost use Rattle.std.specs.Option.{option_map, option_copied};
 ghost use Rattle.std.specs.Str.Parse.{digits_value};
@@ -13,10 +13,29 @@ ghost use Rattle.pssm_spelling.specs.SpellingReading.{is_digit, is_plain, starts
 pub const NAME_LEN: usize = 64;
 
 /// What follows `front`, where the bytes begin with it.
+#[inline(always)]
 pub fn strip<'a>(bytes: &'a [u8], front: &[u8]) -> Option<&'a [u8]>
     ensures { option_copied result ≡ stripped front.now bytes.now }
 {
-    bytes.strip_prefix(front)
+    let mut rest = bytes;
+    for c in front {
+        let Some(more) = behind(rest, *c) else {
+            return None;
+        };
+        rest = more;
+    }
+    Some(rest)
+}
+
+// What follows the byte, where it stands at the front.
+#[inline(always)]
+fn behind(bytes: &[u8], byte: u8) -> Option<&[u8]>
+    ensures { option_copied result ≡ stripped (byte ∷ []) bytes.now }
+{
+    match bytes.split_first() {
+        Some((first, rest)) if *first == byte => Some(rest),
+        _ => None,
+    }
 }
 
 fn begins(c: u8) -> bool
@@ -65,15 +84,20 @@ pub fn name_starts(bytes: &[u8]) -> bool
 /// A name (a letter or `_`, then letters, digits and `_`, 1 to 64 bytes) and the bytes after it.
 ///
 /// The longest front of such characters counts: where it has more than 64 bytes there is no name.
-#[tactic(auto, unfolding(crate::specs::SpellingReading::name_taken))]
+#[inline(always)]
 pub fn name_at(bytes: &[u8]) -> Option<(&[u8], &[u8])>
     ensures { option_map (λ x. (x.0.now, x.1.now)) result ≡ name_taken bytes.now }
 {
-    let len = name_len(bytes);
-    if name_starts(bytes) && len <= NAME_LEN {
-        Some(bytes.split_at(len))
-    } else {
-        None
+    match bytes.split_first() {
+        Some((first, others)) if begins(*first) => {
+            let len = name_len(others);
+            if len < NAME_LEN {
+                Some(bytes.split_at(len + 1))
+            } else {
+                None
+            }
+        }
+        _ => None,
     }
 }
 
@@ -126,6 +150,7 @@ fn below(bytes: &[u8], limit: u64) -> Option<(u64, &[u8])>
 /// A decimal number without leading zeros, up to 4,294,967,295, and the bytes after it.
 ///
 /// The longest front of digits counts: `07`, or a number past the greatest, is refused as a whole.
+#[inline(always)]
 pub fn number_at(bytes: &[u8]) -> Option<(u32, &[u8])>
     ensures { option_map (λ x. (x.0, x.1.now)) result ≡ number_taken bytes.now }
 {
@@ -134,6 +159,7 @@ pub fn number_at(bytes: &[u8]) -> Option<(u32, &[u8])>
 }
 
 /// A decimal number without leading zeros, up to 65,535, and the bytes after it.
+#[inline(always)]
 pub fn index_at(bytes: &[u8]) -> Option<(u16, &[u8])>
     ensures { option_map (λ x. (x.0, x.1.now)) result ≡ index_taken bytes.now }
 {

@@ -1,239 +1,195 @@
--- What a system keeps true, as its calls need it.
-use Rattle.std.proofs.Common.{◌≡◌, ◌↔◌, ◌≤◌, ◌<◌, ◌++◌, ℤ, List, [], ◌∷◌, length, Bool, IsTrue, Option, Some, None, refl, sym, ap, subst, ◌∙◌, arith}
-use Rattle.std.specs.List.{AllByRecursion}
-use Rattle.std.specs.Option.{IfNone, IfSome}
-use Rattle.std.proofs.lemmas.List.{length-map}
-use Rattle.pssm_model.specs.declared.elements.DraftMachine.{DraftMachine}
-use Rattle.pssm_model.specs.Changes.{Agree, nothing_yet}
-use Rattle.pssm_model.specs.BuiltMachine.{IsBuiltMachine}
-use Rattle.pssm_model.proofs.Agreeing.{Agree-symm, Agree-trans}
-use Rattle.pssm_config.specs.Tables.{Fits, configuration_of}
-use Rattle.pssm_plan.specs.Agenda.{Agenda}
-use Rattle.pssm_plan.specs.Plans.{IsPlanOf}
+-- What a system tells of itself, from what it keeps.
+use Rattle.std.proofs.Common.{◌≡◌, ◌<◌, ◌++◌, ◌↔◌, ℕ, List, [], ◌∷◌, length, Bool, IsTrue, Option, Some, None, Result, Ok, Err, IfOk, IfNone, IfSome, get_or, sym, ap, subst, ◌∙◌, arith}
 use Rattle.pssm_semantics.specs.declared.entry.ObjectId.{ObjectId}
 use Rattle.pssm_semantics.specs.declared.entry.Entry.{Entry}
-use Rattle.pssm_semantics.specs.declared.entry.Entry.TheVariants.{Post, Start, Take, Done, Exit, Effect, Enter, Opened, Pick, DoStep}
 use Rattle.pssm_semantics.specs.declared.entry.Rule.{Rule}
 use Rattle.pssm_semantics.specs.declared.entry.Rule.TheVariants.{A1}
-use Rattle.pssm_semantics.specs.declared.stimulus.Stimulus.{Stimulus}
 use Rattle.pssm_semantics.specs.declared.setting.Class.{Class}
 use Rattle.pssm_semantics.specs.declared.setting.Setting.{Setting}
-use Rattle.pssm_semantics.specs.Known.{IsFiringOf, IsWayOf}
+use Rattle.pssm_semantics.specs.Settings.{class_of}
+use Rattle.pssm_semantics.specs.Journal.{IsPost}
+use Rattle.pssm_semantics.specs.Pool.{told_by}
+use Rattle.pssm_semantics.specs.Behaviours.{store_of, params_of}
+use Rattle.pssm_semantics.specs.Proper.{IsWellFormed}
 use Rattle.pssm_semantics.specs.Rules.{Holds}
 use Rattle.pssm_semantics.specs.Verdict.{IsFirstBroken}
-use Rattle.pssm_semantics.specs.Settings.{class_of}
-use Rattle.pssm_semantics.specs.Journal.{IsPost, configuration_after}
-use Rattle.pssm_semantics.specs.Values.{no_params}
-use Rattle.pssm_semantics.specs.Pool.{signals_of, told_by}
-use Rattle.pssm_semantics.specs.Behaviours.{store_of, params_of}
-use Rattle.pssm_semantics.specs.Admissible.{MayFollow, IsAdmissibleIn, IsQuiet, KeepsJournalLimits}
+use Rattle.pssm_semantics.specs.Admissible.{MayFollow, IsQuiet, KeepsJournalLimits}
 use Rattle.pssm_semantics.specs.Laws.{CompletesInTime, KeepsTakes, KeepsRegions}
-use Rattle.pssm_semantics.specs.Built.{IsBuilt, IsPlainClass, IsBuiltEntry}
-use Rattle.pssm_semantics.specs.Proper.{IsWellFormed}
+use Rattle.pssm_semantics.specs.Built.{IsBuilt}
 use Rattle.pssm_semantics.proofs.Appending.{every_push, admissible_push, admissible_none}
-use Rattle.pssm_semantics.proofs.Configurations.{configuration-nil}
 use Rattle.pssm_semantics.proofs.Outputs.{signals_of-within}
 use Rattle.pssm_semantics.proofs.ProperSettings.{built_is_well_formed}
 use Rattle.pssm_semantics.proofs.Takes.{admissible-keeps_takes}
+use Rattle.pssm_object.specs.Standing.{Standing}
+use Rattle.pssm_object.specs.Following.{IsMove}
 use Rattle.pssm_system.specs.declared.situation.Situation.{Situation}
+use Rattle.pssm_system.specs.declared.choosing.Wanted.TheVariants.{AnyEntry, Move}
 use Rattle.pssm_system.specs.History.{History}
-use Rattle.pssm_system.specs.inner.Situations.{the_object, StandsAt, IsStepOf}
-use Rattle.pssm_system.specs.inner.Judging.{NamesPlaces, Judges}
-use Rattle.pssm_system.specs.inner.Choosing.{IsIdle, Chooses}
-use Rattle.pssm_system.specs.inner.Advancing.{CanFollow, IsUnchanged, Advances}
-use Rattle.pssm_system.specs.inner.Keeping.{KeepsRun}
-use Rattle.pssm_system.proofs.Kept.{class_is}
-use Rattle.pssm_system.proofs.Signals.{taken_none}
-use Rattle.pssm_system.proofs.Values.{nothing_stored, zero_params}
-use Rattle.pssm_system.proofs.Judged.{IsJudged, judged}
-use Rattle.pssm_system.proofs.Following.{can_follow}
-use Rattle.pssm_system.proofs.Advancing.{stands_as, following}
+use Rattle.pssm_semantics.specs.Built.{IsBuiltEntry}
+use Rattle.pssm_system.specs.Tasks.{AreReady, HasNoMove}
+use Rattle.pssm_system.specs.inner.Keeping.{StandsSo, Stands, CanCome, IsUnchanged, KeepsRun, tasks_of}
+use Rattle.pssm_system.specs.inner.Judging.{IsKnown, IsVerdict}
+use Rattle.pssm_system.specs.inner.Choosing.{FindsAmong}
+use Rattle.pssm_system.proofs.AllTasks.{are_ready}
+use Rattle.pssm_system.proofs.Choices.{none-of_all}
 use Rattle.pssm_system.proofs.Completing.{completes}
-use Rattle.pssm_system.proofs.Chosen.{chosen_follows, none_is_idle, idle_is_quiet, quiet_is_idle}
-use Rattle.pssm_system.proofs.Regions.{keeps_regions}
-use Rattle.pssm_system.proofs.Plain.{is_plain}
+use Rattle.pssm_system.proofs.Regions.{keeps_regions, is_built_entry}
+use Rattle.pssm_system.proofs.Members.{IsMember, member}
+use Rattle.pssm_system.proofs.Stepped.{class_exists, told_after, stands_in, stands_unchanged}
 
--- the places that an entry names are those of the machine
-named : {setting : Setting} (b : IsBuilt setting) (J : List Entry) (e : Entry) → Holds setting A1 J e → NamesPlaces b.class.machine e
-named b J (Take o number firing) (class, is, known) = subst (λ (k : Class). IsFiringOf k.machine firing) (class_is b o class is).1 known
-named b J (Opened o region mode how) (class, is, known) =
-    subst (λ (k : Class). (region.0 < length k.machine.regions) × IsWayOf k.machine how) (class_is b o class is).1 known
-named b J (Post o signal args) h = tt
-named b J (Start o) h = tt
-named b J (Done o state firing) h = tt
-named b J (Exit o state outs) h = tt
-named b J (Effect o transition outs) h = tt
-named b J (Enter o state outs) h = tt
-named b J (Pick o choice route) h = tt
-named b J (DoStep o state step outs) h = tt
+-- what a clause sees of a setting, a journal and what is kept of it
+abbrev pub history_of : Setting → List Entry → Situation → History
+history_of setting J s = record { setting = setting; journal = J; tasks = tasks_of s.objects.items }
 
--- the plan that is kept is one of the machine
-plan_known : (m : DraftMachine) (J : List Entry) (plan : Option Agenda) → IsStepOf m J plan → IfSome plan (IsPlanOf m)
-plan_known m J None step = tt
-plan_known m J (Some p) step = step.0
-
--- what a system tells of itself, in terms of the machine that it has looked up
-module _ (h : History) (situation : Situation) (setting : Setting) (J : List Entry) (k : KeepsRun setting J situation)
-    (view_is : let seen : History = record { setting = setting; journal = J } in seen ≡ h) where
+module _ (h : History) (setting : Setting) (J : List Entry) (s : Situation) (k : KeepsRun setting J s) (view_is : history_of setting J s ≡ h) where
   seen : (P : Setting → List Entry → Type 0) → P setting J → P h.setting h.journal
   seen P here = subst (λ (v : History). P v.setting v.journal) view_is here
 
   unseen : (P : Setting → List Entry → Type 0) → P h.setting h.journal → P setting J
   unseen P there = subst (λ (v : History). P v.setting v.journal) (sym view_is) there
 
-  stands : StandsAt k.built.class.machine J situation.plan situation.config situation.signals.items situation.taken
-  stands = k.stands
+  -- it stands so
+  pub stands_here : Stands setting s
+  stands_here = (J, k.stands)
+
+  pub built_seen : IsBuilt h.setting
+  built_seen = seen (λ x js. IsBuilt x) k.built
+
+  pub well_formed_seen : IsWellFormed h.setting
+  well_formed_seen = seen (λ x js. IsWellFormed x) (built_is_well_formed setting k.built)
 
   pub completes_seen : CompletesInTime h.setting h.journal
-  completes_seen =
-      seen CompletesInTime (completes k.built J situation.plan situation.config situation.signals.items situation.taken stands k.admissible)
+  completes_seen = seen CompletesInTime (completes k.built J k.admissible (stands_in k.built k.stands.objects))
 
-  -- its setting is well formed
-  pub well_formed_seen : IsWellFormed h.setting
-  well_formed_seen = seen (λ s js. IsWellFormed s) (built_is_well_formed setting k.built)
-
-  -- the laws of all admissible journals
   pub laws_seen : KeepsTakes h.setting h.journal × KeepsRegions h.setting h.journal
   laws_seen = (
     seen KeepsTakes (admissible-keeps_takes setting J k.admissible),
-    seen KeepsRegions (keeps_regions k.built J situation.plan situation.config situation.signals.items situation.taken stands),
+    seen KeepsRegions (keeps_regions k.built (stands_in k.built k.stands.objects)),
   )
 
-  -- it is quiet exactly where the object rests and no signal waits
-  pub quiet_seen : (b : Bool)
-      → ((m : DraftMachine) → IfSome situation.plan (IsPlanOf m) → (IsTrue b ↔ IsIdle m situation.plan situation.signals.items situation.taken))
-      → IsTrue b ↔ IsQuiet h.setting h.journal
-  quiet_seen b says =
-      let here = says k.built.class.machine (plan_known k.built.class.machine J situation.plan stands.step_is) in (
-        λ is. seen IsQuiet
-            (idle_is_quiet k.built J situation.plan situation.config situation.signals.items situation.taken stands (here.0 is)),
-        λ quiet. here.1
-            (quiet_is_idle k.built J situation.plan situation.config situation.signals.items situation.taken stands (unseen IsQuiet quiet)),
-      )
+  -- what an entry names is known
+  pub known_here : (e : Entry) → Holds h.setting A1 h.journal e → IsKnown setting e
+  known_here e names = unseen (λ x js. Holds x A1 js e) names
 
-  -- the signals are within the limits
-  pub few_signals : length situation.signals.items ≤ 2000000
-  few_signals =
-      let long = ap length stands.pool.signals_are ∙ length-map (signals_of J) (λ (x : Stimulus). x.signal) in
-      let within = signals_of-within J in
-      let few = k.limits.outputs in
-      omega arith
+  -- the verdict
+  pub keeps_seen : {E : Type 0} (e : Entry) (r : Result (Option Rule) E)
+      → IfOk r (λ answer. (K : List Entry) → StandsSo setting K s → IsVerdict setting K e answer) → IfOk r (λ rule. IfNone rule (MayFollow h.setting h.journal e))
+  keeps_seen e (Ok None) says = seen (λ x js. MayFollow x js e) (says J k.stands)
+  keeps_seen e (Ok (Some rule)) says = tt
+  keeps_seen e (Err none) says = tt
 
-  -- nothing is stored, and the parameters are zeros
-  pub store_seen : (store : List ℤ) → store ≡ [] → (o : ObjectId) (c : Class) → class_of h.setting o ≡ Some c → store ≡ store_of c (told_by h.journal) h.journal o
-  store_seen store none o c is =
-      let here : class_of setting o ≡ Some c = unseen (λ s js. class_of s o ≡ Some c) is in
-      let plain : IsPlainClass c = subst IsPlainClass (sym (class_is k.built o c here).1) k.built.class_is in
-      none ∙ sym (nothing_stored c plain (told_by h.journal) o h.journal)
+  pub breaks_seen : {E : Type 0} (e : Entry) (r : Result (Option Rule) E)
+      → IfOk r (λ answer. (K : List Entry) → StandsSo setting K s → IsVerdict setting K e answer)
+      → IfOk r (λ rule. IfSome rule (λ broken. IsFirstBroken (Holds h.setting) h.journal e broken))
+  breaks_seen e (Ok None) says = tt
+  breaks_seen e (Ok (Some rule)) says = seen (λ x js. IsFirstBroken (Holds x) js e rule) (says J k.stands)
+  breaks_seen e (Err none) says = tt
 
-  pub params_seen : (params : List ℤ) → params ≡ no_params → (o : ObjectId) → params ≡ params_of (told_by h.journal) h.journal o
-  params_seen params zeros o = zeros ∙ sym (seen (λ s js. params_of (told_by js) js o ≡ no_params) (zero_params J o k.plain))
+  -- an entry that may follow within the limits can come
+  pub can_come : (e : Entry) → MayFollow h.setting h.journal e → KeepsJournalLimits (h.journal ++ e ∷ []) → CanCome setting s e
+  can_come e may limits =
+      let follows = unseen (λ x js. MayFollow x js e) may in
+      let here = unseen (λ x js. KeepsJournalLimits (js ++ e ∷ [])) limits in
+      record {
+        before = J;
+        stands = k.stands;
+        follows = follows;
+        few =
+            let within = signals_of-within (J ++ e ∷ []) in
+            let all = told_after k.built k.stands e follows in
+            let most = here.outputs in
+            omega (arith, within, all, most);
+      }
 
-  module _ (m : DraftMachine) (machine_is : m ≡ k.built.class.machine) where
-    -- the machine is one of those that the code runs, and the configuration and the plan are of it
-    pub machine_built : IsBuiltMachine m
-    machine_built = subst IsBuiltMachine (sym machine_is) k.built.class_is.machine
+  -- and what is kept once it has come
+  pub keeps_longer : (e : Entry) → MayFollow h.setting h.journal e → KeepsJournalLimits (h.journal ++ e ∷ []) → (new : Situation)
+      → ((K : List Entry) → StandsSo setting K s → MayFollow setting K e → StandsSo setting (K ++ e ∷ []) new) → KeepsRun setting (J ++ e ∷ []) new
+  keeps_longer e may limits new goes =
+      let follows = unseen (λ x js. MayFollow x js e) may in
+      record {
+        built = k.built;
+        admissible = admissible_push setting J e k.admissible follows;
+        limits = unseen (λ x js. KeepsJournalLimits (js ++ e ∷ [])) limits;
+        entries = every_push IsBuiltEntry J e k.entries (is_built_entry k.built k.stands e follows);
+        stands = goes J k.stands follows;
+      }
 
-    pub config_fits : Fits m situation.config
-    config_fits = subst (λ n. Fits n situation.config) (sym machine_is) stands.fits
+  pub quiet_seen : (b : Bool) → ((K : List Entry) → StandsSo setting K s → (IsTrue b ↔ IsQuiet setting K)) → IsTrue b ↔ IsQuiet h.setting h.journal
+  quiet_seen b says = seen (λ x js. IsTrue b ↔ IsQuiet x js) (says J k.stands)
 
-    pub plan_fits : IfSome situation.plan (IsPlanOf m)
-    plan_fits =
-        subst (λ n. IfSome situation.plan (IsPlanOf n)) (sym machine_is) (plan_known k.built.class.machine J situation.plan stands.step_is)
+  -- what is chosen
+  pub chosen_seen : {E : Type 0} (r : Result (Option Entry) E) → IfOk r (FindsAmong setting s AnyEntry 0 (length s.objects.items))
+      → IfOk r (λ o. IfSome o (λ e. (IsPost e → ⊥) × MayFollow h.setting h.journal e))
+  chosen_seen (Ok None) found = tt
+  chosen_seen (Ok (Some e)) found = (found.wanted_is, seen (λ x js. MayFollow x js e) (found.follows J k.stands))
+  chosen_seen (Err none) found = tt
 
-    -- what is chosen may follow, and nothing is chosen where nothing may
-    own_machine : (chosen : Option Entry) → Chooses m situation.plan situation.config situation.signals.items situation.taken chosen
-        → Chooses k.built.class.machine situation.plan situation.config situation.signals.items situation.taken chosen
-    own_machine chosen = subst (λ n. Chooses n situation.plan situation.config situation.signals.items situation.taken chosen) machine_is
+  pub none_seen : {E : Type 0} (r : Result (Option Entry) E) → IfOk r (FindsAmong setting s AnyEntry 0 (length s.objects.items))
+      → IfOk r (λ o. IfNone o (IsQuiet h.setting h.journal))
+  none_seen (Ok None) found = seen IsQuiet (λ e no_post may. none-of_all k.stands AnyEntry found e no_post may)
+  none_seen (Ok (Some e)) found = tt
+  none_seen (Err none) found = tt
 
-    pub chosen_seen : (chosen : Option Entry) → Chooses m situation.plan situation.config situation.signals.items situation.taken chosen
-        → IfSome chosen (λ e. (IsPost e → ⊥) × MayFollow h.setting h.journal e)
-    chosen_seen None is = tt
-    chosen_seen (Some e) is =
-        let may = chosen_follows k.built J situation.plan situation.config situation.signals.items situation.taken stands e (own_machine (Some e) is) in
-        (may.0, seen (λ s js. MayFollow s js e) may.1)
+  pub moved_seen : {E : Type 0} (r : Result (Option Entry) E) → IfOk r (FindsAmong setting s Move 0 (length s.objects.items))
+      → IfOk r (λ o. IfSome o (λ e. IsMove e × MayFollow h.setting h.journal e))
+  moved_seen (Ok None) found = tt
+  moved_seen (Ok (Some e)) found = (found.wanted_is, seen (λ x js. MayFollow x js e) (found.follows J k.stands))
+  moved_seen (Err none) found = tt
 
-    pub none_seen : (chosen : Option Entry) → Chooses m situation.plan situation.config situation.signals.items situation.taken chosen
-        → IfNone chosen (IsQuiet h.setting h.journal)
-    none_seen None is =
-        seen IsQuiet (idle_is_quiet k.built J situation.plan situation.config situation.signals.items situation.taken stands
-        (none_is_idle k.built J situation.plan situation.config situation.signals.items situation.taken stands (own_machine None is)))
-    none_seen (Some e) is = tt
+  pub no_move_seen : {E : Type 0} (r : Result (Option Entry) E) → IfOk r (FindsAmong setting s Move 0 (length s.objects.items))
+      → IfOk r (λ o. IfNone o (HasNoMove h.setting h.journal))
+  no_move_seen (Ok None) found = seen HasNoMove (λ e move may. none-of_all k.stands Move found e move may)
+  no_move_seen (Ok (Some e)) found = tt
+  no_move_seen (Err none) found = tt
 
-    module _ (e : Entry) where
-      pub names_known : Holds h.setting A1 h.journal e → NamesPlaces m e
-      names_known names = subst (λ n. NamesPlaces n e) (sym machine_is) (named k.built J e (unseen (λ s js. Holds s A1 js e) names))
+  -- the tasks
+  tasks_are : h.tasks ≡ tasks_of s.objects.items
+  tasks_are = sym (ap (λ (v : History). v.tasks) view_is)
 
-      -- the verdict is that of the rules
-      verdict_seen : Holds h.setting A1 h.journal e → (answer : Option Rule)
-          → Judges m situation.plan situation.config situation.signals.items situation.taken e answer → IsJudged h.setting h.journal e answer
-      verdict_seen names answer judges =
-          seen (λ s js. IsJudged s js e answer)
-          (judged k.built J situation.plan situation.config situation.signals.items situation.taken stands e (unseen (λ s js. Holds s A1 js e) names) answer
-          (subst (λ n. Judges n situation.plan situation.config situation.signals.items situation.taken e answer) machine_is judges))
+  pub ready_seen : AreReady h.setting h.journal h.tasks
+  ready_seen = subst (λ (v : History). AreReady v.setting v.journal v.tasks) view_is (are_ready k.built k.stands.objects)
 
-      pub keeps_all : Holds h.setting A1 h.journal e → (answer : Option Rule)
-          → Judges m situation.plan situation.config situation.signals.items situation.taken e answer → IfNone answer (MayFollow h.setting h.journal e)
-      keeps_all names None judges = verdict_seen names None judges
-      keeps_all names (Some rule) judges = tt
+  -- the values of an object
+  module _ (o : ObjectId) (x : Standing) (n : ℕ) (read : x ≡ get_or s.objects.items n x) (at : n ≡ o.0) where
+    member_here : (c : Class) → class_of h.setting o ≡ Some c → IsMember setting J s.objects.items o c x
+    member_here c is = member k.built k.stands.objects o c x n (unseen (λ y js. class_of y o ≡ Some c) is) at read
 
-      pub breaks_first : Holds h.setting A1 h.journal e → (answer : Option Rule)
-          → Judges m situation.plan situation.config situation.signals.items situation.taken e answer
-          → IfSome answer (IsFirstBroken (Holds h.setting) h.journal e)
-      breaks_first names None judges = tt
-      breaks_first names (Some rule) judges = verdict_seen names (Some rule) judges
+    pub store_seen : (c : Class) → class_of h.setting o ≡ Some c → x.store ≡ store_of c (told_by h.journal) h.journal o
+    store_seen c is =
+        let m = member_here c is in
+        seen (λ y js. x.store ≡ store_of c (told_by js) js o)
+        (m.object.stands.store_is ∙ ap (λ q. store_of c (told_by J) J q) m.object.own)
 
-      -- an entry that may follow can be told
-      pub follows_seen : MayFollow h.setting h.journal e → CanFollow m situation.plan situation.config situation.signals.items situation.taken e
-      follows_seen may =
-          subst (λ n. CanFollow n situation.plan situation.config situation.signals.items situation.taken e) (sym machine_is)
-          (can_follow k.built J situation.plan situation.config situation.signals.items situation.taken stands e (unseen (λ s js. MayFollow s js e) may))
+    pub params_seen : o.0 < length h.setting.objects → x.params ≡ params_of (told_by h.journal) h.journal o
+    params_seen there =
+        let class = class_exists h.setting built_seen o there in
+        let m = member_here class.0 class.1 in
+        seen (λ y js. x.params ≡ params_of (told_by js) js o)
+        (m.object.stands.params_is ∙ ap (λ q. params_of (told_by J) J q) m.object.own)
 
-      -- what is kept once it is appended
-      pub keeps_longer : MayFollow h.setting h.journal e → KeepsJournalLimits (h.journal ++ e ∷ []) → (next : Situation) → Advances m situation e next
-          → KeepsRun setting (J ++ e ∷ []) next
-      keeps_longer may limits next advances =
-          let follows = unseen (λ s js. MayFollow s js e) may in
-          record {
-            built = k.built;
-            admissible = admissible_push setting J e k.admissible follows;
-            limits = unseen (λ s js. KeepsJournalLimits (js ++ e ∷ [])) limits;
-            plain = every_push IsBuiltEntry J e k.plain
-                (is_plain k.built J situation.plan situation.config situation.signals.items situation.taken stands e follows);
-            stands = following k.built J situation next stands e follows (subst (λ n. Advances n situation e next) machine_is advances);
-          }
+    pub object_in : o.0 < length h.setting.objects → o.0 < length s.objects.items
+    object_in there = subst (λ i. o.0 < i) (sym k.stands.objects.count) (unseen (λ y js. o.0 < length y.objects) there)
 
--- where nothing has changed, the same is kept
-pub keeps_same : (setting : Setting) (J K : List Entry) (situation next : Situation) → KeepsRun setting J situation → K ≡ J → IsUnchanged situation next
-    → KeepsRun setting K next
-keeps_same setting J K situation next k entries same =
-    let there : KeepsRun setting J next = record {
+-- where nothing has changed but room, the same is kept
+pub keeps_same : (setting : Setting) (J K : List Entry) (s new : Situation) → KeepsRun setting J s → K ≡ J → IsUnchanged s new → KeepsRun setting K new
+keeps_same setting J K s new k same unchanged =
+    let here : KeepsRun setting J new = record {
       built = k.built;
       admissible = k.admissible;
       limits = k.limits;
-      plain = k.plain;
-      stands = stands_as k.built.class.machine J situation.plan next.plan situation.config next.config situation.signals.items next.signals.items
-          situation.taken next.taken (sym same.plan) (sym same.config) (sym same.signals) (sym same.taken) k.stands;
+      entries = k.entries;
+      stands = stands_unchanged k.stands unchanged;
     } in
-    subst (λ js. KeepsRun setting js next) (sym entries) there
+    subst (λ js. KeepsRun setting js new) (sym same) here
 
 -- a system that has just been made
-pub keeps_new : (setting : Setting) (b : IsBuilt setting) (J : List Entry) (situation : Situation) (m : DraftMachine) → m ≡ b.class.machine → J ≡ []
-    → situation.plan ≡ None → Fits m situation.config → Agree (configuration_of situation.config) nothing_yet → situation.signals.items ≡ []
-    → situation.taken ≡ 0 → KeepsRun setting J situation
-keeps_new setting b J situation m machine_is empty no_plan fits nothing no_signals none_taken = record {
-  built = b;
-  admissible = subst (IsAdmissibleIn setting) (sym empty) (admissible_none setting);
-  limits = subst KeepsJournalLimits (sym empty) (record { entries = omega arith; outputs = omega arith });
-  plain = subst (AllByRecursion IsBuiltEntry) (sym empty) tt;
-  stands = subst (λ js. StandsAt b.class.machine js situation.plan situation.config situation.signals.items situation.taken) (sym empty)
-      (stands_as b.class.machine [] None situation.plan situation.config situation.config [] situation.signals.items 0 situation.taken (sym no_plan) refl
-      (sym no_signals) (sym none_taken)
-      (record {
-        fits = subst (λ n. Fits n situation.config) machine_is fits;
-        now_is = Agree-trans (configuration_of situation.config) nothing_yet (configuration_after b.class.machine [] the_object) nothing
-            (Agree-symm (configuration_after b.class.machine [] the_object) nothing_yet (configuration-nil b.class.machine the_object));
-        step_is = record { posts = tt; nothing = configuration-nil b.class.machine the_object };
-        pool = record { signals_are = refl; all_to_object = tt; taken_is = taken_none the_object };
-      }));
-}
+pub keeps_new : (setting : Setting) (J : List Entry) (s : Situation) → IsBuilt setting → J ≡ [] → StandsSo setting [] s → KeepsRun setting J s
+keeps_new setting J s built empty stands =
+    let here : KeepsRun setting [] s = record {
+      built = built;
+      admissible = admissible_none setting;
+      limits = record { entries = omega arith; outputs = omega arith };
+      entries = tt;
+      stands = stands;
+    } in
+    subst (λ js. KeepsRun setting js s) (sym empty) here

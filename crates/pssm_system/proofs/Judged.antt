@@ -1,23 +1,8 @@
--- The verdict on one more entry is that of the rules.
-use Rattle.std.proofs.Common.{◌≡◌, ◌≢◌, ◌+◌, ℕ, zero, suc, List, [], ◌∷◌, map, Contains, IfSome, Option, Some, None, slice_get, refl, sym, ap, subst, ◌∙◌}
-use Rattle.std.proofs.lemmas.Option.{slice_get_within}
-use Rattle.pssm_model.specs.declared.ids.VertexId.{VertexId}
-use Rattle.pssm_model.specs.declared.ids.RegionId.{RegionId}
-use Rattle.pssm_model.specs.declared.ids.TransId.{TransId}
-use Rattle.pssm_model.specs.declared.ids.SignalId.{SignalId}
-use Rattle.pssm_model.specs.declared.steps.Route.{Route}
+-- What the object says of an entry is what the setting says of it.
+use Rattle.std.proofs.Common.{◌≡◌, ◌<◌, ◌≤◌, ℕ, List, Option, Some, None, All, unwrap_or, slice_get, refl, sym, ap, subst, ◌∙◌, ⊎_elim, arith}
+use Rattle.std.proofs.lemmas.Bool.{cases_lt}
 use Rattle.pssm_model.specs.declared.steps.Firing.{Firing}
-use Rattle.pssm_model.specs.declared.steps.Mode.{Mode}
-use Rattle.pssm_model.specs.declared.steps.Mode.TheVariants.{Plain}
-use Rattle.pssm_model.specs.declared.steps.How.{How}
-use Rattle.pssm_model.specs.declared.steps.Item.{Item}
-use Rattle.pssm_model.specs.declared.steps.Item.TheVariants as items
-use Rattle.pssm_model.specs.declared.steps.How.TheVariants.{By, Nothing}
-use Rattle.pssm_model.specs.Ways.{Memory, CanOpen}
-use Rattle.pssm_model.specs.Items.{Called, IsWaiting, IsCleared}
-use Rattle.pssm_config.specs.Tables.{Tables, configuration_of}
-use Rattle.pssm_plan.specs.Agenda.{Agenda, course_of}
-use Rattle.pssm_semantics.specs.declared.entry.Out.{Out}
+use Rattle.pssm_semantics.specs.declared.entry.ObjectId.{ObjectId}
 use Rattle.pssm_semantics.specs.declared.entry.Entry.{Entry}
 use Rattle.pssm_semantics.specs.declared.entry.Entry.TheVariants.{Post, Start, Take, Done, Exit, Effect, Enter, Opened, Pick, DoStep}
 use Rattle.pssm_semantics.specs.declared.entry.Rule.{Rule}
@@ -25,494 +10,254 @@ use Rattle.pssm_semantics.specs.declared.entry.Rule.TheVariants.{A1, A2, A3, A4,
 use Rattle.pssm_semantics.specs.declared.stimulus.Stimulus.{Stimulus}
 use Rattle.pssm_semantics.specs.declared.setting.Class.{Class}
 use Rattle.pssm_semantics.specs.declared.setting.Setting.{Setting}
-use Rattle.pssm_semantics.specs.Journal.{IsMemory, IsStart, object_of, configuration_after}
-use Rattle.pssm_semantics.specs.Steps.{item_of}
-use Rattle.pssm_semantics.specs.Completion.{HasEnded, IsStepFinished}
-use Rattle.pssm_semantics.specs.Values.{eight_of}
-use Rattle.pssm_semantics.specs.Pool.{signals_of, told_by, outs_of}
-use Rattle.pssm_semantics.specs.Behaviours.{store_of, guards_under, guards_at}
-use Rattle.pssm_semantics.specs.Rules.{Holds, KeepsShared, IsCalledItem, IsClearedItem, IsFirstWaiting}
-use Rattle.pssm_semantics.specs.Verdict.{number_of, IsFirstBroken}
-use Rattle.pssm_semantics.specs.Admissible.{MayFollow}
-use Rattle.pssm_semantics.specs.Built.{IsBuilt}
-use Rattle.pssm_system.specs.inner.Firing.{FiresAt}
-use Rattle.pssm_system.specs.inner.Situations.{the_object, IsAtRest, StandsAt}
-use Rattle.pssm_system.specs.inner.Judging.{IsBusy, IsNumbered, JudgesStart, JudgesFiring, JudgesTake, JudgesDone, JudgesItem, JudgesWork, JudgesOpened, JudgesNever, Judges}
-use Rattle.pssm_system.proofs.Signals.{AreStatesActive, active_states, waiting_is_next, next_is_waiting, told_next}
-use Rattle.pssm_system.proofs.Kept.{IsKeptBelow, kept_more, kept_first, follows, first_broken, holds, asks, own_entry}
-use Rattle.pssm_system.proofs.Standing.{only_posts, step_of}
-use Rattle.pssm_system.proofs.UnderWay.{called_item, called_item_waits, cleared_item, cleared_item_is, step_finished, finished_step}
-use Rattle.pssm_system.proofs.Rules.{never_ended, may_start, starts_once, has_started, not_started, never_queued, no_queue_head, no_do_step, called_is_plain, outs_are_none}
-use Rattle.pssm_system.proofs.BuiltWays.{way_is}
-use Rattle.pssm_system.proofs.Firings.{fires_from, fires_so}
+use Rattle.pssm_semantics.specs.Settings.{class_of}
+use Rattle.pssm_semantics.specs.Journal.{IsPost, object_of}
+use Rattle.pssm_semantics.specs.Pool.{KnownSignals, outs_of, told_by}
+use Rattle.pssm_semantics.specs.Known.{IsOutOf, NamesKnown}
+use Rattle.pssm_semantics.specs.Rules.{KeepsPool, KeepsOwn, Holds, taken_by}
+use Rattle.pssm_semantics.specs.Verdict.{number_of}
+use Rattle.pssm_semantics.specs.Deferral.{IsDeferred}
+use Rattle.pssm_semantics.specs.Proper.{ClassFits}
+use Rattle.pssm_semantics.specs.Built.{IsBuiltClass, IsBuilt}
+use Rattle.pssm_semantics.proofs.BuiltSettings.{built_class}
+use Rattle.pssm_object.specs.declared.object.Waiting.{Waiting}
+use Rattle.pssm_object.specs.Standing.{Standing}
+use Rattle.pssm_object.specs.Following.{NamesPlaces, NamesSignal, IsTold, KeepsRule, stimulus_for}
+use Rattle.pssm_system.specs.inner.Pooling.{Queue, signal_taken}
+use Rattle.pssm_system.specs.inner.Keeping.{IsObject, AreObjects, ArePools}
+use Rattle.pssm_system.specs.inner.Judging.{Says, IsVerdict}
+use Rattle.pssm_system.proofs.Following.{IsNoTake, own_of, shared, holds}
+use Rattle.pssm_system.proofs.Signals.{none_deferred}
 
--- what a verdict says of an entry
-abbrev pub IsJudged : Setting → List Entry → Entry → Option Rule → Type 0
-IsJudged setting J e None = MayFollow setting J e
-IsJudged setting J e (Some rule) = IsFirstBroken (Holds setting) J e rule
+-- an entry is a take or none
+pub data TakeOrNot (e : Entry) : Type 0 where
+  is_take : (o : ObjectId) (number : ℕ) (firing : Firing) → e ≡ Take o number firing → TakeOrNot e
+  no_take : IsNoTake e → TakeOrNot e
 
--- an entry that runs an item and is asked nothing by the rules of heads
-pub record IsWork (c : Class) (J : List Entry) (e : Entry) (x : Item) : Type 0 where
-  pub own : object_of e ≡ the_object
-  pub how : How
-  pub runs : item_of e ≡ Some (x, how)
-  pub ends : KeepsShared c A2 J e
-  pub starts : (f : Entry) → Contains J f → IsStart f the_object → KeepsShared c A3 J e
-  pub started : KeepsShared c A3 J e → (f : Entry) × Contains J f × IsStart f the_object
-  pub step : KeepsShared c A4 J e
-  pub queue : KeepsShared c A5 J e
-  pub pool : KeepsShared c A6 J e
-  pub firing : KeepsShared c A7 J e
+pub take_or_not : (e : Entry) → TakeOrNot e
+take_or_not (Take o number firing) = is_take o number firing refl
+take_or_not (Post o g args) = no_take tt
+take_or_not (Start o) = no_take tt
+take_or_not (Done o v firing) = no_take tt
+take_or_not (Exit o v outs) = no_take tt
+take_or_not (Effect o v outs) = no_take tt
+take_or_not (Enter o v outs) = no_take tt
+take_or_not (Opened o r mode how) = no_take tt
+take_or_not (Pick o v route) = no_take tt
+take_or_not (DoStep o v k outs) = no_take tt
 
--- what the verdict on an entry that never comes may be
-pub never_is : (plan : Option Agenda) (never rule : Rule) (Q : Rule → Type 0) → (plan ≡ None → Q A3) → ((p : Agenda) → plan ≡ Some p → Q never)
-    → JudgesNever plan never (Some rule) → Q rule
-never_is plan never A3 Q first later h = first h
-never_is plan never A1 Q first later h = subst Q (sym h.1) (later h.0.0 h.0.1)
-never_is plan never A2 Q first later h = subst Q (sym h.1) (later h.0.0 h.0.1)
-never_is plan never A4 Q first later h = subst Q (sym h.1) (later h.0.0 h.0.1)
-never_is plan never A5 Q first later h = subst Q (sym h.1) (later h.0.0 h.0.1)
-never_is plan never A6 Q first later h = subst Q (sym h.1) (later h.0.0 h.0.1)
-never_is plan never A7 Q first later h = subst Q (sym h.1) (later h.0.0 h.0.1)
-never_is plan never A8 Q first later h = subst Q (sym h.1) (later h.0.0 h.0.1)
-never_is plan never A9 Q first later h = subst Q (sym h.1) (later h.0.0 h.0.1)
-never_is plan never A10 Q first later h = subst Q (sym h.1) (later h.0.0 h.0.1)
-never_is plan never A11 Q first later h = subst Q (sym h.1) (later h.0.0 h.0.1)
-never_is plan never A12 Q first later h = subst Q (sym h.1) (later h.0.0 h.0.1)
+-- an entry other than a take keeps the pools, and has no signal
+pub no_pool : (class : Class) (J : List Entry) (e : Entry) → IsNoTake e → KeepsPool class J e
+no_pool class J (Take o number firing) free = absurd free
+no_pool class J (Post o g args) free = tt
+no_pool class J (Start o) free = tt
+no_pool class J (Done o v firing) free = tt
+no_pool class J (Exit o v outs) free = tt
+no_pool class J (Effect o v outs) free = tt
+no_pool class J (Enter o v outs) free = tt
+no_pool class J (Opened o r mode how) free = tt
+no_pool class J (Pick o v route) free = tt
+no_pool class J (DoStep o v k outs) free = tt
 
--- an element of a mapped list
-pub get_mapped : {X Y : Type 0} (f : X → Y) (xs : List X) (k : ℕ) (x : X) → slice_get xs k ≡ Some x → slice_get (map f xs) k ≡ Some (f x)
-get_mapped f [] k x e = absurd (cc)
-get_mapped f (y ∷ ys) zero x e = cc
-get_mapped f (y ∷ ys) (suc k) x e = get_mapped f ys k x e
+pub no_signal : (pools : List Queue) (e : Entry) → IsNoTake e → signal_taken pools e ≡ None
+no_signal pools (Take o number firing) free = absurd free
+no_signal pools (Post o g args) free = refl
+no_signal pools (Start o) free = refl
+no_signal pools (Done o v firing) free = refl
+no_signal pools (Exit o v outs) free = refl
+no_signal pools (Effect o v outs) free = refl
+no_signal pools (Enter o v outs) free = refl
+no_signal pools (Opened o r mode how) free = refl
+no_signal pools (Pick o v route) free = refl
+no_signal pools (DoStep o v k outs) free = refl
 
-pub mapped_get : {X Y : Type 0} (f : X → Y) (xs : List X) (k : ℕ) (y : Y) → slice_get (map f xs) k ≡ Some y → (x : X) × (slice_get xs k ≡ Some x) × (f x ≡ y)
-mapped_get f [] k y e = absurd (cc)
-mapped_get f (x ∷ xs) zero y e = (x, refl, cc)
-mapped_get f (x ∷ xs) (suc k) y e = mapped_get f xs k y e
+pub taken_none : (told : KnownSignals) (e : Entry) → IsNoTake e → taken_by told e ≡ None
+taken_none told (Take o number firing) free = absurd free
+taken_none told (Post o g args) free = refl
+taken_none told (Start o) free = refl
+taken_none told (Done o v firing) free = refl
+taken_none told (Exit o v outs) free = refl
+taken_none told (Effect o v outs) free = refl
+taken_none told (Enter o v outs) free = refl
+taken_none told (Opened o r mode how) free = refl
+taken_none told (Pick o v route) free = refl
+taken_none told (DoStep o v k outs) free = refl
 
--- the signal of the journal at a place of what is kept
-pub stimulus_at : (J : List Entry) (signals : List SignalId) (taken : ℕ) (signal : SignalId) → signals ≡ map (λ (x : Stimulus). x.signal) (signals_of J)
-    → slice_get signals taken ≡ Some signal → (x : Stimulus) × (slice_get (signals_of J) taken ≡ Some x) × (x.signal ≡ signal)
-stimulus_at J signals taken signal e there =
-    mapped_get (λ (x : Stimulus). x.signal) (signals_of J) taken signal (subst (λ xs. slice_get xs taken ≡ Some signal) e there)
+-- it names no signal
+pub names_none : (signal : Option Waiting) (e : Entry) → IsNoTake e → NamesSignal signal e
+names_none signal (Take o number firing) free = absurd free
+names_none signal (Post o g args) free = tt
+names_none signal (Start o) free = tt
+names_none signal (Done o v firing) free = tt
+names_none signal (Exit o v outs) free = tt
+names_none signal (Effect o v outs) free = tt
+names_none signal (Enter o v outs) free = tt
+names_none signal (Opened o r mode how) free = tt
+names_none signal (Pick o v route) free = tt
+names_none signal (DoStep o v k outs) free = tt
 
-module _ {setting : Setting} (b : IsBuilt setting) where
-  more : (J : List Entry) (e : Entry) (rule : Rule) (n : ℕ) → number_of rule ≡ n → rule ≢ A1 → KeepsShared b.class rule J e
-      → IsKeptBelow setting J e n → IsKeptBelow setting J e (n + 1)
-  more J e rule n is other h = kept_more setting J e rule n is (holds b J e rule other h)
+pub told_none : (J : List Entry) (signal : Option Stimulus) (e : Entry) → IsNoTake e → IsTold J signal e
+told_none J signal (Take o number firing) free = absurd free
+told_none J signal (Post o g args) free = tt
+told_none J signal (Start o) free = tt
+told_none J signal (Done o v firing) free = tt
+told_none J signal (Exit o v outs) free = tt
+told_none J signal (Effect o v outs) free = tt
+told_none J signal (Enter o v outs) free = tt
+told_none J signal (Opened o r mode how) free = tt
+told_none J signal (Pick o v route) free = tt
+told_none J signal (DoStep o v k outs) free = tt
 
-  breaks : (J : List Entry) (e : Entry) (rule : Rule) (n : ℕ) → number_of rule ≡ n → rule ≢ A1 → object_of e ≡ the_object
-      → (KeepsShared b.class rule J e → ⊥) → IsKeptBelow setting J e n → IsFirstBroken (Holds setting) J e rule
-  breaks J e rule n is other own h = first_broken setting J e rule n is (λ kept. h (asks b J e rule other own kept))
+-- what an entry names is known where its places and its outputs are
+pub known_by : (setting : Setting) (class : Class) (e : Entry) → (IsPost e → ⊥) → NamesPlaces class.machine e → All (IsOutOf setting class) (outs_of e)
+    → NamesKnown setting class e
+known_by setting class (Post o g args) no_post places outs = absurd (no_post tt)
+known_by setting class (Start o) no_post places outs = tt
+known_by setting class (Take o number firing) no_post places outs = places
+known_by setting class (Done o v firing) no_post places outs = places
+known_by setting class (Exit o v outs) no_post places known = (places, known)
+known_by setting class (Effect o v outs) no_post places known = (places, known)
+known_by setting class (Enter o v outs) no_post places known = (places, known)
+known_by setting class (Opened o r mode how) no_post places outs = places
+known_by setting class (Pick o v route) no_post places outs = places
+known_by setting class (DoStep o v k outs) no_post places known = (places, known)
 
-  -- a post
-  judged_post : (J : List Entry) (g : SignalId) (args : _) → Holds setting A1 J (Post the_object g args) → MayFollow setting J (Post the_object g args)
-  judged_post J g args names =
-      let e : Entry = Post the_object g args in
-      follows setting J e
-      (more J e A12 12 refl (λ e. cc) (sym (outs_are_none b.class b.class_is (told_by J) J e (store_of b.class (told_by J) J the_object)))
-      (more J e A11 11 refl (λ e. cc) tt (more J e A10 10 refl (λ e. cc) tt
-      (more J e A9 9 refl (λ e. cc) tt
-      (more J e A8 8 refl (λ e. cc) tt
-      (more J e A7 7 refl (λ e. cc) tt (more J e A6 6 refl (λ e. cc) tt (more J e A5 5 refl (λ e. cc) tt (more J e A4 4 refl (λ e. cc) tt
-      (more J e A3 3 refl (λ e. cc) tt (more J e A2 2 refl (λ e. cc) tt (kept_first setting J e names))))))))))))
+-- and where it is known, its places are of the machine
+pub places_of : (setting : Setting) (class : Class) (e : Entry) → NamesKnown setting class e → NamesPlaces class.machine e
+places_of setting class (Post o g args) known = tt
+places_of setting class (Start o) known = tt
+places_of setting class (Take o number firing) known = known
+places_of setting class (Done o v firing) known = known
+places_of setting class (Exit o v outs) known = known.0
+places_of setting class (Effect o v outs) known = known.0
+places_of setting class (Enter o v outs) known = known.0
+places_of setting class (Opened o r mode how) known = known
+places_of setting class (Pick o v route) known = known
+places_of setting class (DoStep o v k outs) known = known.0
 
-module _ {setting : Setting} (b : IsBuilt setting) (J : List Entry) (plan : Option Agenda) (tables : Tables) (signals : List SignalId) (taken : ℕ)
-    (s : StandsAt b.class.machine J plan tables signals taken) where
-  unended : HasEnded b.class.machine J the_object → ⊥
-  unended ended = never_ended b.class_is.machine J the_object ended
+-- an object of a setting that the code runs, with what is kept of a journal
+pub record IsPart (setting : Setting) (J : List Entry) (pools : List Queue) (o : ObjectId) (class : Class) (x : Standing) : Type 0 where
+  pub built : IsBuiltClass class
+  pub fits : ClassFits setting class
+  pub class_is : class_of setting o ≡ Some class
+  pub object : IsObject class J o x
+  pub pools_are : ArePools setting J pools
 
-  -- entries that run an item
-  module _ (e : Entry) (x : Item) (w : IsWork b.class J e x) (names : Holds setting A1 J e) where
-    work_begun : IsKeptBelow setting J e 3
-    work_begun = more b J e A2 2 refl (λ e. cc) w.ends (kept_first setting J e names)
+pub is_part : {setting : Setting} (b : IsBuilt setting) {J : List Entry} {objects : List Standing} {pools : List Queue} → AreObjects setting J objects
+    → ArePools setting J pools → (o : ObjectId) (class : Class) (x : Standing) → class_of setting o ≡ Some class → slice_get objects o.0 ≡ Some x
+    → IsPart setting J pools o class x
+is_part {setting = setting} b ao pools o class x is at = record {
+  built = (built_class setting b o class is).0;
+  fits = (built_class setting b o class is).1;
+  class_is = is;
+  object = ao.each o class x is at;
+  pools_are = pools;
+}
 
-    pub work_started : (p : Agenda) → plan ≡ Some p → IsKeptBelow setting J e 8
-    work_started p is =
-        let f = has_started (step_of s p is) in
-        more b J e A7 7 refl (λ e. cc) w.firing (more b J e A6 6 refl (λ e. cc) w.pool (more b J e A5 5 refl (λ e. cc) w.queue
-        (more b J e A4 4 refl (λ e. cc) w.step (more b J e A3 3 refl (λ e. cc) (w.starts f.0 f.1 f.2) work_begun))))
+module _ {setting : Setting} {J : List Entry} {pools : List Queue} {o : ObjectId} {class : Class} {x : Standing} (p : IsPart setting J pools o class x) where
+  -- nothing that waits for it is deferred
+  pub free_to_take : (w : Stimulus) → IsDeferred class (told_by J) J o w → ⊥
+  free_to_take w deferred =
+      none_deferred class p.built J x p.object.stands w (subst (λ q. IsDeferred class (told_by J) J q w) (sym p.object.own) deferred)
 
-    work_called : (p : Agenda) → plan ≡ Some p → IsWaiting b.class.machine (course_of p) x → IsKeptBelow setting J e 9
-    work_called p is waits =
-        more b J e A8 8 refl (λ e. cc)
-        (subst (λ r. IfSome r (λ y. IsCalledItem b.class.machine J (object_of e) y.0)) (sym w.runs)
-        (subst (λ o. IsCalledItem b.class.machine J o x) (sym w.own) (called_item (step_of s p is) x waits)))
-        (work_started p is)
+  -- the rules as the object shows them
+  stimulus_is : (signal : Option Waiting) → stimulus_for x.own signal ≡ stimulus_for o signal
+  stimulus_is signal = ap (λ q. stimulus_for q signal) p.object.own
 
-    pub work_kept : JudgesItem b.class.machine plan x None → IsKeptBelow setting J e 10
-    work_kept (p, is, ready) =
-        more b J e A9 9 refl (λ e. cc)
-        (subst (λ r. IfSome r (λ y. IsClearedItem b.class.machine J (object_of e) y.0)) (sym w.runs)
-        (subst (λ o. IsClearedItem b.class.machine J o x) (sym w.own) (cleared_item (step_of s p is) x ready.cleared)))
-        (work_called p is ready.waiting)
+  module _ (signal : Option Waiting) (e : Entry) (own : object_of e ≡ o) (known : NamesKnown setting class e) (pool : KeepsPool class J e)
+      (signal_is : taken_by (told_by J) e ≡ stimulus_for o signal) where
+    is_here : class_of setting (object_of e) ≡ Some class
+    is_here = ap (λ q. class_of setting q) own ∙ p.class_is
 
-    pub work_unstarted : plan ≡ None → IsFirstBroken (Holds setting) J e A3
-    work_unstarted is =
-        breaks b J e A3 3 refl (λ e. cc) w.own
-        (λ kept. let f = w.started kept in not_started J (only_posts s is) f.0 f.1 f.2) work_begun
+    same_signal : taken_by (told_by J) e ≡ stimulus_for x.own signal
+    same_signal = signal_is ∙ sym (stimulus_is signal)
 
-    pub work_uncalled : (p : Agenda) → plan ≡ Some p → (IsWaiting b.class.machine (course_of p) x → ⊥) → IsFirstBroken (Holds setting) J e A8
-    work_uncalled p is none =
-        breaks b J e A8 8 refl (λ e. cc) w.own
-        (λ kept. none (called_item_waits (step_of s p is) x
-        (subst (λ o. IsCalledItem b.class.machine J o x) w.own
-        (subst (λ r. IfSome r (λ y. IsCalledItem b.class.machine J (object_of e) y.0)) w.runs kept))))
-        (work_started p is)
+    pub shown : (rule : Rule) → Holds setting rule J e → KeepsRule class x signal rule J e
+    shown rule h = subst (λ s. KeepsOwn class (told_by J) s rule J e) same_signal (own_of setting J e class is_here rule h)
 
-    pub work_early : (p : Agenda) → plan ≡ Some p → IsWaiting b.class.machine (course_of p) x → (IsCleared b.class.machine (course_of p) x → ⊥)
-        → IsFirstBroken (Holds setting) J e A9
-    work_early p is waits blocked =
-        breaks b J e A9 9 refl (λ e. cc) w.own
-        (λ kept. blocked (cleared_item_is (step_of s p is) x
-        (subst (λ o. IsClearedItem b.class.machine J o x) w.own
-        (subst (λ r. IfSome r (λ y. IsClearedItem b.class.machine J (object_of e) y.0)) w.runs kept))))
-        (work_called p is waits)
+    pub asked : (rule : Rule) → KeepsRule class x signal rule J e → Holds setting rule J e
+    asked rule h = holds setting J e class is_here known pool rule (subst (λ s. KeepsOwn class (told_by J) s rule J e) (sym same_signal) h)
 
-    pub work_refused : (rule : Rule) → JudgesItem b.class.machine plan x (Some rule) → IsFirstBroken (Holds setting) J e rule
-    work_refused A3 h = work_unstarted h
-    work_refused A8 h = work_uncalled h.0 h.1 h.2
-    work_refused A9 h = work_early h.0 h.1 h.2 h.3
-    work_refused A1 h = absurd h
-    work_refused A2 h = absurd h
-    work_refused A4 h = absurd h
-    work_refused A5 h = absurd h
-    work_refused A6 h = absurd h
-    work_refused A7 h = absurd h
-    work_refused A10 h = absurd h
-    work_refused A11 h = absurd h
-    work_refused A12 h = absurd h
+    -- what the object says is what the setting says
+    pub same_verdict : (answer : Option Rule) → Says class x signal e answer → IsVerdict setting J e answer
+    same_verdict None says = λ rule. asked rule (says J p.object.stands rule)
+    same_verdict (Some rule) says =
+        let first = says J p.object.stands in
+        record { broken = λ h. first.broken (shown rule h); earlier = λ other lt. asked other (first.earlier other lt) }
 
-  -- an exit, an effect or an entry with its outputs
-  judged_work : (e : Entry) (x : Item) (outs : List Out) → IsWork b.class J e x → outs_of e ≡ outs → KeepsShared b.class A10 J e → KeepsShared b.class A11 J e
-      → Holds setting A1 J e → (answer : Option Rule) → JudgesWork b.class.machine plan x outs answer → IsJudged setting J e answer
-  judged_work e x outs w outs_is way steps names None h =
-      follows setting J e
-      (more b J e A12 12 refl (λ e. cc) (outs_is ∙ h.1 ∙ sym (outs_are_none b.class b.class_is (told_by J) J e (store_of b.class (told_by J) J (object_of e))))
-      (more b J e A11 11 refl (λ e. cc) steps (more b J e A10 10 refl (λ e. cc) way (work_kept e x w names h.0))))
-  judged_work e x outs w outs_is way steps names (Some A12) h =
-      breaks b J e A12 12 refl (λ e. cc) w.own
-      (λ kept. h.1 (sym outs_is ∙ kept ∙ outs_are_none b.class b.class_is (told_by J) J e (store_of b.class (told_by J) J (object_of e))))
-      (more b J e A11 11 refl (λ e. cc) steps (more b J e A10 10 refl (λ e. cc) way (work_kept e x w names h.0)))
-  judged_work e x outs w outs_is way steps names (Some rule) h = work_refused e x w names rule h
+  -- A take of another signal than the first breaks A6, if it breaks no rule before it.
+  module _ (number : ℕ) (firing : Firing) (known : NamesKnown setting class (Take o number firing))
+      (other : KeepsPool class J (Take o number firing) → ⊥) where
+    abbrev the_take : Entry
+    the_take = Take o number firing
 
-  judged_exit : (v : VertexId) (outs : List Out) → Holds setting A1 J (Exit the_object v outs)
-      → (answer : Option Rule) → JudgesWork b.class.machine plan (items.Exit v) outs answer → IsJudged setting J (Exit the_object v outs) answer
-  judged_exit v outs =
-      judged_work (Exit the_object v outs) (items.Exit v) outs
-      (record {
-        own = refl;
-        how = Nothing;
-        runs = refl;
-        ends = unended;
-        starts = λ f is start. (f, is, start);
-        started = λ kept. kept;
-        step = tt;
-        queue = tt;
-        pool = tt;
-        firing = tt;
-      }) refl refl tt
+    before : (rule : Rule) → number_of rule < 6 → KeepsRule class x None rule J the_take → Holds setting rule J the_take
+    before A1 lt h = (class, p.class_is, known)
+    before A2 lt h = shared setting J the_take class p.class_is A2 h
+    before A3 lt h = shared setting J the_take class p.class_is A3 h
+    before A4 lt h = shared setting J the_take class p.class_is A4 h
+    before A5 lt h = shared setting J the_take class p.class_is A5 h
+    before A6 lt h = absurd (omega arith)
+    before A7 lt h = absurd (omega arith)
+    before A8 lt h = absurd (omega arith)
+    before A9 lt h = absurd (omega arith)
+    before A10 lt h = absurd (omega arith)
+    before A11 lt h = absurd (omega arith)
+    before A12 lt h = absurd (omega arith)
 
-  judged_effect : (t : TransId) (outs : List Out) → Holds setting A1 J (Effect the_object t outs)
-      → (answer : Option Rule) → JudgesWork b.class.machine plan (items.Effect t) outs answer → IsJudged setting J (Effect the_object t outs) answer
-  judged_effect t outs =
-      judged_work (Effect the_object t outs) (items.Effect t) outs
-      (record {
-        own = refl;
-        how = Nothing;
-        runs = refl;
-        ends = unended;
-        starts = λ f is start. (f, is, start);
-        started = λ kept. kept;
-        step = tt;
-        queue = tt;
-        pool = tt;
-        firing = tt;
-      }) refl refl tt
+    back : (rule : Rule) → number_of rule < 6 → Holds setting rule J the_take → KeepsRule class x None rule J the_take
+    back A1 lt h = tt
+    back A2 lt h = h class p.class_is
+    back A3 lt h = h class p.class_is
+    back A4 lt h = h class p.class_is
+    back A5 lt h = h class p.class_is
+    back A6 lt h = absurd (omega arith)
+    back A7 lt h = absurd (omega arith)
+    back A8 lt h = absurd (omega arith)
+    back A9 lt h = absurd (omega arith)
+    back A10 lt h = absurd (omega arith)
+    back A11 lt h = absurd (omega arith)
+    back A12 lt h = absurd (omega arith)
 
-  judged_enter : (v : VertexId) (outs : List Out) → Holds setting A1 J (Enter the_object v outs)
-      → (answer : Option Rule) → JudgesWork b.class.machine plan (items.Enter v) outs answer → IsJudged setting J (Enter the_object v outs) answer
-  judged_enter v outs =
-      judged_work (Enter the_object v outs) (items.Enter v) outs
-      (record {
-        own = refl;
-        how = Nothing;
-        runs = refl;
-        ends = unended;
-        starts = λ f is start. (f, is, start);
-        started = λ kept. kept;
-        step = tt;
-        queue = tt;
-        pool = tt;
-        firing = tt;
-      }) refl refl tt
+    -- without its signal a take is asked nothing else
+    not_asked : (rule : Rule) → 6 ≤ number_of rule → KeepsRule class x None rule J the_take
+    not_asked A1 le = absurd (omega arith)
+    not_asked A2 le = absurd (omega arith)
+    not_asked A3 le = absurd (omega arith)
+    not_asked A4 le = absurd (omega arith)
+    not_asked A5 le = absurd (omega arith)
+    not_asked A6 le = tt
+    not_asked A7 le = λ y none. let clash : None ≡ Some y = none in absurd (cc)
+    not_asked A8 le = tt
+    not_asked A9 le = tt
+    not_asked A10 le = tt
+    not_asked A11 le = tt
+    not_asked A12 le = refl
 
-  -- an opening with its way
-  opened_work : (r : RegionId) (mode : Mode) (how : How) → IsWork b.class J (Opened the_object r mode how) (items.Opened r mode)
-  opened_work r mode how = record {
-    own = refl;
-    how = how;
-    runs = refl;
-    ends = unended;
-    starts = λ f is start. (f, is, start);
-    started = λ kept. kept;
-    step = tt;
-    queue = tt;
-    pool = tt;
-    firing = tt;
-  }
+    pub verdict_alone : (answer : Option Rule) → Says class x None the_take answer → IsVerdict setting J the_take (Some (unwrap_or answer A6))
+    verdict_alone None says = record {
+      broken = λ h. other (h class p.class_is);
+      earlier = λ rule lt. before rule lt (says J p.object.stands rule);
+    }
+    verdict_alone (Some rule) says =
+        let first = says J p.object.stands in
+        ⊎_elim
+        (λ (below : number_of rule < 6). record {
+          broken = λ h. first.broken (back rule below h);
+          earlier = λ earlier lt. before earlier (omega arith) (first.earlier earlier lt);
+        })
+        (λ (past : 6 ≤ number_of rule). absurd (first.broken (not_asked rule past)))
+        (cases_lt (number_of rule) 6)
 
-  -- only openings by default are called
-  pub opens_plainly : (p : Agenda) → plan ≡ Some p → (r : RegionId) (mode : Mode) → Called b.class.machine (course_of p) (items.Opened r mode) → mode ≡ Plain
-  opens_plainly p is r mode called =
-      let u = step_of s p is in
-      (called_is_plain b.class_is.machine p.head (configuration_of p.at_head) p.ran u.gone (items.Opened r mode) called).0
-
-  judged_opened : (r : RegionId) (mode : Mode) (how : How) → Holds setting A1 J (Opened the_object r mode how)
-      → (answer : Option Rule) → JudgesOpened b.class.machine plan r mode how answer → IsJudged setting J (Opened the_object r mode how) answer
-  judged_opened r mode how names None h =
-      let e : Entry = Opened the_object r mode how in
-      let plain = opens_plainly h.0.0 h.0.1 r mode h.0.2.waiting.called in
-      let truth = guards_at b.class (told_by J) J the_object in
-      let memory : Memory = IsMemory b.class.machine J the_object in
-      follows setting J e
-      (more b J e A12 12 refl (λ e. cc) (sym (outs_are_none b.class b.class_is (told_by J) J e (store_of b.class (told_by J) J the_object)))
-      (more b J e A11 11 refl (λ e. cc) tt
-      (more b J e A10 10 refl (λ e. cc)
-      (subst (λ k. CanOpen b.class.machine truth memory r k how) (sym plain) ((way_is b.class_is.machine truth memory r how).1 h.1))
-      (work_kept e (items.Opened r mode) (opened_work r mode how) names h.0))))
-  judged_opened r mode how names (Some A10) h =
-      let e : Entry = Opened the_object r mode how in
-      let plain = opens_plainly h.0.0 h.0.1 r mode h.0.2.waiting.called in
-      let truth = guards_at b.class (told_by J) J the_object in
-      let memory : Memory = IsMemory b.class.machine J the_object in
-      breaks b J e A10 10 refl (λ e. cc) refl
-      (λ kept. h.1 ((way_is b.class_is.machine truth memory r how).0 (subst (λ k. CanOpen b.class.machine truth memory r k how) plain kept)))
-      (work_kept e (items.Opened r mode) (opened_work r mode how) names h.0)
-  judged_opened r mode how names (Some rule) h = work_refused (Opened the_object r mode how) (items.Opened r mode) (opened_work r mode how) names rule h
-
-  -- a pick
-  pub no_pick : (p : Agenda) → plan ≡ Some p → (v : VertexId) → IsWaiting b.class.machine (course_of p) (items.Pick v) → ⊥
-  no_pick p is v waits =
-      let u = step_of s p is in
-      called_is_plain b.class_is.machine p.head (configuration_of p.at_head) p.ran u.gone (items.Pick v) waits.called
-
-  judged_pick : (v : VertexId) (route : Route) → Holds setting A1 J (Pick the_object v route)
-      → (answer : Option Rule) → JudgesNever plan A8 answer → IsJudged setting J (Pick the_object v route) answer
-  judged_pick v route names None h = absurd h
-  judged_pick v route names (Some rule) h =
-      let e : Entry = Pick the_object v route in
-      let w : IsWork b.class J e (items.Pick v) = record {
-        own = refl;
-        how = By route;
-        runs = refl;
-        ends = unended;
-        starts = λ f is start. (f, is, start);
-        started = λ kept. kept;
-        step = tt;
-        queue = tt;
-        pool = tt;
-        firing = tt;
-      } in
-      never_is plan A8 rule (λ k. IsFirstBroken (Holds setting) J e k)
-      (λ is. work_unstarted e (items.Pick v) w names is)
-      (λ p is. work_uncalled e (items.Pick v) w names p is (no_pick p is v)) h
-
-  -- a do step
-  judged_do : (v : VertexId) (k : ℕ) (outs : List Out) → Holds setting A1 J (DoStep the_object v k outs)
-      → (answer : Option Rule) → JudgesNever plan A11 answer → IsJudged setting J (DoStep the_object v k outs) answer
-  judged_do v k outs names None h = absurd h
-  judged_do v k outs names (Some rule) h =
-      let e : Entry = DoStep the_object v k outs in
-      let begun = more b J e A2 2 refl (λ e. cc) unended (kept_first setting J e names) in
-      never_is plan A11 rule (λ r. IsFirstBroken (Holds setting) J e r)
-      (λ is. breaks b J e A3 3 refl (λ e. cc) refl (λ kept. not_started J (only_posts s is) kept.0 kept.1 kept.2) begun)
-      (λ p is. breaks b J e A11 11 refl (λ e. cc) refl (λ kept. no_do_step b.class_is.machine J the_object v k kept)
-      (more b J e A10 10 refl (λ e. cc) tt
-      (more b J e A9 9 refl (λ e. cc) tt
-      (more b J e A8 8 refl (λ e. cc) tt
-      (more b J e A7 7 refl (λ e. cc) tt (more b J e A6 6 refl (λ e. cc) tt (more b J e A5 5 refl (λ e. cc) tt (more b J e A4 4 refl (λ e. cc) tt
-      (more b J e A3 3 refl (λ e. cc) (has_started (step_of s p is)) begun))))))))) h
-
-  -- a start
-  judged_start : Holds setting A1 J (Start the_object) → (answer : Option Rule) → JudgesStart plan answer → IsJudged setting J (Start the_object) answer
-  judged_start names None h =
-      let e : Entry = Start the_object in
-      follows setting J e
-      (more b J e A12 12 refl (λ e. cc) (sym (outs_are_none b.class b.class_is (told_by J) J e (store_of b.class (told_by J) J the_object)))
-      (more b J e A11 11 refl (λ e. cc) tt (more b J e A10 10 refl (λ e. cc) tt
-      (more b J e A9 9 refl (λ e. cc) tt
-      (more b J e A8 8 refl (λ e. cc) tt
-      (more b J e A7 7 refl (λ e. cc) tt (more b J e A6 6 refl (λ e. cc) tt (more b J e A5 5 refl (λ e. cc) tt (more b J e A4 4 refl (λ e. cc) tt
-      (more b J e A3 3 refl (λ e. cc) (may_start J (only_posts s h)) (more b J e A2 2 refl (λ e. cc) unended (kept_first setting J e names))))))))))))
-  judged_start names (Some A3) h =
-      breaks b J (Start the_object) A3 3 refl (λ e. cc) refl (λ kept. starts_once (step_of s h.0 h.1) kept)
-      (more b J (Start the_object) A2 2 refl (λ e. cc) unended (kept_first setting J (Start the_object) names))
-  judged_start names (Some A1) h = absurd h
-  judged_start names (Some A2) h = absurd h
-  judged_start names (Some A4) h = absurd h
-  judged_start names (Some A5) h = absurd h
-  judged_start names (Some A6) h = absurd h
-  judged_start names (Some A7) h = absurd h
-  judged_start names (Some A8) h = absurd h
-  judged_start names (Some A9) h = absurd h
-  judged_start names (Some A10) h = absurd h
-  judged_start names (Some A11) h = absurd h
-  judged_start names (Some A12) h = absurd h
-
-  -- the rules of a head entry, where the step before is finished
-  module _ (e : Entry) (own : object_of e ≡ the_object) (ends : KeepsShared b.class A2 J e)
-      (starts : (f : Entry) → Contains J f → IsStart f the_object → KeepsShared b.class A3 J e)
-      (started : KeepsShared b.class A3 J e → (f : Entry) × Contains J f × IsStart f the_object)
-      (finishes : IsStepFinished b.class.machine J the_object → KeepsShared b.class A4 J e)
-      (finished : KeepsShared b.class A4 J e → IsStepFinished b.class.machine J the_object)
-      (names : Holds setting A1 J e) where
-    head_begun : IsKeptBelow setting J e 3
-    head_begun = more b J e A2 2 refl (λ e. cc) ends (kept_first setting J e names)
-
-    head_unstarted : plan ≡ None → IsFirstBroken (Holds setting) J e A3
-    head_unstarted is =
-        breaks b J e A3 3 refl (λ e. cc) own (λ kept. let f = started kept in not_started J (only_posts s is) f.0 f.1 f.2) head_begun
-
-    head_started : (p : Agenda) → plan ≡ Some p → IsKeptBelow setting J e 4
-    head_started p is = let f = has_started (step_of s p is) in more b J e A3 3 refl (λ e. cc) (starts f.0 f.1 f.2) head_begun
-
-    head_busy : IsBusy b.class.machine plan → IsFirstBroken (Holds setting) J e A4
-    head_busy (p, is, busy) =
-        breaks b J e A4 4 refl (λ e. cc) own (λ kept. busy (finished_step (step_of s p is) unended (finished kept))) (head_started p is)
-
-    head_rests : IsAtRest b.class.machine plan → IsKeptBelow setting J e 5
-    head_rests (p, is, out) = more b J e A4 4 refl (λ e. cc) (finishes (step_finished (step_of s p is) out)) (head_started p is)
-
-  -- a dispatch of a completion
-  judged_done : (v : VertexId) (firing : Firing) → Holds setting A1 J (Done the_object v firing)
-      → (answer : Option Rule) → JudgesDone b.class.machine plan answer → IsJudged setting J (Done the_object v firing) answer
-  judged_done v firing names None h = absurd h
-  judged_done v firing names (Some A3) h =
-      head_unstarted (Done the_object v firing) refl unended (λ f is start. (f, is, start)) (λ kept. kept) (λ kept. kept) (λ kept. kept) names h
-  judged_done v firing names (Some A4) h =
-      head_busy (Done the_object v firing) refl unended (λ f is start. (f, is, start)) (λ kept. kept) (λ kept. kept) (λ kept. kept) names h
-  judged_done v firing names (Some A5) h =
-      breaks b J (Done the_object v firing) A5 5 refl (λ e. cc) refl (λ kept. no_queue_head b.class_is.machine J the_object v kept)
-      (head_rests (Done the_object v firing) refl unended (λ f is start. (f, is, start)) (λ kept. kept) (λ kept. kept) (λ kept. kept) names h)
-  judged_done v firing names (Some A1) h = absurd h
-  judged_done v firing names (Some A2) h = absurd h
-  judged_done v firing names (Some A6) h = absurd h
-  judged_done v firing names (Some A7) h = absurd h
-  judged_done v firing names (Some A8) h = absurd h
-  judged_done v firing names (Some A9) h = absurd h
-  judged_done v firing names (Some A10) h = absurd h
-  judged_done v firing names (Some A11) h = absurd h
-  judged_done v firing names (Some A12) h = absurd h
-
-  -- a take
-  module _ (number : ℕ) (firing : Firing) (names : Holds setting A1 J (Take the_object number firing)) where
-    take_rests : IsAtRest b.class.machine plan → IsKeptBelow setting J (Take the_object number firing) 6
-    take_rests rests =
-        more b J (Take the_object number firing) A5 5 refl (λ e. cc) (λ v i queued. never_queued b.class_is.machine J the_object v i queued)
-        (head_rests (Take the_object number firing) refl unended (λ f is start. (f, is, start)) (λ kept. kept) (λ kept. kept) (λ kept. kept) names rests)
-
-    states : AreStatesActive b.class J the_object
-    states = active_states b.class b.class_is.machine J tables s.fits s.now_is
-
-    take_next : (signal : SignalId) → IsAtRest b.class.machine plan → IsNumbered signals taken number signal
-        → IsKeptBelow setting J (Take the_object number firing) 7
-    take_next signal rests numbered =
-        let x = stimulus_at J signals taken signal s.pool.signals_are numbered.1 in
-        more b J (Take the_object number firing) A6 6 refl (λ e. cc)
-        (subst (IsFirstWaiting b.class J the_object) (sym numbered.0)
-        (next_is_waiting b.class b.class_is.machine J the_object states taken s.pool.all_to_object s.pool.taken_is
-        (slice_get_within (signals_of J) taken x.0 x.1)))
-        (take_rests rests)
-
-    signal_told : (x y : Stimulus) → number ≡ taken + 1 → slice_get (signals_of J) taken ≡ Some x → told_by J number ≡ Some y → x ≡ y
-    signal_told x y e there told =
-        let here : told_by J number ≡ Some x = subst (λ n. told_by J n ≡ Some x) (sym e) (told_next J taken x there) in cc
-
-    pub judged_take : (answer : Option Rule) → JudgesTake b.class.machine plan tables signals taken number firing.routes answer
-        → IsJudged setting J (Take the_object number firing) answer
-    judged_take None (rests, (signal, numbered, fires)) =
-        let e : Entry = Take the_object number firing in
-        let x = stimulus_at J signals taken signal s.pool.signals_are numbered.1 in
-        follows setting J e
-        (more b J e A12 12 refl (λ e. cc) (sym (outs_are_none b.class b.class_is (told_by J) J e (store_of b.class (told_by J) J the_object)))
-        (more b J e A11 11 refl (λ e. cc) tt (more b J e A10 10 refl (λ e. cc) tt
-        (more b J e A9 9 refl (λ e. cc) tt
-        (more b J e A8 8 refl (λ e. cc) tt
-        (more b J e A7 7 refl (λ e. cc)
-        (λ y told.
-        let same : x.0 ≡ y = signal_told x.0 y numbered.0 x.1 told in
-        fires_from b.class_is.machine tables (configuration_after b.class.machine J the_object) s.now_is
-        (guards_under b.class (store_of b.class (told_by J) J the_object) (eight_of y.args)) y.signal firing.routes
-        (subst (λ g. JudgesFiring b.class.machine tables g firing.routes None) (sym x.2 ∙ ap (λ (z : Stimulus). z.signal) same) fires))
-        (take_next signal rests numbered)))))))
-    judged_take (Some A3) h =
-        head_unstarted (Take the_object number firing) refl unended (λ f is start. (f, is, start)) (λ kept. kept) (λ kept. kept) (λ kept. kept) names h
-    judged_take (Some A4) h =
-        head_busy (Take the_object number firing) refl unended (λ f is start. (f, is, start)) (λ kept. kept) (λ kept. kept) (λ kept. kept) names h
-    judged_take (Some A6) (rests, none) =
-        breaks b J (Take the_object number firing) A6 6 refl (λ e. cc) refl
-        (λ kept.
-        let next = waiting_is_next b.class b.class_is.machine J the_object states taken number s.pool.all_to_object s.pool.taken_is kept in
-        none next.signal.signal (
-          next.number_is,
-          subst (λ xs. slice_get xs taken ≡ Some next.signal.signal) (sym s.pool.signals_are)
-              (get_mapped (λ (z : Stimulus). z.signal) (signals_of J) taken next.signal next.there),
-        ))
-        (take_rests rests)
-    judged_take (Some A7) (rests, (signal, numbered, (active, says, wrong))) =
-        let x = stimulus_at J signals taken signal s.pool.signals_are numbered.1 in
-        breaks b J (Take the_object number firing) A7 7 refl (λ e. cc) refl
-        (λ kept. wrong
-        (subst (λ g. FiresAt b.class.machine active g firing.routes) x.2
-        (fires_so b.class_is.machine tables (configuration_after b.class.machine J the_object) s.now_is
-        (guards_under b.class (store_of b.class (told_by J) J the_object) (eight_of x.0.args)) x.0.signal firing.routes active says
-        (kept x.0 (subst (λ n. told_by J n ≡ Some x.0) (sym numbered.0) (told_next J taken x.0 x.1))))))
-        (take_next signal rests numbered)
-    judged_take (Some A1) h = absurd h
-    judged_take (Some A2) h = absurd h
-    judged_take (Some A5) h = absurd h
-    judged_take (Some A8) h = absurd h
-    judged_take (Some A9) h = absurd h
-    judged_take (Some A10) h = absurd h
-    judged_take (Some A11) h = absurd h
-    judged_take (Some A12) h = absurd h
-
-  -- the verdict on any entry
-  judged_own : (e : Entry) → object_of e ≡ the_object → Holds setting A1 J e
-      → (answer : Option Rule) → Judges b.class.machine plan tables signals taken e answer → IsJudged setting J e answer
-  judged_own (Post o g args) own names answer h =
-      subst (IsJudged setting J (Post o g args)) (sym h)
-      (subst (λ q. MayFollow setting J (Post q g args)) (sym own) (judged_post b J g args (subst (λ q. Holds setting A1 J (Post q g args)) own names)))
-  judged_own (Start o) own names answer h =
-      subst (λ q. IsJudged setting J (Start q) answer) (sym own)
-      (judged_start (subst (λ q. Holds setting A1 J (Start q)) own names) answer h)
-  judged_own (Take o number firing) own names answer h =
-      subst (λ q. IsJudged setting J (Take q number firing) answer) (sym own)
-      (judged_take number firing (subst (λ q. Holds setting A1 J (Take q number firing)) own names) answer h)
-  judged_own (Done o v firing) own names answer h =
-      subst (λ q. IsJudged setting J (Done q v firing) answer) (sym own)
-      (judged_done v firing (subst (λ q. Holds setting A1 J (Done q v firing)) own names) answer h)
-  judged_own (Exit o v outs) own names answer h =
-      subst (λ q. IsJudged setting J (Exit q v outs) answer) (sym own)
-      (judged_exit v outs (subst (λ q. Holds setting A1 J (Exit q v outs)) own names) answer h)
-  judged_own (Effect o t outs) own names answer h =
-      subst (λ q. IsJudged setting J (Effect q t outs) answer) (sym own)
-      (judged_effect t outs (subst (λ q. Holds setting A1 J (Effect q t outs)) own names) answer h)
-  judged_own (Enter o v outs) own names answer h =
-      subst (λ q. IsJudged setting J (Enter q v outs) answer) (sym own)
-      (judged_enter v outs (subst (λ q. Holds setting A1 J (Enter q v outs)) own names) answer h)
-  judged_own (Opened o r mode how) own names answer h =
-      subst (λ q. IsJudged setting J (Opened q r mode how) answer) (sym own)
-      (judged_opened r mode how (subst (λ q. Holds setting A1 J (Opened q r mode how)) own names) answer h)
-  judged_own (Pick o v route) own names answer h =
-      subst (λ q. IsJudged setting J (Pick q v route) answer) (sym own)
-      (judged_pick v route (subst (λ q. Holds setting A1 J (Pick q v route)) own names) answer h)
-  judged_own (DoStep o v k outs) own names answer h =
-      subst (λ q. IsJudged setting J (DoStep q v k outs) answer) (sym own)
-      (judged_do v k outs (subst (λ q. Holds setting A1 J (DoStep q v k outs)) own names) answer h)
-
-  pub judged : (e : Entry) → Holds setting A1 J e → (answer : Option Rule) → Judges b.class.machine plan tables signals taken e answer
-      → IsJudged setting J e answer
-  judged e names = judged_own e (own_entry b J e names) names
+-- an entry that is not any take is none
+pub not_take : (e : Entry) → ((o : ObjectId) (number : ℕ) (firing : Firing) → e ≡ Take o number firing → ⊥) → IsNoTake e
+not_take (Take o number firing) not = not o number firing refl
+not_take (Post o g args) not = tt
+not_take (Start o) not = tt
+not_take (Done o v firing) not = tt
+not_take (Exit o v outs) not = tt
+not_take (Effect o v outs) not = tt
+not_take (Enter o v outs) not = tt
+not_take (Opened o r mode how) not = tt
+not_take (Pick o v route) not = tt
+not_take (DoStep o v k outs) not = tt

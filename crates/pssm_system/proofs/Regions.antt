@@ -1,228 +1,82 @@
--- The laws of all journals of a setting that the code runs: what is active in each region, and which States become complete.
-use Rattle.std.proofs.Common.{◌≡◌, ◌⊎◌, ◌++◌, ℕ, List, [], ◌∷◌, Option, Some, sym, ap, subst, ◌∙◌, inl, inr, ⊎_elim, arith}
-use Rattle.pssm_model.specs.declared.ids.VertexId.{VertexId}
-use Rattle.pssm_model.specs.declared.ids.RegionId.{RegionId}
-use Rattle.pssm_model.specs.declared.ids.SignalId.{SignalId}
-use Rattle.pssm_model.specs.declared.elements.DraftMachine.{DraftMachine}
-use Rattle.pssm_model.specs.declared.elements.Owner.{Owner}
-use Rattle.pssm_model.specs.declared.elements.Owner.TheVariants.{Top, Region, State}
-use Rattle.pssm_model.specs.declared.steps.How.TheVariants.{By, Restore, Nothing}
-use Rattle.pssm_model.specs.Forest.{owner_of}
-use Rattle.pssm_model.specs.Configuration.{Configuration, IsDirect, IsComplete}
-use Rattle.pssm_model.specs.Changes.{entered, exited, opened_none, opened_way}
-use Rattle.pssm_model.specs.BuiltMachine.{IsBuiltMachine}
-use Rattle.pssm_model.proofs.Agreeing.{Agree-symm, complete_too}
-use Rattle.pssm_config.specs.Tables.{Tables, configuration_of}
-use Rattle.pssm_plan.specs.Agenda.{Agenda}
-use Rattle.pssm_plan.specs.Steadiness.{IsConsistent, changed_along}
-use Rattle.pssm_plan.proofs.Known.{Known, known_as, known_number}
-use Rattle.pssm_plan.proofs.KnownPlaces.{known_owner}
-use Rattle.pssm_plan.proofs.Steadiness.{stays_consistent}
+-- The laws of all journals of a setting that the code runs.
+use Rattle.std.proofs.Common.{refl, ◌≡◌, ◌<◌, ℕ, zero, suc, List, length, Option, Some, None, IsSomeAnd, sym, subst, arith}
+use Rattle.pssm_plan.specs.Steadiness.{IsConsistent}
 use Rattle.pssm_semantics.specs.declared.entry.ObjectId.{ObjectId}
 use Rattle.pssm_semantics.specs.declared.entry.Entry.{Entry}
 use Rattle.pssm_semantics.specs.declared.entry.Entry.TheVariants.{Post, Start, Take, Done, Exit, Effect, Enter, Opened, Pick, DoStep}
+use Rattle.pssm_semantics.specs.declared.entry.Rule.TheVariants.{A1}
+use Rattle.pssm_semantics.specs.declared.stimulus.Stimulus.{Stimulus}
 use Rattle.pssm_semantics.specs.declared.setting.Class.{Class}
 use Rattle.pssm_semantics.specs.declared.setting.Setting.{Setting}
 use Rattle.pssm_semantics.specs.Settings.{class_of}
-use Rattle.pssm_semantics.specs.Journal.{IsActive, EntersAt, object_of, configuration_after}
-use Rattle.pssm_semantics.specs.Completion.{BecomesComplete}
+use Rattle.pssm_semantics.specs.Journal.{object_of, configuration_after}
+use Rattle.pssm_semantics.specs.Pool.{told_by}
+use Rattle.pssm_semantics.specs.Admissible.{MayFollow}
 use Rattle.pssm_semantics.specs.Laws.{KeepsRegions}
 use Rattle.pssm_semantics.specs.Built.{IsBuilt}
-use Rattle.pssm_semantics.proofs.Configurations.{changed_by, configuration-changed, configuration-other}
-use Rattle.pssm_system.specs.inner.Situations.{the_object, StandsAt}
-use Rattle.pssm_system.proofs.BuiltMachines.{nested, keeps_initials, no_final, no_do_steps}
-use Rattle.pssm_system.proofs.Kept.{class_is}
-use Rattle.pssm_system.proofs.Standing.{plan_or_none, not_begun, step_of, consistent_alike}
+use Rattle.pssm_semantics.proofs.BuiltSettings.{built_class}
+use Rattle.pssm_object.specs.declared.object.Waiting.{Waiting}
+use Rattle.pssm_object.specs.Following.{IsTold, NamesSignal, stimulus_of, stimulus_for}
+use Rattle.pssm_object.proofs.Regions.{consistent_after, one_becomes}
+use Rattle.pssm_object.proofs.Forms.{has_built_form}
+use Rattle.pssm_system.specs.declared.situation.Situation.{Situation}
+use Rattle.pssm_semantics.specs.Built.{CountsFromOne, IsBuiltEntry}
+use Rattle.pssm_system.specs.inner.Pooling.{signal_taken}
+use Rattle.pssm_system.specs.inner.Keeping.{StandsSo}
+use Rattle.pssm_system.proofs.Following.{object_there, one_class, names_of}
+use Rattle.pssm_system.proofs.Judged.{shown}
+use Rattle.pssm_system.proofs.Completing.{StandsIn}
+use Rattle.pssm_system.proofs.Stepped.{part_here, signal_here}
 
--- whether two objects are one is known
-known_object : (o p : ObjectId) → Known (o ≡ p)
-known_object o p = known_as (λ e. ap (λ n. let x : ObjectId = record { 0 = n } in x) e) (λ e. ap (λ (x : ObjectId). x.0) e) (known_number o.0 p.0)
-
--- what is active agrees with an object's configuration that is consistent
-module _ {setting : Setting} (b : IsBuilt setting) (J : List Entry) (plan : Option Agenda) (tables : Tables) (signals : List SignalId) (taken : ℕ)
-    (s : StandsAt b.class.machine J plan tables signals taken) where
-  pub consistent_after : IsConsistent b.class.machine (configuration_after b.class.machine J the_object)
-  consistent_after =
-      ⊎_elim
-      (λ none.
-      let nothing = (not_begun s none).nothing in
-      record {
-        states = λ v active. absurd ((nothing.active v).0 active);
-        one_each = λ r v q first second active. absurd ((nothing.active v).0 active);
-        owners = λ r v direct active. absurd ((nothing.active v).0 active);
-      })
-      (λ some.
-      let u = step_of s some.0 some.1 in
-      consistent_alike b.class.machine (changed_along b.class.machine (configuration_of some.0.at_head) some.0.ran)
-      (configuration_after b.class.machine J the_object)
-      (Agree-symm (configuration_after b.class.machine J the_object)
-      (changed_along b.class.machine (configuration_of some.0.at_head) some.0.ran) u.along)
-      (stays_consistent b.class_is.machine.shape (nested b.class_is.machine) (keeps_initials b.class_is.machine) some.0.head (configuration_of some.0.at_head)
-      u.begins some.0.ran u.gone))
-      (plan_or_none plan)
-
--- a State that is complete once something has happened was so before, but for the one that is entered or owns the region that is left empty
-module _ {m : DraftMachine} (b : IsBuiltMachine m) (now : Configuration) where
-  left_empty_of : (after : Configuration) (s : VertexId) → IsComplete m after s → (r : RegionId) → owner_of m (Region r) ≡ Some (State s) → after.LeftEmpty r
-  left_empty_of after s h r owns = ⊎_elim (λ final. absurd (no_final b final.0 final.2)) (λ empty. empty) (h.finished r owns)
-
-  complete_from : (after : Configuration) (s : VertexId) → IsComplete m after s → now.Active s
-      → ((r : RegionId) → owner_of m (Region r) ≡ Some (State s) → after.LeftEmpty r → now.LeftEmpty r) → IsComplete m now s
-  complete_from after s h active empty = record {
-    state = h.state;
-    active = active;
-    stepped = λ k lt. absurd (let none = no_do_steps b s in omega (arith, none, lt));
-    finished = λ r owns. inr (empty r owns (left_empty_of after s h r owns));
-  }
-
-  complete_entered : (v s : VertexId) → IsComplete m (entered m now v) s → (s ≡ v) ⊎ IsComplete m now s
-  complete_entered v s h =
-      ⊎_elim (λ same. inl same) (λ was. inr (complete_from (entered m now v) s h was (λ r owns empty. empty.0))) h.active
-
-  complete_exited : (v s : VertexId) → IsComplete m (exited m now v) s → IsComplete m now s
-  complete_exited v s h = complete_from (exited m now v) s h h.active.1 (λ r owns empty. empty.0)
-
-  complete_way : (r : RegionId) (s : VertexId) → IsComplete m (opened_way now r) s → IsComplete m now s
-  complete_way r s h = complete_from (opened_way now r) s h h.active (λ q owns empty. empty.1)
-
-  complete_none : (r : RegionId) (s : VertexId) → IsComplete m (opened_none now r) s → (owner_of m (Region r) ≡ Some (State s)) ⊎ IsComplete m now s
-  complete_none r s h =
-      ⊎_elim
-      (λ owns. inl owns)
-      (λ other. inr (complete_from (opened_none now r) s h h.active
-      (λ q owns empty. ⊎_elim
-      (λ same. absurd (other (subst (λ x. owner_of m (Region x) ≡ Some (State s)) same owns)))
-      (λ was. was)
-      empty)))
-      (known_owner m (Region r) (State s))
-
--- which State an entry can make complete: the one that it enters, or the owner of the region that it leaves empty
-abbrev IsMadeComplete : DraftMachine → Entry → VertexId → Type 0
-IsMadeComplete m (Enter o v outs) s = s ≡ v
-IsMadeComplete m (Opened o r mode Nothing) s = owner_of m (Region r) ≡ Some (State s)
-IsMadeComplete m _ s = ⊥
-
-one_made : (m : DraftMachine) (e : Entry) (s q : VertexId) → IsMadeComplete m e s → IsMadeComplete m e q → s ≡ q
-one_made m (Enter o v outs) s q h g = h ∙ sym g
-one_made m (Opened o r mode Nothing) s q h g = cc
-one_made m (Opened o r mode (By route)) s q h g = absurd h
-one_made m (Opened o r mode (Restore v)) s q h g = absurd h
-one_made m (Post o g args) s q h k = absurd h
-one_made m (Start o) s q h g = absurd h
-one_made m (Take o number firing) s q h g = absurd h
-one_made m (Done o v firing) s q h g = absurd h
-one_made m (Exit o v outs) s q h g = absurd h
-one_made m (Effect o t outs) s q h g = absurd h
-one_made m (Pick o c route) s q h g = absurd h
-one_made m (DoStep o v k outs) s q h g = absurd h
-
-module _ {m : DraftMachine} (b : IsBuiltMachine m) where
-  complete_changed : (now : Configuration) (e : Entry) (s : VertexId) → IsComplete m (changed_by m now e) s → IsMadeComplete m e s ⊎ IsComplete m now s
-  complete_changed now (Enter o v outs) s h = complete_entered b now v s h
-  complete_changed now (Opened o r mode Nothing) s h = complete_none b now r s h
-  complete_changed now (Opened o r mode (By route)) s h = inr (complete_way b now r s h)
-  complete_changed now (Opened o r mode (Restore v)) s h = inr (complete_way b now r s h)
-  complete_changed now (Exit o v outs) s h = inr (complete_exited b now v s h)
-  complete_changed now (DoStep o v k outs) s h = inr (complete_from b now (changed_by m now (DoStep o v k outs)) s h h.active (λ r owns empty. empty))
-  complete_changed now (Post o g args) s h = inr h
-  complete_changed now (Start o) s h = inr h
-  complete_changed now (Take o number firing) s h = inr h
-  complete_changed now (Done o v firing) s h = inr h
-  complete_changed now (Effect o t outs) s h = inr h
-  complete_changed now (Pick o c route) s h = inr h
-
-  entered_made : (e : Entry) (o : ObjectId) (s : VertexId) → EntersAt e o s → (object_of e ≡ o) × IsMadeComplete m e s
-  entered_made (Enter p v outs) o s h = (h.0, sym h.1)
-  entered_made (Post p g args) o s h = absurd h
-  entered_made (Start p) o s h = absurd h
-  entered_made (Take p number firing) o s h = absurd h
-  entered_made (Done p v firing) o s h = absurd h
-  entered_made (Exit p v outs) o s h = absurd h
-  entered_made (Effect p t outs) o s h = absurd h
-  entered_made (Opened p r mode how) o s h = absurd h
-  entered_made (Pick p c route) o s h = absurd h
-  entered_made (DoStep p v k outs) o s h = absurd h
-
-  made_own : (before : List Entry) (e : Entry) (s : VertexId) → BecomesComplete m before e (object_of e) s → IsMadeComplete m e s
-  made_own before e s (complete, fresh) =
-      ⊎_elim
-      (λ made. made)
-      (λ was. ⊎_elim (λ not. absurd (not was)) (λ enters. (entered_made e (object_of e) s enters).1) fresh)
-      (complete_changed (configuration_after m before (object_of e)) e s
-      (complete_too (configuration_after m (before ++ e ∷ []) (object_of e)) (changed_by m (configuration_after m before (object_of e)) e)
-      (configuration-changed m before e) m s complete))
-
-module _ {setting : Setting} (b : IsBuilt setting) where
-  -- no entry of an object makes two of its States complete
-  completes_own : (before : List Entry) (e : Entry) (o : ObjectId) (s q : VertexId) → object_of e ≡ o → BecomesComplete b.class.machine before e o s
-      → BecomesComplete b.class.machine before e o q → s ≡ q
-  completes_own before e o s q own h g =
-      let here : (v : VertexId) → BecomesComplete b.class.machine before e o v → BecomesComplete b.class.machine before e (object_of e) v = λ v.
-      subst (λ p. BecomesComplete b.class.machine before e p v) (sym own) in
-      one_made b.class.machine e s q (made_own b.class_is.machine before e s (here s h)) (made_own b.class_is.machine before e q (here q g))
-
-  -- and one of another object makes none complete
-  completes_none : (before : List Entry) (e : Entry) (o : ObjectId) (s : VertexId) → (object_of e ≡ o → ⊥) → BecomesComplete b.class.machine before e o s → ⊥
-  completes_none before e o s other (complete, fresh) =
-      ⊎_elim
-      (λ not.
-      not
-      (complete_too (configuration_after b.class.machine (before ++ e ∷ []) o) (configuration_after b.class.machine before o)
-      (configuration-other b.class.machine before o e other) b.class.machine s complete))
-      (λ enters. other (entered_made b.class_is.machine e o s enters).0)
-      fresh
-
-  one_becomes : (before : List Entry) (e : Entry) (o : ObjectId) (s q : VertexId) → BecomesComplete b.class.machine before e o s
-      → BecomesComplete b.class.machine before e o q → s ≡ q
-  one_becomes before e o s q h g =
-      ⊎_elim (λ own. completes_own before e o s q own h g) (λ other. absurd (completes_none before e o s other h)) (known_object (object_of e) o)
-
--- the laws of regions, of the journal that leaves the object where it stands
-module _ {setting : Setting} (b : IsBuilt setting) (J : List Entry) (plan : Option Agenda) (tables : Tables) (signals : List SignalId) (taken : ℕ)
-    (s : StandsAt b.class.machine J plan tables signals taken) where
-  consistent : IsConsistent b.class.machine (configuration_after b.class.machine J the_object)
-  consistent = consistent_after b J plan tables signals taken s
-
-  -- in terms of the one class and the one object
-  module _ (o : ObjectId) (class : Class) (is : class_of setting o ≡ Some class) where
-    machine_is : class.machine ≡ b.class.machine
-    machine_is = ap (λ (k : Class). k.machine) (class_is b o class is).1
-
-    lies_here : (x y : Owner) → owner_of class.machine x ≡ Some y → owner_of b.class.machine x ≡ Some y
-    lies_here x y = subst (λ m. owner_of m x ≡ Some y) machine_is
-
-    lies_there : (x y : Owner) → owner_of b.class.machine x ≡ Some y → owner_of class.machine x ≡ Some y
-    lies_there x y = subst (λ m. owner_of m x ≡ Some y) (sym machine_is)
-
-    active_here : (v : VertexId) → IsActive J o v → IsActive J the_object v
-    active_here v = subst (λ p. IsActive J p v) (class_is b o class is).0
-
-    active_there : (v : VertexId) → IsActive J the_object v → IsActive J o v
-    active_there v = subst (λ p. IsActive J p v) (sym (class_is b o class is).0)
-
-    direct : (r : RegionId) (v : VertexId) → owner_of class.machine (State v) ≡ Some (Region r) → IsActive J o v → IsDirect b.class.machine v r
-    direct r v lies active = (lies_here (State v) (Region r) lies, consistent.states v (active_here v active))
-
-    holds_one : (r : RegionId) (v w : VertexId) → owner_of class.machine (State v) ≡ Some (Region r) → owner_of class.machine (State w) ≡ Some (Region r)
-        → IsActive J o v → IsActive J o w → v ≡ w
-    holds_one r v w first second active also =
-        consistent.one_each r v w (direct r v first active) (direct r w second also) (active_here v active) (active_here w also)
-
-    owner_active : (r : RegionId) (v : VertexId) → owner_of class.machine (State v) ≡ Some (Region r) → IsActive J o v
-        → (owner_of class.machine (Region r) ≡ Some Top) ⊎ ((q : VertexId) × (owner_of class.machine (Region r) ≡ Some (State q)) × IsActive J o q)
-    owner_active r v lies active =
-        ⊎_elim
-        (λ top. inl (lies_there (Region r) Top top))
-        (λ owned. inr (owned.0, lies_there (Region r) (State owned.0) owned.1, active_there owned.0 owned.2))
-        (consistent.owners r v (direct r v lies active) (active_here v active))
-
-    becomes_here : (before : List Entry) (e : Entry) (v : VertexId) → BecomesComplete class.machine before e o v → BecomesComplete b.class.machine before e o v
-    becomes_here before e v = subst (λ m. BecomesComplete m before e o v) machine_is
+module _ {setting : Setting} (b : IsBuilt setting) {J : List Entry} (stand : (o : ObjectId) → o.0 < length setting.objects → StandsIn b J o) where
+  -- what is active for an object lies as it must
+  consistent : (o : ObjectId) (class : Class) → class_of setting o ≡ Some class → IsConsistent class.machine (configuration_after class.machine J o)
+  consistent o class is =
+      let here = stand o (object_there setting o class is) in
+      let one : here.class ≡ class = one_class setting o here.class class here.class_is is in
+      let built = (built_class setting b o here.class here.class_is).0 in
+      subst (λ (k : Class). IsConsistent k.machine (configuration_after k.machine J o)) one
+      (subst (λ q. IsConsistent here.class.machine (configuration_after here.class.machine J q)) here.object.own (consistent_after here.class built here.object.stands))
 
   pub keeps_regions : KeepsRegions setting J
   keeps_regions = record {
-    one_each = λ o class r v w is first second active also. holds_one o class is r v w first second active also;
-    owners = λ o class r v is lies active. owner_active o class is r v lies active;
-    one_completes = λ before after e o class v w splits is becomes also.
-        one_becomes b before e o v w (becomes_here o class is before e v becomes) (becomes_here o class is before e w also);
+    one_each = λ o class r v w is first second active also.
+        let c = consistent o class is in
+        c.one_each r v w (first, c.states v active) (second, c.states w also) active also;
+    owners = λ o class r v is lies active. let c = consistent o class is in c.owners r v (lies, c.states v active) active;
+    one_completes = λ before after e o class v w splits is first second.
+        one_becomes (built_class setting b o class is).0.machine before e o v w first second;
   }
+
+-- a signal that is told has a number from 1
+from_one : (J : List Entry) (number : ℕ) (x : Stimulus) → told_by J number ≡ Some x → 0 < number
+from_one J zero x told = let clash : None ≡ Some x = told in absurd (cc)
+from_one J (suc n) x told = omega arith
+
+told_from_one : (J : List Entry) (o : ObjectId) (number : ℕ) (signal : Option Waiting) → IsSomeAnd signal (λ w. number ≡ w.number)
+    → told_by J number ≡ stimulus_for o signal → 0 < number
+told_from_one J o number None named told = absurd named
+told_from_one J o number (Some w) named told = from_one J number (stimulus_of o w) told
+
+counts : (J : List Entry) (o : ObjectId) (signal : Option Waiting) (e : Entry) → NamesSignal signal e → IsTold J (stimulus_for o signal) e → CountsFromOne e
+counts J o signal (Take q number firing) named told = told_from_one J o number signal named told
+counts J o signal (Post q g args) named told = tt
+counts J o signal (Start q) named told = tt
+counts J o signal (Done q v firing) named told = tt
+counts J o signal (Exit q v outs) named told = tt
+counts J o signal (Effect q t outs) named told = tt
+counts J o signal (Enter q v outs) named told = tt
+counts J o signal (Opened q r mode how) named told = tt
+counts J o signal (Pick q v route) named told = tt
+counts J o signal (DoStep q v k outs) named told = tt
+
+-- An entry that may follow is one of those that runs have.
+pub is_built_entry : {setting : Setting} (b : IsBuilt setting) {J : List Entry} {s : Situation} → StandsSo setting J s → (e : Entry) → MayFollow setting J e → IsBuiltEntry e
+is_built_entry {setting = setting} b {J = J} {s = s} stands e may =
+    let part = part_here b stands e may in
+    let has = signal_here b stands e may in
+    record {
+      form = has_built_form (may A1).0 part.built part.object.stands (signal_taken s.pools.items e) e (sym part.object.own) has.names
+          (λ rule. shown part (signal_taken s.pools.items e) e refl (names_of setting J e (may A1).0 (may A1).1 (may A1)) has.pool has.signal_is rule (may rule));
+      numbered = counts J (object_of e) (signal_taken s.pools.items e) e has.names has.told;
+    }

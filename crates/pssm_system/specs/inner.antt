@@ -1,6 +1,5 @@
-pub mod Advancing
-pub mod Choosing
-pub mod Firing
-pub mod Judging
+pub mod Pooling
 pub mod Keeping
-pub mod Situations
+pub mod Choosing
+pub mod Judging
+pub mod Stepping

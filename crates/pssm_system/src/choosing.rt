@@ -1,149 +1,171 @@
-//! The entry that may come next, where the object stands as is told.
-ghost use Rattle.std.specs.Prelude.{◌≡◌, ◌≤◌, ◌<◌, ◌↔◌, [], IsTrue, IfOk, IfSome, length};
-ghost use Rattle.pssm_model.specs.declared.elements.DraftMachine.{DraftMachine};
-ghost use Rattle.pssm_model.specs.BuiltMachine.{IsBuiltMachine};
-ghost use Rattle.pssm_config.specs.Tables.{Fits};
-ghost use Rattle.pssm_plan.specs.Plans.{IsPlanOf};
-ghost use Rattle.pssm_system.specs.inner.Situations.{the_object};
-ghost use Rattle.pssm_system.specs.inner.Choosing.{IsIdle, IsPlainItem, RunsItem, TakesNext, ChoosesTake, Chooses};
+//! An entry that may come next.
+ghost use Rattle.std.specs.Prelude.{◌≡◌, ◌≤◌, ◌<◌, ◌+◌, ◌↔◌, List, length, IsTrue, IfOk};
+ghost use Rattle.std.specs.Option.{option_copied};
+ghost use Rattle.pssm_semantics.specs.declared.entry.Entry.{Entry as AnEntry};
+ghost use Rattle.pssm_semantics.specs.Built.{IsBuiltClass, IsBuilt};
+ghost use Rattle.pssm_semantics.specs.Admissible.{IsQuiet};
+ghost use Rattle.pssm_object.specs.Standing.{Stands as ObjectStands};
+ghost use Rattle.pssm_object.specs.Tasks.{ready_tasks};
+ghost use Rattle.pssm_system.specs.inner.Choosing.{IsNextAlways, Finds};
 
-use crate::opening::default_way;
-use crate::reacting::{active_at_top, pick_firing};
+use crate::entries::class_of;
 use crate::situation::Situation;
-use pssm_model::{Item, Machine, Row, SignalId, TransId, VertexId};
-use pssm_semantics::{Entry, ObjectId};
+use pssm_object::{Object, Waiting};
+use pssm_semantics::{Class, Entry, ObjectId, Setting};
 use std::alloc::{AllocError as NoMemory, Global};
 
-/// The one object.
-const OBJECT: ObjectId = ObjectId(0);
+/// Which entries are looked for.
+#[derive(Clone, Copy)]
+pub enum Wanted {
+    /// All but posts.
+    AnyEntry,
+    /// Those that begin a step, and those in which the machine has a choice of ways.
+    Move,
+}
 
 impl Situation {
-    /// Whether the object has started, its step is finished and no signal waits.
-    pub fn is_idle(&self) -> bool
-        ensures { (m : DraftMachine) → IfSome self.now.plan (IsPlanOf m)
-            → (IsTrue result ↔ IsIdle m self.now.plan self.now.signals.items self.now.taken) }
+    ghost use Rattle.pssm_system.specs.inner.Keeping.{StandsSo, Stands};
+    ghost use Rattle.pssm_system.specs.inner.Choosing.{FindsAmong};
+
+    /// Whether no entry but a post may come next.
+    pub fn is_quiet(&self, setting: &Setting) -> bool
+        requires built { IsBuilt setting.now }
+        requires stands { Stands setting.now self.now }
+        ensures { (J : List AnEntry) → StandsSo setting.now J self.now → (IsTrue result ↔ IsQuiet setting.now J) }
     {
-        match &self.plan {
-            Some(plan) => plan.finished() && self.signals.as_slice().len() <= self.taken,
-            None => false,
+        for k in 0..self.objects.as_slice().len() as u8 {
+            let object = &self.objects[usize::from(k)];
+            let waiting = self.pools[usize::from(k)].first().is_some();
+            if !object.quiet(class_of(setting, ObjectId(k)), waiting) {
+                return false;
+            }
         }
+        true
     }
 
-    /// The entry that comes next, if one does; of several ready items and of several transitions the word picks one.
+    /// An entry of those that are looked for that may come next, if there is one.
+    ///
+    /// The word says with which object the search begins, and what is chosen there.
     pub fn choose(
         &self,
         alloc: Global,
-        machine: &Machine,
+        setting: &Setting,
+        wanted: Wanted,
         word: u64,
     ) -> Result<Option<Entry>, NoMemory>
-        requires built { IsBuiltMachine machine.now }
-        requires fits { Fits machine.now self.now.config }
-        requires plan { IfSome self.now.plan (IsPlanOf machine.now) }
-        requires few { length self.now.signals.items ≤ 2000000 }
-        ensures { IfOk result (λ chosen. Chooses machine.now self.now.plan self.now.config self.now.signals.items self.now.taken chosen) }
+        requires built { IsBuilt setting.now }
+        requires stands { Stands setting.now self.now }
+        ensures { IfOk result (FindsAmong setting.now self.now wanted 0 (length self.now.objects.items)) }
     {
-        match &self.plan {
-            None => Ok(Some(Entry::Start { object: OBJECT })),
-            Some(plan) => {
-                let count = plan.ready_count();
-                if count > 0 {
-                    let item = plan.ready_at((word % u64::from(count)) as u32);
-                    return Ok(Some(run(alloc, machine, item)?));
-                }
-                self.choose_take(alloc, machine, word)
+        let count = self.objects.as_slice().len() as u8;
+        if count == 0 {
+            return Ok(None);
+        }
+        let first = (word % u64::from(count)) as u8;
+        let rest = word / u64::from(count);
+        match self.choose_among(alloc, setting, first, count, wanted, rest)? {
+            Some(entry) => Ok(Some(entry)),
+            None => self.choose_among(alloc, setting, 0, first, wanted, rest),
+        }
+    }
+
+    // The same of the objects from one on and before another: an entry of the first of them that has one.
+    fn choose_among(
+        &self,
+        alloc: Global,
+        setting: &Setting,
+        from: u8,
+        to: u8,
+        wanted: Wanted,
+        word: u64,
+    ) -> Result<Option<Entry>, NoMemory>
+        requires built { IsBuilt setting.now }
+        requires stands { Stands setting.now self.now }
+        requires there { to ≤ length self.now.objects.items }
+        ensures { IfOk result (FindsAmong setting.now self.now wanted from to) }
+    {
+        for k in from..to {
+            if let Some(entry) = self.choose_of(alloc, setting, ObjectId(k), wanted, word)? {
+                return Ok(Some(entry));
             }
         }
+        Ok(None)
     }
 
-    // The take of the next signal, if one waits.
-    fn choose_take(
+    // The same of one object.
+    fn choose_of(
         &self,
         alloc: Global,
-        machine: &Machine,
+        setting: &Setting,
+        own: ObjectId,
+        wanted: Wanted,
         word: u64,
     ) -> Result<Option<Entry>, NoMemory>
-        requires built { IsBuiltMachine machine.now }
-        requires fits { Fits machine.now self.now.config }
-        requires few { length self.now.signals.items ≤ 2000000 }
-        ensures { IfOk result (λ chosen. ChoosesTake machine.now self.now.config self.now.signals.items self.now.taken chosen) }
+        requires built { IsBuilt setting.now }
+        requires stands { Stands setting.now self.now }
+        requires there { own.0 < length self.now.objects.items }
+        ensures { IfOk result (FindsAmong setting.now self.now wanted own.0 (own.0 + 1)) }
     {
-        match self.signals.as_slice().get(self.taken) {
-            None => Ok(None),
-            Some(signal) => Ok(Some(self.take(alloc, machine, *signal, word)?)),
+        let class = class_of(setting, own);
+        let object = &self.objects[usize::from(own.0)];
+        let signal = self.pools[usize::from(own.0)].first();
+        next_of(alloc, object, class, signal, wanted, word)
+    }
+}
+
+// The same of an object of the class, where this signal is the first that waits.
+fn next_of(
+    alloc: Global,
+    object: &Object,
+    class: &Class,
+    signal: Option<&Waiting>,
+    wanted: Wanted,
+    word: u64,
+) -> Result<Option<Entry>, NoMemory>
+    requires class { IsBuiltClass class.now }
+    requires stands { ObjectStands class.now object.now }
+    ensures { IfOk result (Finds class.now object.now (option_copied signal.entry) wanted) }
+{
+    match wanted {
+        Wanted::AnyEntry => next_entry(alloc, object, class, signal, word),
+        Wanted::Move => object.choose_move(class, signal, word),
+    }
+}
+
+// An entry other than a post: the word picks one of the ready tasks or a move.
+fn next_entry(
+    alloc: Global,
+    object: &Object,
+    class: &Class,
+    signal: Option<&Waiting>,
+    word: u64,
+) -> Result<Option<Entry>, NoMemory>
+    requires class { IsBuiltClass class.now }
+    requires stands { ObjectStands class.now object.now }
+    ensures { IfOk result (Finds class.now object.now (option_copied signal.entry) Wanted.AnyEntry) }
+{
+    let count = u64::from(object.task_count(class));
+    let place = word % (count + 1);
+    if place < count {
+        return Ok(Some(task_entry(alloc, object, class, place as u32)?));
+    }
+    match object.choose_move(class, signal, word / (count + 1))? {
+        Some(entry) => Ok(Some(entry)),
+        None => {
+            if count == 0 {
+                return Ok(None);
+            }
+            Ok(Some(task_entry(alloc, object, class, 0)?))
         }
     }
-
-    // The take of the next signal, which is this one.
-    fn take(
-        &self,
-        alloc: Global,
-        machine: &Machine,
-        signal: SignalId,
-        word: u64,
-    ) -> Result<Entry, NoMemory>
-        requires built { IsBuiltMachine machine.now }
-        requires fits { Fits machine.now self.now.config }
-        requires few { self.now.taken < 2000000 }
-        ensures { IfOk result (λ entry. TakesNext machine.now self.now.config self.now.taken signal entry) }
-    {
-        let active = active_at_top(machine, &self.config);
-        Ok(Entry::Take {
-            object: OBJECT,
-            number: self.taken as u32 + 1,
-            firing: pick_firing(alloc, machine, active, signal, word)?,
-        })
-    }
 }
 
-// The entry that runs the item, without outputs; an opening goes by its default way.
-fn run(alloc: Global, machine: &Machine, item: Item) -> Result<Entry, NoMemory>
-    requires built { IsBuiltMachine machine.now }
-    requires plain { IsPlainItem machine.now item }
-    ensures { IfOk result (λ entry. RunsItem machine.now item entry) }
+// The entry of the ready task with a number.
+fn task_entry(alloc: Global, object: &Object, class: &Class, i: u32) -> Result<Entry, NoMemory>
+    requires class { IsBuiltClass class.now }
+    requires stands { ObjectStands class.now object.now }
+    requires there { i < length (ready_tasks object.now) }
+    ensures { IfOk result (IsNextAlways class.now object.now) }
 {
-    match item {
-        Item::Exit(state) => Ok(exit(alloc, state)),
-        Item::Effect(transition) => Ok(effect(alloc, transition)),
-        Item::Enter(state) => Ok(enter(alloc, state)),
-        Item::Opened(region, mode) => Ok(Entry::Opened {
-            object: OBJECT,
-            region,
-            mode,
-            how: default_way(alloc, machine, region)?,
-        }),
-        Item::Pick(_) => unreachable!(),
-    }
-}
-
-// The exit of a State, without outputs.
-fn exit(alloc: Global, state: VertexId) -> Entry
-    ensures { result ≡ Entry.Exit the_object state [] }
-{
-    Entry::Exit {
-        object: OBJECT,
-        state,
-        outs: Row::from_vec(Vec::new(alloc)),
-    }
-}
-
-// The effect of a transition, without outputs.
-fn effect(alloc: Global, transition: TransId) -> Entry
-    ensures { result ≡ Entry.Effect the_object transition [] }
-{
-    Entry::Effect {
-        object: OBJECT,
-        transition,
-        outs: Row::from_vec(Vec::new(alloc)),
-    }
-}
-
-// The entry of a State, without outputs.
-fn enter(alloc: Global, state: VertexId) -> Entry
-    ensures { result ≡ Entry.Enter the_object state [] }
-{
-    Entry::Enter {
-        object: OBJECT,
-        state,
-        outs: Row::from_vec(Vec::new(alloc)),
-    }
+    object.run_task(alloc, class, object.task_at(class, i))
 }

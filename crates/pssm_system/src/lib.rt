@@ -1,16 +1,19 @@
-//! The journal of an admissible run of a setting, the first rule that a further entry breaks, and an entry that breaks none.
+//! The journal of an admissible run of a setting, the first rule that a further entry breaks, and an
+//! entry that breaks none.
 //!
-//! This crate knows where the object of a machine of States in regions stands: its configuration, the plan of its last step,
-//! and which signals wait. It keeps the entries, and looks at none of them again. It knows nothing of texts.
+//! This crate knows which objects a setting has, which signals wait for each of them, and in which order
+//! the signals of a journal are numbered. It keeps the entries, and looks at none of them again. It knows
+//! nothing of the inside of a step.
 #![tactic(auto)]
 
 mod choosing;
+mod entries;
 mod judging;
-mod opening;
-mod reacting;
-mod routes;
+mod pool;
+mod pooling;
 mod situation;
 mod stepping;
 mod system;
+mod tasks;
 
 pub use system::System;

@@ -1,17 +1,63 @@
 //! What is kept of a journal beside its entries.
-use pssm_config::Config;
-use pssm_model::SignalId;
-use pssm_plan::Plan;
+ghost use Rattle.std.specs.Prelude.{◌≡◌, [], length, IfOk};
+ghost use Rattle.pssm_semantics.specs.Built.{IsBuilt};
+ghost use Rattle.pssm_system.specs.inner.Keeping.{AreObjects, ArePools};
 
-/// What is kept of the journal beside its entries.
+use crate::entries::class_of;
+use crate::pool::Pool;
+use pssm_object::Object;
+use pssm_semantics::{ObjectId, Setting};
+use std::alloc::{AllocError as NoMemory, Global};
+
+/// What is kept of a journal beside its entries.
 #[derive(Drop)]
 pub struct Situation {
-    /// What is active, remembered and left empty.
-    pub config: Config,
-    /// The plan of the last step; there is none before the start.
-    pub plan: Option<Plan>,
-    /// The signals that were posted, in order.
-    pub signals: Vec<SignalId>,
-    /// How many of them have been taken: the first ones, since no State defers a signal.
-    pub taken: usize,
+    /// Where each object of the setting stands.
+    pub objects: Vec<Object>,
+    /// For each object of the setting the signals that wait.
+    pub pools: Vec<Pool>,
+    /// How many signals the journal has: posts and sends together.
+    pub told: u32,
+}
+
+impl Situation {
+    ghost use Rattle.pssm_system.specs.inner.Keeping.{StandsSo};
+
+    /// What is kept of the journal without entries.
+    pub fn new(alloc: Global, setting: &Setting) -> Result<Situation, NoMemory>
+        requires { IsBuilt setting.now }
+        ensures { IfOk result (StandsSo setting.now []) }
+    {
+        Ok(Situation {
+            objects: new_objects(alloc, setting)?,
+            pools: new_pools(alloc, setting)?,
+            told: 0,
+        })
+    }
+}
+
+// The objects of the setting before their starts.
+fn new_objects(alloc: Global, setting: &Setting) -> Result<Vec<Object>, NoMemory>
+    requires { IsBuilt setting.now }
+    ensures { IfOk result (λ objects. AreObjects setting.now [] objects.items) }
+{
+    let count = setting.objects.as_slice().len() as u8;
+    let mut objects = Vec::with_capacity(alloc, usize::from(count))?;
+    for k in 0..count {
+        let own = ObjectId(k);
+        objects.push(Object::new(alloc, own, class_of(setting, own))?)?;
+    }
+    Ok(objects)
+}
+
+// The pools of the objects of the setting, in which nothing waits.
+fn new_pools(alloc: Global, setting: &Setting) -> Result<Vec<Pool>, NoMemory>
+    ensures { IfOk result (λ pools. ArePools setting.now [] pools.items) }
+{
+    let count = setting.objects.as_slice().len();
+    let mut pools = Vec::with_capacity(alloc, count)?;
+    for _ in 0..count {
+        pools.push(Pool::new(alloc))?;
+    }
+    Ok(pools)
 }

@@ -1,107 +1,108 @@
 //! What is kept of the journal once one more entry has come that may follow.
-ghost use Rattle.std.specs.Prelude.{◌≡◌, ◌<◌, length, OnOk, OnErr, vec_len, vec_capacity};
-ghost use Rattle.pssm_model.specs.BuiltMachine.{IsBuiltMachine};
-ghost use Rattle.pssm_model.specs.Changes.{Agree};
-ghost use Rattle.pssm_config.specs.Tables.{Fits, configuration_of};
-ghost use Rattle.pssm_plan.specs.Steadiness.{changed_by_item};
-ghost use Rattle.pssm_system.specs.inner.Advancing.{CanRun, HasRunOn, CanChange, CanFollow, CanRunHere, RunsHere, Advances, IsUnchanged};
+ghost use Rattle.std.specs.Prelude.{◌≡◌, ◌<◌, ◌+◌, ◌^◌, ◌∷◌, [], length, OnOk, OnErr};
+ghost use Rattle.std.specs.Option.{option_copied};
+ghost use Rattle.pssm_semantics.specs.Journal.{object_of as object_in};
+ghost use Rattle.pssm_semantics.specs.Built.{IsBuilt};
+ghost use Rattle.pssm_system.specs.inner.Pooling.{waiting_in, left_by, HavePools, KeepsRoom};
+ghost use Rattle.pssm_system.specs.inner.Stepping.{CanStep, HaveStepped};
 
+use crate::entries::{class_of, object_of, signals_of};
+use crate::pool::Pool;
+use crate::pooling::{arrive, deliver, make_room, taken_signal};
 use crate::situation::Situation;
-use pssm_config::Config;
-use pssm_model::{How, Item, Machine};
-use pssm_plan::Plan;
-use pssm_semantics::Entry;
+use pssm_model::Duplicate;
+use pssm_object::{Object, Waiting};
+use pssm_semantics::{Entry, Setting, Stimulus};
 use std::alloc::{AllocError as NoMemory, Global};
+use std::slice;
 
 impl Situation {
-    /// Goes on by an entry that may follow; there is room for a signal that it posts.
+    ghost use Rattle.pssm_system.specs.inner.Keeping.{CanCome, IsUnchanged};
+    ghost use Rattle.pssm_system.specs.inner.Stepping.{HasPosted, Brings};
+
+    /// Goes on by an entry that may follow.
     ///
-    /// On want of memory nothing has changed.
-    pub fn apply(&mut self, alloc: Global, machine: &Machine, entry: &Entry) -> Result<(), NoMemory>
-        requires built { IsBuiltMachine machine.now }
-        requires fits { Fits machine.now self.old.config }
-        requires room { vec_len self.old.signals < vec_capacity self.old.signals }
-        requires follows { CanFollow machine.now self.old.plan self.old.config self.old.signals.items self.old.taken entry.now }
-        ensures ok { OnOk result (Advances machine.now self.old entry.now self.new) }
+    /// On want of memory nothing has changed but room.
+    pub fn apply(&mut self, alloc: Global, setting: &Setting, entry: &Entry) -> Result<(), NoMemory>
+        requires built { IsBuilt setting.now }
+        requires can { CanCome setting.now self.old entry.now }
+        ensures ok { OnOk result (Brings setting.now self.old entry.now self.new) }
         ensures err { OnErr result (IsUnchanged self.old self.new) }
     {
         match entry {
-            Entry::Post { signal, .. } => {
-                let _ = self.signals.push(*signal);
-                Ok(())
+            Entry::Post {
+                object,
+                signal,
+                args,
+            } => {
+                let stimulus = Stimulus {
+                    object: *object,
+                    signal: *signal,
+                    args: args.duplicate(alloc)?,
+                };
+                self.post(stimulus)
             }
-            Entry::Start { .. } => {
-                self.plan = Some(Plan::of_start(alloc, machine)?);
-                Ok(())
-            }
-            Entry::Take { firing, .. } => {
-                self.plan = Some(Plan::of_firing(alloc, machine, &self.config, firing)?);
-                self.taken += 1;
-                Ok(())
-            }
-            Entry::Exit { state, .. } => self.run(machine, Item::Exit(*state), &How::Nothing),
-            Entry::Effect { transition, .. } => self.run(
-                machine,
-                Item::Effect(*transition),
-                &How::Nothing,
-            ),
-            Entry::Enter { state, .. } => self.run(machine, Item::Enter(*state), &How::Nothing),
-            Entry::Opened {
-                region,
-                mode,
-                how,
-                ..
-            } => self.run(machine, Item::Opened(*region, *mode), how),
-            Entry::Done { .. } | Entry::Pick { .. } | Entry::DoStep { .. } => Ok(()),
+            _ => self.go_on(alloc, setting, entry),
         }
     }
 
-    // Runs a ready item in one of its ways, and changes the configuration as it does.
-    fn run(&mut self, machine: &Machine, item: Item, how: &How) -> Result<(), NoMemory>
-        requires built { IsBuiltMachine machine.now }
-        requires fits { Fits machine.now self.old.config }
-        requires can { CanRunHere machine.now self.old.plan self.old.config item how.now }
-        ensures ok { OnOk result (RunsHere machine.now self.old item how.now self.new) }
+    // A signal that is posted comes to the pool of its object, which stands as it did.
+    fn post(&mut self, stimulus: Stimulus) -> Result<(), NoMemory>
+        requires pool { HavePools (stimulus ∷ []) (length self.old.pools.items) }
+        requires few { self.old.told + 1 < 2 ^ 32 }
+        ensures ok { OnOk result (HasPosted self.old stimulus self.new) }
         ensures err { OnErr result (IsUnchanged self.old self.new) }
     {
-        run_item(&mut self.plan, machine, item, how)?;
-        change(&mut self.config, machine, item, how);
+        make_room(self.pools.as_mut_slice(), slice::from_ref(&stimulus))?;
+        self.told += 1;
+        arrive(self.pools.as_mut_slice(), self.told, stimulus);
+        Ok(())
+    }
+
+    // Goes on by any entry.
+    fn go_on(&mut self, alloc: Global, setting: &Setting, entry: &Entry) -> Result<(), NoMemory>
+        requires built { IsBuilt setting.now }
+        requires can { CanCome setting.now self.old entry.now }
+        ensures ok { OnOk result (Brings setting.now self.old entry.now self.new) }
+        ensures err { OnErr result (IsUnchanged self.old self.new) }
+    {
+        let signals = signals_of(alloc, entry)?;
+        let count = signals.as_slice().len() as u32;
+        make_room(self.pools.as_mut_slice(), signals.as_slice())?;
+        let taken = taken_signal(self.pools.as_slice(), entry);
+        step(self.objects.as_mut_slice(), setting, entry, taken)?;
+        leave(self.pools.as_mut_slice(), entry);
+        deliver(self.pools.as_mut_slice(), self.told, signals);
+        self.told += count;
         Ok(())
     }
 }
 
-// Runs a ready item of the plan in one of its ways.
-fn run_item(
-    plan: &mut Option<Plan>,
-    machine: &Machine,
-    item: Item,
-    how: &How,
+// The object of the entry goes on by it; a take comes with its signal.
+fn step(
+    objects: &mut [Object],
+    setting: &Setting,
+    entry: &Entry,
+    signal: Option<&Waiting>,
 ) -> Result<(), NoMemory>
-    requires built { IsBuiltMachine machine.now }
-    requires can { CanRun machine.now plan.old item how.now }
-    ensures ok { OnOk result (HasRunOn machine.now plan.old item how.now plan.new) }
-    ensures err { OnErr result (plan.new ≡ plan.old) }
+    requires built { IsBuilt setting.now }
+    requires can { CanStep setting.now objects.old (option_copied signal) entry.now }
+    ensures ok { OnOk result (HaveStepped setting.now objects.old (option_copied signal.entry) entry.now objects.new) }
+    ensures err { OnErr result (objects.new ≡ objects.old) }
 {
-    match plan {
-        Some(plan) => plan.run(machine, item, how),
-        None => unreachable!(),
-    }
+    let own = object_of(entry);
+    let object = &mut objects[usize::from(own.0)];
+    object.apply(class_of(setting, own), entry, signal)
 }
 
-// Changes the configuration as the item does that runs in this way.
-fn change(config: &mut Config, machine: &Machine, item: Item, how: &How)
-    requires fits { Fits machine.now config.old }
-    requires can { CanChange machine.now (configuration_of config.old) item }
-    ensures fits { Fits machine.now config.new }
-    ensures changed { Agree (configuration_of config.new) (changed_by_item machine.now (configuration_of config.old) item how.now) }
+// The signal that a take takes leaves its pool.
+fn leave(pools: &mut [Pool], entry: &Entry)
+    requires { (object_in entry.now).0 < length pools.old }
+    ensures waiting { waiting_in pools.new ≡ left_by entry.now (waiting_in pools.old) }
+    ensures room { KeepsRoom pools.old pools.new }
 {
-    match item {
-        Item::Exit(state) => config.exit(machine, state),
-        Item::Enter(state) => config.enter(machine, state),
-        Item::Opened(region, _) => match how {
-            How::Nothing => config.opened_none(region),
-            How::By(_) | How::Restore(_) => config.opened_way(region),
-        },
-        Item::Effect(_) | Item::Pick(_) => {}
+    if let Entry::Take { object, .. } = entry {
+        let pool = &mut pools[usize::from(object.0)];
+        pool.take();
     }
 }

@@ -1,30 +1,25 @@
 //! `System`: a setting and the journal of an admissible run of it.
-ghost use Rattle.std.specs.Prelude.{◌≡◌, ◌<◌, ◌↔◌, ◌++◌, ◌∷◌, [], length, IsTrue, IfOk, IfNone, IfSome, OnOk, OnErr, Some};
+ghost use Rattle.std.specs.Prelude.{◌≡◌, ◌<◌, ◌↔◌, ◌++◌, ◌∷◌, [], length, slice_get, IsTrue, IfOk, IfNone, IfSome, OnOk, OnErr, Some};
 ghost use Rattle.std.specs.List.{AllByRecursion};
-ghost use Rattle.pssm_semantics.specs.Values.{no_params};
-ghost use Rattle.pssm_semantics.specs.Built.{IsBuilt, IsBuiltEntry};
+ghost use Rattle.pssm_semantics.specs.Built.{IsBuilt};
 
+use crate::choosing::Wanted;
 use crate::situation::Situation;
-use pssm_config::Config;
-use pssm_model::Machine;
-use pssm_semantics::{Args, Entry, ObjectId, Rule, Setting};
+use pssm_semantics::{Args, Entry, ObjectId, Rule, Setting, Task};
 use std::alloc::{AllocError as NoMemory, Global};
 use std::marker::Model;
 
 /// A setting and the journal of an admissible run of it.
 ///
-/// A clause sees these two alone. Beside them it keeps where the object stands, so that judging an entry and appending one
-/// take the same time however long the journal is.
+/// A clause sees these two, and the ready tasks in the order in which they are listed. Beside them it
+/// keeps where each object stands and which signals wait for it, so that judging an entry and appending
+/// one take the same time however long the journal is and however many other objects there are.
 #[derive(Drop)]
 pub struct System {
     alloc: Global,
     setting: Setting,
     entries: Vec<Entry>,
     situation: Situation,
-    /// The values of the variables of the class, which has none.
-    store: Vec<i64>,
-    /// The parameters of the object's step: eight zeros, since no signal has arguments.
-    params: Args,
 }
 
 impl Model for System {
@@ -38,11 +33,11 @@ impl Model for System {
 
     ghost coded = { Prim.hlevel (codes, stmt.the_row.coded, cond.the_row.coded, expr.the_row.coded) };
 
-    ghost use Rattle.pssm_system.specs.inner.Keeping.{KeepsRun, KeepsValues};
+    ghost use Rattle.pssm_system.specs.inner.Keeping.{KeepsRun, tasks_of};
 
-    ghost view = { λ s. record { setting = s.setting; journal = s.entries.items } };
+    ghost view = { λ s. record { setting = s.setting; journal = s.entries.items; tasks = tasks_of s.situation.objects.items } };
 
-    ghost invariant = { λ s. KeepsRun s.setting s.entries.items s.situation × KeepsValues s.store.items s.params };
+    ghost invariant = { λ s. KeepsRun s.setting s.entries.items s.situation };
 }
 
 impl System {
@@ -57,34 +52,31 @@ impl System {
     ghost use Rattle.pssm_semantics.specs.Verdict.{IsFirstBroken};
     ghost use Rattle.pssm_semantics.specs.declared.entry.Rule.TheVariants.{A1};
     ghost use Rattle.pssm_semantics.specs.declared.setting.Class.{Class};
+    ghost use Rattle.pssm_object.specs.Following.{IsMove};
+    ghost use Rattle.pssm_semantics.specs.Built.{IsBuiltEntry};
+    ghost use Rattle.pssm_system.specs.Tasks.{AreReady, HasNoMove};
 
     /// A system with no entry yet.
     ///
-    /// On want of memory the setting is dropped.
+    /// `NoMemory`: memory ran out; the setting is dropped.
     pub fn new(alloc: Global, setting: Setting) -> Result<System, NoMemory>
         requires { IsBuilt setting }
-        ensures start { IfOk result (λ system. system ≡ record { setting = setting; journal = [] }) }
+        ensures setting { IfOk result (λ system. system.setting ≡ setting) }
+        ensures start { IfOk result (λ system. system.journal ≡ []) }
     {
-        let config = Config::new(alloc, machine_of(&setting))?;
-        let params = zero_params(alloc)?;
+        let situation = Situation::new(alloc, &setting)?;
         Ok(System {
             alloc,
             setting,
             entries: Vec::new(alloc),
-            situation: Situation {
-                config,
-                plan: None,
-                signals: Vec::new(alloc),
-                taken: 0,
-            },
-            store: Vec::new(alloc),
-            params,
+            situation,
         })
     }
 
     /// The setting, which is proper and whose machines break no rule of models.
     pub fn setting(&self) -> &Setting
         ensures setting { result.now ≡ self.now.setting }
+        ensures built { IsBuilt self.now.setting }
         ensures well_formed { IsWellFormed self.now.setting }
     {
         &self.setting
@@ -92,43 +84,46 @@ impl System {
 
     /// The entries of the journal, in order: those of an admissible run.
     ///
-    /// There are at most 1,000,000 of them, with at most 2,000,000 posts, sends and marks. At most two entries for each vertex
-    /// of the machine, one for each region and one for each transition finish the step that is open.
+    /// There are at most 1,000,000 of them, with at most 2,000,000 posts, sends and marks. The open steps
+    /// can be finished by further entries: for each of these objects at most two for each vertex of its
+    /// machine, one for each region and one for each transition.
     pub fn entries(&self) -> &[Entry]
         ensures journal { result.now ≡ self.now.journal }
         ensures admissible { IsAdmissibleIn self.now.setting self.now.journal }
         ensures limits { KeepsJournalLimits self.now.journal }
         ensures built { AllByRecursion IsBuiltEntry self.now.journal }
         ensures completes { CompletesInTime self.now.setting self.now.journal }
-        ensures laws { KeepsTakes self.now.setting self.now.journal × KeepsRegions self.now.setting self.now.journal }
+        ensures laws { KeepsTakes self.now.setting self.now.journal
+            × KeepsRegions self.now.setting self.now.journal }
     {
         self.entries.as_slice()
     }
 
     /// The first rule that the entry breaks after the journal, if it breaks one.
+    ///
+    /// What the entry names is known (A1). `NoMemory`: memory ran out.
     pub fn allows(&self, entry: &Entry) -> Result<Option<Rule>, NoMemory>
         requires names { Holds self.now.setting A1 self.now.journal entry.now }
         ensures keeps { IfOk result (λ rule. IfNone rule (MayFollow self.now.setting self.now.journal entry.now)) }
-        ensures breaks { IfOk result (λ rule. IfSome rule (λ broken. IsFirstBroken (Holds self.now.setting) self.now.journal entry.now broken)) }
+        ensures breaks { IfOk result (λ rule. IfSome rule
+            (λ broken. IsFirstBroken (Holds self.now.setting) self.now.journal entry.now broken)) }
     {
-        let machine = machine_of(&self.setting);
-        Ok(self.situation.judge(machine, entry))
+        self.situation.judge(&self.setting, entry)
     }
 
-    /// Appends an entry that breaks no rule after the journal.
+    /// Appends an entry that breaks no rule after the journal, and keeps it within the limits.
     ///
-    /// On want of memory the system is as before, and the entry is dropped.
+    /// `NoMemory`: memory ran out; the system is as before, and the entry is dropped.
     pub fn apply(&mut self, entry: Entry) -> Result<(), NoMemory>
         requires follows { MayFollow self.old.setting self.old.journal entry }
         requires limits { KeepsJournalLimits (self.old.journal ++ entry ∷ []) }
-        ensures ok { OnOk result (self.new ≡ record { setting = self.old.setting; journal = self.old.journal ++ entry ∷ [] }) }
+        ensures setting { self.new.setting ≡ self.old.setting }
+        ensures ok { OnOk result (self.new.journal ≡ self.old.journal ++ entry ∷ []) }
         ensures err { OnErr result (self.new ≡ self.old) }
     {
-        self.situation.signals.reserve(1)?;
         self.entries.reserve(1)?;
-        let machine = machine_of(&self.setting);
-        self.situation.apply(self.alloc, machine, &entry)?;
-        let _ = self.entries.push(entry);
+        self.situation.apply(self.alloc, &self.setting, &entry)?;
+        self.entries.push_reserved(entry);
         Ok(())
     }
 
@@ -136,28 +131,58 @@ impl System {
     pub fn quiet(&self) -> bool
         ensures { IsTrue result ↔ IsQuiet self.now.setting self.now.journal }
     {
-        self.situation.is_idle()
+        self.situation.is_quiet(&self.setting)
     }
 
     /// An entry other than a post that breaks no rule after the journal, or none where there is none.
     ///
-    /// Of several ready items, and of several transitions that a signal enables, the word picks one; which one is not
-    /// promised.
+    /// Of the objects, of the ready tasks and openings of an object, and of several transitions that a
+    /// signal enables, the word picks one; which one is not promised. `NoMemory`: memory ran out.
     pub fn choose(&self, word: u64) -> Result<Option<Entry>, NoMemory>
-        ensures chosen { IfOk result (λ o. IfSome o (λ e. (IsPost e → ⊥) × MayFollow self.now.setting self.now.journal e)) }
+        ensures chosen { IfOk result (λ o. IfSome o
+            (λ e. (IsPost e → ⊥) × MayFollow self.now.setting self.now.journal e)) }
         ensures none { IfOk result (λ o. IfNone o (IsQuiet self.now.setting self.now.journal)) }
     {
         self.situation
-            .choose(self.alloc, machine_of(&self.setting), word)
+            .choose(self.alloc, &self.setting, Wanted::AnyEntry, word)
+    }
+
+    /// A start, take, dispatch of a completion, opening or pick that breaks no rule after the journal, or
+    /// none where there is none.
+    ///
+    /// Of several the word picks one; which one is not promised. `NoMemory`: memory ran out.
+    pub fn choose_move(&self, word: u64) -> Result<Option<Entry>, NoMemory>
+        ensures chosen { IfOk result (λ o. IfSome o
+            (λ e. IsMove e × MayFollow self.now.setting self.now.journal e)) }
+        ensures none { IfOk result (λ o. IfNone o (HasNoMove self.now.setting self.now.journal)) }
+    {
+        self.situation
+            .choose(self.alloc, &self.setting, Wanted::Move, word)
+    }
+
+    /// How many tasks are ready: exits, effects and entries whose turn has come (UML 2.5.1, 14.2.3.9), of all objects.
+    pub fn task_count(&self) -> u32
+        ensures count { result ≡ length self.now.tasks }
+        ensures listed { AreReady self.now.setting self.now.journal self.now.tasks }
+    {
+        self.situation.task_count(&self.setting)
+    }
+
+    /// The ready task with a number, in the order of the objects, with the object that it is of.
+    pub fn task_at(&self, i: u32) -> (ObjectId, Task)
+        requires { i < length self.now.tasks }
+        ensures { slice_get self.now.tasks i ≡ Some result }
+    {
+        self.situation.task_at(&self.setting, i)
     }
 
     /// The values of the object's variables, as they are now.
     pub fn store(&self, object: ObjectId) -> &[i64]
         requires { object.0 < length self.now.setting.objects }
-        ensures { (class : Class) → class_of self.now.setting object ≡ Some class → result.now ≡ store_of class (told_by self.now.journal) self.now.journal object }
+        ensures { (class : Class) → class_of self.now.setting object ≡ Some class
+            → result.now ≡ store_of class (told_by self.now.journal) self.now.journal object }
     {
-        let _ = object;
-        self.store.as_slice()
+        self.situation.objects[usize::from(object.0)].store()
     }
 
     /// The parameters of the object's step, eight numbers, as they are now.
@@ -165,22 +190,6 @@ impl System {
         requires { object.0 < length self.now.setting.objects }
         ensures { result.now ≡ params_of (told_by self.now.journal) self.now.journal object }
     {
-        let _ = object;
-        &self.params
+        self.situation.objects[usize::from(object.0)].params()
     }
-}
-
-/// Eight zeros.
-fn zero_params(alloc: Global) -> Result<Args, NoMemory>
-    ensures { IfOk result (λ params. params ≡ no_params) }
-{
-    Ok(Args::from_vec(vec![in alloc; 0; 8]?))
-}
-
-/// The machine of the one class.
-fn machine_of(setting: &Setting) -> &Machine
-    requires { IsBuilt setting.now }
-    ensures { (b : IsBuilt setting.now) → result.now ≡ b.class.machine }
-{
-    &setting.classes.as_slice()[0].machine
 }

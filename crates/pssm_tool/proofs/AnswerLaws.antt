@@ -6,11 +6,12 @@ use Rattle.pssm_base.specs.Reading.{Contents}
 use Rattle.pssm_semantics.specs.declared.entry.Rule.{Rule}
 use Rattle.pssm_semantics.specs.declared.setting.Setting.{Setting}
 use Rattle.pssm_semantics.specs.declared.stimulus.Stimulus.{Stimulus}
+use Rattle.pssm_lines.specs.declared.fault.LineFault.TheVariants as lines
 use Rattle.pssm_journal.specs.Judged.{Judged, Accepted, Refused, Limited, BadText}
 use Rattle.pssm_tool.specs.declared.load.LoadFault.{LoadFault}
 use Rattle.pssm_tool.specs.declared.words.Options.{Options}
 use Rattle.pssm_tool.specs.declared.answer.Answer.{Answer}
-use Rattle.pssm_tool.specs.declared.answer.Answer.TheVariants.{Accept, Refuse, Limit, WellFormed, Usage, BadJournal, TooLarge, Journal, Flat, BadModel}
+use Rattle.pssm_tool.specs.declared.answer.Answer.TheVariants.{Accept, Refuse, Limit, WellFormed, Usage, BadLine, NoEnd, TooLarge, Journal, Flat, BadModel}
 use Rattle.pssm_tool.specs.declared.run.Ended.TheVariants as ends
 use Rattle.pssm_tool.specs.Words.{Meaning, Judges, Runs, Means}
 use Rattle.pssm_tool.specs.Stimuli.{AreStimuli}
@@ -42,8 +43,10 @@ fault_from_code (Journal text ends.Quiet) e = absurd (omega arith)
 fault_from_code (Journal text ends.Limit) e = absurd (omega arith)
 fault_from_code _ e = absurd (omega arith)
 
-bad_journal_from_code : (a : Answer) → code_of a ≡ 4 → a ≡ BadJournal
-bad_journal_from_code BadJournal e = refl
+-- the byte at which a journal's text goes wrong, or the line within which it ends
+bad_journal_from_code : (a : Answer) → code_of a ≡ 4 → ((line : ℕ) × (byte : ℕ) × (a ≡ BadLine line byte)) ⊎ ((line : ℕ) × (a ≡ NoEnd line))
+bad_journal_from_code (BadLine line byte) e = inl (line, byte, refl)
+bad_journal_from_code (NoEnd line) e = inr (line, refl)
 bad_journal_from_code (Journal text ends.Quiet) e = absurd (omega arith)
 bad_journal_from_code (Journal text ends.Limit) e = absurd (omega arith)
 bad_journal_from_code _ e = absurd (omega arith)
@@ -116,8 +119,11 @@ module _ (words : List (List ℕ)) (contents : Contents) (before after : Option 
   pub gives_bad_model : code_of a ≡ 3 → (fault : LoadFault) × Gives words contents before after (BadModel fault)
   gives_bad_model e = let r = fault_from_code a e in (r.0, given_as (BadModel r.0) r.1)
 
-  pub gives_bad_journal : code_of a ≡ 4 → Gives words contents before after BadJournal
-  gives_bad_journal e = given_as BadJournal (bad_journal_from_code a e)
+  pub gives_bad_journal : code_of a ≡ 4 → ((line : ℕ) × (byte : ℕ) × Gives words contents before after (BadLine line byte)) ⊎ ((line : ℕ) × Gives words contents before after (NoEnd line))
+  gives_bad_journal e = elim (bad_journal_from_code a e) [
+    | inl r ↦ inl (r.0, r.1, given_as (BadLine r.0 r.1) r.2)
+    | inr r ↦ inr (r.0, given_as (NoEnd r.0) r.1)
+  ]
 
   pub gives_too_large : code_of a ≡ 9 → Gives words contents before after TooLarge
   gives_too_large e = given_as TooLarge (too_large_from_code a e)
@@ -173,7 +179,9 @@ judgement_accepts words contents a model journal (on_model m s also has due) zer
       by_said (Accepted n) e = (n, e)
       by_said (Refused n rule) e = let c : code_of a ≡ 1 = ap code_of e in absurd (omega (arith, c, zero))
       by_said (Limited n) e = let c : code_of a ≡ 8 = ap code_of e in absurd (omega (arith, c, zero))
-      by_said BadText e = let c : code_of a ≡ 4 = ap code_of e in absurd (omega (arith, c, zero))
+      by_said (BadText (lines.BadLine line byte)) e = let c : code_of a ≡ 4 = ap code_of e in absurd (omega (arith, c, zero))
+      by_said (BadText (lines.LongLine line)) e = let c : code_of a ≡ 9 = ap code_of e in absurd (omega (arith, c, zero))
+      by_said (BadText (lines.NoEnd line)) e = let c : code_of a ≡ 4 = ap code_of e in absurd (omega (arith, c, zero))
 
       by_journal : IsDueForJournal contents s journal a → (n : ℕ) × (a ≡ Accept n)
       by_journal (large_journal large e) = let c : code_of a ≡ 9 = ap code_of e in absurd (omega (arith, c, zero))

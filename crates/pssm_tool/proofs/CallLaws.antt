@@ -1,116 +1,169 @@
 -- Words that are spelled as stimuli, and what they name.
-use Rattle.std.proofs.Common.{◌≡◌, ◌<◌, ◌+◌, ℕ, zero, suc, get_or, List, [], ◌∷◌, ◌++◌, length, take, codes, Option, Some, None, refl, sym, ap, subst, ◌∙◌, arith, String, string_bytes, Bor, IsNone, is_some, true, add-one, slice_get, IfSome, IfNone}
+use Rattle.std.proofs.Common.{◌≡◌, ◌<◌, ◌+◌, ℕ, ℤ, zero, suc, true, false, get_or, List, [], ◌∷◌, ◌++◌, length, take, codes, Option, Some, None, refl, sym, ap, subst, ◌∙◌, arith, String, string_bytes, add-one, slice_get, IfSome, IfNone, append-nil}
 use Rattle.std.specs.declared.alloc.Global.{Global}
 use Rattle.std.specs.List.{AllByRecursion}
-use Rattle.std.specs.Option.{option_map}
-use Rattle.std.proofs.lemmas.List.{append_cancel_left}
+use Rattle.std.proofs.lemmas.List.{append_cancel_left, append_cancel_right}
 use Rattle.pssm_semantics.specs.declared.entry.Entry.{Entry}
 use Rattle.pssm_semantics.specs.declared.entry.Entry.TheVariants as entries
 use Rattle.pssm_semantics.specs.declared.entry.ObjectId.{ObjectId}
 use Rattle.pssm_model.specs.declared.ids.SignalId.{SignalId}
 use Rattle.pssm_semantics.specs.Pool.{posts_of_entry}
+use Rattle.pssm_semantics.specs.declared.line.Line.{Line}
 use Rattle.pssm_semantics.specs.declared.line.Line.TheVariants.{Post}
 use Rattle.pssm_semantics.specs.declared.setting.Setting.{Setting}
 use Rattle.pssm_semantics.specs.declared.stimulus.Stimulus.{Stimulus}
-use Rattle.pssm_spelling.specs.SpellingReading.{stripped}
-use Rattle.pssm_journal.specs.LineText.{call_text}
-use Rattle.pssm_journal.specs.inner.LineReading.{post_taken, line_taken, ◌>>=◌}
-use Rattle.pssm_journal.specs.Entries.{IsEntryOf, KeepsNames, BreaksNames, entry_named, entry_at, object_named, signal_named}
-use Rattle.pssm_journal.specs.Grammar.{IsTakenLine}
-use Rattle.pssm_journal.proofs.LineLaws.{line_takes, line_again}
+use Rattle.pssm_semantics.proofs.Appending.{every_push}
+use Rattle.pssm_lines.specs.declared.parts.LineParts.{LineParts}
+use Rattle.pssm_lines.specs.declared.parts.LineParts.TheVariants as parts
+use Rattle.pssm_lines.specs.declared.fault.LineFault.{LineFault}
+use Rattle.pssm_lines.specs.declared.fault.LineFault.TheVariants.{NoEnd}
+use Rattle.pssm_lines.specs.LineText.{call_text, line_text}
+use Rattle.pssm_lines.specs.Grammar.{IsLine}
+use Rattle.pssm_lines.specs.Parts.{Shows}
+use Rattle.pssm_lines.specs.Faults.{IsJournalLine, IsOpen, IsFaultOf}
+use Rattle.pssm_lines.proofs.Spellings.{lines_apart, one_line}
+use Rattle.pssm_lines.proofs.OneFault.{no_line_fault}
+use Rattle.pssm_journal.specs.Entries.{◌>>=◌, IsEntryOf, KeepsNames, BreaksNames, entry_named, entry_at, object_named, signal_named}
+use Rattle.pssm_journal.proofs.LineLengths.{short_line}
+use Rattle.pssm_tool.specs.inner.Calls.{post_text, IsPost, ShowsCall}
 use Rattle.pssm_tool.specs.Words.{texts, IsCall, IsStimulusText}
 use Rattle.pssm_tool.specs.inner.Running.{IsKnown, NameNoStimuli}
 use Rattle.pssm_tool.specs.Stimuli.{post_of, Names, AreStimuli}
 
 -- ---- one word
 
--- A line that begins as a post is read as one.
-post_line : (word : List ℕ) → line_taken (codes "post " ++ word) ≡ post_taken word
-unfolding line_taken stripped
-post_line word = refl
+-- The line that posts what a word spells is a line that a journal may have.
+posts_line : (word object signal : List ℕ) (args : List ℤ) → IsCall word object signal args → IsLine (Post object signal args)
+posts_line word object signal args call = (call.object_name, call.signal_name, call.args_are)
 
-call_read : (word object signal : List ℕ) → post_taken word ≡ Some (Post object signal []) → IsCall word object signal
-call_read word object signal e =
-    let spells = line_takes (codes "post " ++ word) (Post object signal []) (post_line word ∙ e) in
-    let names = spells.line.1 in
-    record { object_name = names.0; signal_name = names.1; spelled = append_cancel_left (codes "post ") word (call_text object signal []) spells.text }
+journal_line : (word object signal : List ℕ) (args : List ℤ) → IsCall word object signal args → IsJournalLine (Post object signal args)
+journal_line word object signal args call = record { line = posts_line word object signal args call; short = omega (arith, (short_line (Post object signal args) (tt, posts_line word object signal args call)).few) }
 
-call_spelled : (word object signal : List ℕ) → IsCall word object signal → post_taken word ≡ Some (Post object signal [])
-call_spelled word object signal call =
-    let line : IsTakenLine (Post object signal []) = (refl, (call.object_name, call.signal_name, (omega arith, tt))) in
-    sym (post_line word) ∙ ap (λ (t : List ℕ). line_taken (codes "post " ++ t)) call.spelled ∙ line_again (Post object signal []) line
+-- Its text is that of the line.
+line_of_call : (word object signal : List ℕ) (args : List ℤ) → IsCall word object signal args → post_text word ≡ line_text (Post object signal args) ++ 10 ∷ []
+line_of_call word object signal args call = ap post_text call.spelled
 
--- what the reader of a word gives
-abbrev pub Parts : Type 0
-Parts = Option (Bor (List ℕ) × Bor (List ℕ))
+-- Texts that end with the same are the same before it.
+same_before_feed : (a b : List ℕ) → a ++ 10 ∷ [] ≡ b ++ 10 ∷ [] → a ≡ b
+same_before_feed a b e = append_cancel_right a b (10 ∷ []) e
 
-abbrev pub ReadAs : List ℕ → Parts → Type 0
-ReadAs word r = option_map (λ x. Post x.0.now x.1.now []) r ≡ post_taken word
+-- A word whose line is that of a post is spelled as a stimulus.
+pub shows_call : (word text : List ℕ) (parts : LineParts) (rest : List ℕ) (line : Line) → text ≡ post_text word → IsJournalLine line → text ≡ line_text line ++ 10 ∷ rest → Shows parts line
+    → rest ≡ [] → IsPost parts → ShowsCall word parts
+shows_call word text (parts.Post object signal args) rest line is is_line whole shows none post =
+    let same : line ≡ Post object.now signal.now args = shows in
+    let here : IsLine (Post object.now signal.now args) = subst IsLine same is_line.line in
+    let both : post_text word ≡ line_text (Post object.now signal.now args) ++ 10 ∷ [] =
+    sym is ∙ whole ∙ ap (λ (l : Line). line_text l ++ 10 ∷ rest) same ∙ ap (λ (t : List ℕ). line_text (Post object.now signal.now args) ++ 10 ∷ t) none in
+    let word_is : codes "post " ++ word ≡ codes "post " ++ call_text object.now signal.now args = same_before_feed (codes "post " ++ word) (line_text (Post object.now signal.now args)) both in
+    record {
+      object = object.now;
+      signal = signal.now;
+      args = args;
+      call = record { object_name = here.0; signal_name = here.1; args_are = here.2; spelled = append_cancel_left (codes "post ") word (call_text object.now signal.now args) word_is };
+      shows = refl;
+    }
+shows_call word text _ rest line is is_line whole shows none post = absurd post
 
-pub call_some : (word : List ℕ) (r : Parts) (x : Bor (List ℕ) × Bor (List ℕ)) → ReadAs word r → r ≡ Some x → IsCall word x.0.now x.1.now
-call_some word r x h is = call_read word x.0.now x.1.now (sym h ∙ ap (λ (o : Parts). option_map (λ x. Post x.0.now x.1.now []) o) is)
+-- Where the word is spelled as a stimulus its line is read, and nothing follows it.
+module _ (word text object signal : List ℕ) (args : List ℤ) (call : IsCall word object signal args) (is : text ≡ post_text word) where
+  one_read : (line : Line) (rest : List ℕ) → IsJournalLine line → text ≡ line_text line ++ 10 ∷ rest → (Post object signal args ≡ line) × ([] ≡ rest)
+  one_read line rest is_line whole =
+      lines_apart (Post object signal args) line [] rest (posts_line word object signal args call) is_line.line (sym (line_of_call word object signal args call) ∙ sym is ∙ whole)
 
-pub call_none : (word : List ℕ) (r : Parts) → ReadAs word r → r ≡ None → IsStimulusText word → ⊥
-call_none word r h is text =
-    let none : post_taken word ≡ None = sym h ∙ ap (λ (o : Parts). option_map (λ x. Post x.0.now x.1.now []) o) is in
-    let some : post_taken word ≡ Some (Post text.0 text.1 []) = call_spelled word text.0 text.1 text.2 in
-    let both : None ≡ Some (Post text.0 text.1 []) = sym none ∙ some in
-    cc
+  no_fault_here : (fault : LineFault) → IsFaultOf true 1 text fault → ⊥
+  no_fault_here fault bad =
+      no_line_fault (Post object signal args) 1 [] fault (journal_line word object signal args call)
+      (subst (λ (t : List ℕ). IsFaultOf true 1 t fault) (is ∙ line_of_call word object signal args call) bad)
 
-pub unspelled_where_none : (word : List ℕ) (r : Parts) → ReadAs word r → IsNone r → IsStimulusText word → ⊥
-unspelled_where_none word None h none = call_none word None h refl
-unspelled_where_none word (Some x) h none = absurd cc
+-- the parts of a post's line are those of a post
+post_parts : (parts : LineParts) (object signal : List ℕ) (args : List ℤ) → Shows parts (Post object signal args) → IsPost parts
+post_parts (parts.Post o s a) object signal args shows = tt
+post_parts (parts.Start o) object signal args shows = absurd cc
+post_parts (parts.Take o n f) object signal args shows = absurd cc
+post_parts (parts.Done o s f) object signal args shows = absurd cc
+post_parts (parts.Exit o s text) object signal args shows = absurd (let e = shows.1 in cc)
+post_parts (parts.Effect o s text) object signal args shows = absurd (let e = shows.1 in cc)
+post_parts (parts.Enter o s text) object signal args shows = absurd (let e = shows.1 in cc)
+post_parts (parts.Opened o r m h) object signal args shows = absurd cc
+post_parts (parts.Pick o c r) object signal args shows = absurd cc
+post_parts (parts.DoStep o s n text) object signal args shows = absurd (let e = shows.1 in cc)
 
-pub spelled_where_some : (word : List ℕ) (r : Parts) → ReadAs word r → is_some r ≡ true → IsStimulusText word
-spelled_where_some word None h some = absurd cc
-spelled_where_some word (Some x) h some = (x.0.now, x.1.now, call_some word (Some x) x h refl)
+-- A line that is no post with nothing behind it is not that of a word that is spelled as a stimulus.
+pub no_call : (word text : List ℕ) (parts : LineParts) (rest : List ℕ) (line : Line) → text ≡ post_text word → IsJournalLine line → text ≡ line_text line ++ 10 ∷ rest → Shows parts line
+    → (rest ≡ [] → IsPost parts → ⊥) → IsStimulusText word → ⊥
+no_call word text parts rest line is is_line whole shows other (object, signal, args, call) =
+    let one = one_read word text object signal args call is line rest is_line whole in
+    other (sym one.1) (post_parts parts object signal args (subst (λ (l : Line). Shows parts l) (sym one.0) shows))
+
+-- Nor is a text that has a fault at its first line, or one whose first line is open.
+pub no_call_at_fault : (word text : List ℕ) (fault : LineFault) → text ≡ post_text word → ((more : List ℕ) → IsFaultOf true 1 (text ++ more) fault) → IsStimulusText word → ⊥
+no_call_at_fault word text fault is bad (object, signal, args, call) =
+    no_fault_here word text object signal args call is fault (subst (λ (t : List ℕ). IsFaultOf true 1 t fault) (append-nil text) (bad []))
+
+pub no_call_open : (word text : List ℕ) → text ≡ post_text word → IsOpen true text → IsStimulusText word → ⊥
+no_call_open word text is open_ (object, signal, args, call) =
+    no_fault_here word text object signal args call is (NoEnd 1) (refl, open_, λ both. let none : codes "post " ++ (word ++ 10 ∷ []) ≡ [] = sym is ∙ both.1 in cc)
+
+-- what is kept of the parts of a line
+module _ (word text : List ℕ) (parts : LineParts) (rest : List ℕ) (line : Line) (is : text ≡ post_text word) (is_line : IsJournalLine line) (whole : text ≡ line_text line ++ 10 ∷ rest) (shows : Shows parts line) where
+  pub kept_call : (r : Option LineParts) → IfSome r (λ kept. (kept ≡ parts) × (rest ≡ []) × IsPost parts) → IfSome r (ShowsCall word)
+  kept_call None kept = tt
+  kept_call (Some x) kept = subst (λ (p : LineParts). ShowsCall word p) (sym kept.0) (shows_call word text parts rest line is is_line whole shows kept.1 kept.2)
+
+  pub dropped_call : (r : Option LineParts) → IfNone r (rest ≡ [] → IsPost parts → ⊥) → IfNone r (IsStimulusText word → ⊥)
+  dropped_call None other = no_call word text parts rest line is is_line whole shows other
+  dropped_call (Some x) other = tt
 
 -- A word is spelled in one way.
-pub one_call : (word a b c d : List ℕ) → IsCall word a b → IsCall word c d → (a ≡ c) × (b ≡ d)
-one_call word a b c d p q =
-    let both : Some (Post a b []) ≡ Some (Post c d []) = sym (call_spelled word a b p) ∙ call_spelled word c d q in
-    let first : a ≡ c = cc in
-    let second : b ≡ d = cc in
-    (first, second)
+pub one_call : (word a b c d : List ℕ) (e f : List ℤ) → IsCall word a b e → IsCall word c d f → Post a b e ≡ Post c d f
+one_call word a b c d e f p q =
+    one_line (Post a b e) (Post c d f) (posts_line word a b e p) (posts_line word c d f q) (ap (λ (t : List ℕ). codes "post " ++ t) (sym p.spelled ∙ q.spelled))
 
 -- ---- what a word names
 
 -- the entry that a post's line writes
-post_entry : (setting : Setting) (object signal : List ℕ) (e : Entry) → IsEntryOf setting (Post object signal []) e → (x : Stimulus) × (e ≡ post_of x)
+post_entry : (setting : Setting) (object signal : List ℕ) (args : List ℤ) (e : Entry) → IsEntryOf setting (Post object signal args) e → (x : Stimulus) × (e ≡ post_of x)
 unfolding entry_named entry_at
-post_entry setting object signal e h = by_object (object_named setting object) h where
-  by_signal : (o : ObjectId) (s : Option SignalId) → (s >>= λ s. Some (entries.Post o s [])) ≡ Some e → (x : Stimulus) × (e ≡ post_of x)
+post_entry setting object signal args e h = by_object (object_named setting object) h where
+  by_signal : (o : ObjectId) (s : Option SignalId) → (s >>= λ s. Some (entries.Post o s args)) ≡ Some e → (x : Stimulus) × (e ≡ post_of x)
   by_signal o None h = absurd cc
-  by_signal o (Some s) h = (record { object = o; signal = s; args = [] }, let same : entries.Post o s [] ≡ e = cc in sym same)
+  by_signal o (Some s) h = (record { object = o; signal = s; args = args }, let same : entries.Post o s args ≡ e = cc in sym same)
 
-  by_object : (o : Option ObjectId) → (o >>= λ o. (signal_named setting signal >>= λ s. Some (entries.Post o s []))) ≡ Some e → (x : Stimulus) × (e ≡ post_of x)
+  by_object : (o : Option ObjectId) → (o >>= λ o. (signal_named setting signal >>= λ s. Some (entries.Post o s args))) ≡ Some e → (x : Stimulus) × (e ≡ post_of x)
   by_object None h = absurd cc
   by_object (Some o) h = by_signal o (signal_named setting signal) h
 
 -- The stimulus that the entry posts is the one that the word names.
-pub names_posted : (setting : Setting) (word object signal : List ℕ) (e : Entry) → IsCall word object signal → IsEntryOf setting (Post object signal []) e → KeepsNames setting e
+pub names_posted : (setting : Setting) (word : List ℕ) (parts : LineParts) (e : Entry) → (shown : ShowsCall word parts)
+    → ((line : Line) → IsLine line → Shows parts line → IsEntryOf setting line e) → KeepsNames setting e
     → (r : Option Stimulus) → r ≡ slice_get (posts_of_entry e) 0 → IfSome r (Names setting word) × IfNone r ((x : Stimulus) → Names setting word x → ⊥)
-names_posted setting word object signal e call writes known r is =
-    let posts = post_entry setting object signal e writes in
+names_posted setting word parts e shown found known r is =
+    let call = shown.call in
+    let writes = found (Post shown.object shown.signal shown.args) (posts_line word shown.object shown.signal shown.args call) shown.shows in
+    let posts = post_entry setting shown.object shown.signal shown.args e writes in
     let same : r ≡ Some posts.0 = is ∙ ap (λ (f : Entry). slice_get (posts_of_entry f) 0) posts.1 in
     let names : Names setting word posts.0 = record {
-      object = object;
-      signal = signal;
+      object = shown.object;
+      signal = shown.signal;
+      args = shown.args;
       call = call;
-      writes = subst (λ (f : Entry). IsEntryOf setting (Post object signal []) f) posts.1 writes;
+      writes = subst (λ (f : Entry). IsEntryOf setting (Post shown.object shown.signal shown.args) f) posts.1 writes;
       known = subst (λ (f : Entry). KeepsNames setting f) posts.1 known;
     } in
     subst (λ (o : Option Stimulus). IfSome o (Names setting word) × IfNone o ((x : Stimulus) → Names setting word x → ⊥)) (sym same) (names, tt)
 
 -- The word names nothing where the line of its post writes no entry of the setting.
-pub names_none : (setting : Setting) (word object signal : List ℕ) → IsCall word object signal → BreaksNames setting (Post object signal []) → (x : Stimulus) → Names setting word x → ⊥
-names_none setting word object signal call breaks x names =
-    let same = one_call word names.object names.signal object signal names.call call in
-    breaks (post_of x) (subst (λ (t : List ℕ). IsEntryOf setting (Post object t []) (post_of x)) same.1 (subst (λ (t : List ℕ). IsEntryOf setting (Post t names.signal []) (post_of x)) same.0 names.writes)) names.known
+pub names_none : (setting : Setting) (word : List ℕ) (parts : LineParts) → (shown : ShowsCall word parts) → ((line : Line) → IsLine line → Shows parts line → BreaksNames setting line)
+    → (x : Stimulus) → Names setting word x → ⊥
+names_none setting word parts shown breaks x names =
+    let line = posts_line word shown.object shown.signal shown.args shown.call in
+    let same = one_call word names.object names.signal shown.object shown.signal names.args shown.args names.call shown.call in
+    breaks (Post shown.object shown.signal shown.args) line shown.shows (post_of x) (subst (λ (l : Line). IsEntryOf setting l (post_of x)) same names.writes) names.known
 
 -- A word that is spelled otherwise names nothing.
 pub names_not_spelled : (setting : Setting) (word : List ℕ) → (IsStimulusText word → ⊥) → (x : Stimulus) → Names setting word x → ⊥
-names_not_spelled setting word other x names = other (names.object, names.signal, names.call)
+names_not_spelled setting word other x names = other (names.object, names.signal, names.args, names.call)
 
 -- ---- words in order
 

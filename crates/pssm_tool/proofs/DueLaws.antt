@@ -9,6 +9,7 @@ use Rattle.pssm_judge.specs.declared.verdict.Verdict.TheVariants as verdicts
 use Rattle.pssm_judge.specs.declared.verdict.JudgeFault.{JudgeFault}
 use Rattle.pssm_judge.specs.declared.verdict.JudgeFault.TheVariants as faults
 use Rattle.pssm_judge.specs.Verdicts.{IsVerdictFor, IsFaultFor}
+use Rattle.pssm_lines.specs.declared.fault.LineFault.TheVariants as bad_lines
 use Rattle.pssm_tool.specs.declared.answer.Answer.{Answer}
 use Rattle.pssm_tool.specs.declared.failure.Failure.{Failure}
 use Rattle.pssm_tool.specs.declared.failure.Failure.TheVariants.{ReadFault, NoMemory}
@@ -69,7 +70,7 @@ module _ (contents then : Contents) (before mid after : List ℕ → ℕ) (model
       → IfOk (said r) (λ answer. (words : List (List ℕ)) → Means words (Judges model journal) → IsOwed words contents answer)
   owed_said (Ok (verdicts.Accept n)) v f = λ words is. on_model (Judges model journal) setting is has.0 (has.1, judged v.bytes (Accepted n) (same_bytes contents then journal v.bytes same v.reads) v.says.0 refl)
   owed_said (Ok (verdicts.Refuse n rule)) v f = λ words is. on_model (Judges model journal) setting is has.0 (has.1, judged v.bytes (Refused n rule) (same_bytes contents then journal v.bytes same v.reads) v.says refl)
-  owed_said (Err (faults.Text bad)) v f = λ words is. on_model (Judges model journal) setting is has.0 (has.1, judged f.0 BadText (same_bytes contents then journal f.0 same f.1) f.2 refl)
+  owed_said (Err (faults.Text bad)) v f = λ words is. on_model (Judges model journal) setting is has.0 (has.1, judged f.0 (BadText bad) (same_bytes contents then journal f.0 same f.1) f.2 refl)
   owed_said (Err (faults.Limit n)) v f = λ words is. on_model (Judges model journal) setting is has.0 (has.1, judged f.0 (Limited n) (same_bytes contents then journal f.0 same f.1) f.2 refl)
   owed_said (Err faults.TooLarge) v f = λ words is. on_model (Judges model journal) setting is has.0 (has.1, large_journal (same_size contents then journal same f) refl)
   owed_said (Err faults.ReadFault) v f = tt
@@ -102,7 +103,9 @@ module _ (contents then : Contents) (before mid after : List ℕ → ℕ) (model
       → IfOk (said r) (λ answer. (words : List (List ℕ)) → Means words (Judges model journal) → GoesOn words contents answer)
   goes_on_said (Ok (verdicts.Accept n)) v = λ words is. continues n v words is
   goes_on_said (Ok (verdicts.Refuse n rule)) v = λ words is. tt
-  goes_on_said (Err (faults.Text bad)) v = λ words is. tt
+  goes_on_said (Err (faults.Text (bad_lines.BadLine line byte))) v = λ words is. tt
+  goes_on_said (Err (faults.Text (bad_lines.LongLine line))) v = λ words is. tt
+  goes_on_said (Err (faults.Text (bad_lines.NoEnd line))) v = λ words is. tt
   goes_on_said (Err (faults.Limit n)) v = λ words is. tt
   goes_on_said (Err faults.TooLarge) v = λ words is. tt
   goes_on_said (Err faults.ReadFault) v = tt

@@ -10,27 +10,38 @@ use Rattle.std.proofs.Math.Seq.{take-length}
 use Rattle.pssm_semantics.specs.declared.entry.Entry.{Entry}
 use Rattle.pssm_semantics.specs.declared.entry.Entry.TheVariants.{Post, Start, Take, Done, Exit, Effect, Enter, Opened, Pick, DoStep}
 use Rattle.pssm_semantics.specs.declared.entry.Rule.TheVariants.{A1, A12}
-use Rattle.pssm_semantics.specs.declared.setting.Class.{Class}
 use Rattle.pssm_semantics.specs.declared.setting.Setting.{Setting}
 use Rattle.pssm_semantics.specs.declared.stimulus.Stimulus.{Stimulus}
-use Rattle.pssm_semantics.specs.Built.{IsBuilt, IsPlainClass}
+use Rattle.pssm_semantics.specs.Built.{IsBuilt}
 use Rattle.pssm_semantics.specs.Journal.{object_of}
 use Rattle.pssm_semantics.specs.Pool.{told_by, posts_of_entry, outs_of, posts_of, output_count}
-use Rattle.pssm_semantics.specs.Behaviours.{store_of}
 use Rattle.pssm_semantics.specs.Admissible.{MayFollow, IsQuiet, IsFull, KeepsJournalLimits, FitsStimuli}
+use Rattle.pssm_semantics.proofs.BuiltSettings.{built_class}
+use Rattle.pssm_semantics.proofs.Outcomes.{few_outs}
 use Rattle.pssm_system.specs.History.{History}
-use Rattle.pssm_system.proofs.Kept.{class_is}
-use Rattle.pssm_system.proofs.Rules.{outs_are_none}
 use Rattle.pssm_tool.specs.declared.run.Ended.TheVariants.{Quiet, Limit}
 use Rattle.pssm_tool.specs.RunTexts.{EndsRun}
 use Rattle.pssm_tool.specs.inner.Running.{IsKnown, IsFullAt, PostsNext, IsNext, IsOver, IsRunning}
 
--- Entries of the settings that the code runs so far have no outputs.
-pub no_outs : (setting : Setting) (J : List Entry) (e : Entry) → IsBuilt setting → MayFollow setting J e → outs_of e ≡ []
-no_outs setting J e built may =
+-- An entry that may follow has at most 64 sends and marks.
+few_made : (setting : Setting) (J : List Entry) (e : Entry) → IsBuilt setting → MayFollow setting J e → length (outs_of e) ≤ 64
+few_made setting J e built may =
     let there = may A1 in
-    let plain : IsPlainClass there.0 = subst (λ (k : Class). IsPlainClass k) (sym (class_is built (object_of e) there.0 there.1).1) built.class_is in
-    may A12 there.0 there.1 ∙ outs_are_none there.0 plain (told_by J) J e (store_of there.0 (told_by J) J (object_of e))
+    let runs = (built_class setting built (object_of e) there.0 there.1).0 in
+    few_outs there.0 runs.well_formed.proper (told_by J) J e (may A12 there.0 there.1)
+
+-- An entry that has so few has no more outputs: a post sends and marks nothing.
+few_outputs : (e : Entry) → length (outs_of e) ≤ 64 → length (posts_of_entry e) + length (outs_of e) ≤ 64
+few_outputs (Post o signal args) few = omega arith
+few_outputs (Start o) few = omega arith
+few_outputs (Take o number firing) few = omega arith
+few_outputs (Done o state firing) few = omega arith
+few_outputs (Exit o state outs) few = omega (arith, few)
+few_outputs (Effect o transition outs) few = omega (arith, few)
+few_outputs (Enter o state outs) few = omega (arith, few)
+few_outputs (Opened o region mode how) few = omega arith
+few_outputs (Pick o choice route) few = omega arith
+few_outputs (DoStep o state step outs) few = omega (arith, few)
 
 -- what std's `get` gives
 pub got : {X : Type 0} (Q : Bor X → Type 0) (xs : List X) (i : ℕ) (r : Option (Bor X)) → IfSome r (λ x. x.now ≡ get_or xs i x.now) → MatchOption r (length xs ≤ i) (λ x. (i < length xs) × Q x)
@@ -73,25 +84,16 @@ outputs_more J e =
     let more = sum_by-append (λ (x : Entry). length (posts_of_entry x) + length (outs_of x)) J (e ∷ []) in
     omega (arith, more)
 
--- at most one post
-pub one_post : (e : Entry) → length (posts_of_entry e) ≤ 1
-one_post (Post o signal args) = omega arith
-one_post (Start o) = omega arith
-one_post (Take o number firing) = omega arith
-one_post (Done o state firing) = omega arith
-one_post (Exit o state outs) = omega arith
-one_post (Effect o transition outs) = omega arith
-one_post (Enter o state outs) = omega arith
-one_post (Opened o region mode how) = omega arith
-one_post (Pick o choice route) = omega arith
-one_post (DoStep o state step outs) = omega arith
-
 -- ---- the run
 
-pub running_start : (setting : Setting) (stimuli : List Stimulus) (limit : ℕ) (run : History) → run ≡ record { setting = setting; journal = [] } → IsRunning setting stimuli limit run 0 0
-running_start setting stimuli limit run is =
-    let start : IsRunning setting stimuli limit (record { setting = setting; journal = [] }) 0 0 = record { setting_is = refl; few = omega arith; within = omega arith; posts = refl; outputs_are = refl } in
-    subst (λ (h : History). IsRunning setting stimuli limit h 0 0) (sym is) start
+pub running_start : (setting : Setting) (stimuli : List Stimulus) (limit : ℕ) (run : History) → run.setting ≡ setting → run.journal ≡ [] → IsRunning setting stimuli limit run 0 0
+running_start setting stimuli limit run same none = record {
+  setting_is = same;
+  few = omega (arith, ap (λ (J : List Entry). length J) none);
+  within = omega arith;
+  posts = ap posts_of none;
+  outputs_are = sym (ap output_count none);
+}
 
 module _ (setting : Setting) (stimuli : List Stimulus) (limit : ℕ) (run : History) (posted outputs : ℕ) (running : IsRunning setting stimuli limit run posted outputs) where
   -- the journal is full as the counts are
@@ -151,33 +153,25 @@ module _ (setting : Setting) (stimuli : List Stimulus) (limit : ℕ) (run : Hist
     roomy : outputs ≤ 1999936
     roomy = let apart : (1999936 < outputs) → ⊥ = λ many. room (inr many) in omega arith
 
-    more : IsRunning setting stimuli limit (record { setting = run.setting; journal = run.journal ++ e ∷ [] }) (posted + length (posts_of_entry e)) (outputs + (length (posts_of_entry e) + length (outs_of e)))
-    more = record {
-      setting_is = running.setting_is;
-      few = let n = length-append run.journal (e ∷ []) in let less = shorter in omega (arith, n, less);
-      within = posted_within;
-      posts = posts_are;
-      outputs_are = let n = outputs_more run.journal e in let counted = running.outputs_are in omega (arith, n, counted);
-    }
-
-    pub running_more : (after : History) (a b c : ℕ) → after ≡ record { setting = run.setting; journal = run.journal ++ e ∷ [] } → a ≡ length (posts_of_entry e) → b ≡ length (posts_of_entry e) → c ≡ length (outs_of e)
-        → IsRunning setting stimuli limit after (posted + a) (outputs + (b + c))
-    running_more after a b c is p q r =
-        let places : posted + a ≡ posted + length (posts_of_entry e) = omega (arith, p) in
-        let counts : outputs + (b + c) ≡ outputs + (length (posts_of_entry e) + length (outs_of e)) = omega (arith, q, r) in
-        subst (λ (h : History). IsRunning setting stimuli limit h (posted + a) (outputs + (b + c))) (sym is)
-        (subst (λ (n : ℕ). IsRunning setting stimuli limit (record { setting = run.setting; journal = run.journal ++ e ∷ [] }) n (outputs + (b + c))) (sym places)
-        (subst (λ (n : ℕ). IsRunning setting stimuli limit (record { setting = run.setting; journal = run.journal ++ e ∷ [] }) (posted + length (posts_of_entry e)) n) (sym counts) more))
+    pub running_more : (after : History) (a b c : ℕ) → after.setting ≡ run.setting → after.journal ≡ run.journal ++ e ∷ [] → a ≡ length (posts_of_entry e) → b ≡ length (posts_of_entry e)
+        → c ≡ length (outs_of e) → IsRunning setting stimuli limit after (posted + a) (outputs + (b + c))
+    running_more after a b c same grown p q r =
+        let places : posted + length (posts_of_entry e) ≡ posted + a = omega (arith, p) in
+        let longer : length after.journal ≡ length run.journal + 1 = ap (λ (J : List Entry). length J) grown ∙ length-append run.journal (e ∷ []) in
+        let made : output_count after.journal ≡ output_count run.journal + (length (posts_of_entry e) + length (outs_of e)) = ap output_count grown ∙ outputs_more run.journal e in
+        record {
+          setting_is = same ∙ running.setting_is;
+          few = omega (arith, longer, shorter);
+          within = omega (arith, places, posted_within);
+          posts = ap posts_of grown ∙ posts_are ∙ ap (λ (n : ℕ). take n stimuli) places;
+          outputs_are = omega (arith, made, running.outputs_are, q, r);
+        }
 
     -- The journal stays within its limits.
     pub limits_more : IsBuilt setting → limit ≤ 1000000 → KeepsJournalLimits (run.journal ++ e ∷ [])
     limits_more built low =
-        let none = ap length (no_outs run.setting run.journal e (subst (λ (s : Setting). IsBuilt s) (sym running.setting_is) built) next.follows) in
-        let one = one_post e in
-        let less = shorter in
-        let room = roomy in
-        let counted = running.outputs_are in
+        let few = few_outputs e (few_made run.setting run.journal e (subst (λ (s : Setting). IsBuilt s) (sym running.setting_is) built) next.follows) in
         record {
-          entries = let n = length-append run.journal (e ∷ []) in omega (arith, n, less, low);
-          outputs = let n = outputs_more run.journal e in omega (arith, n, none, one, counted, room);
+          entries = omega (arith, length-append run.journal (e ∷ []), shorter, low);
+          outputs = omega (arith, outputs_more run.journal e, few, running.outputs_are, roomy);
         }

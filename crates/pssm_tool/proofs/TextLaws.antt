@@ -1,6 +1,5 @@
 -- How the text of a journal is written line by line.
-use Rattle.std.specs.declared.alloc.Global.{Global}
-use Rattle.std.proofs.Common.{◌≡◌, ◌<◌, ◌+◌, ℕ, zero, suc, Result, Ok, Err, IfOk, Vec, List, [], ◌∷◌, ◌++◌, length, take, drop, get_or, sym, ap, subst, ◌∙◌, arith, add-one, append-nil, append_assoc}
+use Rattle.std.proofs.Common.{◌≡◌, ◌<◌, ◌+◌, ℕ, zero, suc, List, [], ◌∷◌, ◌++◌, length, take, drop, get_or, sym, ap, subst, ◌∙◌, arith, add-one, append-nil, append_assoc}
 use Rattle.std.specs.List.{AllByRecursion}
 use Rattle.std.proofs.lemmas.Grind.{flat_map-append}
 use Rattle.std.proofs.Math.Seq.{take-length}
@@ -8,25 +7,27 @@ use Rattle.pssm_semantics.specs.declared.entry.Entry.{Entry}
 use Rattle.pssm_semantics.specs.declared.entry.Rule.TheVariants.{A1}
 use Rattle.pssm_semantics.specs.declared.line.Line.{Line}
 use Rattle.pssm_semantics.specs.declared.setting.Setting.{Setting}
-use Rattle.pssm_semantics.specs.Built.{IsBuilt, IsBuiltEntry}
+use Rattle.pssm_semantics.specs.Built.{IsBuiltEntry}
 use Rattle.pssm_semantics.specs.Admissible.{IsAdmissibleIn, KeepsJournalLimits}
 use Rattle.pssm_semantics.proofs.Appending.{every_push}
-use Rattle.pssm_journal.specs.LineText.{line_text, header_line, text_of, journal_text}
-use Rattle.pssm_journal.specs.Grammar.{IsTakenLine, IsBuiltLine, IsLine}
+use Rattle.pssm_lines.specs.LineText.{line_text, header_line, text_of, journal_text}
+use Rattle.pssm_lines.specs.Grammar.{IsLine}
+use Rattle.pssm_lines.specs.Faults.{IsJournalLine}
 use Rattle.pssm_journal.specs.Entries.{IsEntryOf, KeepsNames, AreEntries}
-use Rattle.pssm_journal.specs.Naming.{HasSpelledNames, IsSpelledEntry}
-use Rattle.pssm_journal.proofs.BuiltNames.{built_names_spelled, plain_is_spelled}
+use Rattle.pssm_journal.specs.Naming.{IsSpelledEntry}
+use Rattle.pssm_semantics.specs.Names.{HasSpelledNames}
+use Rattle.pssm_journal.proofs.BuiltNames.{built_is_spelled}
+use Rattle.pssm_journal.proofs.LineLengths.{built_line}
 use Rattle.pssm_semantics.specs.declared.stimulus.Stimulus.{Stimulus}
 use Rattle.pssm_tool.specs.declared.run.Ended.{Ended}
 use Rattle.pssm_tool.specs.RunTexts.{EndsRun, IsRunText}
 use Rattle.pssm_tool.specs.inner.Running.{IsTextOf}
-use Rattle.pssm_tool.specs.inner.Running.{IsLineOf}
 
--- The bytes are the first line and lines of the grammar that write these entries.
+-- The bytes are the first line and lines that a journal may have, which write these entries.
 pub record IsWritten (setting : Setting) (J : List Entry) (bytes : List ℕ) : Type 0 where
   pub lines : List Line
   pub text : bytes ≡ journal_text lines
-  pub lines_are : AllByRecursion IsTakenLine lines
+  pub lines_are : AllByRecursion IsJournalLine lines
   pub entries_are : AreEntries setting lines J
 
 -- ---- one of the entries
@@ -53,12 +54,12 @@ holds_at P (y ∷ ys) (suc i) x all within is = holds_at P ys i x all.1 (omega a
 pub names_kept : (setting : Setting) (J : List Entry) (i : ℕ) (e : Entry) → IsAdmissibleIn setting J → i < length J → e ≡ get_or J i e → KeepsNames setting e
 names_kept setting J i e admissible within is = λ K. admissible (take i J) (drop (suc i) J) e (split_there J i e within is) A1
 
--- Its line is one of the grammar.
-pub is_line : (setting : Setting) (J : List Entry) (i : ℕ) (e : Entry) (line : Line) → IsBuilt setting → AllByRecursion IsBuiltEntry J → i < length J → e ≡ get_or J i e
-    → (IsBuiltEntry e → IsBuiltLine line) → (HasSpelledNames setting → IsSpelledEntry e → IsLine line) → IsTakenLine line
-is_line setting J i e line built plain within is plain_line spelled_line =
-    let here : IsBuiltEntry e = holds_at IsBuiltEntry J i e plain within is in
-    (plain_line here, spelled_line (built_names_spelled setting built) (plain_is_spelled e here))
+-- Its line is one that a journal may have.
+pub is_line : (setting : Setting) (J : List Entry) (i : ℕ) (e : Entry) (line : Line) → HasSpelledNames setting → AllByRecursion IsBuiltEntry J → i < length J → e ≡ get_or J i e
+    → IsEntryOf setting line e → (HasSpelledNames setting → IsSpelledEntry e → IsLine line) → IsJournalLine line
+is_line setting J i e line names built within is writes spelled_line =
+    let here : IsBuiltEntry e = holds_at IsBuiltEntry J i e built within is in
+    built_line setting e line here writes (spelled_line names (built_is_spelled e here))
 
 -- ---- the text
 
@@ -77,13 +78,13 @@ text_push lines line =
     ∙ ap (λ (t : List ℕ). header_line ++ t)
     (ap (λ (t : List ℕ). text_of lines ++ t) (sym (append-nil (line_text line ++ 10 ∷ []))) ∙ sym (flat_map-append (λ (l : Line). line_text l ++ 10 ∷ []) lines (line ∷ [])))
 
-pub written_more : (setting : Setting) (J : List Entry) (i : ℕ) (e : Entry) (line : Line) (bytes added more : List ℕ) → i < length J → e ≡ get_or J i e → IsWritten setting (take i J) bytes
-    → IsEntryOf setting line e → IsTakenLine line → added ≡ line_text line ++ 10 ∷ [] → more ≡ bytes ++ added → IsWritten setting (take (i + 1) J) more
-written_more setting J i e line bytes added more within is written writes grammar added_is more_is =
+pub written_more : (setting : Setting) (J : List Entry) (i : ℕ) (e : Entry) (line : Line) (bytes more : List ℕ) → i < length J → e ≡ get_or J i e → IsWritten setting (take i J) bytes
+    → IsEntryOf setting line e → IsJournalLine line → more ≡ bytes ++ (line_text line ++ 10 ∷ []) → IsWritten setting (take (i + 1) J) more
+written_more setting J i e line bytes more within is written writes grammar more_is =
     subst (λ (K : List Entry). IsWritten setting K more) (sym (take_more J i e within is)) (record {
       lines = written.lines ++ line ∷ [];
-      text = more_is ∙ ap (λ (t : List ℕ). bytes ++ t) added_is ∙ ap (λ (t : List ℕ). t ++ (line_text line ++ 10 ∷ [])) written.text ∙ text_push written.lines line;
-      lines_are = every_push IsTakenLine written.lines line written.lines_are grammar;
+      text = more_is ∙ ap (λ (t : List ℕ). t ++ (line_text line ++ 10 ∷ [])) written.text ∙ text_push written.lines line;
+      lines_are = every_push IsJournalLine written.lines line written.lines_are grammar;
       entries_are = entries_push setting written.lines (take i J) line e written.entries_are writes;
     })
 
@@ -91,12 +92,6 @@ pub written_whole : (setting : Setting) (J : List Entry) (i : ℕ) (bytes : List
 written_whole setting J i bytes all written admissible limits =
     let whole = subst (λ (K : List Entry). IsWritten setting K bytes) (ap (λ (n : ℕ). take n J) all ∙ take-length J) written in
     record { lines = whole.lines; text = whole.text; kept = record { lines_are = whole.lines_are; entries_are = whole.entries_are; admissible = admissible; limits = limits } }
-
--- The text of a line that writes an entry.
-pub text_of_line : {E : Type 0} (setting : Setting) (e : Entry) (line : Line) (r : Result (Vec ℕ Global) E) → IsEntryOf setting line e → (IsBuiltEntry e → IsBuiltLine line)
-    → (HasSpelledNames setting → IsSpelledEntry e → IsLine line) → IfOk r (λ bytes. bytes.items ≡ line_text line ++ 10 ∷ []) → IfOk r (λ bytes. IsLineOf setting e bytes.items)
-text_of_line setting e line (Err fault) writes plain spelled text = tt
-text_of_line setting e line (Ok bytes) writes plain spelled text = record { line = line; writes = writes; plain = plain; spelled = spelled; text = text }
 
 -- What was written is the text of a run's journal.
 pub run_text : (setting own : Setting) (stimuli given : List Stimulus) (limit : ℕ) (J : List Entry) (bytes : List ℕ) (ended : Ended) → own ≡ setting → given ≡ stimuli → IsTextOf own J bytes

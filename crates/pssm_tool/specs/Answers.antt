@@ -4,7 +4,7 @@ use Rattle.std.specs.Fmt.{decimal}
 use Rattle.pssm_semantics.specs.Verdict.{number_of}
 use Rattle.pssm_flat.specs.Text.{line}
 use Rattle.pssm_tool.specs.declared.answer.Answer.{Answer}
-use Rattle.pssm_tool.specs.declared.answer.Answer.TheVariants.{Accept, Refuse, Limit, WellFormed, Usage, BadJournal, TooLarge, Journal, Flat, BadModel}
+use Rattle.pssm_tool.specs.declared.answer.Answer.TheVariants.{Accept, Refuse, Limit, WellFormed, Usage, BadLine, NoEnd, TooLarge, Journal, Flat, BadModel}
 use Rattle.pssm_tool.specs.declared.run.Ended.TheVariants as ends
 use Rattle.pssm_tool.specs.Refusals.{load_fault_text}
 
@@ -15,7 +15,8 @@ text_of (Refuse entry rule) = line (codes "refuse " ++ decimal entry ++ codes " 
 text_of (Limit entry) = line (codes "limit " ++ decimal entry)
 text_of WellFormed = line (codes "well formed")
 text_of Usage = line (codes "usage")
-text_of BadJournal = line (codes "bad journal")
+text_of (BadLine number byte) = line (codes "journal line " ++ decimal number ++ codes " byte " ++ decimal byte)
+text_of (NoEnd number) = line (codes "journal line " ++ decimal number ++ codes " no end")
 text_of TooLarge = line (codes "too large")
 text_of (Journal text ended) = text
 text_of (Flat text) = text
@@ -26,7 +27,8 @@ abbrev pub code_of : Answer → ℕ
 code_of (Refuse entry rule) = 1
 code_of Usage = 2
 code_of (BadModel fault) = 3
-code_of BadJournal = 4
+code_of (BadLine number byte) = 4
+code_of (NoEnd number) = 4
 code_of (Limit entry) = 8
 code_of (Journal text ends.Limit) = 8
 code_of TooLarge = 9

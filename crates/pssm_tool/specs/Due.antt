@@ -7,12 +7,14 @@ use Rattle.pssm_model.specs.declared.elements.Element.{Element}
 use Rattle.pssm_semantics.specs.declared.setting.Setting.{Setting}
 use Rattle.pssm_semantics.specs.declared.stimulus.Stimulus.{Stimulus}
 use Rattle.pssm_flat.specs.Text.{flat_text}
+use Rattle.pssm_lines.specs.declared.fault.LineFault.{LineFault}
+use Rattle.pssm_lines.specs.declared.fault.LineFault.TheVariants as faults
 use Rattle.pssm_journal.specs.Judged.{Judged, Accepted, Refused, Limited, BadText, IsJudged}
 use Rattle.pssm_tool.specs.declared.words.Options.{Options}
 use Rattle.pssm_tool.specs.declared.load.LoadFault.{LoadFault}
 use Rattle.pssm_tool.specs.declared.load.LoadFault.TheVariants.{NotBuilt}
 use Rattle.pssm_tool.specs.declared.answer.Answer.{Answer}
-use Rattle.pssm_tool.specs.declared.answer.Answer.TheVariants.{Accept, Refuse, Limit, WellFormed, Usage, BadJournal, TooLarge, Journal, Flat, BadModel}
+use Rattle.pssm_tool.specs.declared.answer.Answer.TheVariants.{Accept, Refuse, Limit, WellFormed, Usage, BadLine, NoEnd, TooLarge, Journal, Flat, BadModel}
 use Rattle.pssm_tool.specs.declared.run.Ended.{Ended}
 use Rattle.pssm_tool.specs.Words.{Meaning, Judges, Runs, Checks, Prints, Means, IsUsage}
 use Rattle.pssm_tool.specs.Stimuli.{AreStimuli}
@@ -65,12 +67,18 @@ IsAboutRuns _ = Unit {0}
 
 -- ---- the answer
 
+-- what is wrong with the text of a journal, as an answer: a line that is too long counts as a file that is too large
+abbrev pub answer_to_fault : LineFault → Answer
+answer_to_fault (faults.BadLine line byte) = BadLine line byte
+answer_to_fault (faults.LongLine line) = TooLarge
+answer_to_fault (faults.NoEnd line) = NoEnd line
+
 -- what is said of the bytes of a journal, as an answer
 abbrev pub answer_to : Judged → Answer
 answer_to (Accepted entries) = Accept entries
 answer_to (Refused entry rule) = Refuse entry rule
 answer_to (Limited entry) = Limit entry
-answer_to BadText = BadJournal
+answer_to (BadText fault) = answer_to_fault fault
 
 -- The answer is owed for the journal's path.
 pub data IsDueForJournal (contents : Contents) (setting : Setting) (journal : List ℕ) (answer : Answer) : Type 0 where

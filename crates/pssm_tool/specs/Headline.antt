@@ -8,8 +8,8 @@ use Rattle.pssm_semantics.specs.declared.line.Line.{Line}
 use Rattle.pssm_semantics.specs.declared.setting.Setting.{Setting}
 use Rattle.pssm_semantics.specs.Admissible.{KeepsJournalLimits, IsPrefixOfRun}
 use Rattle.pssm_semantics.specs.Laws.{CompletesInTime}
-use Rattle.pssm_journal.specs.LineText.{journal_text}
-use Rattle.pssm_journal.specs.Grammar.{IsTakenLine}
+use Rattle.pssm_lines.specs.LineText.{journal_text}
+use Rattle.pssm_lines.specs.Faults.{IsJournalLine}
 use Rattle.pssm_journal.specs.Entries.{AreEntries}
 use Rattle.pssm_journal.specs.Judged.{Accepted, IsJudged}
 use Rattle.pssm_tool.specs.Words.{Judges, Means}
@@ -22,7 +22,7 @@ pub record HoldsJournal (contents : Contents) (path : List ℕ) (setting : Setti
   pub lines : List Line
   pub reads : ReadsWhole contents path most_bytes bytes
   pub text : bytes ≡ journal_text lines
-  pub lines_are : AllByRecursion IsTakenLine lines
+  pub lines_are : AllByRecursion IsJournalLine lines
   pub entries_are : AreEntries setting lines J
   pub limits : KeepsJournalLimits J
 

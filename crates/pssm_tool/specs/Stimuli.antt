@@ -1,5 +1,5 @@
 -- The stimuli that words name in a setting.
-use Rattle.std.specs.Prelude.{ℕ, List, [], ◌∷◌}
+use Rattle.std.specs.Prelude.{ℕ, ℤ, List, [], ◌∷◌}
 use Rattle.pssm_semantics.specs.declared.entry.Entry.{Entry}
 use Rattle.pssm_semantics.specs.declared.entry.Entry.TheVariants.{Post}
 use Rattle.pssm_semantics.specs.declared.line.Line.TheVariants as lines
@@ -12,12 +12,14 @@ use Rattle.pssm_tool.specs.Words.{IsCall}
 abbrev pub post_of : Stimulus → Entry
 post_of x = Post x.object x.signal x.args
 
--- The line that has the word after `post` writes the entry that posts the stimulus, and all that it names is the setting's.
+-- The line that has the word after `post` writes the entry that posts the stimulus, and all that it names is the setting's;
+-- the signal has as many parameters as the word has numbers.
 pub record Names (setting : Setting) (word : List ℕ) (x : Stimulus) : Type 0 where
   pub object : List ℕ
   pub signal : List ℕ
-  pub call : IsCall word object signal
-  pub writes : IsEntryOf setting (lines.Post object signal []) (post_of x)
+  pub args : List ℤ
+  pub call : IsCall word object signal args
+  pub writes : IsEntryOf setting (lines.Post object signal args) (post_of x)
   pub known : KeepsNames setting (post_of x)
 
 -- The words name these stimuli, one each.

@@ -1,10 +1,11 @@
 -- The words of the command line, and the command that they mean.
-use Rattle.std.specs.Prelude.{◌≡◌, ℕ, List, [], ◌∷◌, ◌++◌, map, codes, String, string_bytes}
+use Rattle.std.specs.Prelude.{◌≡◌, ℕ, ℤ, List, [], ◌∷◌, ◌++◌, map, codes, String, string_bytes}
 use Rattle.std.specs.List.{AllByRecursion}
 use Rattle.std.specs.declared.alloc.Global.{Global}
 use Rattle.pssm_spelling.specs.Spelling.{IsName}
 use Rattle.pssm_spelling.specs.Numbers.{IsNumber}
-use Rattle.pssm_journal.specs.LineText.{call_text}
+use Rattle.pssm_lines.specs.LineText.{call_text}
+use Rattle.pssm_lines.specs.Grammar.{AreArgs}
 use Rattle.pssm_tool.specs.declared.words.Options.{Options}
 use Rattle.pssm_tool.specs.declared.words.Command.{Command}
 use Rattle.pssm_tool.specs.declared.words.Command.TheVariants.{Judge, Run, Check, Flat}
@@ -26,15 +27,16 @@ pub data HasOption (name : List ℕ) (least greatest otherwise : ℕ) (words res
 abbrev pub BeginsWithDashes : List ℕ → Type 0
 BeginsWithDashes word = (rest : List ℕ) × (word ≡ codes "--" ++ rest)
 
--- `OBJ.SIG()`, as it stands after `post` in a journal
-pub record IsCall (word object signal : List ℕ) : Type 0 where
+-- `OBJ.SIG(1,-2)`, as it stands after `post` in a journal: a signal at an object, with at most eight numbers of 64 bits
+pub record IsCall (word object signal : List ℕ) (args : List ℤ) : Type 0 where
   pub object_name : IsName object
   pub signal_name : IsName signal
-  pub spelled : word ≡ call_text object signal []
+  pub args_are : AreArgs args
+  pub spelled : word ≡ call_text object signal args
 
 -- The word is spelled as a stimulus.
 abbrev pub IsStimulusText : List ℕ → Type 0
-IsStimulusText word = (object signal : List ℕ) × IsCall word object signal
+IsStimulusText word = (object signal : List ℕ) × (args : List ℤ) × IsCall word object signal args
 
 -- `run [--seed N] [--workers W] [--limit L] MODEL STIMULUS*`, with the options in this order
 pub record IsRun (words : List (List ℕ)) (options : Options) (model : List ℕ) (stimuli : List (List ℕ)) : Type 0 where

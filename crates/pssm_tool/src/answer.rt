@@ -24,11 +24,16 @@ pub enum Answer {
     Limit { entry: u32 },
     /// The model reads, and its machines keep the rules of models.
     WellFormed,
-    /// The words mean no command, or a stimulus among them names what the model does not have.
+    /// The words mean no command, or a stimulus among them does not fit the model: it names what the model does not have,
+    /// or has not as many arguments as its signal has parameters.
     Usage,
-    /// The journal is no text of the journal form, as far as it is built, and no earlier line breaks a rule.
-    BadJournal,
-    /// A file has more than 16,777,216 bytes.
+    /// The line of the journal, counted from 1, goes wrong at this byte, counted from 1, and no earlier line breaks a
+    /// rule.
+    BadLine { line: u32, byte: u32 },
+    /// The journal ends within this line, counted from 1, or has no bytes, and no earlier line breaks a rule.
+    NoEnd { line: u32 },
+    /// A file has more than 16,777,216 bytes, or a line of a journal more than 65,536, and no earlier line breaks a
+    /// rule.
     TooLarge,
     /// The text of a run's journal, and how the run ended.
     Journal { text: Text, ended: Ended },
@@ -56,7 +61,7 @@ impl Answer {
             Answer::Refuse { .. } => 1,
             Answer::Usage => 2,
             Answer::BadModel(_) => 3,
-            Answer::BadJournal => 4,
+            Answer::BadLine { .. } | Answer::NoEnd { .. } => 4,
             Answer::Limit { .. } => 8,
             Answer::TooLarge => 9,
         };
@@ -73,7 +78,8 @@ impl Answer {
             Answer::Limit { entry } => Ok(bytes_of(format!(in alloc; "limit {entry}\n")?)),
             Answer::WellFormed => Ok(Text::from_vec(b"well formed\n".to_vec(alloc)?)),
             Answer::Usage => Ok(Text::from_vec(b"usage\n".to_vec(alloc)?)),
-            Answer::BadJournal => Ok(Text::from_vec(b"bad journal\n".to_vec(alloc)?)),
+            Answer::BadLine { line, byte } => Ok(bytes_of(bad_line(alloc, line, byte)?)),
+            Answer::NoEnd { line } => Ok(bytes_of(no_end(alloc, line)?)),
             Answer::TooLarge => Ok(Text::from_vec(b"too large\n".to_vec(alloc)?)),
             Answer::Journal { text, .. } | Answer::Flat(text) => Ok(text),
             Answer::BadModel(fault) => fault_text(alloc, &fault),
@@ -94,6 +100,22 @@ fn refusal(alloc: Global, entry: u32, rule: u8) -> Result<String, NoMemory>
         ≡ line (codes "refuse " ++ decimal entry ++ codes " A" ++ decimal rule)) }
 {
     format!(in alloc; "refuse {entry} A{rule}\n")
+}
+
+// The line on the byte at which a line of a journal goes wrong.
+fn bad_line(alloc: Global, number: u32, byte: u32) -> Result<String, NoMemory>
+    ensures { IfOk result (λ text. string_bytes text
+        ≡ line (codes "journal line " ++ decimal number ++ codes " byte " ++ decimal byte)) }
+{
+    format!(in alloc; "journal line {number} byte {byte}\n")
+}
+
+// The line on the line of a journal within which it ends.
+fn no_end(alloc: Global, number: u32) -> Result<String, NoMemory>
+    ensures { IfOk result (λ text. string_bytes text
+        ≡ line (codes "journal line " ++ decimal number ++ codes " no end")) }
+{
+    format!(in alloc; "journal line {number} no end\n")
 }
 
 // The number in a rule's name.

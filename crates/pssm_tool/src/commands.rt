@@ -1,7 +1,7 @@
 //! What each command does, up to its answer.
 ghost use Rattle.std.specs.Prelude.{◌≡◌, ◌≤◌, List, ℕ, IfOk, IfErr};
 ghost use Rattle.pssm_tool.specs.Words.{texts, Means, Judges, Runs, Checks, Prints};
-ghost use Rattle.pssm_tool.specs.Due.{IsOwed};
+ghost use Rattle.pssm_tool.specs.Due.{IsOwed, answer_to_fault};
 ghost use Rattle.pssm_tool.specs.inner.Verdicts.{said};
 ghost use Rattle.pssm_tool.specs.inner.Failures.{FailedFor, GoesOn};
 
@@ -14,7 +14,7 @@ use crate::text::text_of;
 use crate::words::Options;
 use pssm_base::Inputs;
 use pssm_flat::write_flat;
-use pssm_judge::{JudgeFault, Verdict, judge};
+use pssm_judge::{JudgeFault, LineFault, Verdict, judge};
 use pssm_model::Text;
 use std::alloc::Global;
 
@@ -47,11 +47,22 @@ fn answer_of(judged: Result<Verdict, JudgeFault>) -> Result<Answer, Failure>
     match judged {
         Ok(Verdict::Accept { entries }) => Ok(Answer::Accept { entries }),
         Ok(Verdict::Refuse { entry, rule }) => Ok(Answer::Refuse { entry, rule }),
-        Err(JudgeFault::Text(_)) => Ok(Answer::BadJournal),
+        Err(JudgeFault::Text(fault)) => Ok(text_answer(fault)),
         Err(JudgeFault::Limit { entry }) => Ok(Answer::Limit { entry }),
         Err(JudgeFault::TooLarge) => Ok(Answer::TooLarge),
         Err(JudgeFault::ReadFault) => Err(Failure::ReadFault),
         Err(JudgeFault::NoMemory) => Err(Failure::NoMemory),
+    }
+}
+
+// The answer that says what is wrong with the text of a journal.
+fn text_answer(fault: LineFault) -> Answer
+    ensures { result ≡ answer_to_fault fault }
+{
+    match fault {
+        LineFault::BadLine { line, byte } => Answer::BadLine { line, byte },
+        LineFault::LongLine { .. } => Answer::TooLarge,
+        LineFault::NoEnd { line } => Answer::NoEnd { line },
     }
 }
 

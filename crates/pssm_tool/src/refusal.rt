@@ -2,10 +2,12 @@
 ghost use Rattle.std.specs.Prelude.{◌≡◌, ◌++◌, IfOk, OnOk, codes, string_bytes};
 ghost use Rattle.std.specs.List.{flat_map};
 ghost use Rattle.std.specs.Fmt.{decimal};
-ghost use Rattle.pssm_tool.specs.Refusals.{element_text, place_text, rule_text, fault_line, shape_word, load_fault_text};
+ghost use Rattle.pssm_tool.specs.Refusals.{element_text, place_text, rule_text, fault_line, shape_word};
+ghost use Rattle.pssm_tool.specs.Refusals.{act_word, act_place, load_fault_text};
 
 use crate::answer::bytes_of;
 use crate::load::{ClassFault, LoadFault};
+use pssm_acts::ActFault;
 use pssm_flat::FlatFault;
 use pssm_model::{Element, FaultPlace, Shape, Text};
 use pssm_spelling::put_number;
@@ -34,6 +36,12 @@ fn flat_fault_text(alloc: Global, fault: FlatFault) -> Result<Text, NoMemory>
             line,
             shape_name(shape),
         )?)),
+        FlatFault::Act { line, fault } => Ok(bytes_of(act_line(
+            alloc,
+            line,
+            act_name(fault),
+            act_byte(fault),
+        )?)),
         FlatFault::NoMemory => Err(NoMemory),
     }
 }
@@ -47,7 +55,8 @@ fn bad_line(alloc: Global, line: u32) -> Result<String, NoMemory>
 
 // The line on a machine that has no shape of one.
 fn shape_line(alloc: Global, line: u32, shape: &str) -> Result<String, NoMemory>
-    ensures { IfOk result (λ text. string_bytes text ≡ codes "flat line " ++ decimal line ++ codes " shape " ++ shape.now ++ codes "\n") }
+    ensures { IfOk result (λ text. string_bytes text
+        ≡ codes "flat line " ++ decimal line ++ codes " shape " ++ shape.now ++ codes "\n") }
 {
     format!(in alloc; "flat line {line} shape {shape}\n")
 }
@@ -62,6 +71,42 @@ fn shape_name(shape: Shape) -> &'static str
         Shape::TooMany(_) => "TooMany",
         Shape::TooDeep(_) => "TooDeep",
         Shape::NoMemory => "",
+    }
+}
+
+// The line on an action text.
+fn act_line(alloc: Global, line: u32, fault: &str, byte: u32) -> Result<String, NoMemory>
+    ensures { IfOk result (λ text. string_bytes text ≡ codes "flat line " ++ decimal line ++ codes " act "
+        ++ fault.now ++ codes " byte " ++ decimal byte ++ codes "\n") }
+{
+    format!(in alloc; "flat line {line} act {fault} byte {byte}\n")
+}
+
+// The name of a fault of an action text; none on want of memory.
+fn act_name(fault: ActFault) -> &'static str
+    ensures { result.now ≡ act_word fault }
+{
+    match fault {
+        ActFault::Syntax { .. } => "Syntax",
+        ActFault::UnknownName { .. } => "UnknownName",
+        ActFault::WideNumber { .. } => "WideNumber",
+        ActFault::Arity { .. } => "Arity",
+        ActFault::TooLong { .. } => "TooLong",
+        ActFault::NoMemory => "",
+    }
+}
+
+// The byte of an action text at which its fault stands.
+fn act_byte(fault: ActFault) -> u32
+    ensures { result ≡ act_place fault }
+{
+    match fault {
+        ActFault::Syntax { at }
+        | ActFault::UnknownName { at }
+        | ActFault::WideNumber { at }
+        | ActFault::Arity { at }
+        | ActFault::TooLong { at } => at,
+        ActFault::NoMemory => 0,
     }
 }
 

@@ -1,32 +1,36 @@
 //! Stimuli among the words.
-ghost use Rattle.std.specs.Prelude.{◌≡◌, ◌↔◌, [], slice_get, IfOk, IfSome, IfNone, IsTrue};
+ghost use Rattle.std.specs.Prelude.{◌≡◌, ◌↔◌, [], slice_get, IfOk, IfSome, IfNone, IsTrue, List, ℕ};
 ghost use Rattle.std.specs.List.{AllByRecursion};
-ghost use Rattle.std.specs.Option.{option_map};
 ghost use Rattle.pssm_semantics.specs.declared.stimulus.Stimulus.{Stimulus};
-ghost use Rattle.pssm_semantics.specs.declared.line.Line.TheVariants.{Post};
 ghost use Rattle.pssm_semantics.specs.Pool.{posts_of_entry};
-ghost use Rattle.pssm_journal.specs.Entries.{IsEntryOf, KeepsNames, BreaksNames};
-ghost use Rattle.pssm_journal.specs.inner.LineReading.{post_taken};
 ghost use Rattle.pssm_tool.specs.Words.{texts, IsStimulusText};
 ghost use Rattle.pssm_tool.specs.Stimuli.{Names, AreStimuli};
+ghost use Rattle.pssm_tool.specs.inner.Calls.{post_text as post_text_of, IsPost, ShowsCall};
 ghost use Rattle.pssm_tool.specs.inner.Running.{NameNoStimuli};
 
-use pssm_journal::entry_of;
-use pssm_model::Text;
-use pssm_semantics::{Args, Entry, Line, Setting, Stimulus};
-use pssm_spelling::{name_at, strip};
+use pssm_journal::{Front, LineParts, Namespace, entry_of_parts, front_of};
+use pssm_semantics::{Entry, Setting, Stimulus};
 use std::alloc::{AllocError as NoMemory, Global};
 
-/// Whether each word is spelled as a stimulus, `OBJ.SIG()`.
-pub fn are_spelled(words: &[String]) -> bool
-    ensures { IsTrue result ↔ AllByRecursion IsStimulusText (texts words.now) }
+/// Whether each word is spelled as a stimulus, `OBJ.SIG(1,-2)`.
+pub fn are_spelled(alloc: Global, words: &[String]) -> Result<bool, NoMemory>
+    ensures { IfOk result (λ yes. IsTrue yes ↔ AllByRecursion IsStimulusText (texts words.now)) }
 {
     for word in words {
-        if call_of(word.as_bytes()).is_none() {
-            return false;
+        if !is_spelled(alloc, word.as_bytes())? {
+            return Ok(false);
         }
     }
-    true
+    Ok(true)
+}
+
+// Whether a word is spelled as a stimulus.
+fn is_spelled(alloc: Global, word: &[u8]) -> Result<bool, NoMemory>
+    ensures { IfOk result (λ yes. IsTrue yes ↔ IsStimulusText word.now) }
+{
+    let text = post_text(alloc, word)?;
+    let call = call_at(alloc, text.as_slice())?;
+    Ok(call.is_some())
 }
 
 /// The stimuli that the words name in the setting, where each names one.
@@ -38,9 +42,27 @@ pub fn stimuli_of(
     ensures name { IfOk result (λ o. IfSome o (λ v. AreStimuli setting.now (texts words.now) v.items)) }
     ensures none { IfOk result (λ o. IfNone o (NameNoStimuli setting.now (texts words.now))) }
 {
+    let namespace = Namespace::new(alloc, setting)?;
+    let stimuli = all_named(alloc, setting, &namespace, words);
+    // (a call: a drop at the end of the body would be one for each way out)
+    drop(namespace);
+    stimuli
+}
+
+// The same, where this is the setting's namespace.
+fn all_named(
+    alloc: Global,
+    setting: &Setting,
+    namespace: &Namespace,
+    words: &[String],
+) -> Result<Option<Vec<Stimulus>>, NoMemory>
+    requires { namespace.now ≡ setting.now }
+    ensures name { IfOk result (λ o. IfSome o (λ v. AreStimuli setting.now (texts words.now) v.items)) }
+    ensures none { IfOk result (λ o. IfNone o (NameNoStimuli setting.now (texts words.now))) }
+{
     let mut stimuli = Vec::new(alloc);
     for word in words {
-        match stimulus_of(alloc, setting, word.as_bytes())? {
+        match stimulus_of(alloc, setting, namespace, word.as_bytes())? {
             Some(stimulus) => stimuli.push(stimulus)?,
             None => return Ok(None),
         }
@@ -49,45 +71,42 @@ pub fn stimuli_of(
 }
 
 // The stimulus that a word names.
-fn stimulus_of(alloc: Global, setting: &Setting, word: &[u8]) -> Result<Option<Stimulus>, NoMemory>
+fn stimulus_of(
+    alloc: Global,
+    setting: &Setting,
+    namespace: &Namespace,
+    word: &[u8],
+) -> Result<Option<Stimulus>, NoMemory>
+    requires { namespace.now ≡ setting.now }
     ensures names { IfOk result (λ o. IfSome o (Names setting.now word.now)) }
     ensures none { IfOk result (λ o. IfNone o ((x : Stimulus) → Names setting.now word.now x → ⊥)) }
 {
-    let Some((object, signal)) = call_of(word) else {
+    let text = post_text(alloc, word)?;
+    let stimulus = stimulus_at(alloc, setting, namespace, text.as_slice());
+    drop(text);
+    stimulus
+}
+
+// The stimulus that a word names, from the text of the line that posts it.
+fn stimulus_at(
+    alloc: Global,
+    setting: &Setting,
+    namespace: &Namespace,
+    text: &[u8],
+) -> Result<Option<Stimulus>, NoMemory>
+    requires { namespace.now ≡ setting.now }
+    ensures names { IfOk result (λ o. (word : List ℕ) → text.now ≡ post_text_of word
+        → IfSome o (Names setting.now word)) }
+    ensures none { IfOk result (λ o. (word : List ℕ) → text.now ≡ post_text_of word
+        → IfNone o ((x : Stimulus) → Names setting.now word x → ⊥)) }
+{
+    let Some(parts) = call_at(alloc, text)? else {
         return Ok(None);
     };
-    match post_named(alloc, setting, object, signal)? {
+    match entry_of_parts(alloc, setting, namespace, parts)? {
         Some(entry) => Ok(posted(entry)),
         None => Ok(None),
     }
-}
-
-// The entry that posts a signal to an object, where both names are the setting's and the signal has no parameters.
-fn post_named(
-    alloc: Global,
-    setting: &Setting,
-    object: &[u8],
-    signal: &[u8],
-) -> Result<Option<Entry>, NoMemory>
-    ensures found { IfOk result (λ o. IfSome o (λ e. IsEntryOf setting.now (Post object.now signal.now []) e × KeepsNames setting.now e)) }
-    ensures none { IfOk result (λ o. IfNone o (BreaksNames setting.now (Post object.now signal.now []))) }
-{
-    let line = post_line(alloc, object, signal)?;
-    let entry = entry_of(alloc, setting, &line);
-    // (a call: a drop at the end of the body would be one for each kind of line)
-    drop(line);
-    entry
-}
-
-// The line that posts a signal without arguments to an object.
-fn post_line(alloc: Global, object: &[u8], signal: &[u8]) -> Result<Line, NoMemory>
-    ensures { IfOk result (λ line. line ≡ Post object.now signal.now []) }
-{
-    Ok(Line::Post {
-        object: Text::from_vec(object.to_vec(alloc)?),
-        signal: Text::from_vec(signal.to_vec(alloc)?),
-        args: Args::from_vec(Vec::new(alloc)),
-    })
 }
 
 // The stimulus that an entry posts.
@@ -111,18 +130,43 @@ fn posted(entry: Entry) -> Option<Stimulus>
     }
 }
 
-// The names of the object and of the signal, where the word is spelled as a stimulus.
-#[tactic(auto, unfolding(pssm_journal::specs::inner::LineReading::post_taken))]
-fn call_of(word: &[u8]) -> Option<(&[u8], &[u8])>
-    ensures { option_map (λ x. Post x.0.now x.1.now []) result ≡ post_taken word.now }
+// The text of the line of a journal that has the word after `post`, with its line feed.
+fn post_text(alloc: Global, word: &[u8]) -> Result<Vec<u8>, NoMemory>
+    ensures { IfOk result (λ text. text.items ≡ post_text_of word.now) }
 {
-    let (object, rest) = name_at(word)?;
-    let rest = strip(rest, b".")?;
-    let (signal, rest) = name_at(rest)?;
-    let rest = strip(rest, b"()")?;
-    if rest.is_empty() {
-        Some((object, signal))
+    let mut text = b"post ".to_vec(alloc)?;
+    text.extend_from_slice(word)?;
+    text.push(b'\n')?;
+    Ok(text)
+}
+
+// The parts of the line that this is the text of, where the word in it is spelled as a stimulus.
+fn call_at(alloc: Global, text: &[u8]) -> Result<Option<LineParts<'_>>, NoMemory>
+    ensures call { IfOk result (λ o. (word : List ℕ) → text.now ≡ post_text_of word → IfSome o (ShowsCall word)) }
+    ensures none { IfOk result (λ o. (word : List ℕ) → text.now ≡ post_text_of word
+        → IfNone o (IsStimulusText word → ⊥)) }
+{
+    match front_of(alloc, true, 1, text)? {
+        Front::Line { parts, rest } => Ok(only_post(parts, rest)),
+        Front::Header { .. } | Front::Open | Front::Fault(_) => Ok(None),
+    }
+}
+
+// The parts, where they are those of a post and nothing follows it.
+fn only_post<'a>(parts: LineParts<'a>, rest: &[u8]) -> Option<LineParts<'a>>
+    ensures some { IfSome result (λ kept. (kept ≡ parts.entry) × (rest.now ≡ []) × IsPost parts.entry) }
+    ensures none { IfNone result (rest.now ≡ [] → IsPost parts.entry → ⊥) }
+{
+    if rest.is_empty() && is_post(&parts) {
+        Some(parts)
     } else {
         None
     }
+}
+
+// Whether the parts are those of a post.
+fn is_post(parts: &LineParts<'_>) -> bool
+    ensures { IsTrue result ↔ IsPost parts.now }
+{
+    matches!(parts, LineParts::Post { .. })
 }

@@ -29,8 +29,9 @@ use std::alloc::Global;
 ///
 /// `judge MODEL JOURNAL` judges a journal of a run of the model, and writes one line.
 /// `run [--seed N] [--workers W] [--limit L] MODEL STIMULUS*` runs the model and writes the journal. `check MODEL` says
-/// whether the model is well formed, and `flat MODEL` writes its flat text. What is written goes to `out` at once, after all else is done; before that nothing is written. `rt` and `gate` are for commands
-/// that start workers, of which there is none yet.
+/// whether the model is well formed, and `flat MODEL` writes its flat text. What is written goes to `out` at once, after
+/// all else is done; before that nothing is written. `rt` and `gate` are for commands that start workers, of which there
+/// is none yet.
 pub fn pssm<R, I: Inputs, S: Sink, G: Gate + Sync>(
     _rt: &R,
     alloc: Global,
@@ -83,9 +84,13 @@ pub fn pssm<R, I: Inputs, S: Sink, G: Gate + Sync>(
     ensures bad_model { result.code ≡ 3 → (fault : LoadFault) × Gives (texts words.now) (I.content inputs.old)
         (S.taken out.old) (S.taken out.new) (Answer.BadModel fault) }
 
-    // 4: the journal's bytes are no journal text, and no earlier line breaks a rule.
-    ensures bad_journal { result.code ≡ 4 → Gives (texts words.now) (I.content inputs.old)
-        (S.taken out.old) (S.taken out.new) Answer.BadJournal }
+    // 4: `journal line L byte B` names the first byte at which the journal's text goes wrong, and `journal line L no end`
+    // the line within which it ends; no earlier line breaks a rule.
+    ensures bad_journal { result.code ≡ 4
+        → ((line : ℕ) × (byte : ℕ) × Gives (texts words.now) (I.content inputs.old)
+        (S.taken out.old) (S.taken out.new) (Answer.BadLine line byte))
+        ⊎ ((line : ℕ) × Gives (texts words.now) (I.content inputs.old)
+        (S.taken out.old) (S.taken out.new) (Answer.NoEnd line)) }
 
     // 8: `limit N` names the entry by which the journal passes its limits; or the journal was written of a run that
     // ended because it is full.
@@ -95,7 +100,7 @@ pub fn pssm<R, I: Inputs, S: Sink, G: Gate + Sync>(
         ⊎ ((text : List ℕ) × Gives (texts words.now) (I.content inputs.old)
         (S.taken out.old) (S.taken out.new) (Answer.Journal text Ended.Limit)) }
 
-    // 9: a file is too large.
+    // 9: a file is too large, or a line of the journal is, and no earlier line breaks a rule.
     ensures too_large { result.code ≡ 9 → Gives (texts words.now) (I.content inputs.old)
         (S.taken out.old) (S.taken out.new) Answer.TooLarge }
 
@@ -173,7 +178,8 @@ fn answer<I: Inputs>(alloc: Global, words: &[String], inputs: &mut I) -> Result<
     ensures goes_on { IfOk result (GoesOn (texts words.now) (I.content inputs.old)) }
     ensures failed { IfErr result (FailedFor (texts words.now) (I.faults inputs.old) (I.faults inputs.new)) }
 {
-    match command_of(words) {
+    let command = command_of(alloc, words)?;
+    match command {
         Some(Command::Judge { model, journal }) => judge_journal(alloc, inputs, model, journal),
         Some(
             Command::Run {

@@ -1,9 +1,10 @@
 //! The words of the command line.
-ghost use Rattle.std.specs.Prelude.{◌≡◌, ◌≤◌, ◌∷◌, ◌++◌, List, ℕ, codes, IfSome, IfNone, IsTrue, ◌↔◌, string_bytes};
+ghost use Rattle.std.specs.Prelude.{◌≡◌, ◌≤◌, ◌∷◌, ◌++◌, List, ℕ, codes, IfOk, IfSome, IfNone, IsTrue, ◌↔◌, string_bytes};
 ghost use Rattle.pssm_tool.specs.Words.{texts, BeginWith, HasOption, BeginsWithDashes, Meaning, Means, IsUsage, meaning_of};
 
 use crate::stimuli::are_spelled;
 use pssm_spelling::number_of;
+use std::alloc::{AllocError as NoMemory, Global};
 
 /// What may be chosen for a run.
 #[derive(Clone, Copy, PartialEq, Eq, Debug)]
@@ -41,45 +42,51 @@ pub enum Command<'a> {
 }
 
 /// The command that the words mean, if they mean one. They mean no more than one.
-pub fn command_of(words: &[String]) -> Option<Command<'_>>
-    ensures reads { IfSome result (λ command. Means (texts words.now) (meaning_of command)) }
-    ensures usage { IfNone result (IsUsage (texts words.now)) }
+pub fn command_of(alloc: Global, words: &[String]) -> Result<Option<Command<'_>>, NoMemory>
+    ensures reads { IfOk result (λ o. IfSome o (λ command. Means (texts words.now) (meaning_of command))) }
+    ensures usage { IfOk result (λ o. IfNone o (IsUsage (texts words.now))) }
     ensures once { (a b : Meaning) → Means (texts words.now) a → Means (texts words.now) b → a ≡ b }
 {
     match words {
-        [verb, rest @ ..] if verb.as_str() == "run" => run_of(rest),
-        [verb, model, journal] if verb.as_str() == "judge" => Some(Command::Judge {
+        [verb, rest @ ..] if verb.as_str() == "run" => run_of(alloc, rest),
+        [verb, model, journal] if verb.as_str() == "judge" => Ok(Some(Command::Judge {
             model: model.as_str(),
             journal: journal.as_str(),
-        }),
-        [verb, model] if verb.as_str() == "check" => Some(Command::Check {
+        })),
+        [verb, model] if verb.as_str() == "check" => Ok(Some(Command::Check {
             model: model.as_str(),
-        }),
-        [verb, model] if verb.as_str() == "flat" => Some(Command::Flat {
+        })),
+        [verb, model] if verb.as_str() == "flat" => Ok(Some(Command::Flat {
             model: model.as_str(),
-        }),
-        _ => None,
+        })),
+        _ => Ok(None),
     }
 }
 
 // The command of the words after `run`.
-fn run_of(words: &[String]) -> Option<Command<'_>>
-    ensures reads { IfSome result (λ command. Means (codes "run" ∷ texts words.now) (meaning_of command)) }
-    ensures usage { IfNone result (IsUsage (codes "run" ∷ texts words.now)) }
+fn run_of(alloc: Global, words: &[String]) -> Result<Option<Command<'_>>, NoMemory>
+    ensures reads { IfOk result (λ o. IfSome o (λ command. Means (codes "run" ∷ texts words.now) (meaning_of command))) }
+    ensures usage { IfOk result (λ o. IfNone o (IsUsage (codes "run" ∷ texts words.now))) }
 {
-    let (seed, rest) = option_at(words, "--seed", 0, u64::MAX, 0)?;
-    let (workers, rest) = option_at(rest, "--workers", 1, 16, 1)?;
-    let (limit, rest) = option_at(rest, "--limit", 0, 1_000_000, 10_000)?;
+    let Some((seed, rest)) = option_at(words, "--seed", 0, u64::MAX, 0) else {
+        return Ok(None);
+    };
+    let Some((workers, rest)) = option_at(rest, "--workers", 1, 16, 1) else {
+        return Ok(None);
+    };
+    let Some((limit, rest)) = option_at(rest, "--limit", 0, 1_000_000, 10_000) else {
+        return Ok(None);
+    };
     let [model, stimuli @ ..] = rest else {
-        return None;
+        return Ok(None);
     };
     if has_dashes(model.as_str()) {
-        return None;
+        return Ok(None);
     }
-    if !are_spelled(stimuli) {
-        return None;
+    if !are_spelled(alloc, stimuli)? {
+        return Ok(None);
     }
-    Some(Command::Run {
+    Ok(Some(Command::Run {
         options: Options {
             seed,
             workers: workers as u8,
@@ -87,7 +94,7 @@ fn run_of(words: &[String]) -> Option<Command<'_>>
         },
         model: model.as_str(),
         stimuli,
-    })
+    }))
 }
 
 // The number of an option that may stand at the front, and the words after it.

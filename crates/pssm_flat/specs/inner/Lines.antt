@@ -1,9 +1,10 @@
 -- Reading one line of the flat form: the line that the bytes spell, where they spell one.
-use Rattle.std.specs.Prelude.{ℕ, List, [], ◌∷◌, ◌++◌, length, ◌&&◌, ◌==◌, nat_lt, if◌then◌else◌, Option, Some, None, codes}
+use Rattle.std.specs.Prelude.{ℕ, suc, zero, ◌-◌, ◌^◌, ℤ, pos, negsuc, List, [], ◌∷◌, ◌++◌, length, ◌&&◌, ◌==◌, nat_lt, nat_le, if◌then◌else◌, Option, Some, None, codes}
 use Rattle.std.specs.Option.{option_map}
 use Rattle.std.specs.List.{list_all}
 use Rattle.std.specs.Str.{bytes_eq, is_utf8}
-use Rattle.std.specs.Fmt.{decimal}
+use Rattle.std.specs.Str.Parse.{digits_value}
+use Rattle.std.specs.Fmt.{decimal, signed_decimal}
 use Rattle.pssm_model.specs.declared.ids.RegionId.{RegionId}
 use Rattle.pssm_model.specs.declared.ids.VertexId.{VertexId}
 use Rattle.pssm_model.specs.declared.elements.Owner.{Owner}
@@ -12,11 +13,15 @@ use Rattle.pssm_model.specs.declared.elements.VertexKind.{VertexKind}
 use Rattle.pssm_model.specs.declared.elements.VertexKind.TheVariants as kinds
 use Rattle.pssm_model.specs.declared.elements.TransKind.{TransKind}
 use Rattle.pssm_model.specs.declared.elements.TransKind.TheVariants.{External, Local, Internal}
+use Rattle.pssm_spelling.specs.Numbers.{is_natural}
 use Rattle.pssm_spelling.specs.SpellingReading.{stripped, name_taken, index_taken}
+use Rattle.pssm_flat.specs.declared.action.ActionLine.{ActionLine}
+use Rattle.pssm_flat.specs.declared.action.ActionLine.TheVariants as actions
 use Rattle.pssm_flat.specs.declared.line.Line.{Line}
 use Rattle.pssm_flat.specs.declared.line.Line.TheVariants as lines
 use Rattle.pssm_flat.specs.Text.{owner_word, kind_word, transition_word, label_text}
 use Rattle.pssm_flat.specs.Flat.{is_label_byte}
+use Rattle.pssm_flat.specs.Faults.{action_word}
 
 infixl 10 ◌>>=◌
 abbrev pub ◌>>=◌ : {A B : Type 0} → Option A → (A → Option B) → Option B
@@ -31,16 +36,19 @@ or_else (Some x) other = Some x
 -- the text of a line of the grammar
 abbrev pub line_text : Line → List ℕ
 line_text lines.Header = codes "pssm-flat 1"
-line_text (lines.Signal name) = codes "signal " ++ (name ++ codes " 0")
+line_text (lines.Signal name count) = codes "signal " ++ (name ++ (codes " " ++ decimal count))
 line_text (lines.Class name) = codes "class " ++ name
 line_text (lines.Object name class) = codes "object " ++ (name ++ (codes " " ++ class))
 line_text (lines.Machine name) = codes "machine " ++ name
+line_text (lines.Var name first) = codes "var " ++ (name ++ (codes " " ++ signed_decimal first))
 line_text (lines.Region number owner) = codes "region r" ++ (decimal number ++ (codes " " ++ owner_word owner))
 line_text (lines.Vertex number owner kind label) = codes "vertex v" ++ (decimal number ++ (codes " " ++ (owner_word owner ++ (codes " " ++ (kind_word kind ++ label_text label)))))
 line_text (lines.Defer signal) = codes "defer " ++ signal
 line_text (lines.Transition number source target kind) =
     codes "transition t" ++ (decimal number ++ (codes " v" ++ (decimal source.0 ++ (codes " v" ++ (decimal target.0 ++ (codes " " ++ transition_word kind))))))
 line_text (lines.On signal) = codes "on " ++ signal
+line_text (lines.Action word text) = action_word word ++ text
+line_text lines.EmptyStep = codes "step"
 line_text lines.Otherwise = codes "else"
 line_text lines.End = codes "end"
 
@@ -106,16 +114,51 @@ abbrev pub label_taken : List ℕ → Option (List ℕ)
 label_taken [] = Some []
 label_taken (b ∷ bytes) = if b == 32 then label_of bytes else None
 
+-- one digit from 0 to 8, and nothing behind it
+abbrev pub count_taken : List ℕ → Option ℕ
+count_taken (c ∷ []) = if nat_le 48 c && nat_le c 56 then Some (c - 48) else None
+count_taken _ = None
+
+-- a number of 64 bits, with `-` before it where it is below zero
+unfoldable pub natural_first : List ℕ → Option ℤ
+natural_first digits =
+    if is_natural digits then (if nat_lt (digits_value 10 digits) (2 ^ 63) then Some (pos (digits_value 10 digits)) else None) else None
+
+abbrev pub negative_value : ℕ → Option ℤ
+negative_value zero = None
+negative_value (suc below) = if nat_lt below (2 ^ 63) then Some (negsuc below) else None
+
+unfoldable pub negative_first : List ℕ → Option ℤ
+negative_first digits = if is_natural digits then negative_value (digits_value 10 digits) else None
+
+unfoldable pub first_taken : List ℕ → Option ℤ
+first_taken [] = natural_first []
+first_taken (c ∷ cs) = if c == 45 then negative_first cs else natural_first (c ∷ cs)
+
+-- an action text behind its word
+unfoldable pub behind_word : ActionLine → List ℕ → Option (ActionLine × List ℕ)
+behind_word word bytes = do
+  text ← stripped (action_word word) bytes
+  if is_utf8 text then Some (word, text) else None
+
+unfoldable pub action_taken : List ℕ → Option (ActionLine × List ℕ)
+action_taken bytes =
+    or_else (behind_word actions.Entry bytes)
+    (or_else (behind_word actions.Exit bytes)
+    (or_else (behind_word actions.Step bytes) (or_else (behind_word actions.When bytes) (behind_word actions.Effect bytes))))
+
 -- ---- lines
 
 abbrev pub whole_line : List ℕ → Line → List ℕ → Option Line
 whole_line word l bytes = if bytes_eq bytes word then Some l else None
 
-unfoldable pub signal_taken : List ℕ → Option (List ℕ)
+unfoldable pub signal_taken : List ℕ → Option (List ℕ × ℕ)
 signal_taken bytes = do
   rest ← stripped (codes "signal ") bytes
   name ← name_taken rest
-  if bytes_eq name.1 (codes " 0") then Some name.0 else None
+  digit ← stripped (codes " ") name.1
+  count ← count_taken digit
+  Some (name.0, count)
 
 unfoldable pub object_taken : List ℕ → Option (List ℕ × List ℕ)
 object_taken bytes = do
@@ -123,6 +166,14 @@ object_taken bytes = do
   name ← name_taken rest
   class ← named_taken (codes " ") name.1
   Some (name.0, class)
+
+unfoldable pub var_taken : List ℕ → Option (List ℕ × ℤ)
+var_taken bytes = do
+  rest ← stripped (codes "var ") bytes
+  name ← name_taken rest
+  word ← stripped (codes " ") name.1
+  first ← first_taken word
+  Some (name.0, first)
 
 unfoldable pub region_line_taken : List ℕ → Option Line
 region_line_taken bytes = do
@@ -176,19 +227,23 @@ transition_with x =
 unfoldable pub head_line_taken : List ℕ → Option Line
 head_line_taken bytes =
     or_else (whole_line (codes "pssm-flat 1") lines.Header bytes)
-    (or_else (option_map lines.Signal (signal_taken bytes))
+    (or_else (option_map (λ x. lines.Signal x.0 x.1) (signal_taken bytes))
     (or_else (option_map lines.Class (named_taken (codes "class ") bytes))
     (or_else (option_map (λ x. lines.Object x.0 x.1) (object_taken bytes)) (option_map lines.Machine (named_taken (codes "machine ") bytes)))))
 
--- a line of a block
-unfoldable pub block_line_taken : List ℕ → Option Line
-block_line_taken bytes =
-    or_else (region_line_taken bytes)
-    (or_else (option_map vertex_of (vertex_line_taken bytes))
-    (or_else (option_map lines.Defer (named_taken (codes "defer ") bytes))
-    (or_else (option_map transition_with (transition_line_taken bytes))
+-- a line of a variable or an element
+unfoldable pub element_line_taken : List ℕ → Option Line
+element_line_taken bytes =
+    or_else (option_map (λ x. lines.Var x.0 x.1) (var_taken bytes))
+    (or_else (region_line_taken bytes) (or_else (option_map vertex_of (vertex_line_taken bytes)) (option_map transition_with (transition_line_taken bytes))))
+
+-- a line of a part of an element, or the last line
+unfoldable pub part_line_taken : List ℕ → Option Line
+part_line_taken bytes =
+    or_else (option_map lines.Defer (named_taken (codes "defer ") bytes))
     (or_else (option_map lines.On (named_taken (codes "on ") bytes))
-    (or_else (whole_line (codes "else") lines.Otherwise bytes) (whole_line (codes "end") lines.End bytes))))))
+    (or_else (option_map (λ x. lines.Action x.0 x.1) (action_taken bytes))
+    (or_else (whole_line (codes "step") lines.EmptyStep bytes) (or_else (whole_line (codes "else") lines.Otherwise bytes) (whole_line (codes "end") lines.End bytes)))))
 
 unfoldable pub line_taken : List ℕ → Option Line
-line_taken bytes = or_else (head_line_taken bytes) (block_line_taken bytes)
+line_taken bytes = or_else (head_line_taken bytes) (or_else (element_line_taken bytes) (part_line_taken bytes))

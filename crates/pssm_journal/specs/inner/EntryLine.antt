@@ -19,7 +19,7 @@ use Rattle.pssm_semantics.specs.declared.line.LineOut.{LineOut}
 use Rattle.pssm_semantics.specs.declared.line.LineOut.TheVariants.{Mark, Send}
 use Rattle.pssm_semantics.specs.declared.setting.Setting.{Setting}
 use Rattle.pssm_semantics.specs.Settings.{class_of}
-use Rattle.pssm_journal.specs.Grammar.{IsIndex, AreArgs}
+use Rattle.pssm_lines.specs.Grammar.{IsIndex, AreArgs}
 
 -- the name of an object; empty where there is no such object, and so of the others
 abbrev pub name_of_object : Setting → ObjectId → List ℕ

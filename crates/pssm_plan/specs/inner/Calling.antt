@@ -12,12 +12,11 @@ use Rattle.pssm_model.specs.declared.steps.Item.{Item}
 use Rattle.pssm_model.specs.declared.steps.Item.TheVariants.{Exit, Effect, Enter, Opened, Pick}
 use Rattle.pssm_model.specs.declared.steps.Mode.TheVariants.{Plain}
 use Rattle.pssm_model.specs.Configuration.{Configuration}
-use Rattle.pssm_model.specs.Forest.{owner_of}
+use Rattle.pssm_model.specs.Forest.{owner_of, LiesInState}
 use Rattle.pssm_model.specs.Routes.{single_route}
 use Rattle.pssm_plan.specs.inner.Single.{LiesInSpan, IsEnteredBy, EndsIn}
 use Rattle.pssm_plan.specs.declared.roster.Call.{Call}
-use Rattle.pssm_plan.specs.declared.roster.Pair.{Pair}
-use Rattle.pssm_plan.specs.inner.Sequence.{IsExtended}
+use Rattle.pssm_plan.specs.inner.Sequence.{IsSequence, IsExtended}
 use Rattle.pssm_plan.specs.inner.Marks.{IsListed, IsMarked, IsTold, IsSettled, ArePairwise}
 
 -- the opening of a region of the State in which the transition does not end
@@ -27,6 +26,10 @@ IsOpeningOf m s t x = (r : RegionId) × (x ≡ Opened r Plain) × (owner_of m (R
 -- the entry of a vertex that the transition enters, or where that has run what it opens
 abbrev pub IsEntryOf : DraftMachine → List Call → TransId → VertexId → Item → Type 0
 IsEntryOf m calls t v x = IsEnteredBy m t v × ((x ≡ Enter v) ⊎ (IsMarked calls (Enter v) × IsOpeningOf m v t x))
+
+-- an entry that comes of the transition, of a State in the span in which its target lies
+abbrev pub IsEntryAround : DraftMachine → List Call → TransId → VertexId → Item → Type 0
+IsEntryAround m calls t target x = (s : VertexId) × LiesInSpan m t s × LiesInState m target s × IsEntryOf m calls t s x
 
 -- the effect of the transition, or an entry that comes of it
 abbrev pub IsOfLeg : DraftMachine → List Call → TransId → Item → Type 0
@@ -71,16 +74,16 @@ IsFollowing m calls (Opened r mode) how x = IsLate m calls how x
 IsFollowing m calls (Pick c) how x = IsLate m calls how x
 IsFollowing m calls _ how x = ⊥
 
--- the lists of a roster that has these items, none of which has run
-pub record IsMadeOf (m : DraftMachine) (Added : Item → Type 0) (calls : List Call) (order : List Pair) : Type 0 where
+-- the list of a roster that has these items, none of which has run
+pub record IsMadeOf (m : DraftMachine) (Added : Item → Type 0) (calls : List Call) : Type 0 where
   pub first : List Call
-  pub extended : IsExtended m [] Added first order
-  pub settled : ArePairwise (IsSettled first order) first calls
+  pub extended : IsExtended m [] Added first
+  pub settled : ArePairwise (IsSettled (IsSequence m) first) first calls
 
--- the lists of a roster once an item of these calls has run in this way
-pub record IsRunIn (m : DraftMachine) (old : List Call) (item : Item) (how : How) (calls : List Call) (order : List Pair) : Type 0 where
+-- the list of a roster once an item of these calls has run in this way
+pub record IsRunIn (m : DraftMachine) (old : List Call) (item : Item) (how : How) (calls : List Call) : Type 0 where
   pub grown : List Call
   pub now : List Call
-  pub extended : IsExtended m old (IsFollowing m old item how) grown order
+  pub extended : IsExtended m old (IsFollowing m old item how) grown
   pub told : ArePairwise (IsTold item) grown now
-  pub settled : ArePairwise (IsSettled now order) now calls
+  pub settled : ArePairwise (IsSettled (IsSequence m) now) now calls

@@ -1,5 +1,5 @@
 -- Which of the items that a step calls come before which: it is seen from the items alone.
-use Rattle.std.specs.Prelude.{◌≡◌, ◌⊎◌, ◌<◌, ◌↔◌, ◌≢◌, List, length, Contains, AllPairs, IsTrue}
+use Rattle.std.specs.Prelude.{◌⊎◌, ◌<◌, ◌↔◌, ◌≢◌, List, length, Contains, AllPairs}
 use Rattle.pssm_model.specs.declared.ids.VertexId.{VertexId}
 use Rattle.pssm_model.specs.declared.ids.TransId.{TransId}
 use Rattle.pssm_model.specs.declared.elements.DraftMachine.{DraftMachine}
@@ -10,8 +10,7 @@ use Rattle.pssm_model.specs.Forest.{HasKind, LiesInState}
 use Rattle.pssm_model.specs.Legs.{Leaves}
 use Rattle.pssm_plan.specs.inner.Single.{LiesInSpan, IsEnteredBy}
 use Rattle.pssm_plan.specs.declared.roster.Call.{Call}
-use Rattle.pssm_plan.specs.declared.roster.Pair.{Pair}
-use Rattle.pssm_plan.specs.inner.Marks.{IsListed, IsMarked}
+use Rattle.pssm_plan.specs.inner.Marks.{IsListed, IsMarked, IsFresh}
 
 -- What the item names is there.
 abbrev pub IsItemOf : DraftMachine → Item → Type 0
@@ -33,26 +32,19 @@ IsSequence m (Effect t) (Enter s) = IsEnteredBy m t s
 IsSequence m (Enter s) (Enter q) = LiesInState m q s
 IsSequence m _ _ = ⊥
 
--- the item and a listed one, of which one comes before the other
-abbrev pub IsLink : DraftMachine → List Call → Item → Pair → Type 0
-IsLink m calls item p =
-    IsSequence m p.first p.second
-    × ((IsListed calls p.first × (p.second ≡ item)) ⊎ (IsListed calls p.second × (p.first ≡ item)))
-
 -- What each listed item names is there.
 abbrev pub AreItemsOf : DraftMachine → List Call → Type 0
 AreItemsOf m calls = (item : Item) → IsListed calls item → IsItemOf m item
 
--- The lists are those of a roster: no item twice, and exactly the pairs of which the first comes before the second.
-pub record IsRoster (m : DraftMachine) (calls : List Call) (order : List Pair) : Type 0 where
+-- The list is that of a roster: its items are there, and none is listed twice.
+pub record IsRoster (m : DraftMachine) (calls : List Call) : Type 0 where
   pub items : AreItemsOf m calls
   pub once : AllPairs (λ a b. a.item ≢ b.item) calls
-  pub sequenced : (p : Pair) → Contains order p ↔ (IsListed calls p.first × IsListed calls p.second × IsSequence m p.first p.second)
 
--- The lists are those of a roster that has besides the items that these calls have those that are added, which have not run and are not said to wait.
-pub record IsExtended (m : DraftMachine) (old : List Call) (Added : Item → Type 0) (calls : List Call) (order : List Pair) : Type 0 where
-  pub roster : IsRoster m calls order
+-- The list is that of a roster that has besides the items that these calls have those that are added, which have not run and have not looked
+-- at the others yet.
+pub record IsExtended (m : DraftMachine) (old : List Call) (Added : Item → Type 0) (calls : List Call) : Type 0 where
+  pub roster : IsRoster m calls
   pub listed : (x : Item) → IsListed calls x ↔ (IsListed old x ⊎ Added x)
   pub marked : (x : Item) → IsMarked calls x ↔ IsMarked old x
-  pub kept : (call : Call) → Contains old call → Contains calls call
-  pub free : (call : Call) → Contains calls call → IsTrue call.blocked → Contains old call
+  pub fresh : (call : Call) → Contains calls call → Contains old call ⊎ IsFresh call

@@ -1,62 +1,57 @@
--- What may come next, in terms of what is kept of the journal.
-use Rattle.std.specs.Prelude.{◌≡◌, ◌↔◌, ◌⊎◌, ◌≤◌, ◌<◌, ◌+◌, ℕ, List, [], length, Option, Some, None, Contains, slice_get}
-use Rattle.pssm_model.specs.declared.ids.VertexId.{VertexId}
-use Rattle.pssm_model.specs.declared.ids.TransId.{TransId}
-use Rattle.pssm_model.specs.declared.ids.SignalId.{SignalId}
-use Rattle.pssm_model.specs.declared.elements.DraftMachine.{DraftMachine}
-use Rattle.pssm_model.specs.declared.steps.How.{How}
-use Rattle.pssm_model.specs.declared.steps.Mode.TheVariants.{Plain}
-use Rattle.pssm_model.specs.declared.steps.Item.{Item}
-use Rattle.pssm_model.specs.declared.steps.Item.TheVariants as items
-use Rattle.pssm_model.specs.Legs.{Leaves}
-use Rattle.pssm_model.specs.Routes.{Lists}
-use Rattle.pssm_model.specs.Order.{IsReady}
-use Rattle.pssm_config.specs.Tables.{Tables}
-use Rattle.pssm_plan.specs.Agenda.{Agenda, course_of}
+-- What may come next, for one object and for several.
+use Rattle.std.specs.Prelude.{◌≤◌, ◌<◌, ℕ, List, Option, Some, None}
 use Rattle.pssm_semantics.specs.declared.entry.Entry.{Entry}
-use Rattle.pssm_semantics.specs.declared.entry.Entry.TheVariants.{Start, Take, Exit, Effect, Enter, Opened}
-use Rattle.pssm_system.specs.inner.Firing.{IsDefaultWay}
-use Rattle.pssm_system.specs.inner.Situations.{the_object, IsAtRest}
-use Rattle.pssm_system.specs.inner.Judging.{JudgesFiring}
+use Rattle.pssm_semantics.specs.declared.setting.Class.{Class}
+use Rattle.pssm_semantics.specs.declared.setting.Setting.{Setting}
+use Rattle.pssm_semantics.specs.Journal.{IsPost, object_of}
+use Rattle.pssm_semantics.specs.Admissible.{MayFollow}
+use Rattle.pssm_object.specs.declared.object.Waiting.{Waiting}
+use Rattle.pssm_object.specs.Standing.{Standing, StandsAfter}
+use Rattle.pssm_object.specs.Following.{NamesPlaces, KeepsRules, IsCandidate, IsMove}
+use Rattle.pssm_system.specs.declared.situation.Situation.{Situation}
+use Rattle.pssm_system.specs.declared.choosing.Wanted.{Wanted}
+use Rattle.pssm_system.specs.declared.choosing.Wanted.TheVariants.{AnyEntry, Move}
+use Rattle.pssm_system.specs.inner.Keeping.{StandsSo}
 
--- The object rests, and no signal waits.
-abbrev pub IsIdle : DraftMachine → Option Agenda → List SignalId → ℕ → Type 0
-IsIdle m plan signals taken = IsAtRest m plan × (length signals ≤ taken)
+-- The entry is one of those that are looked for.
+abbrev pub IsWanted : Wanted → Entry → Type 0
+IsWanted AnyEntry e = IsPost e → ⊥
+IsWanted Move e = IsMove e
 
--- an exit, an effect, an entry, or an opening by default of a region of the machine
-abbrev pub IsPlainItem : DraftMachine → Item → Type 0
-IsPlainItem m (items.Opened r mode) = (mode ≡ Plain) × (r.0 < length m.regions)
-IsPlainItem m (items.Pick c) = ⊥
-IsPlainItem m _ = Unit {0}
+-- such an entry of the object, which may come next under this signal
+pub record IsNext (class : Class) (x : Standing) (signal : Option Waiting) (wanted : Wanted) (e : Entry) : Type 0 where
+  pub wanted_is : IsWanted wanted e
+  pub candidate : IsCandidate x.own signal e
+  pub places : NamesPlaces class.machine e
+  pub keeps : (J : List Entry) → StandsAfter class J x → KeepsRules class x signal J e
 
--- the entry runs the item, without outputs; an opening goes by its default way
-abbrev pub RunsItem : DraftMachine → Item → Entry → Type 0
-RunsItem m (items.Exit s) e = e ≡ Exit the_object s []
-RunsItem m (items.Effect t) e = e ≡ Effect the_object t []
-RunsItem m (items.Enter s) e = e ≡ Enter the_object s []
-RunsItem m (items.Opened r mode) e = (how : How) × (e ≡ Opened the_object r mode how) × IsDefaultWay m r how
-RunsItem m (items.Pick c) e = ⊥
+-- There is none.
+abbrev pub HasNoNext : Class → Standing → Option Waiting → Wanted → Type 0
+HasNoNext class x signal wanted =
+    (J : List Entry) (e : Entry) → StandsAfter class J x → IsWanted wanted e → IsCandidate x.own signal e
+    → KeepsRules class x signal J e → ⊥
 
--- the take of the signal with the next number, with what it fires
-abbrev pub TakesNext : DraftMachine → Tables → ℕ → SignalId → Entry → Type 0
-TakesNext m tables taken signal (Take o number firing) = (o ≡ the_object) × (number ≡ taken + 1) × JudgesFiring m tables signal firing.routes None
-TakesNext m tables taken signal _ = ⊥
+-- It may be done next, whatever signal waits.
+abbrev pub IsNextAlways : Class → Standing → Entry → Type 0
+IsNextAlways class x e = (signal : Option Waiting) → IsNext class x signal AnyEntry e
 
--- the take of the next signal, or nothing where no signal waits
-abbrev pub ChoosesTake : DraftMachine → Tables → List SignalId → ℕ → Option Entry → Type 0
-ChoosesTake m tables signals taken None = length signals ≤ taken
-ChoosesTake m tables signals taken (Some e) = (signal : SignalId) × (slice_get signals taken ≡ Some signal) × TakesNext m tables taken signal e
+-- what was found for the object: one of them, or nothing where there is none
+abbrev pub Finds : Class → Standing → Option Waiting → Wanted → Option Entry → Type 0
+Finds class x signal wanted None = HasNoNext class x signal wanted
+Finds class x signal wanted (Some e) = IsNext class x signal wanted e
 
--- a ready item of the plan is run
-abbrev pub ChoosesItem : DraftMachine → Agenda → Option Entry → Type 0
-ChoosesItem m plan chosen = (item : Item) × (e : Entry) × (chosen ≡ Some e) × IsReady m (course_of plan) item × RunsItem m item e
+-- an entry that is looked for, and that may follow in the setting
+pub record MayComeNext (setting : Setting) (s : Situation) (wanted : Wanted) (e : Entry) : Type 0 where
+  pub wanted_is : IsWanted wanted e
+  pub follows : (J : List Entry) → StandsSo setting J s → MayFollow setting J e
 
--- what comes next: the start, a ready item, or where none is ready the take of the next signal
-abbrev pub Chooses : DraftMachine → Option Agenda → Tables → List SignalId → ℕ → Option Entry → Type 0
-Chooses m None tables signals taken chosen = chosen ≡ Some (Start the_object)
-Chooses m (Some plan) tables signals taken chosen =
-    ChoosesItem m plan chosen ⊎ (((item : Item) → IsReady m (course_of plan) item → ⊥) × ChoosesTake m tables signals taken chosen)
+-- None of the objects from one on and before another has one.
+abbrev pub NoneMayCome : Setting → Situation → Wanted → ℕ → ℕ → Type 0
+NoneMayCome setting s wanted from to =
+    (J : List Entry) (e : Entry) → StandsSo setting J s → from ≤ (object_of e).0 → (object_of e).0 < to → IsWanted wanted e
+    → MayFollow setting J e → ⊥
 
--- exactly the transitions that leave the State and list the signal
-abbrev pub AreEnabled : DraftMachine → VertexId → SignalId → List TransId → Type 0
-AreEnabled m s signal found = (t : TransId) → Contains found t ↔ (Leaves m t s × Lists m t signal)
+-- what was found for these objects: one of them, or nothing where there is none
+abbrev pub FindsAmong : Setting → Situation → Wanted → ℕ → ℕ → Option Entry → Type 0
+FindsAmong setting s wanted from to None = NoneMayCome setting s wanted from to
+FindsAmong setting s wanted from to (Some e) = MayComeNext setting s wanted e

@@ -1,23 +1,68 @@
 -- What a system keeps true of its parts.
-use Rattle.std.specs.Prelude.{◌≡◌, ℤ, List, []}
+use Rattle.std.specs.Prelude.{◌≡◌, ◌+◌, ◌<◌, ◌^◌, List, length, map, flat_map, Some, slice_get}
 use Rattle.std.specs.List.{AllByRecursion}
+use Rattle.pssm_semantics.specs.declared.entry.ObjectId.{ObjectId}
 use Rattle.pssm_semantics.specs.declared.entry.Entry.{Entry}
+use Rattle.pssm_semantics.specs.declared.setting.Class.{Class}
 use Rattle.pssm_semantics.specs.declared.setting.Setting.{Setting}
-use Rattle.pssm_semantics.specs.Values.{no_params}
-use Rattle.pssm_semantics.specs.Built.{IsBuilt, IsBuiltEntry}
-use Rattle.pssm_semantics.specs.Admissible.{IsAdmissibleIn, KeepsJournalLimits}
+use Rattle.pssm_semantics.specs.declared.stimulus.Task.{Task}
+use Rattle.pssm_semantics.specs.Settings.{class_of}
+use Rattle.pssm_semantics.specs.Pool.{signals_of_entry, signals_of, pool_of}
+use Rattle.pssm_semantics.specs.Built.{IsBuilt}
+use Rattle.pssm_semantics.specs.Admissible.{MayFollow, IsAdmissibleIn, KeepsJournalLimits}
+use Rattle.pssm_object.specs.Standing.{Standing, StandsAfter}
+use Rattle.pssm_object.specs.Tasks.{ready_tasks}
 use Rattle.pssm_system.specs.declared.situation.Situation.{Situation}
-use Rattle.pssm_system.specs.inner.Situations.{StandsAt}
+use Rattle.pssm_semantics.specs.Built.{IsBuiltEntry}
+use Rattle.pssm_system.specs.inner.Pooling.{Queue, waiting_in, numbered_for}
+
+-- The object of the class is this one, and stands so after these entries.
+pub record IsObject (class : Class) (J : List Entry) (o : ObjectId) (x : Standing) : Type 0 where
+  pub own : x.own ≡ o
+  pub stands : StandsAfter class J x
+
+-- each object of the setting stands so after these entries
+pub record AreObjects (setting : Setting) (J : List Entry) (objects : List Standing) : Type 0 where
+  pub count : length objects ≡ length setting.objects
+  pub each : (o : ObjectId) (class : Class) (x : Standing) → class_of setting o ≡ Some class
+      → slice_get objects o.0 ≡ Some x → IsObject class J o x
+
+-- for each object of the setting these signals wait after these entries
+pub record ArePools (setting : Setting) (J : List Entry) (pools : List Queue) : Type 0 where
+  pub count : length pools ≡ length setting.objects
+  pub each : (o : ObjectId) (p : Queue) → slice_get pools o.0 ≡ Some p → pool_of J o ≡ numbered_for o p.waiting
+
+-- what is kept of a journal is so of it
+pub record StandsSo (setting : Setting) (J : List Entry) (s : Situation) : Type 0 where
+  pub objects : AreObjects setting J s.objects.items
+  pub pools : ArePools setting J s.pools.items
+  pub told : s.told ≡ length (signals_of J)
+
+-- There are entries of which it is.
+abbrev pub Stands : Setting → Situation → Type 0
+Stands setting s = (J : List Entry) × StandsSo setting J s
+
+-- an entry that may come next, with no more signals than can be numbered
+pub record CanCome (setting : Setting) (s : Situation) (e : Entry) : Type 0 where
+  pub before : List Entry
+  pub stands : StandsSo setting before s
+  pub follows : MayFollow setting before e
+  pub few : s.told + length (signals_of_entry e) < 2 ^ 32
+
+-- nothing has changed but room
+pub record IsUnchanged (old new : Situation) : Type 0 where
+  pub objects : new.objects.items ≡ old.objects.items
+  pub pools : waiting_in new.pools.items ≡ waiting_in old.pools.items
+  pub told : new.told ≡ old.told
+
+-- the ready tasks of the objects, in their order
+abbrev pub tasks_of : List Standing → List (ObjectId × Task)
+tasks_of objects = flat_map (λ x. map (λ task. (x.own, task)) (ready_tasks x)) objects
 
 -- a setting that the code runs, a journal of an admissible run of it within the limits, and what is kept of the journal
-pub record KeepsRun (setting : Setting) (J : List Entry) (situation : Situation) : Type 0 where
+pub record KeepsRun (setting : Setting) (J : List Entry) (s : Situation) : Type 0 where
   pub built : IsBuilt setting
   pub admissible : IsAdmissibleIn setting J
   pub limits : KeepsJournalLimits J
-  pub plain : AllByRecursion IsBuiltEntry J
-  pub stands : StandsAt built.class.machine J situation.plan situation.config situation.signals.items situation.taken
-
--- the values of no variables, and eight zeros as parameters
-pub record KeepsValues (store params : List ℤ) : Type 0 where
-  pub store_is : store ≡ []
-  pub params_are : params ≡ no_params
+  pub entries : AllByRecursion IsBuiltEntry J
+  pub stands : StandsSo setting J s

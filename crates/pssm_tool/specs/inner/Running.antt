@@ -6,12 +6,9 @@ use Rattle.pssm_semantics.specs.declared.stimulus.Stimulus.{Stimulus}
 use Rattle.pssm_semantics.specs.Pool.{posts_of_entry, posts_of, output_count}
 use Rattle.pssm_semantics.specs.Admissible.{MayFollow, IsQuiet}
 use Rattle.pssm_semantics.specs.declared.line.Line.{Line}
-use Rattle.pssm_semantics.specs.Built.{IsBuiltEntry}
-use Rattle.pssm_journal.specs.Entries.{KeepsNames, IsEntryOf}
-use Rattle.pssm_journal.specs.Grammar.{IsBuiltLine, IsLine}
-use Rattle.pssm_journal.specs.LineText.{line_text, journal_text}
+use Rattle.pssm_journal.specs.Entries.{KeepsNames}
+use Rattle.pssm_lines.specs.LineText.{journal_text}
 use Rattle.pssm_journal.specs.Judged.{IsKept}
-use Rattle.pssm_journal.specs.Naming.{HasSpelledNames, IsSpelledEntry}
 use Rattle.pssm_system.specs.History.{History}
 use Rattle.pssm_tool.specs.Stimuli.{post_of, AreStimuli}
 
@@ -44,14 +41,6 @@ pub record IsRunning (setting : Setting) (stimuli : List Stimulus) (limit : ℕ)
   pub within : posted ≤ length stimuli
   pub posts : posts_of run.journal ≡ take posted stimuli
   pub outputs_are : outputs ≡ output_count run.journal
-
--- The bytes are a line that writes the entry, and its end.
-pub record IsLineOf (setting : Setting) (e : Entry) (bytes : List ℕ) : Type 0 where
-  pub line : Line
-  pub writes : IsEntryOf setting line e
-  pub plain : IsBuiltEntry e → IsBuiltLine line
-  pub spelled : HasSpelledNames setting → IsSpelledEntry e → IsLine line
-  pub text : bytes ≡ line_text line ++ 10 ∷ []
 
 -- The bytes are the text of a journal: its lines are lines of the grammar, and its entries break no rule and keep the limits.
 pub record IsTextOf (setting : Setting) (J : List Entry) (bytes : List ℕ) : Type 0 where

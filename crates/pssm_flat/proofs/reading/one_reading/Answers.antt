@@ -1,5 +1,5 @@
-use Rattle.pssm_flat.proofs.FaultLaws.{one_setting, one_fault, not_both}
 use Rattle.pssm_flat.proofs.EveryText.{setting_or_fault}
+use Rattle.pssm_flat.proofs.FaultLaws.{one_setting, one_fault, not_both}
 use Rattle.pssm_flat.proofs.reading.one_reading.Goals as goal
 
 pub returns-clause-one_setting : goal.returns-clause-one_setting

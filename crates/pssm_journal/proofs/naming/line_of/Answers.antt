@@ -15,4 +15,4 @@ returns-clause-outputs c =
     let entry = c.args.entry.now in
     IfOk-weaker c.named_line.result (λ (line : Line). line ≡ line_of_entry setting entry) (λ line. line_output_count line ≡ length (posts_of_entry entry) + length (outs_of entry))
     (λ line same. line_outputs setting line entry (subst (λ (l : Line). IsEntryOf setting l entry) (sym same) (line_writes setting entry c.requires.differ c.requires.names)))
-    c.named_line.ensures.same
+    c.named_line.ensures

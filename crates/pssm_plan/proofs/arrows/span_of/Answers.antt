@@ -1,13 +1,11 @@
-use Rattle.pssm_plan.proofs.Spans.{span_from, no_span_from, source_of}
+use Rattle.std.proofs.Common.{subst}
+use Rattle.pssm_model.specs.Forest.{IsHome}
+use Rattle.pssm_plan.proofs.Owners.{home_is_span}
 use Rattle.pssm_plan.proofs.arrows.span_of.Goals as goal
 
-pub returns-clause-inside : goal.returns-clause-inside
-returns-clause-inside c =
-    span_from _ c.args.t c.transition-transition.result.now c.scope.result c.regions-shaped.ensures.shaped c.transition-transition.ensures c.scope.ensures.scope
-
-pub returns-clause-none : goal.returns-clause-none
-returns-clause-none c =
-    no_span_from _ c.args.t c.transition-transition.result.now c.scope.result c.transition-transition.ensures c.scope.ensures.none
-
-pub returns-clause-source : goal.returns-clause-source
-returns-clause-source c = (c.transition-transition.result.now.source, source_of c.args.machine.now c.args.t c.transition-transition.result.now c.transition-transition.ensures)
+pub returns-then-same_region-clause-span : goal.returns-then-same_region-clause-span
+returns-then-same_region-clause-span c =
+    let same = c.same_region.ensures.0 c.if-same_region.true in
+    home_is_span c.args.machine.now c.regions-shaped.ensures.shaped c.args.t c.source.result c.target.result c.home-home.result
+    c.source.ensures.leaves c.target.ensures.enters c.home-home.ensures.home
+    (subst (λ r. IsHome c.args.machine.now c.target.result r) same c.home.ensures.home)

@@ -8,7 +8,7 @@ use Rattle.pssm_plan.proofs.roster.have_all_run.Goals as goal
 
 pub returns-then-not-call : goal.returns-then-not-call
 returns-then-not-call c =
-    let d : Call = record { item = Exit (record { 0 = 0 }); ran = false; blocked = false } in (
+    let d : Call = record { item = Exit (record { 0 = 0 }); ran = false; blocked = false; seen = 0 } in (
       λ f. absurd (let e : false ≡ true = f in cc),
       λ all. (let ran = all (get_or c.args.calls.now c.loop-call.call-index d) (Contains-get_or c.args.calls.now c.loop-call.call-index d c.loop-call-test.true) in
           let not = c.if-not-call.true in cc),
@@ -16,7 +16,7 @@ returns-then-not-call c =
 
 pub loop-call-preserved : goal.loop-call-preserved
 loop-call-preserved c =
-    let d : Call = record { item = Exit (record { 0 = 0 }); ran = false; blocked = false } in
+    let d : Call = record { item = Exit (record { 0 = 0 }); ran = false; blocked = false; seen = 0 } in
     λ call inside. ⊎_elim
     (λ was. c.loop-call.invariant call was)
     (λ here. subst (λ (x : Call). IsTrue x.ran) here (let ran = c.if-not-call.false in cc))

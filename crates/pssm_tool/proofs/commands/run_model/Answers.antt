@@ -1,13 +1,15 @@
 use Rattle.std.proofs.Common.{List, refl, subst, sym}
 use Rattle.std.specs.List.{AllByRecursion}
+use Rattle.pssm_semantics.specs.declared.setting.Setting.{Setting}
 use Rattle.pssm_semantics.specs.declared.stimulus.Stimulus.{Stimulus}
+use Rattle.pssm_semantics.specs.Names.{HasSpelledNames}
 use Rattle.pssm_tool.specs.Words.{texts, Runs}
 use Rattle.pssm_tool.specs.Due.{HasBuiltModel, unfit, ran, on_model}
 use Rattle.pssm_tool.specs.inner.Running.{IsKnown}
 use Rattle.pssm_tool.specs.inner.Failures.{LacksBuiltModel}
 use Rattle.pssm_tool.proofs.CallLaws.{all_known}
 use Rattle.pssm_tool.proofs.DueLaws.{lacks_built_owed, failed_at_model}
-use Rattle.pssm_tool.proofs.BuiltLaws.{is_built}
+use Rattle.pssm_tool.proofs.BuiltLaws.{is_built, names_spelled}
 use Rattle.pssm_tool.proofs.TextLaws.{run_text}
 use Rattle.pssm_tool.proofs.commands.run_model.Goals as goal
 
@@ -37,6 +39,12 @@ pub run-requires-clause-known : goal.run-requires-clause-known
 run-requires-clause-known g c =
     let named = rw c.in-Some.is at c.in_ok-stimuli.ensures.name in
     subst (λ (t : List Stimulus). AllByRecursion (IsKnown c.in-Ok-Ok.setting) t) (sym c.as_slice.ensures.value) (all_known c.in-Ok-Ok.setting (texts c.args.stimuli.now) c.in-Some.stimuli.items named)
+
+-- Its names are names.
+pub text_of-text-requires : goal.text_of-text-requires
+text_of-text-requires g c =
+    let has : HasBuiltModel (g.I.Inputs.content c.args.inputs.now) c.args.path.now c.in-Ok-Ok.setting = (rw c.in-Ok-Ok.field-0-is at c.in-Ok-Ok.ensures.built) in
+    subst (λ (s : Setting). HasSpelledNames s) (sym c.in_ok-system.ensures.setting) (names_spelled (g.I.Inputs.content c.args.inputs.now) c.args.path.now c.in-Ok-Ok.setting has.0)
 
 pub returns-clause-owed : goal.returns-clause-owed
 returns-clause-owed g c = λ words is.

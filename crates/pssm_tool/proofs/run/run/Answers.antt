@@ -38,7 +38,7 @@ loop-alloc-preserved c =
     λ full. true_and_false c.is_full.result (c.is_full.ensures.1 (subst (λ (J : List Entry). IsFullAt c.args.limit (length J) c.loop-alloc.outputs) (sym c.entries.ensures.journal) full)) c.loop-alloc-test.true in
     running_more c.args.setting c.args.stimuli.now c.args.limit c.loop-alloc.system c.loop-alloc.posted c.loop-alloc.outputs c.loop-alloc.invariant room c.in-Some.entry
     (subst (λ (o : Option Stimulus). IsNext c.loop-alloc.system o c.in-Some.entry) is next) c.apply.new.self c.post_count-posted.result c.post_count.result c.out_count.result
-    c.in_ok-apply.ensures.ok c.post_count-posted.ensures c.post_count.ensures c.out_count.ensures
+    c.apply.ensures.setting c.in_ok-apply.ensures.ok c.post_count-posted.ensures c.post_count.ensures c.out_count.ensures
 
 -- The journal is full.
 pub returns-clause-ends : goal.returns-clause-ends

@@ -15,5 +15,5 @@ returns-clause-plan c =
     rw (c.new.ensures.items, c.of.ensures, c.of-2.ensures)
     (made_plan c.requires.nested c.regions-shaped.ensures.shaped (Fires c.args.firing.now.routes) c.args.config.now
     (IsOfRoutes c.args.machine.now (configuration_of c.args.config.now) [] c.args.firing.now.routes)
-    c.in_ok-roster.roster.calls.items c.in_ok-roster.roster.order.items c.requires.routes
+    c.in_ok-roster.roster.calls.items c.requires.routes
     (firing_calls c.args.machine.now (configuration_of c.args.config.now) c.args.firing.now.routes) (rw c.as_slice.ensures at c.in_ok-roster.ensures.made))

@@ -12,5 +12,5 @@ pub returns-clause-plan : goal.returns-clause-plan
 returns-clause-plan c =
     rw c.new.ensures.items
     (made_plan c.requires c.regions-shaped.ensures.shaped Starts nothing_held (IsTopOpening c.args.machine.now)
-    c.in_ok-roster.roster.calls.items c.in_ok-roster.roster.order.items (λ route is. absurd is)
+    c.in_ok-roster.roster.calls.items (λ route is. absurd is)
     (start_calls c.args.machine.now (configuration_of nothing_held)) c.in_ok-roster.ensures.made)

@@ -1,4 +1,4 @@
-use Rattle.std.proofs.Common.{◌∙◌, ◌++◌, ◌∷◌, [], List, ap, subst, sym}
+use Rattle.std.proofs.Common.{◌∙◌, ◌++◌, ◌∷◌, [], List, Contains, ap, subst, sym}
 use Rattle.std.proofs.lemmas.Result.{on_ok_weaker}
 use Rattle.std.proofs.lemmas.List.{map-append}
 use Rattle.pssm_model.specs.declared.steps.How.{How}
@@ -7,17 +7,18 @@ use Rattle.pssm_model.specs.Order.{IsReady, IsWayNow}
 use Rattle.pssm_plan.specs.declared.plan.Step.{Step}
 use Rattle.pssm_plan.specs.Agenda.{Agenda, course_of}
 use Rattle.pssm_plan.specs.Plans.{IsPlanOf}
-use Rattle.pssm_plan.specs.inner.Marks.{IsListed, AreBlocked}
-use Rattle.pssm_plan.specs.inner.Sequence.{IsRoster}
+use Rattle.pssm_plan.specs.declared.roster.Call.{Call}
+use Rattle.pssm_plan.specs.Waiting.{IsExact}
+use Rattle.pssm_plan.specs.inner.Marks.{IsListed}
+use Rattle.pssm_plan.specs.inner.Sequence.{IsRoster, IsSequence}
 use Rattle.pssm_plan.specs.inner.Views.{head_of, tables_of, steps_of}
-use Rattle.pssm_plan.proofs.Courses.{plan_roster}
-use Rattle.pssm_plan.proofs.StandingItems.{plan_blocked}
+use Rattle.pssm_plan.proofs.Courses.{plan_roster, plan_exact}
 use Rattle.pssm_plan.proofs.Running.{way_is_single, run_plan}
 use Rattle.pssm_plan.proofs.plan.Plan.run.Goals as goal
 
 pub run-outcome-requires-clause-roster : goal.run-outcome-requires-clause-roster
 run-outcome-requires-clause-roster c =
-    subst (λ (p : Agenda). IsRoster c.args.machine.now p.calls p.order) (sym c.self.view_is)
+    subst (λ (p : Agenda). IsRoster c.args.machine.now p.calls) (sym c.self.view_is)
     (plan_roster c.args.machine.now c.requires.nested c.regions-shaped.ensures.shaped c.args.self.now c.requires.plan)
 
 pub run-outcome-requires-clause-item : goal.run-outcome-requires-clause-item
@@ -29,9 +30,10 @@ pub run-outcome-requires-clause-listed : goal.run-outcome-requires-clause-listed
 run-outcome-requires-clause-listed c =
     subst (λ (p : Agenda). IsListed p.calls c.args.item) (sym c.self.view_is) ((c.requires.plan.called c.args.item).1 c.requires.ready.waiting.called)
 
-pub run-outcome-requires-clause-blocked : goal.run-outcome-requires-clause-blocked
-run-outcome-requires-clause-blocked c =
-    subst (λ (p : Agenda). AreBlocked p.calls p.order) (sym c.self.view_is) (plan_blocked c.args.machine.now c.args.self.now c.requires.plan)
+pub run-outcome-requires-clause-exact : goal.run-outcome-requires-clause-exact
+run-outcome-requires-clause-exact c =
+    subst (λ (p : Agenda). (call : Call) → Contains p.calls call → IsExact (IsSequence c.args.machine.now) p.calls call) (sym c.self.view_is)
+    (plan_exact c.args.machine.now c.requires.nested c.regions-shaped.ensures.shaped c.args.self.now c.requires.plan)
 
 pub run-outcome-requires-clause-single : goal.run-outcome-requires-clause-single
 run-outcome-requires-clause-single c =
@@ -45,7 +47,6 @@ returns-else-is_err-clause-plan c =
       at_head = tables_of c.self.inside.beginning;
       ran = steps_of c.self.inside.ran.items;
       calls = c.self.inside.roster.calls.items;
-      order = c.self.inside.roster.order.items;
     } in
     let back = sym c.self.view_is in
     let plan = subst (λ (p : Agenda). IsPlanOf m p) back c.requires.plan in
@@ -63,9 +64,8 @@ returns-else-is_err-clause-plan c =
       at_head = tables_of c.self.inside.beginning;
       ran = l;
       calls = c.run-outcome.new.self.calls.items;
-      order = c.run-outcome.new.self.order.items;
     }))
     (sym longer)
     (run_plan c.requires.nested c.regions-shaped.ensures.shaped old c.args.item c.args.how.now c.run-outcome.new.self.calls.items
-    c.run-outcome.new.self.order.items plan ready c.requires.way.0 way ran))
+    plan ready c.requires.way.0 way ran))
     c.run-outcome.ensures.ran

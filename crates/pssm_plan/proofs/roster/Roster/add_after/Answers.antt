@@ -8,7 +8,7 @@ use Rattle.pssm_plan.proofs.roster.Roster.add_after.Goals as goal
 pub returns-then-enters-clause-added : goal.returns-then-enters-clause-added
 returns-then-enters-clause-added c =
     on_ok_weaker c.add_openings.result
-    (λ added. extended_same c.args.machine.now _ _ _ (IsOpeningOf c.args.machine.now c.args.s c.in-Effect.t)
+    (λ added. extended_same c.args.machine.now _ _ (IsOpeningOf c.args.machine.now c.args.s c.in-Effect.t)
     (IsOpenedAfter c.args.machine.now c.args.s c.args.item)
     (λ x. (
       λ o. (c.in-Effect.t, c.in-Effect.is, c.enters.ensures.0 c.if-enters.true, o),

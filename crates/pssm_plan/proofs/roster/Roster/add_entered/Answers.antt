@@ -12,19 +12,19 @@ use Rattle.pssm_plan.proofs.roster.Roster.add_entered.Goals as goal
 pub loop-k-preserved : goal.loop-k-preserved
 loop-k-preserved c =
     let Q : Call → Item → Type 0 = (λ call x. IsOpenedAfter c.args.machine.now c.args.s call.item x) in
-    let d : Call = record { item = Exit (record { 0 = 0 }); ran = false; blocked = false } in
+    let d : Call = record { item = Exit (record { 0 = 0 }); ran = false; blocked = false; seen = 0 } in
     let old = c.args.self.now.calls.items in
     let lt : c.loop-k.k < length c.args.self.now.calls.items = omega arith in
-    let e = longer_at old c.loop-k.self.calls.items c.loop-k.k d lt c.loop-k.invariant.calls_longer in
-    grown_by_one c.args.machine.now old c.args.self.now.order.items Q (Q (get_or c.loop-k.self.calls.items c.loop-k.k d)) old c.loop-k.k d _ _ _ _ lt
+    let e = longer_at old c.loop-k.self.calls.items c.loop-k.k d lt c.loop-k.invariant.longer in
+    grown_by_one c.args.machine.now old Q (Q (get_or c.loop-k.self.calls.items c.loop-k.k d)) old c.loop-k.k d _ _ lt
     (λ x. (λ q. subst (λ (call : Call). Q call x) (sym e) q, λ q. subst (λ (call : Call). Q call x) e q))
-    c.loop-k.invariant c.add_after.ensures.calls c.add_after.ensures.order (rw c.as_slice-calls.ensures.value at c.in_ok-add_after.ensures.added)
+    c.loop-k.invariant c.add_after.ensures.calls (rw c.as_slice-calls.ensures.value at c.in_ok-add_after.ensures.added)
 
 pub returns-clause-added : goal.returns-clause-added
 returns-clause-added c =
     let Q : Call → Item → Type 0 = (λ call x. IsOpenedAfter c.args.machine.now c.args.s call.item x) in
     let whole = take_all c.loop-k.k c.args.self.now.calls.items (omega arith) in
-    extended_same c.args.machine.now _ _ _ (AddedBy Q c.args.self.now.calls.items) (IsOpenedBy c.args.machine.now c.args.self.now.calls.items c.args.s)
+    extended_same c.args.machine.now _ _ (AddedBy Q c.args.self.now.calls.items) (IsOpenedBy c.args.machine.now c.args.self.now.calls.items c.args.s)
     (λ x. (
       λ h. (h.2.0, (h.0, h.1, h.2.1), h.2.2, h.2.3),
       λ h. (h.1.0, h.1.1, (h.0, h.1.2, h.2, h.3)),

@@ -7,6 +7,6 @@ use Rattle.pssm_plan.proofs.roster.Roster.add_entered.Given as goal
 -- what the calls so far open is listed
 abbrev pub invariant-loop-k : goal.invariant-loop-k
 invariant-loop-k l =
-    HasGrown l.machine l.fn.self.calls.items l.fn.self.order.items
+    HasGrown l.machine l.fn.self.calls.items
     (AddedBy (λ (call : Call) x. IsOpenedAfter l.machine l.s call.item x) (take l.k l.fn.self.calls.items))
-    l.self.calls.items l.self.order.items
+    l.self.calls.items

@@ -13,16 +13,16 @@ use Rattle.pssm_plan.proofs.roster.Roster.add_exits.Goals as goal
 pub loop-v-preserved : goal.loop-v-preserved
 loop-v-preserved c =
     let Q : VertexId → Item → Type 0 = (λ s x. (x ≡ Exit s) × (configuration_of c.args.config.now).Active s × LiesInSpan c.args.machine.now c.args.t s) in
-    grown_more c.args.machine.now c.args.self.now.calls.items c.args.self.now.order.items
-    (AddedBelow Q c.loop-v.v) (λ (x : Item). IsTrue c.is_left-left.result × (x ≡ Exit (vertex_id c.loop-v.v))) (AddedBelow Q (c.loop-v.v + 1)) _ _ _ _
+    grown_more c.args.machine.now c.args.self.now.calls.items
+    (AddedBelow Q c.loop-v.v) (λ (x : Item). IsTrue c.is_left-left.result × (x ≡ Exit (vertex_id c.loop-v.v))) (AddedBelow Q (c.loop-v.v + 1)) _ _
     (λ x. or_same (below_more Q c.loop-v.v x)
     (λ q. (c.is_left-left.ensures.1 (q.1, q.2), q.0), λ h. let is = c.is_left-left.ensures.0 h.0 in (h.1, is.0, is.1)))
-    c.loop-v.invariant c.add.ensures.calls c.add.ensures.order c.in_ok-add.ensures.added
+    c.loop-v.invariant c.add.ensures.calls c.in_ok-add.ensures.added
 
 pub returns-clause-added : goal.returns-clause-added
 returns-clause-added c =
     let Q : VertexId → Item → Type 0 = (λ s x. (x ≡ Exit s) × (configuration_of c.args.config.now).Active s × LiesInSpan c.args.machine.now c.args.t s) in
-    extended_same c.args.machine.now _ _ _ (AddedBelow Q c.loop-v.v) (IsExitOf c.args.machine.now (configuration_of c.args.config.now) c.args.t)
+    extended_same c.args.machine.now _ _ (AddedBelow Q c.loop-v.v) (IsExitOf c.args.machine.now (configuration_of c.args.config.now) c.args.t)
     (λ x. (
       λ h. (h.0, h.2.0, h.2.1, h.2.2),
       λ h. (h.0, (let there = vertex_there c.args.machine.now h.0 h.3.0 h.3.2 in omega (arith, there)), (h.1, h.2, h.3)),

@@ -8,6 +8,6 @@ use Rattle.pssm_plan.proofs.roster.Roster.add_exits.Given as goal
 -- the exits of the vertices so far are listed
 abbrev pub invariant-loop-v : goal.invariant-loop-v
 invariant-loop-v l =
-    HasGrown l.machine l.fn.self.calls.items l.fn.self.order.items
+    HasGrown l.machine l.fn.self.calls.items
     (AddedBelow (λ s x. (x ≡ Exit s) × (configuration_of l.config).Active s × LiesInSpan l.machine l.t s) l.v)
-    l.self.calls.items l.self.order.items
+    l.self.calls.items

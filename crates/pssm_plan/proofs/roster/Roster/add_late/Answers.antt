@@ -15,7 +15,7 @@ returns-in-By-clause-added c =
     let old = c.args.self.now.calls.items in
     let single = is_single_of m c.in-By.route t (c.requires.single c.in-By.route c.in-By.is) c.start_of.ensures in
     on_ok_weaker c.add_leg.result
-    (λ added. extended_same m old _ _ (IsOfLeg m old t) (IsLate m old c.args.how.now)
+    (λ added. extended_same m old _ (IsOfLeg m old t) (IsLate m old c.args.how.now)
     (λ x. (
       λ l. (t, c.in-By.is ∙ ap By single, l),
       λ h. (let e : c.in-By.route ≡ single_route h.0 = (let is = c.in-By.is in let was = h.1 in cc) in

@@ -8,6 +8,6 @@ use Rattle.pssm_plan.proofs.roster.Roster.add_openings.Given as goal
 -- the openings of the regions so far are listed
 abbrev pub invariant-loop-r : goal.invariant-loop-r
 invariant-loop-r l =
-    HasGrown l.machine l.fn.self.calls.items l.fn.self.order.items
+    HasGrown l.machine l.fn.self.calls.items
     (AddedBy (λ r x. (x ≡ Opened r Plain) × (EndsIn l.machine l.t r → ⊥)) (take l.r-index l.r-items))
-    l.self.calls.items l.self.order.items
+    l.self.calls.items

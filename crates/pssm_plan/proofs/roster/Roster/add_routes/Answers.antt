@@ -16,20 +16,20 @@ loop-route-preserved c =
     let mid = c.loop-route.self.calls.items in
     let same = c.loop-route.invariant.extended.marked in
     let route = c.route-item.result in
-    grown_by_one m old c.args.self.now.order.items (IsOfRoute m now old) (IsOfRoute m now mid route) c.args.routes.now c.loop-route.route-index route
-    _ _ _ _ c.loop-route-test.true
+    grown_by_one m old (IsOfRoute m now old) (IsOfRoute m now mid route) c.args.routes.now c.loop-route.route-index route
+    _ _ c.loop-route-test.true
     (λ x. (
       λ q. (let h = subst (λ (r : Route). IsOfRoute m now old r x) (sym c.route-item.is) q in
           (h.0, h.1, ⊎_elim (λ e. inl e) (λ l. inr (leg_same m old mid h.0 x (λ y. ((same y).1, (same y).0)) l)) h.2)),
       λ h. subst (λ (r : Route). IsOfRoute m now old r x) c.route-item.is
           (h.0, h.1, ⊎_elim (λ e. inl e) (λ l. inr (leg_same m mid old h.0 x same l)) h.2),
     ))
-    c.loop-route.invariant c.add_route.ensures.calls c.add_route.ensures.order c.in_ok-add_route.ensures.added
+    c.loop-route.invariant c.add_route.ensures.calls c.in_ok-add_route.ensures.added
 
 pub returns-clause-added : goal.returns-clause-added
 returns-clause-added c =
     let whole = take_all c.loop-route.route-index c.args.routes.now (omega (arith, c.loop-route-test.false)) in
-    extended_same c.args.machine.now _ _ _
+    extended_same c.args.machine.now _ _
     (AddedBy (IsOfRoute c.args.machine.now (configuration_of c.args.config.now) c.args.self.now.calls.items) c.args.routes.now)
     (IsOfRoutes c.args.machine.now (configuration_of c.args.config.now) c.args.self.now.calls.items c.args.routes.now)
     (λ x. (λ h. h, λ h. h))

@@ -7,6 +7,6 @@ use Rattle.pssm_plan.proofs.roster.Roster.add_routes.Given as goal
 -- the items of the routes so far are listed
 abbrev pub invariant-loop-route : goal.invariant-loop-route
 invariant-loop-route l =
-    HasGrown l.machine l.fn.self.calls.items l.fn.self.order.items
+    HasGrown l.machine l.fn.self.calls.items
     (AddedBy (IsOfRoute l.machine (configuration_of l.config) l.fn.self.calls.items) (take l.route-index l.routes))
-    l.self.calls.items l.self.order.items
+    l.self.calls.items

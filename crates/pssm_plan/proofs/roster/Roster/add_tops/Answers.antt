@@ -14,16 +14,16 @@ loop-r-preserved c =
     let Q : RegionId → Item → Type 0 = (λ r x. x ≡ Opened r Plain) in
     let d : RegionId = record { 0 = 0 } in
     let xs = c.top_regions-r-items.result.now in
-    grown_by_one c.args.machine.now c.args.self.now.calls.items c.args.self.now.order.items Q
-    (λ (x : Item). IsTrue true × (x ≡ Opened (get_or c.top_regions-r-items.result.now c.loop-r.r-index d) Plain)) xs c.loop-r.r-index d _ _ _ _ c.loop-r-test.true
+    grown_by_one c.args.machine.now c.args.self.now.calls.items Q
+    (λ (x : Item). IsTrue true × (x ≡ Opened (get_or c.top_regions-r-items.result.now c.loop-r.r-index d) Plain)) xs c.loop-r.r-index d _ _ c.loop-r-test.true
     (λ x. (λ q. (refl, q), λ h. h.1))
-    c.loop-r.invariant c.add.ensures.calls c.add.ensures.order c.in_ok-add.ensures.added
+    c.loop-r.invariant c.add.ensures.calls c.in_ok-add.ensures.added
 
 pub returns-clause-added : goal.returns-clause-added
 returns-clause-added c =
     let Q : RegionId → Item → Type 0 = (λ r x. x ≡ Opened r Plain) in
     let whole = take_all c.loop-r.r-index c.top_regions-r-items.result.now (omega (arith, c.loop-r-test.false)) in
-    extended_same c.args.machine.now _ _ _ (AddedBy Q c.top_regions-r-items.result.now) (IsTopOpening c.args.machine.now)
+    extended_same c.args.machine.now _ _ (AddedBy Q c.top_regions-r-items.result.now) (IsTopOpening c.args.machine.now)
     (λ x. (
       λ h. (h.0, h.2, (c.top_regions-r-items.ensures.items h.0).0 h.1),
       λ h. (h.0, (c.top_regions-r-items.ensures.items h.0).1 h.2, h.1),

@@ -1,11 +1,11 @@
--- what is left of the open step completes the run
+-- what a system tells of its journal
 use Rattle.pssm_system.proofs.Histories.{completes_seen, laws_seen}
 use Rattle.pssm_system.proofs.system.System.entries.Goals as goal
 
 pub returns-clause-completes : goal.returns-clause-completes
 returns-clause-completes c =
-    completes_seen c.args.self.now c.self.inside.situation c.self.inside.setting c.self.inside.entries.items c.self.invariant.0 c.self.view_is
+    completes_seen c.args.self.now c.self.inside.setting c.self.inside.entries.items c.self.inside.situation c.self.invariant c.self.view_is
 
 pub returns-clause-laws : goal.returns-clause-laws
 returns-clause-laws c =
-    laws_seen c.args.self.now c.self.inside.situation c.self.inside.setting c.self.inside.entries.items c.self.invariant.0 c.self.view_is
+    laws_seen c.args.self.now c.self.inside.setting c.self.inside.entries.items c.self.inside.situation c.self.invariant c.self.view_is

@@ -1,8 +1,10 @@
--- no signal has arguments, so the parameters are zeros
+-- the parameters are those of the object that is looked up
+use Rattle.std.proofs.Common.{◌∙◌}
 use Rattle.pssm_system.proofs.Histories.{params_seen}
 use Rattle.pssm_system.proofs.system.System.params.Goals as goal
 
 pub returns : goal.returns
 returns c =
-    params_seen c.args.self.now c.self.inside.situation c.self.inside.setting c.self.inside.entries.items c.self.invariant.0 c.self.view_is
-    c.self.inside.params c.self.invariant.1.params_are c.args.object
+    c.params.ensures
+    ∙ params_seen c.args.self.now c.self.inside.setting c.self.inside.entries.items c.self.inside.situation c.self.invariant c.self.view_is
+    c.args.object c.index.result.now c.from.result c.index.ensures c.from.ensures c.requires

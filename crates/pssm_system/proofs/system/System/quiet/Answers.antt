@@ -1,8 +1,8 @@
--- the object is idle exactly where the rules let nothing follow
+-- a system is quiet where its parts are
 use Rattle.pssm_system.proofs.Histories.{quiet_seen}
 use Rattle.pssm_system.proofs.system.System.quiet.Goals as goal
 
 pub returns : goal.returns
 returns c =
-    quiet_seen c.args.self.now c.self.inside.situation c.self.inside.setting c.self.inside.entries.items c.self.invariant.0 c.self.view_is
-    c.is_idle.result c.is_idle.ensures
+    quiet_seen c.args.self.now c.self.inside.setting c.self.inside.entries.items c.self.inside.situation c.self.invariant c.self.view_is
+    c.is_quiet.result c.is_quiet.ensures

@@ -1,10 +1,10 @@
--- a class without variables stores nothing
+-- the values are those of the object that is looked up
 use Rattle.std.proofs.Common.{◌∙◌}
 use Rattle.pssm_system.proofs.Histories.{store_seen}
 use Rattle.pssm_system.proofs.system.System.store.Goals as goal
 
 pub returns : goal.returns
 returns c = λ class is.
-    c.as_slice.ensures.value
-    ∙ store_seen c.args.self.now c.self.inside.situation c.self.inside.setting c.self.inside.entries.items c.self.invariant.0 c.self.view_is
-    c.self.inside.store.items c.self.invariant.1.store_is c.args.object class is
+    c.store.ensures
+    ∙ store_seen c.args.self.now c.self.inside.setting c.self.inside.entries.items c.self.inside.situation c.self.invariant c.self.view_is
+    c.args.object c.index.result.now c.from.result c.index.ensures c.from.ensures class is

@@ -1,0 +1,214 @@
+//! The numbers of behaviours and guards, in the order of their lines, and of marks at their first places.
+ghost use Rattle.std.specs.Prelude.{◌≡◌, ◌≤◌, ◌<◌, length, IfOk};
+ghost use Rattle.std.specs.Str.{bytes_eq};
+ghost use Rattle.pssm_acts.specs.Answers.{Answers};
+ghost use Rattle.pssm_acts.specs.ActText.{act_text, cond_text};
+ghost use Rattle.pssm_acts.specs.inner.ActReading.{act_reading};
+ghost use Rattle.pssm_acts.specs.inner.GuardReading.{cond_reading};
+ghost use Rattle.pssm_flat.specs.Flat.{first_program as first};
+ghost use Rattle.pssm_flat.specs.inner.Outlines.{act_put_in, act_numbered, guard_numbered, with_act, with_guard};
+
+use crate::refusal::{nothing, refused};
+use crate::rows::{push, taken_out};
+use pssm_acts::{ActFault, read_act, read_cond, write_act, write_cond};
+use pssm_model::{ActId, GuardId, Row, Text};
+use pssm_semantics::{Act, Cond, Names, Program};
+use std::alloc::{AllocError, Global};
+use std::mem;
+
+/// How many behaviours, guards and distinct marks a machine may have (this profile's choice).
+const ACTS_AT_MOST: usize = 32768;
+
+const GUARDS_AT_MOST: usize = 65536;
+
+const MARKS_AT_MOST: usize = 32768;
+
+/// The program of a block of which no action text has been read: the empty behaviour alone.
+pub(crate) fn first_program(alloc: Global) -> Result<Program, AllocError>
+    ensures { IfOk result (λ p. p ≡ first) }
+{
+    let mut acts = Row::from_vec(Vec::new(alloc));
+    let stmts = Row::from_vec(Vec::new(alloc));
+    push(alloc, &mut acts, Act { stmts })?;
+    Ok(Program {
+        acts,
+        guards: Row::from_vec(Vec::new(alloc)),
+        marks: Row::from_vec(Vec::new(alloc)),
+    })
+}
+
+/// The program, in whose place none stands afterwards.
+pub(crate) fn program_out(alloc: Global, program: &mut Program) -> Program
+    ensures { result ≡ program.old }
+{
+    let none = Program {
+        acts: Row::from_vec(Vec::new(alloc)),
+        guards: Row::from_vec(Vec::new(alloc)),
+        marks: Row::from_vec(Vec::new(alloc)),
+    };
+    mem::replace(program, none)
+}
+
+// The behaviour that a text spells behind these marks, and the marks behind it.
+fn act_of(
+    alloc: Global,
+    names: &Names,
+    mut marks: Vec<Text>,
+    text: &[u8],
+) -> Result<(Act, Row<Text>), ActFault>
+    requires vars { length names.now.vars ≤ 64 }
+    requires objects { length names.now.objects ≤ 64 }
+    requires signals { length names.now.signals ≤ 256 }
+    requires marks { length marks.items ≤ 32768 }
+    ensures { Answers (act_reading names.now marks.items text.now) result }
+{
+    match read_act(alloc, text, names, &mut marks) {
+        Ok(act) => Ok((act, Row::from_vec(marks))),
+        Err(fault) => refused(marks, fault),
+    }
+}
+
+// Whether the text is the spelling of the behaviour.
+fn spells_act(
+    alloc: Global,
+    names: &Names,
+    marks: &[Text],
+    act: &Act,
+    text: &[u8],
+) -> Result<bool, AllocError>
+    ensures { IfOk result (λ is. is ≡ bytes_eq (act_text names.now marks.now act.now) text.now) }
+{
+    let spelled = write_act(alloc, act, names, marks)?;
+    Ok(spelled.as_slice() == text)
+}
+
+// Puts the behaviour at the end of the program, with the marks behind it.
+fn act_put(
+    alloc: Global,
+    mut program: Program,
+    act: Act,
+    marks: Row<Text>,
+) -> Result<(ActId, Program), AllocError>
+    requires { length program.acts < 32768 }
+    ensures { IfOk result (λ r. r ≡ act_put_in program act marks) }
+{
+    let number = ActId(program.acts.as_slice().len() as u16);
+    program.marks = marks;
+    match push(alloc, &mut program.acts, act) {
+        Ok(()) => Ok((number, program)),
+        Err(fault) => refused(program, fault),
+    }
+}
+
+// The program with the behaviour, where the text is its spelling and there are not too many marks.
+fn act_kept(
+    alloc: Global,
+    names: &Names,
+    program: Program,
+    text: &[u8],
+    read: (Act, Row<Text>),
+) -> Result<Option<(ActId, Program)>, AllocError>
+    requires { length program.acts < 32768 }
+    ensures { IfOk result (λ r. r ≡ act_numbered names.now program text.now read) }
+{
+    let (act, marks) = read;
+    let is_canonical = match spells_act(alloc, names, marks.as_slice(), &act, text) {
+        Ok(is) => is,
+        Err(fault) => return refused((program, act, marks), fault),
+    };
+    if is_canonical && marks.as_slice().len() <= MARKS_AT_MOST {
+        Ok(Some(act_put(alloc, program, act, marks)?))
+    } else {
+        Ok(nothing((program, act, marks)))
+    }
+}
+
+/// The program with the behaviour that a text spells, and the number of this one.
+///
+/// None where the text is empty or not the one spelling of its behaviour, or where the program would have too many
+/// behaviours or marks.
+#[tactic(auto, unfolding(crate::specs::inner::Outlines::with_act))]
+pub(crate) fn act_added(
+    alloc: Global,
+    names: &Names,
+    mut program: Program,
+    text: &[u8],
+) -> Result<Option<(ActId, Program)>, ActFault>
+    requires vars { length names.now.vars ≤ 64 }
+    requires objects { length names.now.objects ≤ 64 }
+    requires signals { length names.now.signals ≤ 256 }
+    requires marks { length program.marks ≤ 32768 }
+    ensures { Answers (with_act names.now program text.now) result }
+{
+    if text.is_empty() || program.acts.as_slice().len() >= ACTS_AT_MOST {
+        return Ok(nothing(program));
+    }
+    let marks = taken_out(alloc, &mut program.marks);
+    match act_of(alloc, names, marks, text) {
+        Ok(read) => Ok(act_kept(alloc, names, program, text, read)?),
+        Err(fault) => refused(program, fault),
+    }
+}
+
+// The guard that a text spells.
+fn cond_of(alloc: Global, names: &Names, text: &[u8]) -> Result<Cond, ActFault>
+    requires vars { length names.now.vars ≤ 64 }
+    ensures { Answers (cond_reading names.now text.now) result }
+{
+    read_cond(alloc, text, names)
+}
+
+// Whether the text is the spelling of the guard.
+fn spells_cond(alloc: Global, names: &Names, cond: &Cond, text: &[u8]) -> Result<bool, AllocError>
+    ensures { IfOk result (λ is. is ≡ bytes_eq (cond_text names.now cond.now) text.now) }
+{
+    let spelled = write_cond(alloc, cond, names)?;
+    Ok(spelled.as_slice() == text)
+}
+
+// The program with the guard, where the text is its spelling.
+fn guard_kept(
+    alloc: Global,
+    names: &Names,
+    mut program: Program,
+    text: &[u8],
+    cond: Cond,
+) -> Result<Option<(GuardId, Program)>, AllocError>
+    requires { length program.guards < 65536 }
+    ensures { IfOk result (λ r. r ≡ guard_numbered names.now program text.now cond) }
+{
+    let is_canonical = match spells_cond(alloc, names, &cond, text) {
+        Ok(is) => is,
+        Err(fault) => return refused((program, cond), fault),
+    };
+    if !is_canonical {
+        return Ok(nothing((program, cond)));
+    }
+    let number = GuardId(program.guards.as_slice().len() as u16);
+    match push(alloc, &mut program.guards, cond) {
+        Ok(()) => Ok(Some((number, program))),
+        Err(fault) => refused(program, fault),
+    }
+}
+
+/// The program with the guard that a text spells, and the number of this one.
+///
+/// None where the text is not the one spelling of its guard.
+#[tactic(auto, unfolding(crate::specs::inner::Outlines::with_guard))]
+pub(crate) fn guard_added(
+    alloc: Global,
+    names: &Names,
+    program: Program,
+    text: &[u8],
+) -> Result<Option<(GuardId, Program)>, ActFault>
+    requires vars { length names.now.vars ≤ 64 }
+    ensures { Answers (with_guard names.now program text.now) result }
+{
+    if program.guards.as_slice().len() >= GUARDS_AT_MOST {
+        return Ok(nothing(program));
+    }
+    match cond_of(alloc, names, text) {
+        Ok(cond) => Ok(guard_kept(alloc, names, program, text, cond)?),
+        Err(fault) => refused(program, fault),
+    }
+}

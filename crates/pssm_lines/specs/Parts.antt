@@ -1,0 +1,38 @@
+-- What the parts of a line, as they lie in a text, say: the line whose parts they are.
+use Rattle.std.specs.Prelude.{◌≡◌, List, ◌∷◌}
+use Rattle.pssm_semantics.specs.declared.line.Line.{Line}
+use Rattle.pssm_semantics.specs.declared.line.Line.TheVariants.{Post, Start, Take, Done, Exit, Effect, Enter, Opened, Pick, DoStep}
+use Rattle.pssm_semantics.specs.declared.line.LineOut.{LineOut}
+use Rattle.pssm_semantics.specs.declared.line.LineOut.TheVariants.{Mark, Send}
+use Rattle.pssm_lines.specs.declared.parts.OutsText.{OutsText}
+use Rattle.pssm_lines.specs.declared.parts.OutParts.{OutParts}
+use Rattle.pssm_lines.specs.declared.parts.OutParts.TheVariants as out_parts
+use Rattle.pssm_lines.specs.declared.parts.LineParts.{LineParts}
+use Rattle.pssm_lines.specs.declared.parts.LineParts.TheVariants as parts
+use Rattle.pssm_lines.specs.LineText.{outs_text}
+
+-- The text spells these outputs, each with a space before it.
+abbrev pub ShowsOuts : OutsText → List LineOut → Type 0
+ShowsOuts text outs = text.bytes.now ≡ outs_text outs
+
+-- The parts show the output: its names are the bytes, and its arguments are equal.
+abbrev pub ShowsOut : OutParts → LineOut → Type 0
+ShowsOut (out_parts.Mark mark args) out = out ≡ Mark mark.now args
+ShowsOut (out_parts.Send object signal args) out = out ≡ Send object.now signal.now args
+
+-- The parts show the line: its names are the bytes, its numbers and lists are equal, and its outputs are what the text of outputs spells.
+abbrev pub Shows : LineParts → Line → Type 0
+Shows (parts.Post object signal args) l = l ≡ Post object.now signal.now args
+Shows (parts.Start object) l = l ≡ Start object.now
+Shows (parts.Take object number firing) l = l ≡ Take object.now number firing
+Shows (parts.Done object state firing) l = l ≡ Done object.now state firing
+Shows (parts.Exit object state text) l = (outs : List LineOut) × (l ≡ Exit object.now state outs) × ShowsOuts text outs
+Shows (parts.Effect object transition text) l = (outs : List LineOut) × (l ≡ Effect object.now transition outs) × ShowsOuts text outs
+Shows (parts.Enter object state text) l = (outs : List LineOut) × (l ≡ Enter object.now state outs) × ShowsOuts text outs
+Shows (parts.Opened object region mode how) l = l ≡ Opened object.now region mode how
+Shows (parts.Pick object choice route) l = l ≡ Pick object.now choice route
+Shows (parts.DoStep object state step text) l = (outs : List LineOut) × (l ≡ DoStep object.now state step outs) × ShowsOuts text outs
+
+-- The first of the outputs is shown by the parts, and the text spells the others.
+abbrev pub IsNextOut : OutParts → OutsText → List LineOut → Type 0
+IsNextOut part text outs = (first : LineOut) × (others : List LineOut) × (outs ≡ first ∷ others) × ShowsOut part first × ShowsOuts text others

@@ -1,0 +1,3 @@
+pub mod LineReading
+pub mod Lines
+pub mod Batches

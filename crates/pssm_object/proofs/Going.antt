@@ -1,0 +1,49 @@
+-- Where an object stands once a step has gone on.
+use Rattle.std.proofs.Common.{◌≡◌, ◌++◌, [], ◌∷◌, IsSomeAnd, Option, Some, Result, Ok, Err, OnOk, refl}
+use Rattle.pssm_model.specs.declared.elements.DraftMachine.{DraftMachine}
+use Rattle.pssm_model.specs.declared.steps.Firing.{Firing}
+use Rattle.pssm_model.specs.declared.steps.How.{How}
+use Rattle.pssm_model.specs.declared.steps.Item.{Item}
+use Rattle.pssm_model.specs.Course.Head.{Starts, Fires}
+use Rattle.pssm_model.specs.Changes.{Agree, nothing_yet}
+use Rattle.pssm_config.specs.Tables.{configuration_of}
+use Rattle.pssm_plan.specs.Agenda.{Agenda}
+use Rattle.pssm_plan.specs.Plans.{IsPlanOf}
+use Rattle.pssm_semantics.specs.Values.{eight_of}
+use Rattle.pssm_object.specs.declared.object.Waiting.{Waiting}
+use Rattle.pssm_object.specs.Standing.{Standing}
+use Rattle.pssm_object.specs.inner.Advancing.{HasRunOn, Begins, Takes}
+
+-- the item has run, where that has succeeded
+pub has_run_on : {A E : Type 0} (m : DraftMachine) (old : Option Agenda) (was now : Agenda) (item : Item) (how : How) (outcome : Result A E)
+    → old ≡ Some was → now.head ≡ was.head → now.at_head ≡ was.at_head
+    → OnOk outcome (now.ran ≡ was.ran ++ (item, how) ∷ []) → OnOk outcome (IsPlanOf m now)
+    → OnOk outcome (HasRunOn m old item how (Some now))
+has_run_on m old was now item how (Ok done) is head at_head ran plan =
+    record { was = was; was_is = is; now = now; now_is = refl; head = head; at_head = at_head; ran = ran; is_plan = plan }
+has_run_on m old was now item how (Err error) is head at_head ran plan = tt
+
+-- a step has begun, by a start or by a take
+pub begins : (m : DraftMachine) (old new : Standing) (plan : Agenda) → new.own ≡ old.own → new.plan ≡ Some plan → new.config ≡ old.config
+    → new.store ≡ old.store → new.params ≡ old.params → plan.head ≡ Starts → Agree (configuration_of plan.at_head) nothing_yet → plan.ran ≡ []
+    → IsPlanOf m plan → Begins m old new
+begins m old new plan own is config store params head at_head ran is_plan = record {
+  own = own;
+  plan = record { now = plan; now_is = is; head_is = head; ran = ran; is_plan = is_plan };
+  at_head = at_head;
+  config = config;
+  store = store;
+  params = params;
+}
+
+pub takes : (m : DraftMachine) (old new : Standing) (firing : Firing) (signal : Option Waiting) (plan : Agenda) → new.own ≡ old.own → new.plan ≡ Some plan
+    → new.config ≡ old.config → new.store ≡ old.store → plan.head ≡ Fires firing.routes → plan.at_head ≡ old.config → plan.ran ≡ [] → IsPlanOf m plan
+    → IsSomeAnd signal (λ w. new.params ≡ eight_of w.args) → Takes m old firing.routes signal new
+takes m old new firing signal plan own is config store head at_head ran is_plan params = record {
+  own = own;
+  plan = record { now = plan; now_is = is; head_is = head; ran = ran; is_plan = is_plan };
+  at_head = at_head;
+  config = config;
+  store = store;
+  params = params;
+}

@@ -1,0 +1,127 @@
+-- What each rule asks of an object of a class that the code runs.
+use Rattle.std.proofs.Common.{◌≡◌, ℕ, List, ◌∷◌, Contains, refl, sym, subst, inl, inr, arith}
+use Rattle.std.specs.List.{AllByRecursion}
+use Rattle.std.proofs.lemmas.List.Elements.{All-contains, All-from_recursion, Contains-append_right}
+use Rattle.pssm_model.specs.declared.ids.VertexId.{VertexId}
+use Rattle.pssm_model.specs.declared.elements.DraftMachine.{DraftMachine}
+use Rattle.pssm_model.specs.declared.steps.Mode.TheVariants.{Plain, Shallow, Deep}
+use Rattle.pssm_model.specs.declared.steps.How.{How}
+use Rattle.pssm_model.specs.declared.steps.Item.{Item}
+use Rattle.pssm_model.specs.declared.steps.Item.TheVariants as items
+use Rattle.pssm_model.specs.Configuration.{Configuration, IsNextDoStep}
+use Rattle.pssm_model.specs.Course.{Head}
+use Rattle.pssm_model.specs.Items.{Called}
+use Rattle.pssm_model.specs.Order.{HasGone, course_by}
+use Rattle.pssm_model.specs.Changes.{Agree}
+use Rattle.pssm_model.specs.BuiltMachine.{IsBuiltMachine}
+use Rattle.pssm_config.specs.Tables.{Tables, Fits, configuration_of}
+use Rattle.pssm_plan.proofs.NestedSteps.{gone_directly}
+use Rattle.pssm_plan.proofs.SingleItems.{called_is}
+use Rattle.pssm_plan.proofs.StepLengths.{called_there, IsThere}
+use Rattle.pssm_semantics.specs.declared.entry.ObjectId.{ObjectId}
+use Rattle.pssm_semantics.specs.declared.entry.Entry.{Entry}
+use Rattle.pssm_semantics.specs.declared.entry.Entry.TheVariants.{Post, Start, Take, Done, Exit, Effect, Enter, Opened, Pick, DoStep}
+use Rattle.pssm_semantics.specs.Journal.{Heads, IsPost, IsStart, object_of, configuration_after}
+use Rattle.pssm_semantics.specs.Steps.{StepAt, IsLastStep}
+use Rattle.pssm_semantics.specs.Completion.{HasEnded, IsQueuedAt, IsQueueHead, IsStepFinished}
+use Rattle.pssm_semantics.specs.Rules.{KeepsStart}
+use Rattle.pssm_semantics.proofs.Members.{first_in}
+use Rattle.pssm_semantics.proofs.Stores.{head_own}
+use Rattle.pssm_object.specs.Standing.{IsUnderWay}
+use Rattle.pssm_object.specs.inner.Choosing.{IsPlainItem}
+use Rattle.pssm_object.proofs.BuiltMachines.{nested, no_final, no_terminate, some_top, no_completion_transition, state_of_active, no_do_steps}
+
+-- a fact about each element is one about an element that is there
+pub each_of : {X : Type 0} (P : X → Type 0) (xs : List X) (x : X) → AllByRecursion P xs → Contains xs x → P x
+each_of P xs x all is = All-contains P xs x (All-from_recursion P xs all) is
+
+-- the start of an object is no post
+pub start_is_no_post : (e : Entry) (o : ObjectId) → IsStart e o → (object_of e ≡ o) × (IsPost e → ⊥)
+start_is_no_post (Start p) o h = (h, λ post. post)
+start_is_no_post (Post p signal args) o h = absurd h
+start_is_no_post (Take p number firing) o h = absurd h
+start_is_no_post (Done p state firing) o h = absurd h
+start_is_no_post (Exit p state outs) o h = absurd h
+start_is_no_post (Effect p transition outs) o h = absurd h
+start_is_no_post (Enter p state outs) o h = absurd h
+start_is_no_post (Opened p region mode how) o h = absurd h
+start_is_no_post (Pick p choice route) o h = absurd h
+start_is_no_post (DoStep p state step outs) o h = absurd h
+
+-- no post begins a step
+post_is_no_head : (e : Entry) (o : ObjectId) → IsPost e → Heads e o → ⊥
+post_is_no_head (Post p g args) o post h = cc
+post_is_no_head (Start p) o post h = post
+post_is_no_head (Take p number firing) o post h = post
+post_is_no_head (Done p v firing) o post h = post
+post_is_no_head (Exit p v outs) o post h = post
+post_is_no_head (Effect p t outs) o post h = post
+post_is_no_head (Enter p v outs) o post h = post
+post_is_no_head (Opened p r mode how) o post h = post
+post_is_no_head (Pick p v route) o post h = post
+post_is_no_head (DoStep p v k outs) o post h = post
+
+-- where the object's entries are posts alone it has not started, and no step is open
+module _ (J : List Entry) (o : ObjectId) (posts : AllByRecursion (λ f. (object_of f ≡ o) → IsPost f) J) where
+  pub not_started : (f : Entry) → Contains J f → IsStart f o → ⊥
+  not_started f is start =
+      let own = start_is_no_post f o start in own.1 (each_of (λ g. (object_of g ≡ o) → IsPost g) J f posts is own.0)
+
+  pub no_step : (step : StepAt) → IsLastStep J o step → ⊥
+  no_step step last =
+      let there : Contains J step.head =
+      subst (λ js. Contains js step.head) (sym last.splits)
+      (Contains-append_right step.before (step.head ∷ step.after) step.head (first_in step.head step.after)) in
+      post_is_no_head step.head o (each_of (λ g. (object_of g ≡ o) → IsPost g) J step.head posts there (head_own o step.head last.heads)) last.heads
+
+  pub unstarted_finished : (m : DraftMachine) → IsStepFinished m J o
+  unstarted_finished m = inl (λ step last item called. absurd (no_step step last))
+
+-- the start comes once
+module _ {m : DraftMachine} {J : List Entry} {o : ObjectId} {head : Head} {at_head : Configuration} {ran : List (Item × How)}
+    (u : IsUnderWay m J o head at_head ran) where
+  pub starts_once : KeepsStart J (Start o) → ⊥
+  starts_once kept =
+      let start = start_is_no_post u.start o u.started.1 in
+      start.1 (each_of (λ f. (object_of f ≡ o) → IsPost f) J u.start kept u.started.0 start.0)
+
+  pub has_started : (f : Entry) × Contains J f × IsStart f o
+  has_started = (u.start, u.started.0, u.started.1)
+
+module _ {m : DraftMachine} (b : IsBuiltMachine m) where
+  -- an object of a machine without final states and terminate vertices does not end
+  pub never_ended : (J : List Entry) (o : ObjectId) → HasEnded m J o → ⊥
+  never_ended J o (inl (e, t, v, is, effect, enters, kind)) = no_terminate b v kind
+  never_ended J o (inr finals) = some_top b (λ r top. let f = finals r top in no_final b f.0 f.2)
+
+  -- no completion waits
+  pub never_queued : (J : List Entry) (o : ObjectId) (s : VertexId) (i : ℕ) → IsQueuedAt m J o s i → ⊥
+  never_queued J o s i h = no_completion_transition b h.transition.0 s h.transition.2 h.transition.1 h.becomes.0.state
+
+  pub no_queue_head : (J : List Entry) (o : ObjectId) (s : VertexId) → IsQueueHead m J o s → ⊥
+  no_queue_head J o s h = never_queued J o s h.0 h.1
+
+  -- no active State has a do step
+  pub no_do_step : (J : List Entry) (o : ObjectId) (tables : Tables) → Fits m tables → Agree (configuration_of tables) (configuration_after m J o)
+      → (s : VertexId) (k : ℕ) → IsNextDoStep m (configuration_after m J o) s k → ⊥
+  no_do_step J o tables fits now s k h =
+      let state = state_of_active b s (fits.states s ((now.active s).1 h.active)) in
+      let none = no_do_steps b s state in
+      let lt = h.in_range in
+      omega (arith, none, lt)
+
+  -- what such a machine calls are exits, effects, entries and openings by default
+  pub called_is_plain : (head : Head) (now : Configuration) (ran : List (Item × How)) → HasGone m head now ran → (item : Item)
+      → Called m (course_by head now ran) item → IsPlainItem m item
+  called_is_plain head now ran gone item called =
+      plain item (called_there b.shape (nested b) head now ran gone item
+      (called_is m (course_by head now ran) (gone_directly (nested b) head now ran gone) item called))
+    where
+      plain : (x : Item) → IsThere m x → IsPlainItem m x
+      plain (items.Exit s) h = tt
+      plain (items.Effect t) h = tt
+      plain (items.Enter s) h = tt
+      plain (items.Opened r Plain) h = (refl, h)
+      plain (items.Opened r Shallow) h = absurd h
+      plain (items.Opened r Deep) h = absurd h
+      plain (items.Pick c) h = h

@@ -1,0 +1,149 @@
+-- What an object tells of itself, from where it stands.
+use Rattle.std.proofs.Common.{◌≡◌, ◌↔◌, ◌&&◌, ◌++◌, List, [], ◌∷◌, Contains, Bool, true, false, not, IsTrue, MatchBool, IfSome, IfNone, Option, Some, None, sym, subst}
+use Rattle.pssm_model.specs.declared.elements.DraftMachine.{DraftMachine}
+use Rattle.pssm_plan.specs.Plans.{IsPlanOf}
+use Rattle.pssm_model.specs.Changes.{Agree, nothing_yet}
+use Rattle.pssm_model.proofs.Agreeing.{Agree-symm, Agree-trans}
+use Rattle.pssm_model.proofs.ElementLaws.{nothing_in_nil}
+use Rattle.pssm_config.specs.Tables.{Tables, Fits, configuration_of}
+use Rattle.pssm_semantics.specs.declared.entry.ObjectId.{ObjectId}
+use Rattle.pssm_semantics.specs.declared.entry.Entry.{Entry}
+use Rattle.pssm_semantics.specs.declared.entry.Entry.TheVariants.{Take}
+use Rattle.pssm_semantics.specs.declared.entry.Rule.{Rule}
+use Rattle.pssm_semantics.specs.declared.setting.Class.{Class}
+use Rattle.pssm_semantics.specs.declared.stimulus.Task.{Task}
+use Rattle.pssm_semantics.specs.Journal.{object_of, configuration_after}
+use Rattle.pssm_semantics.specs.Values.{Store, Params, no_params}
+use Rattle.pssm_semantics.specs.Behaviours.{first_store}
+use Rattle.pssm_semantics.specs.Verdict.{IsFirstBroken}
+use Rattle.pssm_semantics.specs.Built.{IsBuiltClass}
+use Rattle.pssm_semantics.proofs.Configurations.{configuration-nil}
+use Rattle.pssm_object.specs.declared.object.Waiting.{Waiting}
+use Rattle.pssm_object.specs.declared.situation.Situation.{Situation}
+use Rattle.pssm_object.specs.Standing.{Standing, StandsAfter, Stands}
+use Rattle.pssm_object.specs.Following.{NamesPlaces, KeepsRule, KeepsRules, IsCandidate, IsMove, IsQuiet, HasNext, IsHandedIn, IsTold, CanCome, stimulus_for}
+use Rattle.pssm_object.specs.Tasks.{ready_tasks, Does}
+use Rattle.pssm_object.specs.inner.Situations.{standing_of, IsAtRest}
+use Rattle.pssm_object.specs.inner.Judging.{Judges}
+use Rattle.pssm_object.specs.inner.Advancing.{CanFollow, Advances}
+use Rattle.pssm_object.specs.inner.Choosing.{Chooses, DoesTask}
+use Rattle.pssm_object.proofs.Standings.{plan_fits}
+use Rattle.pssm_object.proofs.Judged.{judged}
+use Rattle.pssm_object.proofs.Accepted.{accepted}
+use Rattle.pssm_object.proofs.Following.{can_follow}
+use Rattle.pssm_object.proofs.Advancing.{following}
+use Rattle.pssm_object.proofs.Chosen.{IsGoodMove, good_move, chosen_keeps, quiet_is}
+use Rattle.pssm_object.proofs.TaskLists.{does_task}
+
+module _ (situation : Situation) (x : Standing) (view_is : standing_of situation ≡ x) where
+  seen : (P : Standing → Type 0) → P (standing_of situation) → P x
+  seen P here = subst P view_is here
+
+  unseen : (P : Standing → Type 0) → P x → P (standing_of situation)
+  unseen P there = subst P (sym view_is) there
+
+  module _ (class : Class) where
+    -- the configuration and the plan are of the machine
+    pub config_fits : Stands class x → Fits class.machine situation.config
+    config_fits stands = unseen (λ y. Fits class.machine y.config) stands.1.fits
+
+    pub plan_known : Stands class x → IfSome situation.plan (IsPlanOf class.machine)
+    plan_known stands = unseen (λ y. IfSome y.plan (IsPlanOf class.machine)) (plan_fits stands.1)
+
+    module _ (b : IsBuiltClass class) where
+      -- the verdict is that of the rules
+      pub keeps_seen : (signal : Option Waiting) (e : Entry) → object_of e ≡ x.own → (answer : Option Rule)
+          → Judges class (standing_of situation) signal e answer
+          → IfNone answer ((J : List Entry) → StandsAfter class J x → KeepsRules class x signal J e)
+      keeps_seen signal e own None h = λ J s. judged class b s signal e own None (seen (λ y. Judges class y signal e None) h)
+      keeps_seen signal e own (Some rule) h = tt
+
+      pub breaks_seen : (signal : Option Waiting) (e : Entry) → object_of e ≡ x.own → (answer : Option Rule)
+          → Judges class (standing_of situation) signal e answer
+          → IfSome answer (λ broken. (J : List Entry) → StandsAfter class J x → IsFirstBroken (KeepsRule class x signal) J e broken)
+      breaks_seen signal e own None h = tt
+      breaks_seen signal e own (Some rule) h = λ J s. judged class b s signal e own (Some rule) (seen (λ y. Judges class y signal e (Some rule)) h)
+
+      -- what may come next can be told
+      module _ (signal : Option Waiting) (e : Entry) (can : CanCome class x signal e) where
+        accepts : Judges class x signal e None
+        accepts = accepted class b can.stands signal e can.own can.keeps
+
+        pub follows_seen : CanFollow class.machine situation.plan situation.config signal e
+        follows_seen = unseen (λ y. CanFollow class.machine y.plan y.config signal e) (can_follow class b can.stands signal e can.names accepts)
+
+        pub advances_seen : (next : Standing) → Advances class (standing_of situation) signal e next → (J : List Entry) → StandsAfter class J x
+            → IsTold J (stimulus_for x.own signal) e → StandsAfter class (J ++ e ∷ []) next
+        advances_seen next h J s told = following class b s next signal e can.own can.names accepts told (seen (λ y. Advances class y signal e next) h)
+
+      -- it is quiet exactly where it rests and no signal waits
+      pub quiet_seen : (signal : Option Waiting) (J : List Entry) → StandsAfter class J x → (rests waiting : Bool)
+          → ((m : DraftMachine) → IfSome situation.plan (IsPlanOf m) → (IsTrue rests ↔ IsAtRest m situation.plan)) → IsHandedIn waiting signal
+          → MatchBool (rests && not waiting) (IsQuiet class x signal J) (HasNext class x signal J)
+      quiet_seen signal J s rests waiting says handed =
+          quiet_is class b x signal s rests waiting
+          (seen (λ y. IsTrue rests ↔ IsAtRest class.machine y.plan) (says class.machine (plan_known (J, s)))) handed
+
+      -- what is chosen is a move that may follow, and nothing is chosen where none may
+      module _ (signal : Option Waiting) (stands : Stands class x) where
+        good : (chosen : Option Entry) → Chooses class (standing_of situation) signal situation.plan chosen → IsGoodMove class b x signal stands.1 chosen
+        good chosen h = good_move class b x signal stands.1 chosen (seen (λ y. Chooses class y signal y.plan chosen) h)
+
+        pub moves_seen : (chosen : Option Entry) → Chooses class (standing_of situation) signal situation.plan chosen → IfSome chosen IsMove
+        moves_seen None h = tt
+        moves_seen (Some e) h = (good (Some e) h).0
+
+        pub own_seen : (chosen : Option Entry) → Chooses class (standing_of situation) signal situation.plan chosen → IfSome chosen (IsCandidate x.own signal)
+        own_seen None h = tt
+        own_seen (Some e) h = (good (Some e) h).1.candidate
+
+        pub places_seen : (chosen : Option Entry) → Chooses class (standing_of situation) signal situation.plan chosen
+            → IfSome chosen (NamesPlaces class.machine)
+        places_seen None h = tt
+        places_seen (Some e) h = (good (Some e) h).1.places
+
+        pub chosen_seen : (chosen : Option Entry) → Chooses class (standing_of situation) signal situation.plan chosen
+            → IfSome chosen (λ e. (J : List Entry) → StandsAfter class J x → KeepsRules class x signal J e)
+        chosen_seen None h = tt
+        chosen_seen (Some e) h = λ J s. chosen_keeps class b x signal s e (good (Some e) h).1
+
+        pub none_seen : (chosen : Option Entry) → Chooses class (standing_of situation) signal situation.plan chosen
+            → IfNone chosen ((J : List Entry) → StandsAfter class J x → (e : Entry) → IsMove e → IsCandidate x.own signal e → KeepsRules class x signal J e → ⊥)
+        none_seen None h = λ J s e move candidate keeps. good None h e move candidate (accepted class b s signal e candidate.own keeps)
+        none_seen (Some e) h = tt
+
+      -- the entry of a ready task may follow
+      module _ (stands : Stands class x) (task : Task) (ready : Contains (ready_tasks x) task) (e : Entry)
+          (does : DoesTask class (standing_of situation) task e) where
+        done : DoesTask class x task e
+        done = seen (λ y. DoesTask class y task e) does
+
+        pub does_seen : Does x.own task e
+        does_seen = (does_task class b stands.1 task ready e done).2
+
+        pub task_places_seen : NamesPlaces class.machine e
+        task_places_seen = (does_task class b stands.1 task ready e done).3
+
+        pub task_seen : (J : List Entry) → StandsAfter class J x → KeepsRules class x None J e
+        task_seen J s = let is = does_task class b s task ready e done in judged class b s None e is.1 None is.0
+
+-- where the object does not rest it is not quiet
+pub not_quiet : (rests waiting : Bool) (P Q : Type 0) → rests ≡ false → MatchBool (rests && not waiting) P Q → MatchBool rests P Q
+not_quiet true waiting P Q is h = absurd (cc)
+not_quiet false waiting P Q is h = h
+
+-- a new object stands so after no entries
+pub starts_so : (class : Class) (own : ObjectId) (config : Tables) (store : Store) (params : Params) → Fits class.machine config
+    → Agree (configuration_of config) nothing_yet → store ≡ first_store class → params ≡ no_params
+    → StandsAfter class [] (record { own = own; config = config; plan = None; store = store; params = params })
+starts_so class own config store params fits nothing first zeros =
+    let none = configuration-nil class.machine own in
+    record {
+      fits = fits;
+      now_is = Agree-trans (configuration_of config) nothing_yet (configuration_after class.machine [] own) nothing
+          (Agree-symm (configuration_after class.machine [] own) nothing_yet none);
+      step_is = record { posts = tt; nothing = none };
+      told = λ number firing inside. absurd (nothing_in_nil (Take own number firing) inside);
+      store_is = first;
+      params_is = zeros;
+    }

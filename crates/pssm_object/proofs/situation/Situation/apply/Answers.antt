@@ -1,0 +1,24 @@
+-- a start begins a plan
+use Rattle.std.proofs.Common.{Some, refl}
+use Rattle.pssm_object.specs.Standing.{Standing}
+use Rattle.pssm_object.specs.inner.Situations.{standing_of}
+use Rattle.pssm_object.proofs.BuiltMachines.{nested}
+use Rattle.pssm_object.proofs.Going.{begins}
+use Rattle.pssm_object.proofs.situation.Situation.apply.Goals as goal
+
+pub of_start-requires : goal.of_start-requires
+of_start-requires c = nested c.requires.class.machine
+
+pub returns-in_ok-of_start-in-Start-clause-ok : goal.returns-in_ok-of_start-in-Start-clause-ok
+returns-in_ok-of_start-in-Start-clause-ok c =
+    let made = c.in_ok-of_start-in-Start.ensures in
+    let old : Standing = standing_of c.args.self.now in
+    let new : Standing = record {
+      own = old.own;
+      config = old.config;
+      plan = Some c.in_ok-of_start-in-Start.field-0;
+      store = old.store;
+      params = old.params;
+    } in
+    rw c.in-Start.is
+    (begins c.args.class.now.machine old new c.in_ok-of_start-in-Start.field-0 refl refl refl refl refl made.head made.at_head made.none_ran made.plan)

@@ -1,0 +1,12 @@
+-- the item runs in the plan
+use Rattle.pssm_object.proofs.BuiltMachines.{nested}
+use Rattle.pssm_object.proofs.Going.{has_run_on}
+use Rattle.pssm_object.proofs.stepping.run_item.Goals as goal
+
+pub run-requires-clause-nested : goal.run-requires-clause-nested
+run-requires-clause-nested c = nested c.requires.built
+
+pub returns-clause-ok : goal.returns-clause-ok
+returns-clause-ok c =
+    has_run_on c.args.machine.now c.args.plan.now c.in-Some.plan c.run.new.self c.args.item c.args.how.now c.run.result c.in-Some.is
+    c.run.ensures.head c.run.ensures.at_head c.run.ensures.ran c.run.ensures.plan

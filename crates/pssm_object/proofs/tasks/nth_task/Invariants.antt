@@ -1,0 +1,8 @@
+-- so many tasks are passed
+use Rattle.std.proofs.Common.{◌≡◌, ◌+◌, take, length}
+use Rattle.pssm_plan.specs.Standings.{ready_calls}
+use Rattle.pssm_object.proofs.Counting.{tasks_in}
+use Rattle.pssm_object.proofs.tasks.nth_task.Given as goal
+
+abbrev pub invariant-loop-k : goal.invariant-loop-k
+invariant-loop-k l = length (tasks_in (take l.k (ready_calls l.plan))) + l.rest ≡ l.i

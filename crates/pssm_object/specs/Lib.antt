@@ -1,0 +1,5 @@
+pub mod Standing
+pub mod Following
+pub mod Tasks
+pub mod Laws
+pub mod inner

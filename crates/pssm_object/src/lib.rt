@@ -1,0 +1,24 @@
+//! One object of a run: where it stands, the first rule that a further entry of it breaks, and what it may do next.
+//!
+//! This crate knows an object's configuration, the plan of its last step, the values of its variables and the
+//! parameters of its step. It keeps no entry, and no pool: the signal of a take is handed in with it. It knows nothing
+//! of texts.
+#![tactic(auto)]
+
+mod choosing;
+mod judging;
+mod laws;
+mod object;
+mod opening;
+mod reacting;
+mod routes;
+mod situation;
+mod stepping;
+mod tasks;
+mod working;
+
+pub use laws::{active_states, entry_forms, open_steps, other_entries};
+pub use object::{Object, Waiting};
+
+#[cfg(test)]
+mod tests;

@@ -1,0 +1,223 @@
+//! `Object`: where one object of a run stands.
+ghost use Rattle.std.specs.Prelude.{◌≡◌, ◌<◌, ◌++◌, ◌∷◌, [], List, length, slice_get, Some, None, IfOk, IfNone, IfSome, OnOk, OnErr, MatchBool, Option, Contains, map};
+ghost use Rattle.std.specs.Option.{option_copied};
+ghost use Rattle.pssm_semantics.specs.declared.entry.Entry.{Entry as AnEntry};
+ghost use Rattle.pssm_semantics.specs.Values.{no_params};
+ghost use Rattle.pssm_semantics.specs.Journal.{object_of};
+ghost use Rattle.pssm_semantics.specs.Built.{IsBuiltClass};
+
+use crate::situation::Situation;
+use crate::tasks::{count_tasks, nth_task};
+use pssm_config::Config;
+use pssm_model::SignalId;
+use pssm_semantics::{Args, Class, Entry, ObjectId, Rule, Task, VarDecl};
+use std::alloc::{AllocError as NoMemory, Global};
+use std::marker::Model;
+
+/// A signal that waits in an object's pool, with its number in the journal (UML 2.5.1, 14.2.3.9, event pool).
+#[derive(Drop)]
+pub struct Waiting {
+    pub number: u32,
+    pub signal: SignalId,
+    pub args: Args,
+}
+
+/// One object of a run, of a class that is handed in at each call.
+///
+/// A clause sees where the object stands: which one it is, its configuration, the plan of its last step, the
+/// values of its variables and the parameters of its step. It keeps no entries: `StandsAfter` says after which
+/// journals it stands so, and what a call promises it promises for each of these.
+#[derive(Drop)]
+pub struct Object {
+    alloc: Global,
+    situation: Situation,
+}
+
+impl Model for Object {
+    ghost use Rattle.pssm_object.specs.Standing.{Standing};
+    ghost use Rattle.pssm_object.specs.inner.Situations.{standing_of};
+
+    ghost Value = { Standing };
+
+    ghost view = { λ o. standing_of o.situation };
+}
+
+impl Object {
+    ghost use Rattle.pssm_object.specs.declared.object.Waiting.{Waiting as Signal};
+    ghost use Rattle.pssm_object.specs.Standing.{StandsAfter, Stands};
+    ghost use Rattle.pssm_object.specs.Following.{NamesPlaces, IsCandidate, IsMove, IsQuiet, HasNext, IsHandedIn, CanCome, MayCome, BreaksFirst, HasNoMove, Brings};
+    ghost use Rattle.pssm_object.specs.Tasks.{ready_tasks, AreReadyTasks, Does};
+
+    /// An object of the class before its start, with the first values of the class's variables.
+    ///
+    /// `NoMemory`: memory ran out.
+    pub fn new(alloc: Global, own: ObjectId, class: &Class) -> Result<Object, NoMemory>
+        ensures own { IfOk result (λ object. object.own ≡ own) }
+        ensures start { IfOk result (StandsAfter class.now []) }
+    {
+        let config = Config::new(alloc, &class.machine)?;
+        let store = first_values(alloc, class.vars.as_slice())?;
+        let params = zeros(alloc)?;
+        Ok(Object {
+            alloc,
+            situation: Situation {
+                own,
+                config,
+                plan: None,
+                store,
+                params,
+            },
+        })
+    }
+
+    /// The first rule that a further entry of the object breaks, if it breaks one.
+    ///
+    /// The rules are those that the object itself shows: the names of the entry (A1) and the choice of a signal (A6)
+    /// are the caller's. With a take the waiting signal with its number is handed in; without it what the signal
+    /// fires is not asked. `NoMemory`: memory ran out.
+    pub fn allows(
+        &self,
+        class: &Class,
+        entry: &Entry,
+        signal: Option<&Waiting>,
+    ) -> Result<Option<Rule>, NoMemory>
+        requires class { IsBuiltClass class.now }
+        requires stands { Stands class.now self.now }
+        requires own { object_of entry.now ≡ self.now.own }
+        requires places { NamesPlaces class.now.machine entry.now }
+        ensures keeps { IfOk result (λ rule. IfNone rule (MayCome class.now self.now (option_copied signal.entry) entry.now)) }
+        ensures breaks { IfOk result (λ rule. IfSome rule (BreaksFirst class.now self.now (option_copied signal.entry) entry.now)) }
+    {
+        self.situation.judge(self.alloc, class, entry, signal)
+    }
+
+    /// Goes on by an entry of the object that may come next; with a take its signal is handed in.
+    ///
+    /// `NoMemory`: memory ran out; nothing has changed.
+    pub fn apply(
+        &mut self,
+        class: &Class,
+        entry: &Entry,
+        signal: Option<&Waiting>,
+    ) -> Result<(), NoMemory>
+        requires class { IsBuiltClass class.now }
+        requires can { CanCome class.now self.old (option_copied signal) entry.now }
+        ensures own { self.new.own ≡ self.old.own }
+        ensures ok { OnOk result (Brings class.now self.old (option_copied signal.entry) entry.now self.new) }
+        ensures err { OnErr result (self.new ≡ self.old) }
+    {
+        self.situation.apply(self.alloc, class, entry, signal)
+    }
+
+    /// Which object it is.
+    pub fn own(&self) -> ObjectId
+        ensures { result ≡ self.now.own }
+    {
+        self.situation.own
+    }
+
+    /// The values of its variables, as they are now.
+    pub fn store(&self) -> &[i64]
+        ensures { result.now ≡ self.now.store }
+    {
+        self.situation.store.as_slice()
+    }
+
+    /// The parameters of its step, eight numbers, as they are now.
+    pub fn params(&self) -> &Args
+        ensures { result.now ≡ self.now.params }
+    {
+        &self.situation.params
+    }
+
+    /// How many tasks of the object are ready: exits, effects and entries whose turn has come (UML 2.5.1, 14.2.3.9).
+    pub fn task_count(&self, class: &Class) -> u32
+        requires class { IsBuiltClass class.now }
+        ensures count { result ≡ length (ready_tasks self.now) }
+        ensures listed { AreReadyTasks class.now self.now (ready_tasks self.now) }
+    {
+        let _ = class;
+        match &self.situation.plan {
+            Some(plan) => count_tasks(plan),
+            None => 0,
+        }
+    }
+
+    /// The ready task with a number, in the order in which they were called.
+    pub fn task_at(&self, class: &Class, i: u32) -> Task
+        requires { i < length (ready_tasks self.now) }
+        ensures { slice_get (ready_tasks self.now) i ≡ Some result }
+    {
+        let _ = class;
+        match &self.situation.plan {
+            Some(plan) => nth_task(plan, i),
+            None => unreachable!(),
+        }
+    }
+
+    /// A start, a take of this signal, or an opening that may come next; none exactly where there is none.
+    ///
+    /// `signal` is the first signal of the pool that is not deferred, where there is one. Of several openings, and of
+    /// several transitions that the signal enables, the word picks one; which one is not promised. In the forms that
+    /// are run no dispatch of a completion and no pick ever comes. `NoMemory`: memory ran out.
+    pub fn choose_move(
+        &self,
+        class: &Class,
+        signal: Option<&Waiting>,
+        word: u64,
+    ) -> Result<Option<Entry>, NoMemory>
+        requires class { IsBuiltClass class.now }
+        requires stands { Stands class.now self.now }
+        ensures moves { IfOk result (λ chosen. IfSome chosen IsMove) }
+        ensures own { IfOk result (λ chosen. IfSome chosen (IsCandidate self.now.own (option_copied signal.entry))) }
+        ensures places { IfOk result (λ chosen. IfSome chosen (NamesPlaces class.now.machine)) }
+        ensures follows { IfOk result (λ chosen. IfSome chosen (MayCome class.now self.now (option_copied signal.entry))) }
+        ensures none { IfOk result (λ chosen. IfNone chosen (HasNoMove class.now self.now (option_copied signal.entry))) }
+    {
+        self.situation.choose_move(self.alloc, class, signal, word)
+    }
+
+    /// Whether no entry of the object but a post may come next. `waiting`: whether a signal that is not deferred waits.
+    pub fn quiet(&self, class: &Class, waiting: bool) -> bool
+        requires class { IsBuiltClass class.now }
+        // A signal is handed in where one waits.
+        ensures { (J : List AnEntry) (signal : Option Signal) → StandsAfter class.now J self.now
+            → IsHandedIn waiting signal
+            → MatchBool result (IsQuiet class.now self.now signal J) (HasNext class.now self.now signal J) }
+    {
+        let _ = class;
+        self.situation.is_at_rest() && !waiting
+    }
+
+    /// The entry of a ready task, with the outputs of its behaviour.
+    ///
+    /// `NoMemory`: memory ran out.
+    pub fn run_task(&self, alloc: Global, class: &Class, task: Task) -> Result<Entry, NoMemory>
+        requires class { IsBuiltClass class.now }
+        requires stands { Stands class.now self.now }
+        requires ready { Contains (ready_tasks self.now) task }
+        ensures does { IfOk result (Does self.now.own task) }
+        ensures places { IfOk result (NamesPlaces class.now.machine) }
+        ensures follows { IfOk result (MayCome class.now self.now None) }
+    {
+        self.situation.run_task(alloc, class, task)
+    }
+}
+
+// The first values of these variables.
+fn first_values(alloc: Global, vars: &[VarDecl]) -> Result<Vec<i64>, NoMemory>
+    ensures { IfOk result (λ store. store.items ≡ map (λ x. x.first) vars.now) }
+{
+    let mut values = Vec::with_capacity(alloc, vars.len())?;
+    for var in vars {
+        values.push(var.first)?;
+    }
+    Ok(values)
+}
+
+// Eight zeros.
+fn zeros(alloc: Global) -> Result<Args, NoMemory>
+    ensures { IfOk result (λ params. params ≡ no_params) }
+{
+    Ok(Args::from_vec(vec![in alloc; 0; 8]?))
+}

@@ -1,0 +1,183 @@
+//! Where an object stands once one more entry of it has come that may follow.
+ghost use Rattle.std.specs.Prelude.{◌≡◌, ◌<◌, length, IfOk, OnOk, OnErr, Option, Some};
+ghost use Rattle.std.specs.Option.{option_copied};
+ghost use Rattle.pssm_model.specs.BuiltMachine.{IsBuiltMachine};
+ghost use Rattle.pssm_model.specs.Changes.{Agree};
+ghost use Rattle.pssm_config.specs.Tables.{Fits, configuration_of};
+ghost use Rattle.pssm_plan.specs.Steadiness.{changed_by_item};
+ghost use Rattle.pssm_semantics.specs.Built.{IsBuiltClass};
+ghost use Rattle.pssm_semantics.specs.Arguments.{ActArgsFit};
+ghost use Rattle.pssm_semantics.specs.Values.{outcome_of};
+ghost use Rattle.pssm_object.specs.inner.Working.{act_for};
+ghost use Rattle.pssm_object.specs.inner.Situations.{standing_of};
+ghost use Rattle.pssm_object.specs.inner.Advancing.{CanRun, HasRunOn, CanChange, CanTake, CanFollow, CanRunHere, RunsHere, WorksHere, Takes, Advances};
+
+use crate::object::Waiting;
+use crate::situation::Situation;
+use crate::working::{eight, stated_act};
+use pssm_config::Config;
+use pssm_model::{Firing, How, Item, Machine};
+use pssm_plan::Plan;
+use pssm_semantics::{Act, Class, Entry};
+use std::alloc::{AllocError as NoMemory, Global};
+
+impl Situation {
+    /// Goes on by an entry that may follow; with a take its signal is handed in.
+    ///
+    /// On want of memory nothing has changed.
+    pub fn apply(
+        &mut self,
+        alloc: Global,
+        class: &Class,
+        entry: &Entry,
+        signal: Option<&Waiting>,
+    ) -> Result<(), NoMemory>
+        requires class { IsBuiltClass class.now }
+        requires fits { Fits class.now.machine self.old.config }
+        requires follows { CanFollow class.now.machine self.old.plan self.old.config (option_copied signal) entry.now }
+        ensures ok { OnOk result (Advances class.now (standing_of self.old) (option_copied signal.entry) entry.now
+            (standing_of self.new)) }
+        ensures err { OnErr result (standing_of self.new ≡ standing_of self.old) }
+    {
+        match entry {
+            Entry::Start { .. } => {
+                self.plan = Some(Plan::of_start(alloc, &class.machine)?);
+                Ok(())
+            }
+            Entry::Take { firing, .. } => self.take(alloc, &class.machine, firing, signal),
+            Entry::Exit { state, .. } => self.do_work(alloc, class, Item::Exit(*state)),
+            Entry::Effect { transition, .. } => {
+                self.do_work(alloc, class, Item::Effect(*transition))
+            }
+            Entry::Enter { state, .. } => self.do_work(alloc, class, Item::Enter(*state)),
+            Entry::Opened {
+                region,
+                mode,
+                how,
+                ..
+            } => self.run(&class.machine, Item::Opened(*region, *mode), how),
+            Entry::Post { .. } | Entry::Done { .. } | Entry::Pick { .. } | Entry::DoStep { .. } => {
+                Ok(())
+            }
+        }
+    }
+
+    // Takes the signal, and begins the step of what it fires.
+    fn take(
+        &mut self,
+        alloc: Global,
+        machine: &Machine,
+        firing: &Firing,
+        signal: Option<&Waiting>,
+    ) -> Result<(), NoMemory>
+        requires built { IsBuiltMachine machine.now }
+        requires fits { Fits machine.now self.old.config }
+        requires can { CanTake machine.now firing.now.routes (option_copied signal) }
+        ensures ok { OnOk result (Takes machine.now (standing_of self.old) firing.now.routes (option_copied signal.entry)
+            (standing_of self.new)) }
+        ensures err { OnErr result (standing_of self.new ≡ standing_of self.old) }
+    {
+        let Some(waiting) = signal else {
+            unreachable!();
+        };
+        let params = eight(alloc, &waiting.args)?;
+        self.plan = Some(Plan::of_firing(alloc, machine, &self.config, firing)?);
+        self.params = params;
+        Ok(())
+    }
+
+    // Runs a ready exit, effect or entry with its behaviour.
+    fn do_work(&mut self, alloc: Global, class: &Class, item: Item) -> Result<(), NoMemory>
+        requires class { IsBuiltClass class.now }
+        requires fits { Fits class.now.machine self.old.config }
+        requires can { CanRunHere class.now.machine self.old.plan self.old.config item How.Nothing }
+        ensures ok { OnOk result (WorksHere class.now (standing_of self.old) item (standing_of self.new)) }
+        ensures err { OnErr result (standing_of self.new ≡ standing_of self.old) }
+    {
+        match stated_act(class, item) {
+            None => self.run(&class.machine, item, &How::Nothing),
+            Some(act) => self.do_act(alloc, class, item, act),
+        }
+    }
+
+    // Runs a ready exit, effect or entry with this behaviour, which is its own.
+    fn do_act(
+        &mut self,
+        alloc: Global,
+        class: &Class,
+        item: Item,
+        act: &Act,
+    ) -> Result<(), NoMemory>
+        requires class { IsBuiltClass class.now }
+        requires fits { Fits class.now.machine self.old.config }
+        requires can { CanRunHere class.now.machine self.old.plan self.old.config item How.Nothing }
+        requires own { Some act.now ≡ act_for class.now item }
+        requires args { ActArgsFit act.now }
+        ensures ok { OnOk result (WorksHere class.now (standing_of self.old) item (standing_of self.new)) }
+        ensures err { OnErr result (standing_of self.new ≡ standing_of self.old) }
+    {
+        let store = self.changed_store(alloc, act)?;
+        self.run(&class.machine, item, &How::Nothing)?;
+        self.store = store;
+        Ok(())
+    }
+
+    // The values of the variables after the behaviour.
+    fn changed_store(&self, alloc: Global, act: &Act) -> Result<Vec<i64>, NoMemory>
+        requires { ActArgsFit act.now }
+        ensures { IfOk result (λ store. store.items ≡ (outcome_of act.now self.now.own self.now.store.items self.now.params).store) }
+    {
+        let worked = self.work(alloc, act)?;
+        worked.outcome().store.as_slice().to_vec(alloc)
+    }
+
+    // Runs a ready item in one of its ways, and changes the configuration as it does.
+    fn run(&mut self, machine: &Machine, item: Item, how: &How) -> Result<(), NoMemory>
+        requires built { IsBuiltMachine machine.now }
+        requires fits { Fits machine.now self.old.config }
+        requires can { CanRunHere machine.now self.old.plan self.old.config item how.now }
+        ensures ok { OnOk result (RunsHere machine.now (standing_of self.old) item how.now (standing_of self.new)) }
+        ensures err { OnErr result (standing_of self.new ≡ standing_of self.old) }
+    {
+        run_item(&mut self.plan, machine, item, how)?;
+        change(&mut self.config, machine, item, how);
+        Ok(())
+    }
+}
+
+// Runs a ready item of the plan in one of its ways.
+fn run_item(
+    plan: &mut Option<Plan>,
+    machine: &Machine,
+    item: Item,
+    how: &How,
+) -> Result<(), NoMemory>
+    requires built { IsBuiltMachine machine.now }
+    requires can { CanRun machine.now plan.old item how.now }
+    ensures ok { OnOk result (HasRunOn machine.now plan.old item how.now plan.new) }
+    ensures err { OnErr result (plan.new ≡ plan.old) }
+{
+    match plan {
+        Some(plan) => plan.run(machine, item, how),
+        None => unreachable!(),
+    }
+}
+
+// Changes the configuration as the item does that runs in this way.
+fn change(config: &mut Config, machine: &Machine, item: Item, how: &How)
+    requires fits { Fits machine.now config.old }
+    requires can { CanChange machine.now (configuration_of config.old) item }
+    ensures fits { Fits machine.now config.new }
+    ensures changed { Agree (configuration_of config.new)
+        (changed_by_item machine.now (configuration_of config.old) item how.now) }
+{
+    match item {
+        Item::Exit(state) => config.exit(machine, state),
+        Item::Enter(state) => config.enter(machine, state),
+        Item::Opened(region, _) => match how {
+            How::Nothing => config.opened_none(region),
+            How::By(_) | How::Restore(_) => config.opened_way(region),
+        },
+        Item::Effect(_) | Item::Pick(_) => {}
+    }
+}

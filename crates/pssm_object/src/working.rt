@@ -1,0 +1,70 @@
+//! The behaviours of exits, effects and entries, and what they make.
+ghost use Rattle.std.specs.Prelude.{◌≡◌, ◌<◌, length, Option, Some, IfOk, IfSome, IfNone};
+ghost use Rattle.std.specs.Option.{option_copied};
+ghost use Rattle.pssm_semantics.specs.Values.{eight_of};
+ghost use Rattle.pssm_semantics.specs.Behaviours.{act_at as behaviour_at};
+ghost use Rattle.pssm_semantics.specs.Built.{IsBuiltClass};
+ghost use Rattle.pssm_object.specs.inner.Situations.{standing_of};
+ghost use Rattle.pssm_semantics.specs.Arguments.{ActArgsFit};
+ghost use Rattle.pssm_object.specs.inner.Working.{HasPlace, act_for, MakesNothing, IsWorkOf};
+
+use crate::situation::Situation;
+use pssm_model::{ActId, Item};
+use pssm_semantics::{Act, Args, Class, Worked, run};
+use std::alloc::{AllocError as NoMemory, Global};
+
+impl Situation {
+    /// What the behaviour makes where the object stands.
+    pub fn work(&self, alloc: Global, act: &Act) -> Result<Worked, NoMemory>
+        requires { ActArgsFit act.now }
+        ensures { IfOk result (IsWorkOf act.now (standing_of self.now)) }
+    {
+        run(alloc, self.own, act, self.store.as_slice(), &self.params)
+    }
+}
+
+/// The behaviour of the item, if it has one with a statement; what has none makes nothing.
+pub fn stated_act(class: &Class, item: Item) -> Option<&Act>
+    requires class { IsBuiltClass class.now }
+    requires place { HasPlace class.now.machine item }
+    ensures some { IfSome result (λ act. Some act.now ≡ act_for class.now item) }
+    ensures fits { IfSome result (λ act. ActArgsFit act.now) }
+    ensures none { IfNone result (MakesNothing class.now item) }
+{
+    match behaviour_of(class, item) {
+        Some(act) if !act.stmts.as_slice().is_empty() => Some(act),
+        _ => None,
+    }
+}
+
+// The behaviour of an exit, an effect or an entry; an opening and a pick have none.
+fn behaviour_of(class: &Class, item: Item) -> Option<&Act>
+    requires { HasPlace class.now.machine item }
+    ensures { option_copied result ≡ act_for class.now item }
+{
+    match item {
+        Item::Exit(state) => act_at(class, class.machine.vertex(state).exit),
+        Item::Effect(transition) => act_at(class, class.machine.transition(transition).effect),
+        Item::Enter(state) => act_at(class, class.machine.vertex(state).entry),
+        Item::Opened(_, _) | Item::Pick(_) => None,
+    }
+}
+
+// The behaviour with a number.
+fn act_at(class: &Class, number: ActId) -> Option<&Act>
+    ensures { option_copied result ≡ behaviour_at class.now number }
+{
+    class.program.acts.as_slice().get(usize::from(number.0))
+}
+
+/// The arguments of a signal, continued by zeros to eight.
+pub fn eight(alloc: Global, args: &Args) -> Result<Args, NoMemory>
+    ensures { IfOk result (λ params. params ≡ eight_of args.now) }
+{
+    let zeros = [0; 8];
+    let (_, rest) = zeros.split_at(args.as_slice().len());
+    let mut values = Vec::with_capacity(alloc, 8)?;
+    values.extend_from_slice(args.as_slice())?;
+    values.extend_from_slice(rest)?;
+    Ok(Args::from_vec(values))
+}

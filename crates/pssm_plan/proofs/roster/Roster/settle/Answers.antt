@@ -1,0 +1,4 @@
+use Rattle.pssm_plan.proofs.roster.Roster.settle.Goals as goal
+
+pub settle_all-requires-clause-seen : goal.settle_all-requires-clause-seen
+settle_all-requires-clause-seen c = rw c.as_mut_slice.ensures.value c.requires.seen

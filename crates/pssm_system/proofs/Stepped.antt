@@ -1,0 +1,241 @@
+-- What is kept of the journal once one more entry has come.
+use Rattle.std.proofs.Common.{◌≡◌, ◌<◌, ◌+◌, ◌++◌, ℕ, List, [], ◌∷◌, length, Option, Some, All, slice_get, refl, sym, ap, subst, ◌∙◌, ⊎_elim, length-append}
+use Rattle.std.specs.List.{flat_map}
+use Rattle.std.proofs.Math.ListN.{length-set}
+use Rattle.std.proofs.lemmas.List.{length-map}
+use Rattle.std.proofs.lemmas.List.Elements.{All-head, All-tail}
+use Rattle.std.proofs.lemmas.Option.{slice_get_within, slice_get-map}
+use Rattle.pssm_model.proofs.ElementLaws.{some_at, mapped_some, mapped_at}
+use Rattle.pssm_semantics.specs.declared.entry.ObjectId.{ObjectId}
+use Rattle.pssm_semantics.specs.declared.entry.Out.{Out}
+use Rattle.pssm_semantics.specs.declared.entry.Out.TheVariants as outs
+use Rattle.pssm_semantics.specs.declared.entry.Entry.{Entry}
+use Rattle.pssm_semantics.specs.declared.entry.Entry.TheVariants.{Post, Start, Take, Done, Exit, Effect, Enter, Opened, Pick, DoStep}
+use Rattle.pssm_semantics.specs.declared.entry.Rule.TheVariants.{A1, A6}
+use Rattle.pssm_semantics.specs.declared.stimulus.Stimulus.{Stimulus}
+use Rattle.pssm_semantics.specs.declared.setting.Class.{Class}
+use Rattle.pssm_semantics.specs.declared.setting.ObjectDecl.{ObjectDecl}
+use Rattle.pssm_semantics.specs.declared.setting.Setting.{Setting}
+use Rattle.pssm_semantics.specs.Settings.{class_of}
+use Rattle.pssm_semantics.specs.Journal.{object_of, IsPost}
+use Rattle.pssm_semantics.specs.Pool.{signals_of_out, signals_of_entry, signals_of, pool_of, told_by}
+use Rattle.pssm_semantics.specs.Known.{IsOutOf, NamesKnown}
+use Rattle.pssm_semantics.specs.Rules.{KeepsOwn}
+use Rattle.pssm_semantics.specs.Admissible.{MayFollow}
+use Rattle.pssm_semantics.specs.Built.{IsBuilt}
+use Rattle.pssm_semantics.proofs.BuiltSettings.{all_there}
+use Rattle.pssm_semantics.proofs.Waiting.{signals_of-append}
+use Rattle.pssm_object.specs.declared.object.Waiting.{Waiting}
+use Rattle.pssm_object.specs.Standing.{Standing, HasSignalsTaken}
+use Rattle.pssm_system.specs.declared.situation.Situation.{Situation}
+use Rattle.pssm_system.specs.inner.Pooling.{Queue, waiting_in, signal_taken, delivered, left_by, HavePools, numbered_for}
+use Rattle.pssm_system.specs.inner.Keeping.{AreObjects, ArePools, StandsSo, CanCome, IsUnchanged}
+use Rattle.pssm_system.specs.inner.Stepping.{CanStep, HaveStepped, HasPosted, Brings}
+use Rattle.pssm_system.proofs.Pools.{taken-alike}
+use Rattle.pssm_system.proofs.Following.{object_there, own_of, pool_kept, names_of}
+use Rattle.pssm_system.proofs.Arriving.{HaveWaiting, HasPool, arrived, left}
+use Rattle.pssm_system.proofs.Signals.{has-first, taken-first}
+use Rattle.pssm_system.proofs.Judged.{TakeOrNot, is_take, no_take, take_or_not, IsPart, is_part, free_to_take}
+use Rattle.pssm_system.proofs.Nexts.{HasSignal, has_signal}
+use Rattle.pssm_system.proofs.Completing.{StandsIn}
+use Rattle.pssm_object.proofs.Advancing.{other_entries}
+
+-- each object of a setting that the code runs has a class
+pub class_exists : (setting : Setting) → IsBuilt setting → (o : ObjectId) → o.0 < length setting.objects → (class : Class) × (class_of setting o ≡ Some class)
+class_exists setting b o lt =
+    let object = some_at setting.objects o.0 lt in
+    let in_range = all_there (λ (d : ObjectDecl). d.class < length setting.classes) setting.objects o.0 object.0 b.proper.objects object.1 in
+    let class = some_at setting.classes object.0.class in_range in
+    (class.0, rw object.1 class.1)
+
+-- and stands where it is kept
+pub stands_in : {setting : Setting} (b : IsBuilt setting) {J : List Entry} {objects : List Standing} → AreObjects setting J objects → (o : ObjectId)
+    → o.0 < length setting.objects → StandsIn b J o
+stands_in {setting = setting} b {objects = objects} are o lt =
+    let class = class_exists setting b o lt in
+    let x = some_at objects o.0 (subst (λ n. o.0 < n) (sym are.count) lt) in
+    record { class = class.0; class_is = class.1; standing = x.0; object = are.each o class.0 x.0 class.1 x.1 }
+
+-- the pools stay as many
+length-delivered : (n : ℕ) (xs : List Stimulus) (pools : List (List Waiting)) → length (delivered n xs pools) ≡ length pools
+length-delivered n [] pools = refl
+length-delivered n (x ∷ rest) pools = length-delivered (n + 1) rest _ ∙ length-set pools x.object.0 _
+
+length-left : (e : Entry) (pools : List (List Waiting)) → length (left_by e pools) ≡ length pools
+length-left (Take o number firing) pools = length-set pools o.0 _
+length-left (Post o g args) pools = refl
+length-left (Start o) pools = refl
+length-left (Done o v firing) pools = refl
+length-left (Exit o v outs) pools = refl
+length-left (Effect o v outs) pools = refl
+length-left (Enter o v outs) pools = refl
+length-left (Opened o r mode how) pools = refl
+length-left (Pick o v route) pools = refl
+length-left (DoStep o v k outs) pools = refl
+
+-- what waits in a pool
+pub waits-at : (pools : List Queue) (o : ObjectId) (p : Queue) → slice_get pools o.0 ≡ Some p → slice_get (waiting_in pools) o.0 ≡ Some p.waiting
+waits-at pools o p at = slice_get-map (λ (q : Queue). q.waiting) pools o.0 ∙ mapped_at (λ (q : Queue). q.waiting) (slice_get pools o.0) p at
+
+-- the objects to which an entry sends are those of the setting
+sends-there : (setting : Setting) (class : Class) (xs : List Out) → All (IsOutOf setting class) xs → HavePools (flat_map signals_of_out xs) (length setting.objects)
+sends-there setting class [] all = tt
+sends-there setting class (outs.Mark mark args ∷ rest) all =
+    sends-there setting class rest (All-tail (IsOutOf setting class) (outs.Mark mark args) rest all)
+sends-there setting class (outs.Send object signal args ∷ rest) all = (
+  (All-head (IsOutOf setting class) (outs.Send object signal args) rest all).0,
+  sends-there setting class rest (All-tail (IsOutOf setting class) (outs.Send object signal args) rest all),
+)
+
+pub signals-there : (setting : Setting) (class : Class) (e : Entry) → (object_of e).0 < length setting.objects → NamesKnown setting class e
+    → HavePools (signals_of_entry e) (length setting.objects)
+signals-there setting class (Post o g args) there known = (there, tt)
+signals-there setting class (Start o) there known = tt
+signals-there setting class (Take o number firing) there known = tt
+signals-there setting class (Done o v firing) there known = tt
+signals-there setting class (Exit o v xs) there known = sends-there setting class xs known.1
+signals-there setting class (Effect o v xs) there known = sends-there setting class xs known.1
+signals-there setting class (Enter o v xs) there known = sends-there setting class xs known.1
+signals-there setting class (Opened o r mode how) there known = tt
+signals-there setting class (Pick o v route) there known = tt
+signals-there setting class (DoStep o v k xs) there known = sends-there setting class xs known.1
+
+module _ {setting : Setting} (b : IsBuilt setting) {J : List Entry} {s : Situation} (stands : StandsSo setting J s) (e : Entry) (may : MayFollow setting J e) where
+  -- the object of the entry with its class
+  pub class_here : (class : Class) × (class_of setting (object_of e) ≡ Some class)
+  class_here = ((may A1).0, (may A1).1)
+
+  pub here_there : (object_of e).0 < length setting.objects
+  here_there = object_there setting (object_of e) (may A1).0 (may A1).1
+
+  pub standing_here : (x : Standing) × (slice_get s.objects.items (object_of e).0 ≡ Some x)
+  standing_here = some_at s.objects.items (object_of e).0 (subst (λ n. (object_of e).0 < n) (sym stands.objects.count) here_there)
+
+  pub part_here : IsPart setting J s.pools.items (object_of e) (may A1).0 standing_here.0
+  part_here = is_part b stands.objects stands.pools (object_of e) (may A1).0 standing_here.0 (may A1).1 standing_here.1
+
+  -- it comes with its signal
+  pub signal_here : HasSignal J (may A1).0 (object_of e) e (signal_taken s.pools.items e)
+  signal_here =
+      ⊎_elim (λ has. has) (λ other. absurd (other.4 (pool_kept setting J e (may A1).0 (may A1).1 (may A6))))
+      (has_signal part_here e refl (signal_taken s.pools.items e) refl)
+
+  -- so its object may go on by it
+  pub can_step : CanStep setting s.objects.items (signal_taken s.pools.items e) e
+  can_step = record {
+    before = J;
+    are = stands.objects;
+    class = (may A1).0;
+    class_is = (may A1).1;
+    names = signal_here.names;
+    keeps = λ rule. subst (λ g. KeepsOwn (may A1).0 (told_by J) g rule J e) signal_here.signal_is (own_of setting J e (may A1).0 (may A1).1 rule (may rule));
+  }
+
+  -- each object that has a pool has it still
+  has_pool : (q : ObjectId) → q.0 < length setting.objects → HasPool J (waiting_in s.pools.items) q
+  has_pool q lt =
+      let at = some_at s.pools.items q.0 (subst (λ n. q.0 < n) (sym stands.pools.count) lt) in
+      let is = stands_in b stands.objects q lt in
+      ((at.0.waiting, waits-at s.pools.items q at.0 at.1), subst (HasSignalsTaken J) is.object.own is.object.stands.told)
+
+  have_waiting : HaveWaiting J (waiting_in s.pools.items)
+  have_waiting q waiting at =
+      let found = mapped_some (λ (p : Queue). p.waiting) (slice_get s.pools.items q.0) waiting
+      (sym (slice_get-map (λ (p : Queue). p.waiting) s.pools.items q.0) ∙ at) in
+      stands.pools.each q found.0 found.1 ∙ ap (numbered_for q) found.2
+
+  -- what waits for an object once the entry has come
+  pool_after : TakeOrNot e → (q : ObjectId) → q.0 < length setting.objects → (waiting : List Waiting)
+      → slice_get (delivered (s.told + 1) (signals_of_entry e) (left_by e (waiting_in s.pools.items))) q.0 ≡ Some waiting
+      → pool_of (J ++ e ∷ []) q ≡ numbered_for q waiting
+  pool_after (no_take free) q lt waiting at = arrived J e (waiting_in s.pools.items) s.told q free stands.told have_waiting (has_pool q lt) waiting at
+  pool_after (is_take r number firing is) q lt waiting at =
+      let owner : object_of e ≡ r = ap object_of is in
+      let first = taken-first stands.pools (object_of e) (may A1).0 (free_to_take part_here) (subst (λ n. (object_of e).0 < n) (sym stands.pools.count) here_there)
+      number (pool_kept setting J (Take (object_of e) number firing) (may A1).0 (may A1).1
+      (subst (MayFollow setting J) (is ∙ ap (λ p. Take p number firing) (sym owner)) may A6)) in
+      let has = has-first s.pools.items (object_of e) first.0 first.1 in
+      let there : slice_get (waiting_in s.pools.items) r.0 ≡ Some (first.0 ∷ has.behind) =
+      subst (λ (p : ObjectId). slice_get (waiting_in s.pools.items) p.0 ≡ Some (first.0 ∷ has.behind)) owner
+      (waits-at s.pools.items (object_of e) has.pool.pool has.pool.there ∙ ap Some has.pool.waiting_is) in
+      subst (λ f. pool_of (J ++ f ∷ []) q ≡ numbered_for q waiting) (sym is)
+      (left J r first.0 has.behind number firing (waiting_in s.pools.items) q first.2 there have_waiting waiting
+      (subst (λ f. slice_get (delivered (s.told + 1) (signals_of_entry f) (left_by f (waiting_in s.pools.items))) q.0 ≡ Some waiting) is at))
+
+  pub pools_after : (new : List Queue) → waiting_in new ≡ delivered (s.told + 1) (signals_of_entry e) (left_by e (waiting_in s.pools.items))
+      → ArePools setting (J ++ e ∷ []) new
+  pools_after new is =
+      let count : length new ≡ length setting.objects =
+      sym (length-map new (λ (p : Queue). p.waiting)) ∙ ap length is
+      ∙ length-delivered (s.told + 1) (signals_of_entry e) (left_by e (waiting_in s.pools.items))
+      ∙ length-left e (waiting_in s.pools.items) ∙ length-map s.pools.items (λ (p : Queue). p.waiting) ∙ stands.pools.count in
+      record {
+        count = count;
+        each = λ q p at.
+            pool_after (take_or_not e) q (subst (λ n. q.0 < n) count (slice_get_within new q.0 p at)) p.waiting
+            (subst (λ ps. slice_get ps q.0 ≡ Some p.waiting) is (waits-at new q p at));
+      }
+
+  -- how many signals there are
+  pub told_after : s.told + length (signals_of_entry e) ≡ length (signals_of (J ++ e ∷ []))
+  told_after =
+      ap (λ n. n + length (signals_of_entry e)) stands.told ∙ sym (length-append (signals_of J) (signals_of_entry e)) ∙ sym (ap length (signals_of-append J e))
+
+  -- All that is kept is so of the longer journal.
+  pub stands_after : (new : Situation) → HaveStepped setting s.objects.items (signal_taken s.pools.items e) e new.objects.items
+      → waiting_in new.pools.items ≡ delivered (s.told + 1) (signals_of_entry e) (left_by e (waiting_in s.pools.items))
+      → new.told ≡ s.told + length (signals_of_entry e) → StandsSo setting (J ++ e ∷ []) new
+  stands_after new stepped pools told = record {
+    objects = stepped J stands.objects signal_here.told;
+    pools = pools_after new.pools.items pools;
+    told = told ∙ told_after;
+  }
+
+-- A post changes the pool of its object alone.
+pub brings-posted : {setting : Setting} → IsBuilt setting → (old new : Situation) (e : Entry) (x : Stimulus) → e ≡ Post x.object x.signal x.args
+    → HasPosted old x new → Brings setting old e new
+brings-posted {setting = setting} b old new e x is h = λ J stands may.
+    let post : IsPost e = subst IsPost (sym is) tt in
+    let first = waiting_in old.pools.items in
+    stands_after b stands e may new
+    (λ K are told. subst (AreObjects setting (K ++ e ∷ [])) (sym h.objects) (record {
+      count = are.count;
+      each = λ q k y class_is at.
+          let was = are.each q k y class_is at in
+          record { own = was.own; stands = other_entries k was.stands e (λ own. post) };
+    }))
+    (h.pools ∙ sym (ap (λ f. delivered (old.told + 1) (signals_of_entry f) (left_by f first)) is))
+    (h.told ∙ sym (ap (λ f. old.told + length (signals_of_entry f)) is))
+
+-- Where nothing has changed but room, the same stands so.
+pub stands_unchanged : {setting : Setting} {J : List Entry} {s new : Situation} → StandsSo setting J s → IsUnchanged s new → StandsSo setting J new
+stands_unchanged {setting = setting} {J = J} {s = s} {new = new} stands same = record {
+  objects = subst (AreObjects setting J) (sym same.objects) stands.objects;
+  pools = record {
+    count = sym (length-map new.pools.items (λ (p : Queue). p.waiting)) ∙ ap (λ (ws : List (List Waiting)). length ws) same.pools
+        ∙ length-map s.pools.items (λ (p : Queue). p.waiting) ∙ stands.pools.count;
+    each = λ o p at.
+        let there : slice_get (waiting_in s.pools.items) o.0 ≡ Some p.waiting =
+        subst (λ ws. slice_get ws o.0 ≡ Some p.waiting) same.pools (waits-at new.pools.items o p at) in
+        let found = mapped_some (λ (q : Queue). q.waiting) (slice_get s.pools.items o.0) p.waiting
+        (sym (slice_get-map (λ (q : Queue). q.waiting) s.pools.items o.0) ∙ there) in
+        stands.pools.each o found.0 found.1 ∙ ap (numbered_for o) found.2;
+  };
+  told = same.told ∙ stands.told;
+}
+
+-- What an entry that can come asks of the parts, before it comes.
+module _ {setting : Setting} (b : IsBuilt setting) {s : Situation} {e : Entry} (can : CanCome setting s e) where
+  pub pools_there : HavePools (signals_of_entry e) (length s.pools.items)
+  pools_there =
+      subst (HavePools (signals_of_entry e)) (sym can.stands.pools.count)
+      (signals-there setting (can.follows A1).0 e (here_there b can.stands e can.follows)
+      (names_of setting can.before e (can.follows A1).0 (can.follows A1).1 (can.follows A1)))
+
+  pub pool_there : (object_of e).0 < length s.pools.items
+  pool_there = subst (λ n. (object_of e).0 < n) (sym can.stands.pools.count) (here_there b can.stands e can.follows)
+
+  pub can_step_now : (pools : List Queue) → waiting_in pools ≡ waiting_in s.pools.items → (signal : Option Waiting) → signal ≡ signal_taken pools e
+      → CanStep setting s.objects.items signal e
+  can_step_now pools same signal is =
+      subst (λ g. CanStep setting s.objects.items g e) (sym (is ∙ taken-alike s.pools.items pools e same)) (can_step b can.stands e can.follows)

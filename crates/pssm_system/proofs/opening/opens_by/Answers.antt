@@ -1,8 +1,0 @@
--- a region opens by none where it has no initial vertex
-use Rattle.pssm_system.proofs.Reactions.{opens_by_none}
-use Rattle.pssm_system.proofs.opening.opens_by.Goals as goal
-
-pub returns-in-Nothing : goal.returns-in-Nothing
-returns-in-Nothing c =
-    opens_by_none c.args.machine.now c.args.r c.args.how.now c.initials_of.result.now c.is_empty.result c.in-Nothing.is
-    c.initials_of.ensures.items c.is_empty.ensures
