@@ -21,3 +21,4 @@ pub mod formers
 pub mod Codes
 pub mod inner
 pub mod later
+pub mod DraftSettings

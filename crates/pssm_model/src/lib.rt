@@ -8,6 +8,7 @@
 mod boxed;
 mod built;
 mod depths;
+mod draft_setting;
 mod duplicate;
 mod elements;
 mod forest;
@@ -23,6 +24,10 @@ mod text;
 
 pub use boxed::Boxed;
 pub use built::first_not_built;
+pub use draft_setting::{
+    Body, Draft, DraftClass, DraftObject, DraftParts, DraftSignal, DraftVar, ElementRef, End,
+    FlatDraft, PartConnection, PartGuard, PartRegion, PartTransition, PartVertex,
+};
 pub use duplicate::Duplicate;
 pub use elements::{
     DraftMachine, Element, FaultPlace, Guard, Owner, Shape, TransKind, Transition, Vertex,
