@@ -11,7 +11,7 @@ use Rattle.pssm_semantics.specs.declared.setting.Setting.{Setting}
 use Rattle.pssm_semantics.specs.Rules.{Holds}
 use Rattle.pssm_semantics.specs.Pool.{output_count}
 use Rattle.pssm_lines.specs.declared.fault.LineFault.{LineFault}
-use Rattle.pssm_lines.specs.LineText.{line_text, header_line, text_of, journal_text}
+use Rattle.pssm_lines.specs.LineText.{header_line, text_of, journal_text}
 use Rattle.pssm_lines.specs.Faults.{IsJournalLine, IsFaultOf, HasFault, in_header, in_line}
 use Rattle.pssm_lines.proofs.Spellings.{lines_apart}
 use Rattle.pssm_lines.proofs.OneFault.{no_line_fault, no_header_fault, one_reading, no_fault_at_all}

@@ -1,3 +1,4 @@
+pub mod BriefLaws
 pub mod PlaceLaws
 pub mod EntryLaws
 pub mod OutputCounts

@@ -1,8 +1,8 @@
 -- The line of an entry that the code runs so far is not longer than a line may be.
-use Rattle.std.proofs.Common.{◌≡◌, ℕ, ℤ, pos, negsuc, suc, ◌+◌, ◌*◌, map, ◌<◌, ◌≤◌, true, leb, List, [], ◌∷◌, ◌++◌, length, Option, Some, None, refl, sym, ap, subst, ◌∙◌, arith, inl, inr}
+use Rattle.std.proofs.Common.{◌≡◌, ℕ, ℤ, pos, negsuc, suc, ◌+◌, ◌*◌, map, ◌<◌, ◌≤◌, true, leb, List, [], ◌∷◌, ◌++◌, length, Some, refl, sym, subst, arith, inl, inr}
 use Rattle.std.specs.Prelude.{codes, FitsSigned}
 use Rattle.std.specs.Int.{w64}
-use Rattle.std.specs.List.{AllByRecursion, flat_map, join_with_byte, sum_by}
+use Rattle.std.specs.List.{AllByRecursion, join_with_byte, sum_by}
 use Rattle.std.specs.Fmt.{decimal, signed_decimal}
 use Rattle.std.proofs.lemmas.Bool.{leb-true}
 use Rattle.std.proofs.lemmas.List.{length-append}
@@ -26,7 +26,7 @@ use Rattle.pssm_spelling.specs.Spelling.{IsName}
 use Rattle.pssm_lines.specs.LineText.{line_text, firing_text, routes_text, how_text, args_text, call_text, out_text, outs_text}
 use Rattle.pssm_lines.specs.Grammar.{IsLine, IsSpelledFiring, IsSpelledHow, IsSpelledRoute, AreArgs, IsSpelledOut, AreSpelledOuts}
 use Rattle.pssm_lines.specs.Faults.{IsJournalLine}
-use Rattle.pssm_journal.specs.Entries.{◌>>=◌, object_named, signal_named, outs_named, object_name, entry_at, entry_named, IsEntryOf}
+use Rattle.pssm_journal.specs.Entries.{object_named, outs_named, object_name, entry_at, entry_named, IsEntryOf}
 use Rattle.pssm_journal.proofs.OutputCounts.{step_some}
 
 -- ---- lengths

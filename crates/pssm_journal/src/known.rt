@@ -11,7 +11,8 @@ use pssm_model::{Firing, How, Machine, Route, SignalId, TransId, VertexId};
 use pssm_semantics::{Class, Entry, ObjectId, Out, Setting};
 
 /// Whether the signal is one of the setting and has this many parameters.
-fn has_count(setting: &Setting, signal: SignalId, count: usize) -> bool
+#[inline(always)]
+pub fn has_count(setting: &Setting, signal: SignalId, count: usize) -> bool
     ensures { IsTrue result ↔ HasCount setting.now signal count }
 {
     match setting.signals.as_slice().get(signal.0 as usize) {
@@ -44,7 +45,17 @@ fn is_firing_of(machine: &Machine, firing: &Firing) -> bool
         .all(|r| is_route_of(machine, r))
 }
 
-fn is_vertex_of(machine: &Machine, vertex: VertexId) -> bool
+/// Whether the machine has the transition.
+#[inline(always)]
+pub fn is_transition_of(machine: &Machine, transition: TransId) -> bool
+    ensures { IsTrue result ↔ (transition.0 < length machine.now.transitions) }
+{
+    transition.0 < machine.transitions()
+}
+
+/// Whether the machine has the vertex.
+#[inline(always)]
+pub fn is_vertex_of(machine: &Machine, vertex: VertexId) -> bool
     ensures { IsTrue result ↔ IsVertexOf machine.now vertex }
 {
     vertex.0 < machine.vertices()

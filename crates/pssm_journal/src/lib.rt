@@ -7,6 +7,7 @@
 //! How lines are spelled is known below (`pssm_lines`), and whether an entry may follow is for the crates above.
 #![tactic(auto)]
 
+mod brief;
 mod entry;
 mod entry_lines;
 mod judged;
@@ -22,14 +23,15 @@ mod ranges;
 mod tests;
 mod writing;
 
+pub use brief::{BriefEntry, EntryAct, Near, entry_of_brief};
 pub use entry::{entry_of, entry_of_parts};
 pub use judged::one_judgement;
 pub use laws::{built_lines, read_again};
 pub use namespace::Namespace;
 pub use naming::line_of;
 pub use pssm_lines::{
-    Fed, Front, LineFault, LineParts, LineReader, OutParts, OutsText, front_of, next_out,
-    one_fault, one_spelling, write_line,
+    BriefAct, BriefParts, Fed, Front, LineFault, LineParts, LineReader, OutParts, OutsText,
+    brief_at, firing_of, front_of, next_out, one_fault, one_spelling, write_line,
 };
 pub use pssm_semantics::{Entry, Line, LineOut, Out, Rule};
 pub use writing::put_entry;

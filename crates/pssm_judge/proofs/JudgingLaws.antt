@@ -1,5 +1,5 @@
 -- The judging of a journal, line after line.
-use Rattle.std.proofs.Common.{◌≡◌, ◌≤◌, ◌+◌, ℕ, suc, Bool, true, false, List, [], ◌∷◌, ◌++◌, length, refl, sym, ap, subst, ◌∙◌, arith, length-append}
+use Rattle.std.proofs.Common.{◌≡◌, ◌<◌, ◌≤◌, ◌+◌, ℕ, suc, Bool, true, false, List, [], ◌∷◌, ◌++◌, length, refl, sym, ap, subst, ◌∙◌, arith, length-append}
 use Rattle.std.specs.List.{AllByRecursion}
 use Rattle.std.proofs.lemmas.List.{append-nil}
 use Rattle.pssm_semantics.specs.declared.entry.Entry.{Entry}
@@ -180,3 +180,15 @@ judged_whole setting bytes rest true number run j seen none completes =
         completes = subst (λ (s : Setting). CompletesInTime s run.journal) j.setting_is completes;
       },
     )
+
+-- ---- less is left behind a line
+
+pub shorter_line : (l : Line) (rest after : List ℕ) → rest ≡ line_text l ++ 10 ∷ after → length after < length rest
+shorter_line l rest after is =
+    let all : length rest ≡ length (line_text l ++ 10 ∷ after) = ap (λ (t : List ℕ). length t) is in
+    omega (arith, all, length-append (line_text l) (10 ∷ after))
+
+pub shorter_header : (rest after : List ℕ) → rest ≡ header_line ++ after → length after < length rest
+shorter_header rest after is =
+    let all : length rest ≡ length (header_line ++ after) = ap (λ (t : List ℕ). length t) is in
+    omega (arith, all, length-append header_line after)

@@ -1,6 +1,6 @@
 -- What one line more does to a run.
-use Rattle.std.proofs.Common.{◌≡◌, ◌+◌, ◌<◌, ◌≤◌, ◌⊎◌, ◌↔◌, ℕ, Bool, true, false, Option, Some, None, List, [], ◌∷◌, ◌++◌, length, sym, ap, subst, ◌∙◌, arith, inl, inr, length-append}
-use Rattle.std.specs.Prelude.{IsTrue, IfSome, IfNone}
+use Rattle.std.proofs.Common.{◌≡◌, ◌+◌, ◌<◌, ◌≤◌, ◌⊎◌, ◌↔◌, ℕ, Result, Ok, Err, Bool, true, false, Option, Some, None, List, [], ◌∷◌, ◌++◌, length, sym, ap, subst, ◌∙◌, arith, inl, inr, length-append}
+use Rattle.std.specs.Prelude.{IsTrue, IfOk, IfSome, IfNone}
 use Rattle.std.proofs.lemmas.List.Sums.{sum_by_push}
 use Rattle.pssm_semantics.specs.declared.entry.Entry.{Entry}
 use Rattle.pssm_semantics.specs.declared.line.Line.{Line}
@@ -12,7 +12,8 @@ use Rattle.pssm_journal.specs.Entries.{IsEntryOf, KeepsNames, BreaksNames}
 use Rattle.pssm_journal.specs.Judged.{line_output_count, PassesLimits}
 use Rattle.pssm_journal.proofs.OutputCounts.{entry_output_count, line_outputs}
 use Rattle.pssm_system.specs.History.{History}
-use Rattle.pssm_judge.specs.inner.Following.{TakesLine}
+use Rattle.pssm_judge.specs.declared.run.Stop.{Stop}
+use Rattle.pssm_judge.specs.inner.Following.{IsTold, TakesLine}
 
 -- the outputs of a journal with the entry of a line more
 pub outputs_push : (setting : Setting) (J : List Entry) (line : Line) (e : Entry) → IsEntryOf setting line e → output_count (J ++ e ∷ []) ≡ output_count J + line_output_count line
@@ -63,3 +64,31 @@ found_keeps s t o e same is found = subst (λ (x : Setting). KeepsNames x e) sam
 -- nothing was found
 pub found_none : (s t : Setting) (line : Line) (o : Option Entry) → s ≡ t → o ≡ None → IfNone o (BreaksNames s line) → BreaksNames t line
 found_none s t line o same is none = subst (λ (x : Setting). BreaksNames x line) same (subst (λ (p : Option Entry). IfNone p (BreaksNames s line)) is none)
+
+-- What is known of an entry before it is added.
+pub told_line : (run : History) (line : Line) (e : Entry) (entries outputs further : ℕ) (passes : Bool) → IsAdmissibleIn run.setting run.journal → IsEntryOf run.setting line e → KeepsNames run.setting e
+    → entries ≡ length run.journal → outputs ≡ output_count run.journal → further ≡ line_output_count line → IsTrue passes ↔ ((1000000 < entries + 1) ⊎ (2000000 < outputs + further)) → passes ≡ false
+    → IsTold run line (entries + 1) further e
+told_line run line e entries outputs further passes admissible writes known all told more test failed = record {
+  admissible = admissible;
+  writes = writes;
+  known = known;
+  within = keeps_within run.journal line entries outputs further passes all told more test failed;
+  placed = ap (λ (n : ℕ). n + 1) all;
+  counted = more;
+}
+
+-- The same of the same run.
+pub told_same : (run other : History) (line : Line) (position outputs : ℕ) (e : Entry) → run ≡ other → IsTold other line position outputs e → IsTold run line position outputs e
+told_same run other line position outputs e is told = subst (λ (h : History). IsTold h line position outputs e) (sym is) told
+
+-- What is said of each line of an entry is said of each line that was read.
+pub by_told : {E : Type 0} (r : Result (Option Stop) E) (A B Told : Line → Type 0) (P : Option Stop → Line → Type 0) → ((line : Line) → A line → B line → Told line)
+    → IfOk r (λ stop. (line : Line) → Told line → P stop line) → IfOk r (λ stop. (line : Line) → A line → B line → P stop line)
+by_told (Ok stop) A B Told P from h = λ line a b. h line (from line a b)
+by_told (Err e) A B Told P from h = tt
+
+pub at_told : {E : Type 0} (r : Result (Option Stop) E) (Told : Line → Type 0) (P : Option Stop → Line → Type 0) (l : Line) → Told l
+    → IfOk r (λ stop. (line : Line) → Told line → P stop line) → IfOk r (λ stop. P stop l)
+at_told (Ok stop) Told P l told h = h l told
+at_told (Err e) Told P l told h = tt

@@ -1,14 +1,16 @@
 //! `judge`: what a journal deserves under a setting.
-ghost use Rattle.std.specs.Prelude.{◌≡◌, [], IfOk, IfErr};
+ghost use Rattle.std.specs.Prelude.{◌≡◌, ℕ, List, [], true, IfOk, IfErr};
 ghost use Rattle.pssm_base.specs.Faults.{NoneFell};
 ghost use Rattle.pssm_base.specs.Reading.{SameContent};
+ghost use Rattle.pssm_semantics.specs.declared.setting.Setting.{Setting};
 ghost use Rattle.pssm_semantics.specs.Built.{IsBuilt};
+ghost use Rattle.pssm_judge.specs.inner.Judging.{IsJudging, IsTurn, IsShorter};
 ghost use Rattle.pssm_judge.specs.Verdicts.{IsVerdictOn, IsVerdictFor, IsFaultOn, IsFaultFor};
 
-use crate::run::Run;
+use crate::run::{Run, Stop};
 use crate::verdict::{JudgeFault, Verdict};
 use pssm_base::{Inputs, WholeFault, read_whole};
-use pssm_journal::{Front, LineFault, front_of};
+use pssm_journal::{Front, LineFault, brief_at, front_of};
 use pssm_semantics::Setting;
 use std::alloc::Global;
 
@@ -75,21 +77,74 @@ fn judge_lines(alloc: Global, run: &mut Run, journal: &[u8]) -> Result<Verdict, 
     let mut line = 1;
     let mut rest = journal;
     while !(begun && rest.is_empty()) {
-        match front_of(alloc, begun, line, rest)? {
-            Front::Header { rest: after } => {
+        match next_turn(alloc, run, begun, line, rest)? {
+            Turn::On { rest: after } => {
                 begun = true;
                 rest = after;
             }
-            Front::Line { parts, rest: after } => {
-                if let Some(stop) = run.take(alloc, parts)? {
-                    return stop.answer();
-                }
-                rest = after;
-            }
-            Front::Open => return Err(JudgeFault::Text(LineFault::NoEnd { line })),
-            Front::Fault(fault) => return Err(JudgeFault::Text(fault)),
+            Turn::Stop(stop) => return stop.answer(),
         }
         line += 1;
     }
     Ok(Verdict::Accept { entries: run.len() })
+}
+
+/// How the judging goes on behind a line.
+pub enum Turn<'a> {
+    On { rest: &'a [u8] },
+    Stop(Stop),
+}
+
+// Takes the line that begins here, the first one of the text included.
+#[inline(always)]
+fn next_turn<'a>(
+    alloc: Global,
+    run: &mut Run,
+    begun: bool,
+    line: u32,
+    rest: &'a [u8],
+) -> Result<Turn<'a>, JudgeFault>
+    requires open { begun ≡ true → rest.now ≡ [] → ⊥ }
+    ensures goes_on { IfOk result (λ turn. (setting : Setting) (bytes : List ℕ) →
+        IsJudging setting bytes rest.now begun line run.old → IsTurn setting bytes line run.new turn) }
+    ensures shorter { IfOk result (IsShorter rest.now) }
+    ensures fault { IfErr result (λ fault. (setting : Setting) (bytes : List ℕ) →
+        IsJudging setting bytes rest.now begun line run.old → IsFaultOn setting bytes fault) }
+{
+    if begun {
+        if let Some((parts, after)) = brief_at(rest) {
+            return match run.take_brief(alloc, parts)? {
+                Some(stop) => Ok(Turn::Stop(stop)),
+                None => Ok(Turn::On { rest: after }),
+            };
+        }
+    }
+    any_turn(alloc, run, begun, line, rest)
+}
+
+// The same, whatever the line is.
+#[inline(never)]
+fn any_turn<'a>(
+    alloc: Global,
+    run: &mut Run,
+    begun: bool,
+    line: u32,
+    rest: &'a [u8],
+) -> Result<Turn<'a>, JudgeFault>
+    requires open { begun ≡ true → rest.now ≡ [] → ⊥ }
+    ensures goes_on { IfOk result (λ turn. (setting : Setting) (bytes : List ℕ) →
+        IsJudging setting bytes rest.now begun line run.old → IsTurn setting bytes line run.new turn) }
+    ensures shorter { IfOk result (IsShorter rest.now) }
+    ensures fault { IfErr result (λ fault. (setting : Setting) (bytes : List ℕ) →
+        IsJudging setting bytes rest.now begun line run.old → IsFaultOn setting bytes fault) }
+{
+    match front_of(alloc, begun, line, rest)? {
+        Front::Header { rest: after } => Ok(Turn::On { rest: after }),
+        Front::Line { parts, rest: after } => match run.take(alloc, parts)? {
+            Some(stop) => Ok(Turn::Stop(stop)),
+            None => Ok(Turn::On { rest: after }),
+        },
+        Front::Open => Err(JudgeFault::Text(LineFault::NoEnd { line })),
+        Front::Fault(fault) => Err(JudgeFault::Text(fault)),
+    }
 }

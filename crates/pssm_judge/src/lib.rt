@@ -9,6 +9,7 @@
 mod judging;
 mod laws;
 mod limits;
+mod room;
 mod run;
 mod verdict;
 

@@ -2,10 +2,10 @@
 ghost use Rattle.std.specs.Prelude.{◌≡◌, ◌+◌, ◌≤◌, ◌<◌, ◌⊎◌, ◌↔◌, IsTrue, count_by, ◌==◌};
 ghost use Rattle.pssm_semantics.specs.declared.line.Line.{Line};
 ghost use Rattle.pssm_lines.specs.Grammar.{IsLine};
-ghost use Rattle.pssm_lines.specs.Parts.{Shows};
+ghost use Rattle.pssm_lines.specs.Parts.{Shows, brief_line};
 ghost use Rattle.pssm_journal.specs.Judged.{line_output_count};
 
-use pssm_journal::{LineParts, OutsText};
+use pssm_journal::{BriefAct, BriefParts, LineParts, OutsText};
 
 // The most entries that a journal may have.
 const MOST_ENTRIES: usize = 1_000_000;
@@ -35,6 +35,16 @@ pub fn output_count(parts: &LineParts<'_>) -> usize
         | LineParts::Done { .. }
         | LineParts::Opened { .. }
         | LineParts::Pick { .. } => 0,
+    }
+}
+
+/// How many posts, sends and marks a brief line writes.
+pub fn brief_output_count(parts: &BriefParts<'_>) -> usize
+    ensures { result ≡ line_output_count (brief_line parts.now) }
+{
+    match parts.act {
+        BriefAct::Post { .. } => 1,
+        _ => 0,
     }
 }
 

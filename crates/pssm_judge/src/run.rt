@@ -1,18 +1,27 @@
 //! `Run`: the run that a journal has told so far.
 ghost use Rattle.std.specs.Prelude.{◌≡◌, [], length, IfOk, IfNone, IfSome};
+ghost use Rattle.pssm_semantics.specs.declared.entry.Entry.TheVariants as entries;
 ghost use Rattle.pssm_semantics.specs.declared.line.Line.{Line};
 ghost use Rattle.pssm_semantics.specs.Built.{IsBuilt};
 ghost use Rattle.pssm_semantics.specs.Laws.{CompletesInTime};
 ghost use Rattle.pssm_lines.specs.Grammar.{IsLine};
-ghost use Rattle.pssm_lines.specs.Parts.{Shows};
-ghost use Rattle.pssm_judge.specs.inner.Following.{TakesLine, StopsAt};
+ghost use Rattle.pssm_lines.specs.Parts.{Shows, firing_of_one, brief_line};
+ghost use Rattle.pssm_journal.specs.Briefs.{brief_entry};
+ghost use Rattle.pssm_semantics.specs.declared.entry.Rule.TheVariants.{A1};
+ghost use Rattle.pssm_judge.specs.declared.run.Stop.TheVariants.{Refuse};
+ghost use Rattle.pssm_judge.specs.inner.Following.{IsTold, TakesLine, StopsAt};
 ghost use Rattle.pssm_judge.specs.Verdicts.{answer_to};
 
-use crate::limits::{output_count, passes_limits};
+use crate::limits::{brief_output_count, output_count, passes_limits};
+use crate::room::{firing_in, firing_out};
 use crate::verdict::{JudgeFault, Verdict};
-use pssm_journal::{LineParts, Namespace, entry_of_parts};
-use pssm_semantics::{Rule, Setting};
-use pssm_system::System;
+use pssm_journal::{
+    BriefEntry, BriefParts, Entry, EntryAct, LineParts, Namespace, Near, entry_of_brief,
+    entry_of_parts,
+};
+use pssm_model::{Firing, Row, SignalId, TransId, VertexId};
+use pssm_semantics::{Args, ObjectId, Rule, Setting};
+use pssm_system::Follower;
 use std::alloc::{AllocError as NoMemory, Global};
 use std::marker::Model;
 
@@ -26,6 +35,14 @@ pub enum Stop {
 }
 
 impl Stop {
+    // The entry names what the setting does not have.
+    fn unknown(entry: u32) -> Stop
+        ensures { result ≡ Refuse entry A1 }
+    {
+        let rule = Rule::A1;
+        Stop::Refuse { entry, rule }
+    }
+
     /// The answer of the judge.
     pub fn answer(self) -> Result<Verdict, JudgeFault>
         ensures { result ≡ answer_to self }
@@ -37,11 +54,14 @@ impl Stop {
     }
 }
 
-/// The run that a journal has told so far, the namespace of its setting, and how many posts, sends and marks are in it.
+/// The run that a journal has told so far, the namespace of its setting, what the last brief line named, the firing of
+/// the last brief take, whose room the next one takes, and how many posts, sends and marks are in it.
 #[derive(Drop)]
 pub struct Run {
-    system: System,
+    follower: Follower,
     namespace: Namespace,
+    near: Near,
+    spare: Option<Firing>,
     outputs: usize,
 }
 
@@ -58,9 +78,9 @@ impl Model for Run {
 
     ghost coded = { Prim.hlevel (codes, stmt.the_row.coded, cond.the_row.coded, expr.the_row.coded) };
 
-    ghost view = { λ r. r.system };
+    ghost view = { λ r. r.follower };
 
-    ghost invariant = { λ r. (r.namespace ≡ r.system.setting) × (r.outputs ≡ count r.system.journal) };
+    ghost invariant = { λ r. (r.namespace ≡ r.follower.setting) × (r.outputs ≡ count r.follower.journal) };
 }
 
 impl Run {
@@ -72,8 +92,13 @@ impl Run {
     {
         let namespace = Namespace::new(alloc, &setting)?;
         Ok(Run {
-            system: System::new(alloc, setting)?,
+            follower: Follower::new(alloc, setting)?,
             namespace,
+            near: Near {
+                object: ObjectId(0),
+                signal: SignalId(0),
+            },
+            spare: None,
             outputs: 0,
         })
     }
@@ -83,7 +108,7 @@ impl Run {
         ensures count { result ≡ length self.now.journal }
         ensures completes { CompletesInTime self.now.setting self.now.journal }
     {
-        self.system.entries().len() as u32
+        self.follower.len() as u32
     }
 
     /// Takes the entry that a line writes, unless the journal passes its limits by it or it breaks a rule. The line is
@@ -95,23 +120,216 @@ impl Run {
         ensures stops { IfOk result (λ stop. (line : Line) → IsLine line → Shows parts.entry line
             → IfSome stop (StopsAt self.old.setting self.old.journal line)) }
     {
-        let entries = self.system.entries().len();
+        let entries = self.follower.len();
         let entry = entries as u32 + 1;
         let outputs = output_count(&parts);
         if passes_limits(entries, self.outputs, outputs) {
             return Ok(Some(Stop::Limit { entry }));
         }
-        let setting = self.system.setting();
+        let setting = self.follower.setting();
         let Some(told) = entry_of_parts(alloc, setting, &self.namespace, parts)? else {
-            return Ok(Some(Stop::Refuse {
-                entry,
-                rule: Rule::A1,
-            }));
+            return Ok(Some(Stop::unknown(entry)));
         };
-        if let Some(rule) = self.system.allows(&told)? {
+        self.add(entry, outputs, &told)
+    }
+
+    /// The same for a brief line.
+    #[inline(always)]
+    pub fn take_brief(
+        &mut self,
+        alloc: Global,
+        parts: BriefParts<'_>,
+    ) -> Result<Option<Stop>, NoMemory>
+        requires { IsLine (brief_line parts) }
+        ensures takes { IfOk result (λ stop. IfNone stop (TakesLine self.old self.new (brief_line parts.entry))) }
+        ensures stops { IfOk result (λ stop. IfSome stop
+            (StopsAt self.old.setting self.old.journal (brief_line parts.entry))) }
+    {
+        let before = self.follower.len();
+        let entry = before as u32 + 1;
+        let outputs = brief_output_count(&parts);
+        if passes_limits(before, self.outputs, outputs) {
+            return Ok(Some(Stop::Limit { entry }));
+        }
+        let setting = self.follower.setting();
+        let Some(told) = entry_of_brief(setting, &self.namespace, self.near, parts) else {
+            return Ok(Some(Stop::unknown(entry)));
+        };
+        self.add_brief(alloc, entry, outputs, told)
+    }
+
+    // Adds the entry that a brief line writes, unless it breaks a rule.
+    #[inline(always)]
+    fn add_brief(
+        &mut self,
+        alloc: Global,
+        entry: u32,
+        outputs: usize,
+        told: BriefEntry,
+    ) -> Result<Option<Stop>, NoMemory>
+        requires { (line : Line) × IsTold self.old line entry outputs (brief_entry told) }
+        ensures takes { IfOk result (λ stop. (line : Line) → IsTold self.old line entry outputs (brief_entry told)
+            → IfNone stop (TakesLine self.old self.new line)) }
+        ensures stops { IfOk result (λ stop. (line : Line) → IsTold self.old line entry outputs (brief_entry told)
+            → IfSome stop (StopsAt self.old.setting self.old.journal line)) }
+    {
+        let object = told.object;
+        self.near.object = object;
+        match told.act {
+            EntryAct::Post { signal } => self.add_post(alloc, entry, outputs, object, signal),
+            EntryAct::Take { number, start } => {
+                self.add_take(alloc, entry, outputs, object, number, start)
+            }
+            EntryAct::Exit { state } => self.add_exit(alloc, entry, outputs, object, state),
+            EntryAct::Effect { transition } => {
+                self.add_effect(alloc, entry, outputs, object, transition)
+            }
+            EntryAct::Enter { state } => self.add_enter(alloc, entry, outputs, object, state),
+        }
+    }
+
+    // Adds a post without arguments.
+    #[inline(always)]
+    fn add_post(
+        &mut self,
+        alloc: Global,
+        entry: u32,
+        outputs: usize,
+        object: ObjectId,
+        signal: SignalId,
+    ) -> Result<Option<Stop>, NoMemory>
+        requires { (line : Line) × IsTold self.old line entry outputs (entries.Post object signal []) }
+        ensures takes { IfOk result (λ stop. (line : Line) → IsTold self.old line entry outputs (entries.Post object signal [])
+            → IfNone stop (TakesLine self.old self.new line)) }
+        ensures stops { IfOk result (λ stop. (line : Line) → IsTold self.old line entry outputs (entries.Post object signal [])
+            → IfSome stop (StopsAt self.old.setting self.old.journal line)) }
+    {
+        self.near.signal = signal;
+        let args = Args::from_vec(Vec::new(alloc));
+        let told = Entry::Post {
+            object,
+            signal,
+            args,
+        };
+        self.add(entry, outputs, &told)
+    }
+
+    // Adds a take by one route of one start.
+    #[inline(always)]
+    fn add_take(
+        &mut self,
+        alloc: Global,
+        entry: u32,
+        outputs: usize,
+        object: ObjectId,
+        number: u32,
+        start: TransId,
+    ) -> Result<Option<Stop>, NoMemory>
+        requires { (line : Line) × IsTold self.old line entry outputs (entries.Take object number (firing_of_one start)) }
+        ensures takes { IfOk result (λ stop. (line : Line) → IsTold self.old line entry outputs (entries.Take object number (firing_of_one start))
+            → IfNone stop (TakesLine self.old self.new line)) }
+        ensures stops { IfOk result (λ stop. (line : Line) → IsTold self.old line entry outputs (entries.Take object number (firing_of_one start))
+            → IfSome stop (StopsAt self.old.setting self.old.journal line)) }
+    {
+        let firing = firing_in(alloc, self.spare.take(), start)?;
+        let told = Entry::Take {
+            object,
+            number,
+            firing,
+        };
+        let outcome = self.add(entry, outputs, &told);
+        self.spare = firing_out(told);
+        outcome
+    }
+
+    // Adds an exit without outputs.
+    #[inline(always)]
+    fn add_exit(
+        &mut self,
+        alloc: Global,
+        entry: u32,
+        outputs: usize,
+        object: ObjectId,
+        state: VertexId,
+    ) -> Result<Option<Stop>, NoMemory>
+        requires { (line : Line) × IsTold self.old line entry outputs (entries.Exit object state []) }
+        ensures takes { IfOk result (λ stop. (line : Line) → IsTold self.old line entry outputs (entries.Exit object state [])
+            → IfNone stop (TakesLine self.old self.new line)) }
+        ensures stops { IfOk result (λ stop. (line : Line) → IsTold self.old line entry outputs (entries.Exit object state [])
+            → IfSome stop (StopsAt self.old.setting self.old.journal line)) }
+    {
+        let outs = Row::from_vec(Vec::new(alloc));
+        let told = Entry::Exit {
+            object,
+            state,
+            outs,
+        };
+        self.add(entry, outputs, &told)
+    }
+
+    // Adds an effect without outputs.
+    #[inline(always)]
+    fn add_effect(
+        &mut self,
+        alloc: Global,
+        entry: u32,
+        outputs: usize,
+        object: ObjectId,
+        transition: TransId,
+    ) -> Result<Option<Stop>, NoMemory>
+        requires { (line : Line) × IsTold self.old line entry outputs (entries.Effect object transition []) }
+        ensures takes { IfOk result (λ stop. (line : Line) → IsTold self.old line entry outputs (entries.Effect object transition [])
+            → IfNone stop (TakesLine self.old self.new line)) }
+        ensures stops { IfOk result (λ stop. (line : Line) → IsTold self.old line entry outputs (entries.Effect object transition [])
+            → IfSome stop (StopsAt self.old.setting self.old.journal line)) }
+    {
+        let outs = Row::from_vec(Vec::new(alloc));
+        let told = Entry::Effect {
+            object,
+            transition,
+            outs,
+        };
+        self.add(entry, outputs, &told)
+    }
+
+    // Adds an entry of a State without outputs.
+    #[inline(always)]
+    fn add_enter(
+        &mut self,
+        alloc: Global,
+        entry: u32,
+        outputs: usize,
+        object: ObjectId,
+        state: VertexId,
+    ) -> Result<Option<Stop>, NoMemory>
+        requires { (line : Line) × IsTold self.old line entry outputs (entries.Enter object state []) }
+        ensures takes { IfOk result (λ stop. (line : Line) → IsTold self.old line entry outputs (entries.Enter object state [])
+            → IfNone stop (TakesLine self.old self.new line)) }
+        ensures stops { IfOk result (λ stop. (line : Line) → IsTold self.old line entry outputs (entries.Enter object state [])
+            → IfSome stop (StopsAt self.old.setting self.old.journal line)) }
+    {
+        let outs = Row::from_vec(Vec::new(alloc));
+        let told = Entry::Enter {
+            object,
+            state,
+            outs,
+        };
+        self.add(entry, outputs, &told)
+    }
+
+    // Adds the entry that a line writes, unless it breaks a rule.
+    #[inline(never)]
+    fn add(&mut self, entry: u32, outputs: usize, told: &Entry) -> Result<Option<Stop>, NoMemory>
+        requires { (line : Line) × IsTold self.old line entry outputs told.now }
+        ensures takes { IfOk result (λ stop. (line : Line) → IsTold self.old line entry outputs told.now
+            → IfNone stop (TakesLine self.old self.new line)) }
+        ensures stops { IfOk result (λ stop. (line : Line) → IsTold self.old line entry outputs told.now
+            → IfSome stop (StopsAt self.old.setting self.old.journal line)) }
+    {
+        if let Some(rule) = self.follower.allows(told)? {
             return Ok(Some(Stop::Refuse { entry, rule }));
         }
-        self.system.apply(told)?;
+        self.follower.apply(told)?;
         self.outputs += outputs;
         Ok(None)
     }

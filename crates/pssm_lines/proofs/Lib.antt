@@ -18,3 +18,4 @@ pub mod WholeLaws
 pub mod Spellings
 pub mod OneFault
 pub mod EachText
+pub mod BriefLaws

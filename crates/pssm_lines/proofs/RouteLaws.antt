@@ -17,7 +17,8 @@ use Rattle.pssm_spelling.specs.SpellingReading.{is_digit, EndsRun, stripped, num
 use Rattle.pssm_spelling.proofs.SpellingLaws.{stripped_takes, stripped_again}
 use Rattle.pssm_lines.specs.LineText.{transition_text, route_text, routes_text, firing_text, mode_text, how_text}
 use Rattle.pssm_lines.specs.Grammar.{IsIndex, IsSpelledRoute, IsSpelledFiring, IsSpelledHow}
-use Rattle.pssm_lines.specs.inner.LineReading.{◌>>=◌, Reader, each_taken, joined_taken, vertex, transition, transition_taken, route_taken, firing_with, firing_of_one, routes_taken, firing_taken, mode_taken, opened_taken, how_taken, place_taken, turn_taken}
+use Rattle.pssm_lines.specs.Parts.{firing_of_one}
+use Rattle.pssm_lines.specs.inner.LineReading.{◌>>=◌, Reader, each_taken, joined_taken, vertex, transition, transition_taken, route_taken, firing_with, routes_taken, firing_taken, mode_taken, opened_taken, how_taken, place_taken, turn_taken}
 use Rattle.pssm_lines.proofs.Readers.{bind_at, chosen, choice_at, got, got_is, word_takes, word_again, Reads, step_takes, step_again, others_text, StopsAt, few_others, joined_parts, joined_text, ends_others, each_reads, joined_reads, turn_end}
 use Rattle.pssm_lines.proofs.PieceLaws.{Anything, name_reads, index_reads, number_reads}
 

@@ -1,5 +1,7 @@
 -- What the parts of a line, as they lie in a text, say: the line whose parts they are.
-use Rattle.std.specs.Prelude.{◌≡◌, List, ◌∷◌}
+use Rattle.std.specs.Prelude.{◌≡◌, ℕ, List, [], ◌∷◌}
+use Rattle.pssm_model.specs.declared.ids.TransId.{TransId}
+use Rattle.pssm_model.specs.declared.steps.Firing.{Firing}
 use Rattle.pssm_semantics.specs.declared.line.Line.{Line}
 use Rattle.pssm_semantics.specs.declared.line.Line.TheVariants.{Post, Start, Take, Done, Exit, Effect, Enter, Opened, Pick, DoStep}
 use Rattle.pssm_semantics.specs.declared.line.LineOut.{LineOut}
@@ -9,6 +11,9 @@ use Rattle.pssm_lines.specs.declared.parts.OutParts.{OutParts}
 use Rattle.pssm_lines.specs.declared.parts.OutParts.TheVariants as out_parts
 use Rattle.pssm_lines.specs.declared.parts.LineParts.{LineParts}
 use Rattle.pssm_lines.specs.declared.parts.LineParts.TheVariants as parts
+use Rattle.pssm_lines.specs.declared.parts.BriefAct.{BriefAct}
+use Rattle.pssm_lines.specs.declared.parts.BriefAct.TheVariants as acts
+use Rattle.pssm_lines.specs.declared.parts.BriefParts.{BriefParts}
 use Rattle.pssm_lines.specs.LineText.{outs_text}
 
 -- The text spells these outputs, each with a space before it.
@@ -36,3 +41,19 @@ Shows (parts.DoStep object state step text) l = (outs : List LineOut) × (l ≡ 
 -- The first of the outputs is shown by the parts, and the text spells the others.
 abbrev pub IsNextOut : OutParts → OutsText → List LineOut → Type 0
 IsNextOut part text outs = (first : LineOut) × (others : List LineOut) × (outs ≡ first ∷ others) × ShowsOut part first × ShowsOuts text others
+
+-- a firing of one route that has one start alone
+abbrev pub firing_of_one : TransId → Firing
+firing_of_one start = record { routes = record { starts = start ∷ []; rest = [] } ∷ [] }
+
+-- the line of an object that tells this of it
+abbrev pub line_of_act : List ℕ → BriefAct → Line
+line_of_act object (acts.Post signal) = Post object signal.now []
+line_of_act object (acts.Take number start) = Take object number (firing_of_one start)
+line_of_act object (acts.Exit state) = Exit object state []
+line_of_act object (acts.Effect transition) = Effect object transition []
+line_of_act object (acts.Enter state) = Enter object state []
+
+-- the line that the parts of a brief line show
+abbrev pub brief_line : BriefParts → Line
+brief_line parts = line_of_act parts.object.now parts.act

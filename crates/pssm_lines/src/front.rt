@@ -13,7 +13,7 @@ use pssm_spelling::strip;
 use std::alloc::{AllocError as NoMemory, Global};
 
 /// The greatest length of a line without its line feed, in bytes (this profile's choice).
-const LINE_LEN: usize = 65_536;
+pub const LINE_LEN: usize = 65_536;
 
 /// What stands at the front of the bytes of a journal that are still to be read.
 #[derive(Drop)]

@@ -1,7 +1,8 @@
 //! The groups of pieces that the forms of a line share.
 ghost use Rattle.std.specs.Prelude.{◌≡◌, Some, IfOk, IfSome};
 ghost use Rattle.std.specs.Option.{option_map};
-ghost use Rattle.pssm_lines.specs.inner.LineReading.{args_taken, called_taken, outs_span_taken, place_taken, turn_taken, transition_taken, firing_of_one, routes_taken, firing_taken, mode_taken, opened_taken, how_taken};
+ghost use Rattle.pssm_lines.specs.Parts.{firing_of_one};
+ghost use Rattle.pssm_lines.specs.inner.LineReading.{args_taken, called_taken, outs_span_taken, place_taken, turn_taken, transition_taken, routes_taken, firing_taken, mode_taken, opened_taken, how_taken};
 
 use crate::parts::OutsText;
 use crate::pieces::{Piece, behind, pass_each, read_joined};
@@ -53,9 +54,9 @@ fn some_outs_at(bytes: &[u8]) -> Option<(OutsText<'_>, &[u8])>
     Some((OutsText { bytes: outs }, rest))
 }
 
-// A transition that ends the line: what fires is one route of this start alone.
+/// A transition that ends the line: what fires is one route of this start alone.
 #[inline(always)]
-fn lone_start_at(bytes: &[u8]) -> Option<(TransId, &[u8])>
+pub fn lone_start_at(bytes: &[u8]) -> Option<(TransId, &[u8])>
     ensures { IfSome result (λ x. firing_taken bytes.now ≡ Some (firing_of_one x.0, x.1.now)) }
 {
     let digits = behind(bytes, b't')?;
@@ -64,9 +65,9 @@ fn lone_start_at(bytes: &[u8]) -> Option<(TransId, &[u8])>
     Some((TransId(number), rest))
 }
 
-// One route of one start.
+/// The firing of one route that has one start alone.
 #[inline(always)]
-fn firing_of(alloc: Global, start: TransId) -> Result<Firing, NoMemory>
+pub fn firing_of(alloc: Global, start: TransId) -> Result<Firing, NoMemory>
     ensures { IfOk result (λ firing. firing ≡ firing_of_one start) }
 {
     let starts = Row::from_vec(vec![in alloc; start]?);

@@ -9,6 +9,7 @@
 #![tactic(auto)]
 
 mod batch;
+mod brief;
 mod closing;
 mod fault;
 mod forms;
@@ -27,11 +28,13 @@ mod tests;
 mod whole;
 mod writing;
 
+pub use brief::brief_at;
 pub use fault::LineFault;
 pub use front::{Front, front_of};
+pub use groups::firing_of;
 pub use laws::{one_fault, one_spelling, text_or_fault};
 pub use outs::next_out;
-pub use parts::{LineParts, OutParts, OutsText};
+pub use parts::{BriefAct, BriefParts, LineParts, OutParts, OutsText};
 pub use pssm_semantics::{Line, LineOut};
 pub use reader::{Fed, LineReader};
 pub use spelled::{Spelled, put_call};

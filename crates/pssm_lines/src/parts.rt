@@ -77,3 +77,21 @@ pub enum LineParts<'a> {
         outs: OutsText<'a>,
     },
 }
+
+/// What a brief line tells of its object.
+#[derive(Clone, Copy)]
+pub enum BriefAct<'a> {
+    Post { signal: &'a [u8] },
+    Take { number: u32, start: TransId },
+    Exit { state: VertexId },
+    Effect { transition: TransId },
+    Enter { state: VertexId },
+}
+
+/// A brief line: one of the most frequent kinds, without arguments and outputs, and of what fires one route of one
+/// start. Nothing of it is taken from the allocator.
+#[derive(Clone, Copy)]
+pub struct BriefParts<'a> {
+    pub object: &'a [u8],
+    pub act: BriefAct<'a>,
+}

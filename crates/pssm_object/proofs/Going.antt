@@ -6,13 +6,13 @@ use Rattle.pssm_model.specs.declared.steps.How.{How}
 use Rattle.pssm_model.specs.declared.steps.Item.{Item}
 use Rattle.pssm_model.specs.Course.Head.{Starts, Fires}
 use Rattle.pssm_model.specs.Changes.{Agree, nothing_yet}
-use Rattle.pssm_config.specs.Tables.{configuration_of}
+use Rattle.pssm_config.specs.Tables.{Tables, configuration_of}
 use Rattle.pssm_plan.specs.Agenda.{Agenda}
 use Rattle.pssm_plan.specs.Plans.{IsPlanOf}
 use Rattle.pssm_semantics.specs.Values.{eight_of}
 use Rattle.pssm_object.specs.declared.object.Waiting.{Waiting}
 use Rattle.pssm_object.specs.Standing.{Standing}
-use Rattle.pssm_object.specs.inner.Advancing.{HasRunOn, Begins, Takes}
+use Rattle.pssm_object.specs.inner.Advancing.{HasRunOn, HasFired, Begins, Takes}
 
 -- the item has run, where that has succeeded
 pub has_run_on : {A E : Type 0} (m : DraftMachine) (old : Option Agenda) (was now : Agenda) (item : Item) (how : How) (outcome : Result A E)
@@ -22,6 +22,14 @@ pub has_run_on : {A E : Type 0} (m : DraftMachine) (old : Option Agenda) (was no
 has_run_on m old was now item how (Ok done) is head at_head ran plan =
     record { was = was; was_is = is; now = now; now_is = refl; head = head; at_head = at_head; ran = ran; is_plan = plan }
 has_run_on m old was now item how (Err error) is head at_head ran plan = tt
+
+-- the routes have fired, where that has succeeded
+pub has_fired : {A E : Type 0} (m : DraftMachine) (config : Tables) (firing : Firing) (now : Agenda) (outcome : Result A E)
+    → OnOk outcome (now.head ≡ Fires firing.routes) → OnOk outcome (now.at_head ≡ config) → OnOk outcome (now.ran ≡ [])
+    → OnOk outcome (IsPlanOf m now) → OnOk outcome (HasFired m config firing.routes (Some now))
+has_fired m config firing now (Ok done) head at_head ran plan =
+    (record { now = now; now_is = refl; head_is = head; ran = ran; is_plan = plan }, at_head)
+has_fired m config firing now (Err error) head at_head ran plan = tt
 
 -- a step has begun, by a start or by a take
 pub begins : (m : DraftMachine) (old new : Standing) (plan : Agenda) → new.own ≡ old.own → new.plan ≡ Some plan → new.config ≡ old.config

@@ -1,5 +1,5 @@
 -- What an object tells of itself, from where it stands.
-use Rattle.std.proofs.Common.{◌≡◌, ◌↔◌, ◌&&◌, ◌++◌, List, [], ◌∷◌, Contains, Bool, true, false, not, IsTrue, MatchBool, IfSome, IfNone, Option, Some, None, sym, subst}
+use Rattle.std.proofs.Common.{◌≡◌, ◌↔◌, ◌&&◌, ◌++◌, List, [], ◌∷◌, length, Contains, Bool, true, false, not, IsTrue, MatchBool, IfSome, IfNone, Option, Some, None, sym, subst}
 use Rattle.pssm_model.specs.declared.elements.DraftMachine.{DraftMachine}
 use Rattle.pssm_plan.specs.Plans.{IsPlanOf}
 use Rattle.pssm_model.specs.Changes.{Agree, nothing_yet}
@@ -32,6 +32,7 @@ use Rattle.pssm_object.proofs.Judged.{judged}
 use Rattle.pssm_object.proofs.Accepted.{accepted}
 use Rattle.pssm_object.proofs.Following.{can_follow}
 use Rattle.pssm_object.proofs.Advancing.{following}
+use Rattle.pssm_object.proofs.Eights.{params_eight}
 use Rattle.pssm_object.proofs.Chosen.{IsGoodMove, good_move, chosen_keeps, quiet_is}
 use Rattle.pssm_object.proofs.TaskLists.{does_task}
 
@@ -71,6 +72,9 @@ module _ (situation : Situation) (x : Standing) (view_is : standing_of situation
 
         pub follows_seen : CanFollow class.machine situation.plan situation.config signal e
         follows_seen = unseen (λ y. CanFollow class.machine y.plan y.config signal e) (can_follow class b can.stands signal e can.names accepts)
+
+        pub eight_seen : length situation.params ≡ 8
+        eight_seen = unseen (λ y. length y.params ≡ 8) (params_eight class can.before x can.stands)
 
         pub advances_seen : (next : Standing) → Advances class (standing_of situation) signal e next → (J : List Entry) → StandsAfter class J x
             → IsTold J (stimulus_for x.own signal) e → StandsAfter class (J ++ e ∷ []) next

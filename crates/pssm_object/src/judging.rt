@@ -177,6 +177,7 @@ impl Situation {
     }
 
     // Whether these are the outputs of the behaviour.
+    #[inline(never)]
     fn makes_by(&self, alloc: Global, act: &Act, outs: &Row<Out>) -> Result<bool, NoMemory>
         requires { ActArgsFit act.now }
         ensures { IfOk result (λ same. IsTrue same ↔ MakesBy act.now (standing_of self.now) outs.now) }

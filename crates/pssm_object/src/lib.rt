@@ -19,6 +19,3 @@ mod working;
 
 pub use laws::{active_states, entry_forms, open_steps, other_entries};
 pub use object::{Object, Waiting};
-
-#[cfg(test)]
-mod tests;

@@ -1,8 +1,10 @@
 //! Where an object stands once one more entry of it has come that may follow.
-ghost use Rattle.std.specs.Prelude.{◌≡◌, ◌<◌, length, IfOk, OnOk, OnErr, Option, Some};
+ghost use Rattle.std.specs.Prelude.{◌≡◌, ◌<◌, length, Contains, IfOk, OnOk, OnErr, Option, Some};
 ghost use Rattle.std.specs.Option.{option_copied};
 ghost use Rattle.pssm_model.specs.BuiltMachine.{IsBuiltMachine};
 ghost use Rattle.pssm_model.specs.Changes.{Agree};
+ghost use Rattle.pssm_model.specs.declared.steps.Route.{Route};
+ghost use Rattle.pssm_model.specs.Routes.{IsStateRoute};
 ghost use Rattle.pssm_config.specs.Tables.{Fits, configuration_of};
 ghost use Rattle.pssm_plan.specs.Steadiness.{changed_by_item};
 ghost use Rattle.pssm_semantics.specs.Built.{IsBuiltClass};
@@ -10,11 +12,11 @@ ghost use Rattle.pssm_semantics.specs.Arguments.{ActArgsFit};
 ghost use Rattle.pssm_semantics.specs.Values.{outcome_of};
 ghost use Rattle.pssm_object.specs.inner.Working.{act_for};
 ghost use Rattle.pssm_object.specs.inner.Situations.{standing_of};
-ghost use Rattle.pssm_object.specs.inner.Advancing.{CanRun, HasRunOn, CanChange, CanTake, CanFollow, CanRunHere, RunsHere, WorksHere, Takes, Advances};
+ghost use Rattle.pssm_object.specs.inner.Advancing.{CanRun, HasRunOn, HasFired, CanChange, CanTake, CanFollow, CanRunHere, RunsHere, WorksHere, Takes, Advances};
 
 use crate::object::Waiting;
 use crate::situation::Situation;
-use crate::working::{eight, stated_act};
+use crate::working::{renew_params, stated_act};
 use pssm_config::Config;
 use pssm_model::{Firing, How, Item, Machine};
 use pssm_plan::Plan;
@@ -34,6 +36,7 @@ impl Situation {
     ) -> Result<(), NoMemory>
         requires class { IsBuiltClass class.now }
         requires fits { Fits class.now.machine self.old.config }
+        requires eight { length self.old.params ≡ 8 }
         requires follows { CanFollow class.now.machine self.old.plan self.old.config (option_copied signal) entry.now }
         ensures ok { OnOk result (Advances class.now (standing_of self.old) (option_copied signal.entry) entry.now
             (standing_of self.new)) }
@@ -72,6 +75,7 @@ impl Situation {
     ) -> Result<(), NoMemory>
         requires built { IsBuiltMachine machine.now }
         requires fits { Fits machine.now self.old.config }
+        requires eight { length self.old.params ≡ 8 }
         requires can { CanTake machine.now firing.now.routes (option_copied signal) }
         ensures ok { OnOk result (Takes machine.now (standing_of self.old) firing.now.routes (option_copied signal.entry)
             (standing_of self.new)) }
@@ -80,13 +84,13 @@ impl Situation {
         let Some(waiting) = signal else {
             unreachable!();
         };
-        let params = eight(alloc, &waiting.args)?;
-        self.plan = Some(Plan::of_firing(alloc, machine, &self.config, firing)?);
-        self.params = params;
+        fire(&mut self.plan, alloc, machine, &self.config, firing)?;
+        renew_params(&mut self.params, alloc, &waiting.args);
         Ok(())
     }
 
     // Runs a ready exit, effect or entry with its behaviour.
+    #[inline(always)]
     fn do_work(&mut self, alloc: Global, class: &Class, item: Item) -> Result<(), NoMemory>
         requires class { IsBuiltClass class.now }
         requires fits { Fits class.now.machine self.old.config }
@@ -101,6 +105,7 @@ impl Situation {
     }
 
     // Runs a ready exit, effect or entry with this behaviour, which is its own.
+    #[inline(never)]
     fn do_act(
         &mut self,
         alloc: Global,
@@ -142,6 +147,29 @@ impl Situation {
         run_item(&mut self.plan, machine, item, how)?;
         change(&mut self.config, machine, item, how);
         Ok(())
+    }
+}
+
+// Makes the plan that of the routes that fire in this configuration.
+fn fire(
+    plan: &mut Option<Plan>,
+    alloc: Global,
+    machine: &Machine,
+    config: &Config,
+    firing: &Firing,
+) -> Result<(), NoMemory>
+    requires built { IsBuiltMachine machine.now }
+    requires fits { Fits machine.now config.now }
+    requires routes { (route : Route) → Contains firing.now.routes route → IsStateRoute machine.now route }
+    ensures ok { OnOk result (HasFired machine.now config.now firing.now.routes plan.new) }
+    ensures err { OnErr result (plan.new ≡ plan.old) }
+{
+    match plan {
+        Some(plan) => plan.fire(machine, config, firing),
+        None => {
+            *plan = Some(Plan::of_firing(alloc, machine, config, firing)?);
+            Ok(())
+        }
     }
 }
 

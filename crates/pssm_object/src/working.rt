@@ -1,5 +1,5 @@
 //! The behaviours of exits, effects and entries, and what they make.
-ghost use Rattle.std.specs.Prelude.{◌≡◌, ◌<◌, length, Option, Some, IfOk, IfSome, IfNone};
+ghost use Rattle.std.specs.Prelude.{◌≡◌, ◌≤◌, ◌<◌, length, Option, Some, IfOk, IfSome, IfNone};
 ghost use Rattle.std.specs.Option.{option_copied};
 ghost use Rattle.pssm_semantics.specs.Values.{eight_of};
 ghost use Rattle.pssm_semantics.specs.Behaviours.{act_at as behaviour_at};
@@ -12,6 +12,7 @@ use crate::situation::Situation;
 use pssm_model::{ActId, Item};
 use pssm_semantics::{Act, Args, Class, Worked, run};
 use std::alloc::{AllocError as NoMemory, Global};
+use std::mem;
 
 impl Situation {
     /// What the behaviour makes where the object stands.
@@ -24,6 +25,7 @@ impl Situation {
 }
 
 /// The behaviour of the item, if it has one with a statement; what has none makes nothing.
+#[inline]
 pub fn stated_act(class: &Class, item: Item) -> Option<&Act>
     requires class { IsBuiltClass class.now }
     requires place { HasPlace class.now.machine item }
@@ -57,14 +59,24 @@ fn act_at(class: &Class, number: ActId) -> Option<&Act>
     class.program.acts.as_slice().get(usize::from(number.0))
 }
 
-/// The arguments of a signal, continued by zeros to eight.
-pub fn eight(alloc: Global, args: &Args) -> Result<Args, NoMemory>
-    ensures { IfOk result (λ params. params ≡ eight_of args.now) }
+/// The parameters become those of a signal with these arguments, continued by zeros to eight.
+pub fn renew_params(params: &mut Args, alloc: Global, args: &Args)
+    requires { length params.old ≡ 8 }
+    ensures { params.new ≡ eight_of args.now }
 {
-    let zeros = [0; 8];
-    let (_, rest) = zeros.split_at(args.as_slice().len());
-    let mut values = Vec::with_capacity(alloc, 8)?;
-    values.extend_from_slice(args.as_slice())?;
-    values.extend_from_slice(rest)?;
-    Ok(Args::from_vec(values))
+    let old = mem::replace(params, Args::from_vec(Vec::new(alloc)));
+    let mut values = old.into_vec();
+    overwrite(values.as_mut_slice(), args.as_slice());
+    *params = Args::from_vec(values);
+}
+
+// The values become these arguments, continued by zeros.
+fn overwrite(values: &mut [i64], args: &[i64])
+    requires eight { length values.old ≡ 8 }
+    requires few { length args.now ≤ 8 }
+    ensures { values.new ≡ eight_of args.now }
+{
+    values.copy_from_slice(&[0; 8]);
+    let (front, _) = values.split_at_mut(args.len());
+    front.copy_from_slice(args);
 }

@@ -333,6 +333,21 @@ impl Roster {
         Err(NoMemory)
     }
 
+    // Settles a roster of items of which none has looked at the others yet, where they are not too many.
+    fn settle_first(&mut self, machine: &Machine) -> Result<(), NoMemory>
+        requires items { AreItemsOf machine.now self.old.calls.items }
+        requires fresh { (call : Call) → Contains self.old.calls.items call → IsFresh call }
+        ensures few { OnOk result (length self.new.calls.items < 2 ^ 32) }
+        ensures settled { OnOk result (ArePairwise (IsSettled (IsSequence machine.now) self.old.calls.items)
+            self.old.calls.items self.new.calls.items) }
+    {
+        if self.calls.as_slice().len() > MOST_CALLS {
+            return Err(NoMemory);
+        }
+        self.settle(machine);
+        Ok(())
+    }
+
     /// The roster of a start.
     pub fn of_start(alloc: Global, machine: &Machine) -> Result<Roster, NoMemory>
         ensures few { IfOk result (λ roster. length roster.calls.items < 2 ^ 32) }
@@ -340,7 +355,8 @@ impl Roster {
     {
         let mut roster = Roster::new(alloc);
         roster.add_tops(machine)?;
-        made(machine, roster)
+        roster.settle_first(machine)?;
+        Ok(roster)
     }
 
     /// The roster of routes that fire.
@@ -357,8 +373,26 @@ impl Roster {
             (IsOfRoutes machine.now (configuration_of config.now) [] routes.now) roster.calls.items) }
     {
         let mut roster = Roster::new(alloc);
-        roster.add_routes(machine, config, routes)?;
-        made(machine, roster)
+        roster.renew(machine, config, routes)?;
+        Ok(roster)
+    }
+
+    /// Becomes the roster of routes that fire.
+    pub fn renew(
+        &mut self,
+        machine: &Machine,
+        config: &Config,
+        routes: &[Route],
+    ) -> Result<(), NoMemory>
+        requires fits { Fits machine.now config.now }
+        requires single { (route : Route) → Contains routes.now route → IsSingle machine.now route }
+        ensures few { OnOk result (length self.new.calls.items < 2 ^ 32) }
+        ensures made { OnOk result (IsMadeOf machine.now
+            (IsOfRoutes machine.now (configuration_of config.now) [] routes.now) self.new.calls.items) }
+    {
+        self.calls.clear();
+        self.add_routes(machine, config, routes)?;
+        self.settle_first(machine)
     }
 
     /// Notes that a listed item runs in this way, and lists what it calls, all of it or nothing. The item is looked for
@@ -388,20 +422,4 @@ impl Roster {
         self.settle_where(machine, grew, holds);
         Ok(())
     }
-}
-
-// The roster of items of which none has looked at the others yet, where they are not too many.
-fn made(machine: &Machine, mut roster: Roster) -> Result<Roster, NoMemory>
-    requires items { AreItemsOf machine.now roster.calls.items }
-    requires fresh { (call : Call) → Contains roster.calls.items call → IsFresh call }
-    ensures few { IfOk result (λ other. length other.calls.items < 2 ^ 32) }
-    ensures settled { IfOk result
-        (λ other. ArePairwise (IsSettled (IsSequence machine.now) roster.calls.items)
-        roster.calls.items other.calls.items) }
-{
-    if roster.calls.as_slice().len() > MOST_CALLS {
-        return Err(NoMemory);
-    }
-    roster.settle(machine);
-    Ok(roster)
 }

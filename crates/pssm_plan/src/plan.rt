@@ -20,6 +20,7 @@ use pssm_config::Config;
 use pssm_model::{Firing, How, Item, Machine};
 use std::alloc::{AllocError as NoMemory, Global};
 use std::marker::Model;
+use std::mem;
 use std::snapshot::Snapshot;
 
 /// How the step began; what is only for clauses takes no memory.
@@ -46,6 +47,8 @@ pub struct Plan {
     beginning: Beginning,
     ran: Vec<Step>,
     roster: Roster,
+    /// A roster that is out of use, whose room the next step takes.
+    spare: Roster,
 }
 
 impl Model for Plan {
@@ -122,6 +125,7 @@ impl Plan {
             beginning: Beginning::Start,
             ran: Vec::new(alloc),
             roster,
+            spare: Roster::new(alloc),
         })
     }
 
@@ -148,7 +152,35 @@ impl Plan {
             beginning: Beginning::Firing(Snapshot::of(firing), Snapshot::of(config)),
             ran: Vec::new(alloc),
             roster,
+            spare: Roster::new(alloc),
         })
+    }
+
+    /// Becomes the plan of routes that fire in a configuration. It takes memory only where it has less room than it
+    /// needs.
+    ///
+    /// `NoMemory`: memory ran out; the plan is as before.
+    pub fn fire(
+        &mut self,
+        machine: &Machine,
+        config: &Config,
+        firing: &Firing,
+    ) -> Result<(), NoMemory>
+        requires nested { IsPlainlyNested machine.now }
+        requires fits { Fits machine.now config.now }
+        requires routes { (route : Route) → Contains firing.now.routes route → IsStateRoute machine.now route }
+        ensures head { OnOk result (self.new.head ≡ Fires firing.now.routes) }
+        ensures at_head { OnOk result (self.new.at_head ≡ config.now) }
+        ensures none_ran { OnOk result (self.new.ran ≡ []) }
+        ensures plan { OnOk result (IsPlanOf machine.now self.new) }
+        ensures refused { OnErr result (self.new ≡ self.old) }
+    {
+        let _shaped = machine.regions();
+        self.spare.renew(machine, config, firing.routes.as_slice())?;
+        mem::swap(&mut self.roster, &mut self.spare);
+        self.beginning = Beginning::Firing(Snapshot::of(firing), Snapshot::of(config));
+        self.ran.clear();
+        Ok(())
     }
 
     /// Runs a ready item in one of its ways.

@@ -1,5 +1,5 @@
 -- How the pools change while room is made in them and while signals come to them.
-use Rattle.std.proofs.Common.{◌≡◌, ◌<◌, ◌≤◌, ◌+◌, ◌++◌, ℕ, suc, List, [], ◌∷◌, length, take, drop, Option, Some, None, option_map, slice_get, get_or, refl, sym, ap, subst, ◌∙◌, ⊎_elim, arith, add-one}
+use Rattle.std.proofs.Common.{◌≡◌, ◌<◌, ◌≤◌, ◌+◌, ◌++◌, ℕ, suc, List, [], ◌∷◌, length, take, drop, Option, Some, None, option_map, slice_get, get_or, Result, Ok, Err, OnOk, refl, sym, ap, subst, ◌∙◌, ⊎_elim, arith, add-one}
 use Rattle.std.specs.Option.{option_and_then}
 use Rattle.std.proofs.Math.ListN.{set}
 use Rattle.std.proofs.Math.Seq.{map-set_same, take-suc}
@@ -31,6 +31,12 @@ pool-there pools k j d p lt same at =
 -- the pool that is written at a place is there
 written : (pools : List Queue) (k j : ℕ) (q : Queue) → k < length pools → j ≡ k → slice_get (set pools k q) j ≡ Some q
 written pools k j q lt same = subst (λ i. slice_get (set pools k q) i ≡ Some q) (sym same) (get-set_same pools k q lt)
+
+-- the pool that is written at a place has room for one more, where that could be made
+pub room-at : {A E : Type 0} (pools : List Queue) (k j : ℕ) (q : Queue) (outcome : Result A E) → k < length pools → k ≡ j → OnOk outcome (1 ≤ q.room)
+    → OnOk outcome (HasRoomAt 1 (set pools k q) j)
+room-at pools k j q (Ok done) lt same room = (q, written pools k j q lt (sym same), room)
+room-at pools k j q (Err error) lt same room = tt
 
 -- room that does not shrink
 pub room-kept : (pools : List Queue) (k : ℕ) (d q : Queue) → k < length pools → (get_or pools k d).room ≤ q.room → KeepsRoom pools (set pools k q)

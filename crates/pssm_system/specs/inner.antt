@@ -3,3 +3,4 @@ pub mod Keeping
 pub mod Choosing
 pub mod Judging
 pub mod Stepping
+pub mod Telling

@@ -1,5 +1,5 @@
 //! Of an entry its object and its signals, and of an object its class.
-ghost use Rattle.std.specs.Prelude.{◌≡◌, ◌<◌, length, Some, IfOk, flat_map};
+ghost use Rattle.std.specs.Prelude.{◌≡◌, ◌<◌, [], length, Some, IsTrue, IfOk, flat_map};
 ghost use Rattle.pssm_semantics.specs.Settings.{class_of as class_in};
 ghost use Rattle.pssm_semantics.specs.Journal.{object_of as object_in};
 ghost use Rattle.pssm_semantics.specs.Pool.{signals_of_entry, signals_of_out};
@@ -63,6 +63,24 @@ pub fn signals_of(alloc: Global, entry: &Entry) -> Result<Vec<Stimulus>, NoMemor
         | Entry::Done { .. }
         | Entry::Opened { .. }
         | Entry::Pick { .. } => Ok(Vec::new(alloc)),
+    }
+}
+
+/// Whether the entry has no signals. One with outputs counts as one that may have some.
+pub fn sends_nothing(entry: &Entry) -> bool
+    ensures { IsTrue result → signals_of_entry entry.now ≡ [] }
+{
+    match entry {
+        Entry::Post { .. } => false,
+        Entry::Exit { outs, .. }
+        | Entry::Effect { outs, .. }
+        | Entry::Enter { outs, .. }
+        | Entry::DoStep { outs, .. } => outs.as_slice().is_empty(),
+        Entry::Start { .. }
+        | Entry::Take { .. }
+        | Entry::Done { .. }
+        | Entry::Opened { .. }
+        | Entry::Pick { .. } => true,
     }
 }
 

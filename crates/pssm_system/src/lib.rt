@@ -2,12 +2,14 @@
 //! entry that breaks none.
 //!
 //! This crate knows which objects a setting has, which signals wait for each of them, and in which order
-//! the signals of a journal are numbered. It keeps the entries, and looks at none of them again. It knows
-//! nothing of the inside of a step.
+//! the signals of a journal are numbered. A [`Follower`] keeps what a further entry is judged by, and no
+//! entry; a [`System`] keeps the entries beside it, and looks at none of them again. It knows nothing of
+//! the inside of a step.
 #![tactic(auto)]
 
 mod choosing;
 mod entries;
+mod follower;
 mod judging;
 mod pool;
 mod pooling;
@@ -16,4 +18,5 @@ mod stepping;
 mod system;
 mod tasks;
 
+pub use follower::Follower;
 pub use system::System;

@@ -5,7 +5,7 @@ ghost use Rattle.pssm_system.specs.inner.Pooling.{waiting_in, waiting_as, with_a
 
 use crate::pool::Pool;
 use pssm_object::Waiting;
-use pssm_semantics::{Entry, Stimulus};
+use pssm_semantics::{Entry, ObjectId, Stimulus};
 use std::alloc::{AllocError as NoMemory, Global};
 
 /// The signal that a take takes: the first of its object's pool, if it has the number that the take names.
@@ -37,6 +37,16 @@ pub fn make_room(pools: &mut [Pool], signals: &[Stimulus]) -> Result<(), NoMemor
         pool.make_room(count)?;
     }
     Ok(())
+}
+
+/// Makes room for one more signal in the pool of an object. On want of memory the same signals wait.
+pub fn make_room_for(pools: &mut [Pool], object: ObjectId) -> Result<(), NoMemory>
+    requires { object.0 < length pools.old }
+    ensures waiting { waiting_in pools.new ≡ waiting_in pools.old }
+    ensures ok { OnOk result (HasRoomAt 1 pools.new object.0) }
+{
+    let pool = &mut pools[usize::from(object.0)];
+    pool.make_room(1)
 }
 
 /// The signal with this number comes to the pool of its object.

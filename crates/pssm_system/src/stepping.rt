@@ -1,24 +1,24 @@
 //! What is kept of the journal once one more entry has come that may follow.
-ghost use Rattle.std.specs.Prelude.{◌≡◌, ◌<◌, ◌+◌, ◌^◌, ◌∷◌, [], length, OnOk, OnErr};
+ghost use Rattle.std.specs.Prelude.{◌≡◌, ◌<◌, ◌+◌, ◌^◌, [], length, OnOk, OnErr};
 ghost use Rattle.std.specs.Option.{option_copied};
 ghost use Rattle.pssm_semantics.specs.Journal.{object_of as object_in};
+ghost use Rattle.pssm_semantics.specs.Pool.{signals_of_entry};
 ghost use Rattle.pssm_semantics.specs.Built.{IsBuilt};
-ghost use Rattle.pssm_system.specs.inner.Pooling.{waiting_in, left_by, HavePools, KeepsRoom};
+ghost use Rattle.pssm_system.specs.inner.Pooling.{waiting_in, left_by, KeepsRoom};
 ghost use Rattle.pssm_system.specs.inner.Stepping.{CanStep, HaveStepped};
 
-use crate::entries::{class_of, object_of, signals_of};
+use crate::entries::{class_of, object_of, sends_nothing, signals_of};
 use crate::pool::Pool;
-use crate::pooling::{arrive, deliver, make_room, taken_signal};
+use crate::pooling::{arrive, deliver, make_room, make_room_for, taken_signal};
 use crate::situation::Situation;
-use pssm_model::Duplicate;
+use pssm_model::{Duplicate, SignalId};
 use pssm_object::{Object, Waiting};
-use pssm_semantics::{Entry, Setting, Stimulus};
+use pssm_semantics::{Args, Entry, ObjectId, Setting, Stimulus};
 use std::alloc::{AllocError as NoMemory, Global};
-use std::slice;
 
 impl Situation {
     ghost use Rattle.pssm_system.specs.inner.Keeping.{CanCome, IsUnchanged};
-    ghost use Rattle.pssm_system.specs.inner.Stepping.{HasPosted, Brings};
+    ghost use Rattle.pssm_system.specs.inner.Stepping.{posted, HasPosted, Brings};
 
     /// Goes on by an entry that may follow.
     ///
@@ -34,33 +34,53 @@ impl Situation {
                 object,
                 signal,
                 args,
-            } => {
-                let stimulus = Stimulus {
-                    object: *object,
-                    signal: *signal,
-                    args: args.duplicate(alloc)?,
-                };
-                self.post(stimulus)
-            }
-            _ => self.go_on(alloc, setting, entry),
+            } => self.post(alloc, *object, *signal, args),
+            _ if sends_nothing(entry) => self.go_on(setting, entry),
+            _ => self.send(alloc, setting, entry),
         }
     }
 
     // A signal that is posted comes to the pool of its object, which stands as it did.
-    fn post(&mut self, stimulus: Stimulus) -> Result<(), NoMemory>
-        requires pool { HavePools (stimulus ∷ []) (length self.old.pools.items) }
+    fn post(
+        &mut self,
+        alloc: Global,
+        object: ObjectId,
+        signal: SignalId,
+        args: &Args,
+    ) -> Result<(), NoMemory>
+        requires pool { object.0 < length self.old.pools.items }
         requires few { self.old.told + 1 < 2 ^ 32 }
-        ensures ok { OnOk result (HasPosted self.old stimulus self.new) }
+        ensures ok { OnOk result (HasPosted self.old (posted object signal args.now) self.new) }
         ensures err { OnErr result (IsUnchanged self.old self.new) }
     {
-        make_room(self.pools.as_mut_slice(), slice::from_ref(&stimulus))?;
+        let stimulus = Stimulus {
+            object,
+            signal,
+            args: args.duplicate(alloc)?,
+        };
+        make_room_for(self.pools.as_mut_slice(), object)?;
         self.told += 1;
         arrive(self.pools.as_mut_slice(), self.told, stimulus);
         Ok(())
     }
 
+    // Goes on by an entry that posts and sends nothing.
+    fn go_on(&mut self, setting: &Setting, entry: &Entry) -> Result<(), NoMemory>
+        requires built { IsBuilt setting.now }
+        requires can { CanCome setting.now self.old entry.now }
+        requires silent { signals_of_entry entry.now ≡ [] }
+        ensures ok { OnOk result (Brings setting.now self.old entry.now self.new) }
+        ensures err { OnErr result (IsUnchanged self.old self.new) }
+    {
+        let taken = taken_signal(self.pools.as_slice(), entry);
+        step(self.objects.as_mut_slice(), setting, entry, taken)?;
+        leave(self.pools.as_mut_slice(), entry);
+        Ok(())
+    }
+
     // Goes on by any entry.
-    fn go_on(&mut self, alloc: Global, setting: &Setting, entry: &Entry) -> Result<(), NoMemory>
+    #[inline(never)]
+    fn send(&mut self, alloc: Global, setting: &Setting, entry: &Entry) -> Result<(), NoMemory>
         requires built { IsBuilt setting.now }
         requires can { CanCome setting.now self.old entry.now }
         ensures ok { OnOk result (Brings setting.now self.old entry.now self.new) }

@@ -3,8 +3,7 @@ ghost use Rattle.std.specs.Prelude.{◌≡◌, ◌<◌, ◌↔◌, ◌++◌, ◌
 ghost use Rattle.std.specs.List.{AllByRecursion};
 ghost use Rattle.pssm_semantics.specs.Built.{IsBuilt};
 
-use crate::choosing::Wanted;
-use crate::situation::Situation;
+use crate::follower::Follower;
 use pssm_semantics::{Args, Entry, ObjectId, Rule, Setting, Task};
 use std::alloc::{AllocError as NoMemory, Global};
 use std::marker::Model;
@@ -16,10 +15,8 @@ use std::marker::Model;
 /// one take the same time however long the journal is and however many other objects there are.
 #[derive(Drop)]
 pub struct System {
-    alloc: Global,
-    setting: Setting,
+    follower: Follower,
     entries: Vec<Entry>,
-    situation: Situation,
 }
 
 impl Model for System {
@@ -27,17 +24,16 @@ impl Model for System {
     ghost use Rattle.pssm_semantics.specs.contracts.tree.Cond as cond;
     ghost use Rattle.pssm_semantics.specs.contracts.tree.Expr as expr;
     ghost use Rattle.std.specs.Coded.{codes};
+    ghost use Rattle.std.specs.Prelude.{◌≡◌};
     ghost use Rattle.pssm_system.specs.History.{History};
 
     ghost Value = { History };
 
     ghost coded = { Prim.hlevel (codes, stmt.the_row.coded, cond.the_row.coded, expr.the_row.coded) };
 
-    ghost use Rattle.pssm_system.specs.inner.Keeping.{KeepsRun, tasks_of};
+    ghost view = { λ s. s.follower };
 
-    ghost view = { λ s. record { setting = s.setting; journal = s.entries.items; tasks = tasks_of s.situation.objects.items } };
-
-    ghost invariant = { λ s. KeepsRun s.setting s.entries.items s.situation };
+    ghost invariant = { λ s. s.entries.items ≡ s.follower.journal };
 }
 
 impl System {
@@ -64,12 +60,9 @@ impl System {
         ensures setting { IfOk result (λ system. system.setting ≡ setting) }
         ensures start { IfOk result (λ system. system.journal ≡ []) }
     {
-        let situation = Situation::new(alloc, &setting)?;
         Ok(System {
-            alloc,
-            setting,
+            follower: Follower::new(alloc, setting)?,
             entries: Vec::new(alloc),
-            situation,
         })
     }
 
@@ -79,7 +72,7 @@ impl System {
         ensures built { IsBuilt self.now.setting }
         ensures well_formed { IsWellFormed self.now.setting }
     {
-        &self.setting
+        self.follower.setting()
     }
 
     /// The entries of the journal, in order: those of an admissible run.
@@ -96,6 +89,7 @@ impl System {
         ensures laws { KeepsTakes self.now.setting self.now.journal
             × KeepsRegions self.now.setting self.now.journal }
     {
+        let _told = self.follower.len();
         self.entries.as_slice()
     }
 
@@ -108,7 +102,7 @@ impl System {
         ensures breaks { IfOk result (λ rule. IfSome rule
             (λ broken. IsFirstBroken (Holds self.now.setting) self.now.journal entry.now broken)) }
     {
-        self.situation.judge(&self.setting, entry)
+        self.follower.allows(entry)
     }
 
     /// Appends an entry that breaks no rule after the journal, and keeps it within the limits.
@@ -122,7 +116,7 @@ impl System {
         ensures err { OnErr result (self.new ≡ self.old) }
     {
         self.entries.reserve(1)?;
-        self.situation.apply(self.alloc, &self.setting, &entry)?;
+        self.follower.apply(&entry)?;
         self.entries.push_reserved(entry);
         Ok(())
     }
@@ -131,7 +125,7 @@ impl System {
     pub fn quiet(&self) -> bool
         ensures { IsTrue result ↔ IsQuiet self.now.setting self.now.journal }
     {
-        self.situation.is_quiet(&self.setting)
+        self.follower.quiet()
     }
 
     /// An entry other than a post that breaks no rule after the journal, or none where there is none.
@@ -143,8 +137,7 @@ impl System {
             (λ e. (IsPost e → ⊥) × MayFollow self.now.setting self.now.journal e)) }
         ensures none { IfOk result (λ o. IfNone o (IsQuiet self.now.setting self.now.journal)) }
     {
-        self.situation
-            .choose(self.alloc, &self.setting, Wanted::AnyEntry, word)
+        self.follower.choose(word)
     }
 
     /// A start, take, dispatch of a completion, opening or pick that breaks no rule after the journal, or
@@ -156,8 +149,7 @@ impl System {
             (λ e. IsMove e × MayFollow self.now.setting self.now.journal e)) }
         ensures none { IfOk result (λ o. IfNone o (HasNoMove self.now.setting self.now.journal)) }
     {
-        self.situation
-            .choose(self.alloc, &self.setting, Wanted::Move, word)
+        self.follower.choose_move(word)
     }
 
     /// How many tasks are ready: exits, effects and entries whose turn has come (UML 2.5.1, 14.2.3.9), of all objects.
@@ -165,7 +157,7 @@ impl System {
         ensures count { result ≡ length self.now.tasks }
         ensures listed { AreReady self.now.setting self.now.journal self.now.tasks }
     {
-        self.situation.task_count(&self.setting)
+        self.follower.task_count()
     }
 
     /// The ready task with a number, in the order of the objects, with the object that it is of.
@@ -173,7 +165,7 @@ impl System {
         requires { i < length self.now.tasks }
         ensures { slice_get self.now.tasks i ≡ Some result }
     {
-        self.situation.task_at(&self.setting, i)
+        self.follower.task_at(i)
     }
 
     /// The values of the object's variables, as they are now.
@@ -182,7 +174,7 @@ impl System {
         ensures { (class : Class) → class_of self.now.setting object ≡ Some class
             → result.now ≡ store_of class (told_by self.now.journal) self.now.journal object }
     {
-        self.situation.objects[usize::from(object.0)].store()
+        self.follower.store(object)
     }
 
     /// The parameters of the object's step, eight numbers, as they are now.
@@ -190,6 +182,6 @@ impl System {
         requires { object.0 < length self.now.setting.objects }
         ensures { result.now ≡ params_of (told_by self.now.journal) self.now.journal object }
     {
-        self.situation.objects[usize::from(object.0)].params()
+        self.follower.params(object)
     }
 }

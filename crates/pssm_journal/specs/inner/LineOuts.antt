@@ -1,5 +1,5 @@
 -- The outputs of a line of any kind.
-use Rattle.std.specs.Prelude.{◌≡◌, List, []}
+use Rattle.std.specs.Prelude.{List, []}
 use Rattle.std.specs.List.{AllByRecursion}
 use Rattle.pssm_semantics.specs.declared.line.Line.{Line}
 use Rattle.pssm_semantics.specs.declared.line.Line.TheVariants.{Exit, Effect, Enter, DoStep}

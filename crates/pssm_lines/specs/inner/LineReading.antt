@@ -152,10 +152,6 @@ route_taken bytes = do
 abbrev pub firing_with : List Route → Firing
 firing_with routes = record { routes = routes }
 
--- a firing of one route that has one start alone
-abbrev pub firing_of_one : TransId → Firing
-firing_of_one start = firing_with (record { starts = start ∷ []; rest = [] } ∷ [])
-
 -- routes with a space between two
 abbrev pub routes_taken : Reader Firing
 routes_taken bytes = do

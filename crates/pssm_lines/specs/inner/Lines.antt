@@ -52,3 +52,7 @@ samples =
     ∷ codes "pick a v1 t1+t1,t1\n"
     ∷ codes "do a v1 1 >a.a(1,1)\n"
     ∷ []
+
+-- The line stands at the front of the bytes, with its line feed, and the rest behind it.
+abbrev pub StandsAt : List ℕ → Line → List ℕ → Type 0
+StandsAt bytes line rest = IsLine line × (bytes ≡ line_text line ++ 10 ∷ rest)

@@ -52,6 +52,10 @@ pub record HasBegun (m : DraftMachine) (head : Head) (new : Option Agenda) : Typ
   pub ran : now.ran ≡ []
   pub is_plan : IsPlanOf m now
 
+-- The plan is that of a step that these routes have just begun in this configuration.
+abbrev pub HasFired : DraftMachine → Tables → List Route → Option Agenda → Type 0
+HasFired m config routes new = (begun : HasBegun m (Fires routes) new) × (begun.now.at_head ≡ config)
+
 -- The configuration may change as the item does.
 abbrev pub CanChange : DraftMachine → Configuration → Item → Type 0
 CanChange m now (items.Exit s) = now.Active s

@@ -1,5 +1,7 @@
 -- What is kept once one more entry has come.
-use Rattle.std.specs.Prelude.{◌≡◌, ◌+◌, ◌++◌, List, [], ◌∷◌, Option, Some}
+use Rattle.std.specs.Prelude.{◌≡◌, ◌+◌, ◌++◌, List, ℤ, [], ◌∷◌, Option, Some}
+use Rattle.pssm_model.specs.declared.ids.SignalId.{SignalId}
+use Rattle.pssm_semantics.specs.declared.entry.ObjectId.{ObjectId}
 use Rattle.pssm_semantics.specs.declared.entry.Entry.{Entry}
 use Rattle.pssm_semantics.specs.declared.entry.Rule.{Rule}
 use Rattle.pssm_semantics.specs.declared.stimulus.Stimulus.{Stimulus}
@@ -32,6 +34,10 @@ abbrev pub HaveStepped : Setting → List Standing → Option Waiting → Entry 
 HaveStepped setting old signal e new =
     (J : List Entry) → AreObjects setting J old → IsTold J (stimulus_for (object_of e) signal) e
     → AreObjects setting (J ++ e ∷ []) new
+
+-- the signal that is posted so
+abbrev pub posted : ObjectId → SignalId → List ℤ → Stimulus
+posted object signal args = record { object = object; signal = signal; args = args }
 
 -- A signal that was posted is the last of its object's pool, and nothing else has changed.
 pub record HasPosted (old : Situation) (x : Stimulus) (new : Situation) : Type 0 where

@@ -1,4 +1,4 @@
-use Rattle.std.proofs.Common.{◌≡◌, List, Option, Some, None, sym, ap, subst, ◌∙◌}
+use Rattle.std.proofs.Common.{List, Option, Some, ap, subst, ◌∙◌}
 use Rattle.pssm_semantics.specs.declared.entry.Out.{Out}
 use Rattle.pssm_lines.specs.declared.parts.OutsText.{OutsText}
 use Rattle.pssm_lines.specs.declared.parts.OutParts.{OutParts}

@@ -1,4 +1,4 @@
-use Rattle.std.proofs.Common.{◌≡◌, ◌+◌, ◌-◌, ◌<◌, ℕ, List, length, Some, sym, ◌∙◌, arith, rules}
+use Rattle.std.proofs.Common.{◌≡◌, ◌+◌, ◌-◌, ◌<◌, length, Some, arith, rules}
 use Rattle.pssm_journal.proofs.PlaceLaws.{place_updates, place_more, first_place}
 use Rattle.pssm_journal.proofs.places.places_of.Goals as goal
 

@@ -1,7 +1,7 @@
 use Rattle.std.proofs.Common.{◌≡◌, Some, subst, ⊎_elim}
 use Rattle.pssm_model.specs.declared.elements.VertexKind.TheVariants as kinds
 use Rattle.pssm_model.specs.declared.elements.Owner.{Owner}
-use Rattle.pssm_model.specs.declared.elements.Owner.TheVariants.{Top, Region, State}
+use Rattle.pssm_model.specs.declared.elements.Owner.TheVariants.{Region, State}
 use Rattle.pssm_model.specs.Forest.{owner_of}
 use Rattle.pssm_plan.proofs.Owners.{kind_there}
 use Rattle.pssm_plan.proofs.calling.state_of.Goals as goal

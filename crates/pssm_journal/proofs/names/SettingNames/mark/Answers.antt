@@ -1,5 +1,4 @@
-use Rattle.std.proofs.Common.{◌≡◌, Some, None, sym, ◌∙◌}
-use Rattle.pssm_journal.specs.inner.Places.{place_among}
+use Rattle.std.proofs.Common.{Some, None}
 use Rattle.pssm_journal.proofs.PlaceLaws.{own_mark_is}
 use Rattle.pssm_journal.proofs.names.SettingNames.mark.Goals as goal
 

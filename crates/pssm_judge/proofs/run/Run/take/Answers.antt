@@ -1,71 +1,62 @@
-use Rattle.std.proofs.Common.{◌≡◌, ◌+◌, ◌∷◌, ◌++◌, [], length, List, Option, IfNone, IfSome, refl, sym, ap, subst, ◌∙◌}
-use Rattle.pssm_semantics.specs.declared.entry.Entry.{Entry}
-use Rattle.pssm_semantics.specs.declared.entry.Rule.{Rule}
+use Rattle.std.proofs.Common.{◌+◌, IfNone, IfSome, refl, sym, ap, subst}
 use Rattle.pssm_semantics.specs.declared.entry.Rule.TheVariants.{A1}
-use Rattle.pssm_semantics.specs.Pool.{output_count}
-use Rattle.pssm_semantics.specs.Rules.{Holds}
-use Rattle.pssm_semantics.specs.Admissible.{MayFollow}
-use Rattle.pssm_semantics.specs.Verdict.{IsFirstBroken}
-use Rattle.pssm_journal.specs.Judged.{line_output_count, by_entry, by_names}
+use Rattle.pssm_lines.specs.Grammar.{IsLine}
+use Rattle.pssm_lines.specs.Parts.{Shows}
+use Rattle.pssm_journal.specs.Judged.{by_names}
 use Rattle.pssm_system.specs.History.{History}
 use Rattle.pssm_judge.specs.declared.run.Stop.TheVariants.{Refuse}
-use Rattle.pssm_judge.specs.inner.Following.{TakesLine, StopsAt}
-use Rattle.pssm_judge.proofs.RunLaws.{keeps_within, found_writes, found_keeps, found_none, limits_push, outputs_push, takes_line}
+use Rattle.pssm_judge.specs.inner.Following.{IsTold, TakesLine, StopsAt}
+use Rattle.pssm_judge.proofs.RunLaws.{keeps_within, found_writes, found_keeps, found_none, told_line, told_same, by_told}
 use Rattle.pssm_judge.proofs.run.Run.take.Goals as goal
 
 -- The line names what the setting does not have.
 pub returns-in_default-clause-stops : goal.returns-in_default-clause-stops
 returns-in_default-clause-stops c = λ line is_line shown.
-    let within = keeps_within c.self.inside.system.journal line (length c.entries-entries.result.now) c.self.inside.outputs c.output_count-outputs.result c.passes_limits.result
-    (ap length c.entries-entries.ensures.journal) c.self.invariant.1 (c.output_count-outputs.ensures line is_line shown) c.passes_limits.ensures c.if-passes_limits.false in
-    let names = found_none c.setting-setting.result.now c.self.inside.system.setting line c.in_ok-told.field-0 c.setting-setting.ensures.setting c.in_default.is (c.in_ok-told.ensures.none line is_line shown) in
-    subst (λ (h : History). StopsAt h.setting h.journal line (Refuse (length c.entries-entries.result.now + 1) A1)) c.self.view_is
-    (ap (λ (J : List Entry). length J + 1) c.entries-entries.ensures.journal, within, by_names names refl)
+    let within = keeps_within c.self.inside.follower.journal line (c.len-entries.result) c.self.inside.outputs c.output_count-outputs.result c.passes_limits.result
+    (c.len-entries.ensures.count) c.self.invariant.1 (c.output_count-outputs.ensures line is_line shown) c.passes_limits.ensures c.if-passes_limits.false in
+    let names = found_none c.setting-setting.result.now c.self.inside.follower.setting line c.in_ok-told.field-0 c.setting-setting.ensures.setting c.in_default.is (c.in_ok-told.ensures.none line is_line shown) in
+    rw c.unknown.ensures (subst (λ (h : History). StopsAt h.setting h.journal line (Refuse (c.len-entries.result + 1) A1)) c.self.view_is
+    (ap (λ n. n + 1) c.len-entries.ensures.count, within, by_names names refl))
 
--- The entry's names are known.
-pub allows-requires : goal.allows-requires
-allows-requires c = record {
-  names =
-      found_keeps c.setting-setting.result.now c.self.inside.system.setting c.in_ok-told.field-0 c.in-Some.told c.setting-setting.ensures.setting c.in-Some.is c.in_ok-told.ensures.keeps c.self.inside.system.journal;
-}
-
--- The entry breaks a rule.
-pub returns-in-Some-2-clause-stops : goal.returns-in-Some-2-clause-stops
-returns-in-Some-2-clause-stops c = λ line is_line shown.
-    let within = keeps_within c.self.inside.system.journal line (length c.entries-entries.result.now) c.self.inside.outputs c.output_count-outputs.result c.passes_limits.result
-    (ap length c.entries-entries.ensures.journal) c.self.invariant.1 (c.output_count-outputs.ensures line is_line shown) c.passes_limits.ensures c.if-passes_limits.false in
-    let writes = found_writes c.setting-setting.result.now c.self.inside.system.setting line c.in_ok-told.field-0 c.in-Some.told c.setting-setting.ensures.setting c.in-Some.is (c.in_ok-told.ensures.found line is_line shown) in
-    let broken = subst (λ (o : Option Rule). IfSome o (λ rule. IsFirstBroken (Holds c.self.inside.system.setting) c.self.inside.system.journal c.in-Some.told rule)) c.in-Some-2.is c.in_ok-rule.ensures.breaks in
-    subst (λ (h : History). StopsAt h.setting h.journal line (Refuse (length c.entries-entries.result.now + 1) c.in-Some-2.rule)) c.self.view_is
-    (ap (λ (J : List Entry). length J + 1) c.entries-entries.ensures.journal, within, by_entry c.in-Some.told writes broken)
-
--- The line does not pass the limits.
-pub apply-requires-clause-limits : goal.apply-requires-clause-limits
-apply-requires-clause-limits c =
+-- What is known of the entry.
+pub add-requires : goal.add-requires
+add-requires c =
     let line = c.requires.0 in
-    let within = keeps_within c.self.inside.system.journal line (length c.entries-entries.result.now) c.self.inside.outputs c.output_count-outputs.result c.passes_limits.result
-    (ap length c.entries-entries.ensures.journal) c.self.invariant.1 (c.output_count-outputs.ensures line c.requires.1 c.requires.2) c.passes_limits.ensures c.if-passes_limits.false in
-    let writes = found_writes c.setting-setting.result.now c.self.inside.system.setting line c.in_ok-told.field-0 c.in-Some.told c.setting-setting.ensures.setting c.in-Some.is
-    (c.in_ok-told.ensures.found line c.requires.1 c.requires.2) in
-    limits_push c.self.inside.system.setting c.self.inside.system.journal line c.in-Some.told writes within
-
--- The outputs of the line are counted.
-pub invariant_of-self-2 : goal.invariant_of-self-2
-invariant_of-self-2 c =
-    let line = c.requires.0 in
-    let writes = found_writes c.setting-setting.result.now c.self.inside.system.setting line c.in_ok-told.field-0 c.in-Some.told c.setting-setting.ensures.setting c.in-Some.is
-    (c.in_ok-told.ensures.found line c.requires.1 c.requires.2) in
-    let after : c.apply.new.self.journal ≡ c.self.inside.system.journal ++ c.in-Some.told ∷ [] = c.in_ok-apply.ensures.ok in
-    let counted : output_count c.apply.new.self.journal ≡ output_count c.self.inside.system.journal + line_output_count line =
-    ap output_count after ∙ outputs_push c.self.inside.system.setting c.self.inside.system.journal line c.in-Some.told writes in
-    (c.self.invariant.0 ∙ sym c.in_ok-apply.ensures.setting, rw (c.self.invariant.1, c.output_count-outputs.ensures line c.requires.1 c.requires.2) (sym counted))
+    let is_line = c.requires.1 in
+    let shown = c.requires.2 in
+    let run = c.self.inside.follower in
+    let writes = found_writes c.setting-setting.result.now run.setting line c.in_ok-told.field-0 c.in-Some.told c.setting-setting.ensures.setting c.in-Some.is (c.in_ok-told.ensures.found line is_line shown) in
+    let known = found_keeps c.setting-setting.result.now run.setting c.in_ok-told.field-0 c.in-Some.told c.setting-setting.ensures.setting c.in-Some.is c.in_ok-told.ensures.keeps in (
+      line,
+      told_same c.args.self.now run line (c.len-entries.result + 1) c.output_count-outputs.result c.in-Some.told (sym c.self.view_is)
+          (told_line run line c.in-Some.told (c.len-entries.result) c.self.inside.outputs c.output_count-outputs.result c.passes_limits.result c.len-entries.ensures.admissible writes known
+          (c.len-entries.ensures.count) c.self.invariant.1 (c.output_count-outputs.ensures line is_line shown) c.passes_limits.ensures c.if-passes_limits.false),
+    )
 
 -- The run has taken the entry.
 pub returns-clause-takes : goal.returns-clause-takes
-returns-clause-takes c = λ line is_line shown.
-    let within = keeps_within c.self.inside.system.journal line (length c.entries-entries.result.now) c.self.inside.outputs c.output_count-outputs.result c.passes_limits.result
-    (ap length c.entries-entries.ensures.journal) c.self.invariant.1 (c.output_count-outputs.ensures line is_line shown) c.passes_limits.ensures c.if-passes_limits.false in
-    let writes = found_writes c.setting-setting.result.now c.self.inside.system.setting line c.in_ok-told.field-0 c.in-Some.told c.setting-setting.ensures.setting c.in-Some.is (c.in_ok-told.ensures.found line is_line shown) in
-    let follows = subst (λ (o : Option Rule). IfNone o (MayFollow c.self.inside.system.setting c.self.inside.system.journal c.in-Some.told)) c.in_default-2.is c.in_ok-rule.ensures.keeps in
-    subst (λ (h : History). TakesLine h c.apply.new.self line) c.self.view_is
-    (takes_line c.self.inside.system c.apply.new.self line c.in-Some.told c.entries-entries.ensures.admissible writes within follows c.in_ok-apply.ensures.setting c.in_ok-apply.ensures.ok)
+returns-clause-takes c =
+    by_told c.add.result IsLine (λ line. Shows c.args.parts line) (λ line. IsTold c.args.self.now line (c.len-entries.result + 1) c.output_count-outputs.result c.in-Some.told)
+    (λ stop line. IfNone stop (TakesLine c.args.self.now c.add.new.self line))
+    (λ line is_line shown.
+    let run = c.self.inside.follower in
+    let writes = found_writes c.setting-setting.result.now run.setting line c.in_ok-told.field-0 c.in-Some.told c.setting-setting.ensures.setting c.in-Some.is (c.in_ok-told.ensures.found line is_line shown) in
+    let known = found_keeps c.setting-setting.result.now run.setting c.in_ok-told.field-0 c.in-Some.told c.setting-setting.ensures.setting c.in-Some.is c.in_ok-told.ensures.keeps in
+    told_same c.args.self.now run line (c.len-entries.result + 1) c.output_count-outputs.result c.in-Some.told (sym c.self.view_is)
+    (told_line run line c.in-Some.told (c.len-entries.result) c.self.inside.outputs c.output_count-outputs.result c.passes_limits.result c.len-entries.ensures.admissible writes known
+    (c.len-entries.ensures.count) c.self.invariant.1 (c.output_count-outputs.ensures line is_line shown) c.passes_limits.ensures c.if-passes_limits.false))
+    c.add.ensures.takes
+
+-- The entry breaks a rule.
+pub returns-clause-stops : goal.returns-clause-stops
+returns-clause-stops c =
+    by_told c.add.result IsLine (λ line. Shows c.args.parts line) (λ line. IsTold c.args.self.now line (c.len-entries.result + 1) c.output_count-outputs.result c.in-Some.told)
+    (λ stop line. IfSome stop (StopsAt c.args.self.now.setting c.args.self.now.journal line))
+    (λ line is_line shown.
+    let run = c.self.inside.follower in
+    let writes = found_writes c.setting-setting.result.now run.setting line c.in_ok-told.field-0 c.in-Some.told c.setting-setting.ensures.setting c.in-Some.is (c.in_ok-told.ensures.found line is_line shown) in
+    let known = found_keeps c.setting-setting.result.now run.setting c.in_ok-told.field-0 c.in-Some.told c.setting-setting.ensures.setting c.in-Some.is c.in_ok-told.ensures.keeps in
+    told_same c.args.self.now run line (c.len-entries.result + 1) c.output_count-outputs.result c.in-Some.told (sym c.self.view_is)
+    (told_line run line c.in-Some.told (c.len-entries.result) c.self.inside.outputs c.output_count-outputs.result c.passes_limits.result c.len-entries.ensures.admissible writes known
+    (c.len-entries.ensures.count) c.self.invariant.1 (c.output_count-outputs.ensures line is_line shown) c.passes_limits.ensures c.if-passes_limits.false))
+    c.add.ensures.stops

@@ -1,4 +1,3 @@
-use Rattle.std.proofs.Common.{◌≡◌}
 use Rattle.pssm_plan.proofs.Owners.{IsOnWay}
 use Rattle.pssm_plan.proofs.roster.Roster.add_owners.Given as goal
 

@@ -1,8 +1,0 @@
--- no move is chosen exactly where none may follow
-use Rattle.pssm_system.proofs.Histories.{no_move_seen}
-use Rattle.pssm_system.proofs.system.System.choose_move.Goals as goal
-
-pub returns-clause-none : goal.returns-clause-none
-returns-clause-none c =
-    no_move_seen c.args.self.now c.self.inside.setting c.self.inside.entries.items c.self.inside.situation c.self.invariant c.self.view_is
-    c.choose.result c.choose.ensures
