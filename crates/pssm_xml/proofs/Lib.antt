@@ -1,0 +1,16 @@
+pub mod TreeLaws
+pub mod ScanLaws
+pub mod LoopLaws
+pub mod GrowthLaws
+pub mod ShapeLaws
+pub mod RunLaws
+pub mod EscapeLaws
+pub mod PartLaws
+pub mod PieceLaws
+pub mod CutLaws
+pub mod DifferentLaws
+pub mod StoreLaws
+pub mod GoodLaws
+pub mod ReadLaws
+pub mod DocumentLaws
+pub mod LinkLaws

@@ -1,0 +1,7 @@
+pub mod Characters
+pub mod Pieces
+pub mod Documents
+pub mod Elements
+pub mod TextFaults
+pub mod Faults
+pub mod inner

@@ -1,0 +1,13 @@
+//! What is known of every text.
+ghost use Rattle.std.specs.Prelude.{◌≡◌, ℕ, List};
+ghost use Rattle.pssm_xml.specs.declared.fault.TextFault.{TextFault};
+ghost use Rattle.pssm_xml.specs.Documents.{Element};
+ghost use Rattle.pssm_xml.specs.TextFaults.{HasElements};
+ghost use Rattle.pssm_xml.specs.Faults.{IsTextFault};
+
+/// A text has one list of elements or one fault, and not both.
+pub fn one_tree()
+    ensures tree { (bytes : List ℕ) (d e : List Element) → HasElements bytes d → HasElements bytes e → d ≡ e }
+    ensures apart { (bytes : List ℕ) (d : List Element) (f : TextFault) → HasElements bytes d → IsTextFault bytes f → ⊥ }
+    ensures fault { (bytes : List ℕ) (f g : TextFault) → IsTextFault bytes f → IsTextFault bytes g → f ≡ g }
+{}
