@@ -1,0 +1,5 @@
+pub mod FirstLaws
+pub mod PlaceLaws
+pub mod LatestLaws
+pub mod KeepLaws
+pub mod BreachLaws

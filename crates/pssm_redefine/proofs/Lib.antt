@@ -1,0 +1,14 @@
+pub mod FormLaws
+pub mod GroupLaws
+pub mod BodyLaws
+pub mod MergeLaws
+pub mod DeferLaws
+pub mod SlotLaws
+pub mod WholeLaws
+pub mod GatherLaws
+pub mod SumLaws
+pub mod ChainSums
+pub mod FirstLaws
+pub mod GroupSums
+pub mod StandLaws
+pub mod FlatLaws

@@ -1,0 +1,4 @@
+mod AskedLaws
+mod IdLaws
+mod ReferenceLaws
+mod RoleLaws

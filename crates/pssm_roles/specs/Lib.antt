@@ -1,0 +1,4 @@
+pub mod Ids
+pub mod References
+pub mod Roles
+pub mod inner

@@ -1,0 +1,10 @@
+pub mod Blanks
+pub mod Kinds
+pub mod Truths
+pub mod Integers
+pub mod Bodies
+pub mod Guards
+pub mod Ids
+pub mod Names
+pub mod Labels
+pub mod inner

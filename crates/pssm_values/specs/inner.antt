@@ -1,0 +1,2 @@
+pub mod IntegerReading
+pub mod Noted
