@@ -3,3 +3,8 @@ pub mod PlaceLaws
 pub mod LatestLaws
 pub mod KeepLaws
 pub mod BreachLaws
+pub mod OrderLaws
+pub mod TableLaws
+pub mod SearchLaws
+pub mod StepLaws
+pub mod OneLaws

@@ -1,3 +1,4 @@
 pub mod Firsts
 pub mod Latest
 pub mod Ends
+pub mod Walks

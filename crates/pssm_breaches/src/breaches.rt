@@ -7,11 +7,10 @@ ghost use Rattle.pssm_breaches.specs.Rules.{IsInherited};
 ghost use Rattle.pssm_breaches.specs.inner.Latest.{IsAsked};
 ghost use Rattle.pssm_breaches.specs.Broken.{IsBroken};
 
-use crate::elements::redefined_by;
 use crate::keeping::{keeps_source, keeps_triggers};
 use crate::latest::{is_repeated, redefines_leaf};
 use crate::places::is_inherited;
-use pssm_heritage::{ElementKind, Heritage, RedefRule};
+use pssm_heritage::{ElementKind, Heritage, RedefRule, redefined_by};
 use pssm_model::{Draft, ElementRef};
 
 // The rule that an element breaks first that inherits what it names.

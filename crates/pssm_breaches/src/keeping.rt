@@ -8,9 +8,8 @@ ghost use Rattle.pssm_breaches.specs.Rules.{AreSameSignals, KeepsSource, KeepsTr
 ghost use Rattle.pssm_breaches.specs.inner.Firsts.{first_in, HaveSameFirst};
 ghost use Rattle.pssm_breaches.specs.inner.Ends.{EndsMeet, AreAmong};
 
-use crate::elements::transition_at;
 use crate::firsts::{became_same, first_of};
-use pssm_heritage::{ElementKind, Heritage};
+use pssm_heritage::{ElementKind, Heritage, transition_at};
 use pssm_model::{Draft, ElementRef, End, PartTransition, SignalId};
 
 // The first form of a transition.

@@ -7,9 +7,8 @@ ghost use Rattle.pssm_breaches.specs.Latest.{IsWithin};
 ghost use Rattle.pssm_breaches.specs.Rules.{AreSameRegions, AreSameVertices, AtSamePlace, IsInherited};
 ghost use Rattle.pssm_breaches.specs.inner.Firsts.{OwnersMeet};
 
-use crate::elements::{region_at, vertex_at};
 use crate::firsts::{became_same, is_first};
-use pssm_heritage::{ElementKind, Heritage};
+use pssm_heritage::{ElementKind, Heritage, region_at, vertex_at};
 use pssm_model::{Draft, ElementRef, Owner};
 
 // Whether two owners, each in its machine, became the same.

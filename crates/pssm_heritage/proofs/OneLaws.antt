@@ -49,7 +49,7 @@ not_both draft m c (faults.ChangedSource id) chain h = h
 not_both draft m c (faults.ChangedTriggers id) chain h = h
 not_both draft m c faults.NoMemory chain h = h
 
-same_first : (draft : Draft) (m x y : ℕ) → IsFirstCyclic draft m x → IsFirstCyclic draft m y → x ≡ y
+pub same_first : (draft : Draft) (m x y : ℕ) → IsFirstCyclic draft m x → IsFirstCyclic draft m y → x ≡ y
 same_first draft m x y f g =
     ⊎_elim
     (λ lt. absurd (g.first x f.reached f.cyclic lt))

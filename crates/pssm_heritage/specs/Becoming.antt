@@ -1,5 +1,5 @@
 -- What an element has become in the flattened machine.
-use Rattle.std.specs.Prelude.{◌≡◌, ◌<◌, ◌⊎◌, ℕ, Some}
+use Rattle.std.specs.Prelude.{◌≡◌, Some}
 use Rattle.pssm_model.specs.declared.draft_setting.ElementRef.{ElementRef}
 use Rattle.pssm_model.specs.declared.draft_setting.Draft.{Draft}
 use Rattle.pssm_model.specs.DraftSettings.{ExtendsFar}

@@ -1,6 +1,5 @@
 -- Regions, vertices and transitions of a draft, asked alike.
-use Rattle.std.specs.Prelude.{◌≡◌, ◌<◌, ℕ, Bool, false, List, [], length, Option, Some, option_and_then, slice_get}
-use Rattle.std.specs.Option.{option_map_or}
+use Rattle.std.specs.Prelude.{◌≡◌, ◌<◌, ℕ, length, Option, Some, option_and_then, slice_get}
 use Rattle.pssm_model.specs.declared.draft_setting.ElementRef.{ElementRef}
 use Rattle.pssm_model.specs.declared.draft_setting.Draft.{Draft}
 use Rattle.pssm_model.specs.declared.draft_setting.DraftParts.{DraftParts}

@@ -1,31 +1,30 @@
 //! Regions, vertices and transitions of a draft, asked alike.
-ghost use Rattle.std.specs.Prelude.{◌≡◌, ◌<◌, length};
-ghost use Rattle.std.specs.Option.{option_copied};
+ghost use Rattle.std.specs.Prelude.{◌≡◌, ◌<◌, length, slice_get};
+ghost use Rattle.std.specs.Option.{option_copied, option_map_or};
 ghost use Rattle.pssm_model.specs.DraftSettings.{IsInRange, region_of, vertex_of, transition_of};
 ghost use Rattle.pssm_heritage.specs.Elements.{count_in, redefined};
-ghost use Rattle.pssm_heritage.specs.inner.Tables.{own_count};
 
 use crate::kinds::ElementKind;
 use pssm_model::{Draft, DraftParts, ElementRef, PartRegion, PartTransition, PartVertex};
 
-// The region at a place.
-pub(crate) fn region_at(draft: &Draft, e: ElementRef) -> Option<&PartRegion>
+/// The region at a place; none outside of the draft.
+pub fn region_at(draft: &Draft, e: ElementRef) -> Option<&PartRegion>
     ensures { option_copied result ≡ region_of draft.now e }
 {
     let parts = draft.machines.as_slice().get(e.machine as usize)?;
     parts.regions.as_slice().get(e.element as usize)
 }
 
-// The vertex at a place.
-pub(crate) fn vertex_at(draft: &Draft, e: ElementRef) -> Option<&PartVertex>
+/// The vertex at a place; none outside of the draft.
+pub fn vertex_at(draft: &Draft, e: ElementRef) -> Option<&PartVertex>
     ensures { option_copied result ≡ vertex_of draft.now e }
 {
     let parts = draft.machines.as_slice().get(e.machine as usize)?;
     parts.vertices.as_slice().get(e.element as usize)
 }
 
-// The transition at a place.
-pub(crate) fn transition_at(draft: &Draft, e: ElementRef) -> Option<&PartTransition>
+/// The transition at a place; none outside of the draft.
+pub fn transition_at(draft: &Draft, e: ElementRef) -> Option<&PartTransition>
     ensures { option_copied result ≡ transition_of draft.now e }
 {
     let parts = draft.machines.as_slice().get(e.machine as usize)?;
@@ -43,17 +42,17 @@ fn count_in_parts(parts: &DraftParts, kind: ElementKind) -> usize
     }
 }
 
-// How many elements of the kind the machine with the number has.
-pub(crate) fn count_of(draft: &Draft, kind: ElementKind, m: u32) -> u32
+/// How many elements of the kind the machine with the number has of its own.
+pub fn count_of(draft: &Draft, kind: ElementKind, m: u32) -> u32
     requires range { IsInRange draft.now }
     requires there { m < length draft.now.machines }
-    ensures { result ≡ own_count draft.now kind m }
+    ensures { result ≡ option_map_or (count_in kind) (slice_get draft.now.machines m) 0 }
 {
     count_in_parts(&draft.machines.as_slice()[m as usize], kind) as u32
 }
 
-// The element that an element redefines.
-pub(crate) fn redefined_by(draft: &Draft, kind: ElementKind, e: ElementRef) -> Option<ElementRef>
+/// The element that an element redefines; of a region the one that it extends (UML 2.5.1, 14.3.3).
+pub fn redefined_by(draft: &Draft, kind: ElementKind, e: ElementRef) -> Option<ElementRef>
     ensures { result ≡ redefined draft.now kind e }
 {
     match kind {

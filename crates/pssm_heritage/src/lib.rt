@@ -13,6 +13,7 @@ mod kinds;
 mod laws;
 mod numbers;
 
+pub use elements::{count_of, redefined_by, region_at, transition_at, vertex_at};
 pub use fault::RedefFault;
 pub use heritage::Heritage;
 pub use kinds::{ElementKind, RedefRule};

@@ -7,7 +7,7 @@ use Rattle.std.proofs.Math.Seq.{get_or-append_seam}
 use Rattle.std.proofs.lemmas.List.Elements.{filter-append}
 use Rattle.pssm_model.specs.declared.draft_setting.ElementRef.{ElementRef}
 use Rattle.pssm_redefine.specs.declared.groups.Numbered.{Numbered}
-use Rattle.pssm_redefine.specs.inner.Gathered.{AreGroups, forms_of, list_at}
+use Rattle.pssm_redefine.specs.Groups.{AreGroups, forms_of, list_at}
 
 one_form : (b : Bool) (n : Numbered) → map (λ (m : Numbered). m.element) (cond b (n ∷ []) []) ≡ cond b (n.element ∷ []) []
 one_form true n = refl

@@ -9,7 +9,7 @@ use Rattle.pssm_heritage.specs.Numbers.{own_elements}
 use Rattle.pssm_heritage.specs.Heritages.{Numbering, number_in}
 use Rattle.pssm_redefine.specs.declared.groups.Numbered.{Numbered}
 use Rattle.pssm_redefine.specs.Gathering.{with_number, numbered_of}
-use Rattle.pssm_redefine.specs.inner.Gathered.{AreGroups, forms_of, list_at}
+use Rattle.pssm_redefine.specs.Groups.{AreGroups, forms_of, list_at}
 use Rattle.pssm_redefine.proofs.SumLaws.{added, added_flat, added_le, added_total, total, total_le, total_none, total_two, total_one}
 
 module _ (w : ElementRef → ℕ) where

@@ -12,3 +12,7 @@ pub mod FirstLaws
 pub mod GroupSums
 pub mod StandLaws
 pub mod FlatLaws
+pub mod OneLaws
+pub mod SameLists
+pub mod SameLineage
+pub mod SameFlat

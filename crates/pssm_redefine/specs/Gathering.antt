@@ -23,7 +23,7 @@ use Rattle.pssm_redefine.specs.declared.parts.Gathered.{Gathered}
 use Rattle.pssm_redefine.specs.Merging.{IsMerged}
 use Rattle.pssm_model.specs.declared.draft_setting.DraftClass.{DraftClass}
 use Rattle.pssm_model.specs.declared.draft_setting.FlatDraft.{FlatDraft}
-use Rattle.pssm_redefine.specs.inner.Gathered.{AreGroups}
+use Rattle.pssm_redefine.specs.Groups.{AreGroups}
 
 -- ---- where elements stand
 

@@ -4,7 +4,7 @@ ghost use Rattle.std.specs.List.{flat_map};
 ghost use Rattle.pssm_redefine.specs.Forms.{deferred};
 ghost use Rattle.pssm_redefine.specs.Merging.{AreUnited};
 
-use crate::forms::vertex_at;
+use pssm_heritage::vertex_at;
 use pssm_model::{Draft, ElementRef, SignalId};
 use std::alloc::{AllocError as NoMemory, Global};
 

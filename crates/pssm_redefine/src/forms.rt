@@ -1,13 +1,11 @@
 //! What the forms of an element give: the last one that gives a thing decides.
 ghost use Rattle.std.specs.Prelude.{◌≡◌};
 ghost use Rattle.std.specs.Option.{option_copied};
-ghost use Rattle.pssm_model.specs.DraftSettings.{region_of, vertex_of, transition_of};
 ghost use Rattle.pssm_redefine.specs.Forms.{last_given, given_label, given_kind, given_guard, guard_if_any, guard_text};
 ghost use Rattle.pssm_redefine.specs.inner.Gathered.{given_body};
 
-use pssm_model::{
-    Body, Draft, ElementRef, PartGuard, PartRegion, PartTransition, PartVertex, Text, TransKind,
-};
+use pssm_heritage::{transition_at, vertex_at};
+use pssm_model::{Body, Draft, ElementRef, PartGuard, Text, TransKind};
 
 // A field that has a body; guards are apart.
 #[derive(Clone, Copy)]
@@ -16,30 +14,6 @@ pub(crate) enum BodyField {
     Exit,
     Steps,
     Effect,
-}
-
-// The region at a place.
-pub(crate) fn region_at(draft: &Draft, form: ElementRef) -> Option<&PartRegion>
-    ensures { option_copied result ≡ region_of draft.now form }
-{
-    let parts = draft.machines.as_slice().get(form.machine as usize)?;
-    parts.regions.as_slice().get(form.element as usize)
-}
-
-// The vertex at a place.
-pub(crate) fn vertex_at(draft: &Draft, form: ElementRef) -> Option<&PartVertex>
-    ensures { option_copied result ≡ vertex_of draft.now form }
-{
-    let parts = draft.machines.as_slice().get(form.machine as usize)?;
-    parts.vertices.as_slice().get(form.element as usize)
-}
-
-// The transition at a place.
-pub(crate) fn transition_at(draft: &Draft, form: ElementRef) -> Option<&PartTransition>
-    ensures { option_copied result ≡ transition_of draft.now form }
-{
-    let parts = draft.machines.as_slice().get(form.machine as usize)?;
-    parts.transitions.as_slice().get(form.element as usize)
 }
 
 // The label that a form gives.

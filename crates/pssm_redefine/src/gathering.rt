@@ -1,40 +1,18 @@
 //! What is gathered of a machine and of those that it extends.
-ghost use Rattle.std.specs.Prelude.{◌≡◌, ◌<◌, ◌++◌, ◌∷◌, [], length, All, IfOk, OnOk, slice_get};
+ghost use Rattle.std.specs.Prelude.{◌≡◌, ◌<◌, ◌++◌, ◌∷◌, [], length, All, IfOk, OnOk};
 ghost use Rattle.std.specs.List.{filter_map};
-ghost use Rattle.std.specs.Option.{option_map_or};
 ghost use Rattle.pssm_model.specs.DraftSettings.{IsInRange};
-ghost use Rattle.pssm_heritage.specs.Elements.{count_in};
 ghost use Rattle.pssm_heritage.specs.Numbers.{own_elements};
 ghost use Rattle.pssm_heritage.specs.Heritages.{numbering_of};
 ghost use Rattle.pssm_redefine.specs.Gathering.{with_number, numbered_of, IsGathered};
-ghost use Rattle.pssm_redefine.specs.inner.Gathered.{AreGroups};
+ghost use Rattle.pssm_redefine.specs.Groups.{AreGroups};
 
 use crate::groups::{Numbered, groups_of};
 use crate::numbered::{all_ends, region_owners, vertex_owners};
 use crate::parts::Gathered;
-use pssm_heritage::{ElementKind, Heritage};
-use pssm_model::{Draft, DraftParts, ElementRef, Row};
+use pssm_heritage::{ElementKind, Heritage, count_of};
+use pssm_model::{Draft, ElementRef, Row};
 use std::alloc::{AllocError as NoMemory, Global};
-
-// How many elements of a kind a machine has of its own.
-fn count_in_parts(parts: &DraftParts, kind: ElementKind) -> usize
-    ensures { result ≡ count_in kind parts.now }
-{
-    match kind {
-        ElementKind::Region => parts.regions.as_slice().len(),
-        ElementKind::Vertex => parts.vertices.as_slice().len(),
-        ElementKind::Transition => parts.transitions.as_slice().len(),
-    }
-}
-
-// The same of the machine with a number.
-fn own_count(draft: &Draft, kind: ElementKind, m: u32) -> u32
-    requires range { IsInRange draft.now }
-    requires there { m < length draft.now.machines }
-    ensures { result ≡ option_map_or (count_in kind) (slice_get draft.now.machines m) 0 }
-{
-    count_in_parts(&draft.machines.as_slice()[m as usize], kind) as u32
-}
 
 // Puts an element at the end, where it has a number.
 fn add_element(
@@ -67,7 +45,7 @@ fn add_machine(
         ≡ all.old.items ++ filter_map (with_number (numbering_of kind heritage.now))
         (own_elements draft.now kind machine)) }
 {
-    for element in 0..own_count(draft, kind, machine) {
+    for element in 0..count_of(draft, kind, machine) {
         add_element(heritage, kind, ElementRef { machine, element }, all)?;
     }
     Ok(())

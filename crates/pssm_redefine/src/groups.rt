@@ -1,6 +1,6 @@
 //! The forms of each element, gathered by its number.
 ghost use Rattle.std.specs.Prelude.{◌≡◌, ◌<◌, ◌++◌, ◌∷◌, [], length, slice_set, IfOk, OnOk};
-ghost use Rattle.pssm_redefine.specs.inner.Gathered.{AreGroups, list_at};
+ghost use Rattle.pssm_redefine.specs.Groups.{AreGroups, list_at};
 
 use pssm_model::{ElementRef, Row};
 use std::alloc::{AllocError as NoMemory, Global};

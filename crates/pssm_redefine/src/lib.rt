@@ -1,8 +1,9 @@
 //! Machines that extend others, flattened: the machine of a class with all that it inherits, as one machine.
 //!
 //! What an element of a machine has become is what `pssm_heritage` knows. This crate gathers the forms of each element,
-//! and puts them together: which form gives its label, its behaviours, its guard, its target. The definitions stand in
-//! `specs/`. It reads no text of a behaviour, and asks for no rule of redefinition.
+//! and puts them together: which form gives its label, its behaviours, its guard, its target. `flatten` does so where
+//! no element breaks a rule of redefinition, and which do is what `pssm_breaches` knows. The definitions stand in
+//! `specs/`. This crate reads no text of a behaviour.
 #![tactic(auto)]
 
 mod bodies;
@@ -11,6 +12,7 @@ mod flattening;
 mod forms;
 mod gathering;
 mod groups;
+mod laws;
 mod machine;
 mod numbered;
 mod parts;
@@ -19,7 +21,8 @@ mod transitions;
 mod variables;
 mod vertices;
 
-pub use flattening::flattened;
+pub use flattening::{flatten, flattened};
 pub use gathering::gather;
+pub use laws::{flat_or_fault, one_flat};
 pub use machine::merge;
 pub use parts::{Ends, Gathered};

@@ -3,9 +3,8 @@ ghost use Rattle.std.specs.Prelude.{◌≡◌, IfOk, map};
 ghost use Rattle.pssm_heritage.specs.Heritages.{number_in};
 ghost use Rattle.pssm_redefine.specs.Gathering.{number_or_none, owner_in, region_owner, vertex_owner, end_in, ends_in};
 
-use crate::forms::{region_at, transition_at, vertex_at};
 use crate::parts::Ends;
-use pssm_heritage::{ElementKind, Heritage};
+use pssm_heritage::{ElementKind, Heritage, region_at, transition_at, vertex_at};
 use pssm_model::{Draft, ElementRef, End, Owner, RegionId, Row, VertexId};
 use std::alloc::{AllocError as NoMemory, Global};
 

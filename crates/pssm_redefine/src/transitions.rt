@@ -5,9 +5,10 @@ ghost use Rattle.pssm_redefine.specs.Forms.{last_given, given_kind, given_guard}
 ghost use Rattle.pssm_redefine.specs.Merging.{first_triggers, guard_numbered, IsMergedTransition, AreMergedTransitions};
 ghost use Rattle.pssm_redefine.specs.inner.Merges.{IsTransitionNumbered};
 
-use crate::forms::{last_guard, last_kind, transition_at};
+use crate::forms::{last_guard, last_kind};
 use crate::parts::Ends;
 use crate::vertices::number_at;
+use pssm_heritage::transition_at;
 use pssm_model::{
     ActId, Draft, Duplicate, ElementRef, Guard, GuardId, PartGuard, Row, SignalId, TransKind,
     Transition,

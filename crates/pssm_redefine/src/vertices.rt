@@ -5,7 +5,8 @@ ghost use Rattle.pssm_redefine.specs.Merging.{first_kind, steps_numbered, IsMerg
 ghost use Rattle.pssm_redefine.specs.inner.Merges.{IsVertexNumbered};
 
 use crate::defers::united_defers;
-use crate::forms::{last_label, vertex_at};
+use crate::forms::last_label;
+use pssm_heritage::vertex_at;
 use pssm_model::{ActId, Draft, ElementRef, Owner, Row, Text, Vertex, VertexKind};
 use std::alloc::{AllocError as NoMemory, Global};
 

@@ -1,5 +1,5 @@
 use Rattle.std.proofs.Common.{[]}
-use Rattle.pssm_redefine.specs.inner.Gathered.{AreGroups}
+use Rattle.pssm_redefine.specs.Groups.{AreGroups}
 use Rattle.pssm_redefine.proofs.groups.empty_groups.Given as goal
 
 abbrev pub invariant-loop-number : goal.invariant-loop-number

@@ -1,5 +1,5 @@
 use Rattle.std.proofs.Common.{take}
-use Rattle.pssm_redefine.specs.inner.Gathered.{AreGroups}
+use Rattle.pssm_redefine.specs.Groups.{AreGroups}
 use Rattle.pssm_redefine.proofs.groups.groups_of.Given as goal
 
 abbrev pub invariant-loop-one : goal.invariant-loop-one
