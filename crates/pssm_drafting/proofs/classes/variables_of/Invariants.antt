@@ -1,0 +1,7 @@
+use Rattle.std.proofs.Common.{◌≡◌, take}
+use Rattle.std.specs.Prelude.{map}
+use Rattle.pssm_drafting.specs.Drafts.{variable_at}
+use Rattle.pssm_drafting.proofs.classes.variables_of.Given as goal
+
+abbrev pub invariant-loop-n : goal.invariant-loop-n
+invariant-loop-n l = l.row ≡ map (variable_at l.file) (take l.n-index l.n-items)

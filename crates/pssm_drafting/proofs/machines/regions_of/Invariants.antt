@@ -1,0 +1,7 @@
+use Rattle.std.proofs.Common.{◌≡◌, take}
+use Rattle.std.specs.Prelude.{map}
+use Rattle.pssm_parts.specs.Elements.{region_at}
+use Rattle.pssm_drafting.proofs.machines.regions_of.Given as goal
+
+abbrev pub invariant-loop-n : goal.invariant-loop-n
+invariant-loop-n l = l.row ≡ map (region_at l.file) (take l.n-index l.n-items)

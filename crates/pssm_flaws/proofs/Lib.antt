@@ -1,0 +1,2 @@
+pub mod FlawLaws
+pub mod PassLaws

@@ -1,0 +1,9 @@
+pub mod ListLaws
+pub mod CountLaws
+pub mod MachineLaws
+pub mod WayLaws
+pub mod ClassLaws
+pub mod NameLaws
+pub mod VariableLaws
+pub mod FewLaws
+pub mod PastLaws

@@ -1,0 +1,4 @@
+pub mod Counts
+pub mod Ways
+pub mod Variables
+pub mod Past

@@ -1,0 +1,5 @@
+pub mod Numbering
+pub mod Kinds
+pub mod Lists
+pub mod Meanings
+pub mod inner

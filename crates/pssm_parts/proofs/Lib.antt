@@ -1,0 +1,3 @@
+pub mod SayingLaws
+pub mod PlaceLaws
+pub mod GuardLaws

@@ -1,0 +1,4 @@
+pub mod Texts
+pub mod Elements
+pub mod FirstValues
+pub mod inner

@@ -1,0 +1,6 @@
+pub mod Numbers
+pub mod Counts
+pub mod Kinds
+pub mod Flaws
+pub mod Faults
+pub mod inner

@@ -1,0 +1,3 @@
+pub mod Counting
+pub mod Children
+pub mod Texts

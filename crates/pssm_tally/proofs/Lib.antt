@@ -1,0 +1,5 @@
+pub mod KindLaws
+pub mod ObjectLaws
+pub mod BeforeLaws
+pub mod ParameterLaws
+pub mod TallyLaws

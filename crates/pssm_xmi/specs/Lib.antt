@@ -1,0 +1,3 @@
+pub mod Faults
+pub mod Faultless
+pub mod inner
