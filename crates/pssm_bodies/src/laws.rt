@@ -1,0 +1,20 @@
+//! What is known of every flat draft.
+ghost use Rattle.std.specs.Prelude.{◌≡◌, ℕ, ◌-◌, length, List};
+ghost use Rattle.pssm_model.specs.declared.elements.DraftMachine.{DraftMachine};
+ghost use Rattle.pssm_model.specs.declared.draft_setting.FlatDraft.{FlatDraft};
+ghost use Rattle.pssm_semantics.specs.declared.setting.Names.{Names};
+ghost use Rattle.pssm_semantics.specs.declared.setting.Program.{Program};
+ghost use Rattle.pssm_acts.specs.declared.act_fault.ActFault.{ActFault};
+ghost use Rattle.pssm_bodies.specs.Faults.{IsBodyFault};
+ghost use Rattle.pssm_bodies.specs.Slots.{HasEachOnce};
+ghost use Rattle.pssm_bodies.specs.Programs.{IsProgrammed};
+
+/// A flat draft has one machine with one program, or one body with the first fault, and not both.
+pub fn one_outcome()
+    ensures program { (names : Names) (flat : FlatDraft) (m n : DraftMachine) (p q : Program)
+        → IsProgrammed names flat m p → IsProgrammed names flat n q → (m ≡ n) × (p ≡ q) }
+    ensures fault { (names : Names) (flat : FlatDraft) (n k : ℕ) (f g : ActFault)
+        → IsBodyFault names flat n f → IsBodyFault names flat k g → (n ≡ k) × (f ≡ g) }
+    ensures apart { (names : Names) (flat : FlatDraft) (m : DraftMachine) (p : Program) (n : ℕ) (f : ActFault)
+        → HasEachOnce flat → IsProgrammed names flat m p → IsBodyFault names flat n f → ⊥ }
+{}
