@@ -1,0 +1,4 @@
+pub mod ListLaws
+pub mod KindLaws
+pub mod RoleLaws
+pub mod DraftLaws

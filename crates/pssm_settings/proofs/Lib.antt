@@ -1,0 +1,16 @@
+pub mod OnceLists
+pub mod OncePlaces
+pub mod OnceSlots
+pub mod OnceWhole
+pub mod FlatLists
+pub mod FlatBodies
+pub mod FlatVars
+pub mod FlatSignals
+pub mod FlatNames
+pub mod ProperLists
+pub mod ProperClasses
+pub mod ProperSettings
+pub mod ClassLaws
+pub mod ListingLaws
+pub mod SameShapes
+pub mod SameSettings

@@ -1,0 +1,8 @@
+use Rattle.std.proofs.Common.{◌≡◌, take}
+use Rattle.std.specs.Prelude.{map}
+use Rattle.pssm_settings.specs.Settings.{object_of}
+use Rattle.pssm_settings.proofs.whole.objects_of.Given as goal
+
+-- those so far
+abbrev pub invariant-loop-of : goal.invariant-loop-of
+invariant-loop-of l = l.all.items ≡ map object_of (take l.of-index l.objects)

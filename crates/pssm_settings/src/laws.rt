@@ -1,0 +1,17 @@
+//! What is known of every draft.
+ghost use Rattle.std.specs.Prelude.{◌≡◌};
+ghost use Rattle.pssm_model.specs.declared.draft_setting.Draft.{Draft};
+ghost use Rattle.pssm_semantics.specs.declared.setting.Setting.{Setting};
+ghost use Rattle.pssm_settings.specs.declared.fault.DraftFault.{DraftFault};
+ghost use Rattle.pssm_settings.specs.Settings.{IsSettingOf};
+ghost use Rattle.pssm_settings.specs.Failures.{IsFirstFailure};
+
+/// A draft has one setting or one fault, and not both.
+pub fn one_setting()
+    ensures setting { (draft : Draft) (a b : Setting)
+        → IsSettingOf draft a → IsSettingOf draft b → a ≡ b }
+    ensures apart { (draft : Draft) (setting : Setting) (fault : DraftFault)
+        → IsSettingOf draft setting → IsFirstFailure draft fault → ⊥ }
+    ensures fault { (draft : Draft) (f g : DraftFault)
+        → IsFirstFailure draft f → IsFirstFailure draft g → f ≡ g }
+{}
