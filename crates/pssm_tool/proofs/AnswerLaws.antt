@@ -8,7 +8,7 @@ use Rattle.pssm_semantics.specs.declared.setting.Setting.{Setting}
 use Rattle.pssm_semantics.specs.declared.stimulus.Stimulus.{Stimulus}
 use Rattle.pssm_lines.specs.declared.fault.LineFault.TheVariants as lines
 use Rattle.pssm_journal.specs.Judged.{Judged, Accepted, Refused, Limited, BadText}
-use Rattle.pssm_tool.specs.declared.load.LoadFault.{LoadFault}
+use Rattle.pssm_load.specs.declared.fault.LoadFault.{LoadFault}
 use Rattle.pssm_tool.specs.declared.words.Options.{Options}
 use Rattle.pssm_tool.specs.declared.answer.Answer.{Answer}
 use Rattle.pssm_tool.specs.declared.answer.Answer.TheVariants.{Accept, Refuse, Limit, WellFormed, Usage, BadLine, NoEnd, TooLarge, Journal, Flat, BadModel}
@@ -20,7 +20,7 @@ use Rattle.pssm_tool.specs.Due.{model_of, HasModel, HasBuiltModel, answer_to, Is
 use Rattle.pssm_tool.specs.Headline.{IsContinued, IsAcceptedText}
 use Rattle.pssm_tool.specs.inner.Failures.{GoesOn}
 use Rattle.pssm_tool.proofs.WordLaws.{one_meaning}
-use Rattle.pssm_tool.proofs.DueOnce.{IsJournal, owed_once, run_answered}
+use Rattle.pssm_tool.proofs.DueOnce.{IsJournal, HasOneLoad, owed_once, run_answered}
 
 -- ---- the answer of a status
 
@@ -208,9 +208,9 @@ answer_or_failure code n told = elim (eqb_tells code 6) [
 ]
 
 -- An answer that is owed is the one that comes, but for the journal of a run.
-pub exactly_owed : {P : Type 0} (words : List (List ℕ)) (contents : Contents) (code : ℕ) (came a : Answer) → IsTold words contents → IsOwed words contents came
+pub exactly_owed : {P : Type 0} (law : HasOneLoad) (words : List (List ℕ)) (contents : Contents) (code : ℕ) (came a : Answer) → IsTold words contents → IsOwed words contents came
     → (code ≢ 6 → code ≢ 7 → (code ≡ code_of came) × P) → IsOwed words contents a → (code ≡ code_of a) ⊎ IsFailure code ⊎ IsJournal a
-exactly_owed words contents code came a known owed told due = elim (owed_once words contents known came a owed due) [
+exactly_owed law words contents code came a known owed told due = elim (owed_once law words contents known came a owed due) [
   | inl same ↦ elim (answer_or_failure code (code_of came) told) [
     | inl is ↦ inl (is ∙ same)
     | inr failure ↦ inr (inl failure)
@@ -224,11 +224,11 @@ journal_code a (text, ends.Quiet, e) = inl (ap code_of e)
 journal_code a (text, ends.Limit, e) = inr (ap code_of e)
 
 -- A run that is owed is what comes, with one of its ends.
-pub runs_owed : {P : Type 0} (words : List (List ℕ)) (contents : Contents) (code : ℕ) (came : Answer) (options : Options) (model : List ℕ) (names : List (List ℕ)) (setting : Setting) (stimuli : List Stimulus)
+pub runs_owed : {P : Type 0} (law : HasOneLoad) (words : List (List ℕ)) (contents : Contents) (code : ℕ) (came : Answer) (options : Options) (model : List ℕ) (names : List (List ℕ)) (setting : Setting) (stimuli : List Stimulus)
     → IsTold words contents → IsOwed words contents came → (code ≢ 6 → code ≢ 7 → (code ≡ code_of came) × P)
     → Means words (Runs options model names) → HasBuiltModel contents model setting → AreStimuli setting names stimuli → (code ≡ 0) ⊎ (code ≡ 8) ⊎ IsFailure code
-runs_owed words contents code came options model names setting stimuli known owed told is has are = elim (answer_or_failure code (code_of came) told) [
-  | inl same ↦ elim (journal_code came (run_answered words contents known came options model names setting stimuli owed is has are)) [
+runs_owed law words contents code came options model names setting stimuli known owed told is has are = elim (answer_or_failure code (code_of came) told) [
+  | inl same ↦ elim (journal_code came (run_answered law words contents known came options model names setting stimuli owed is has are)) [
     | inl zero ↦ inl (same ∙ zero)
     | inr eight ↦ inr (inl (same ∙ eight))
   ]

@@ -1,38 +1,26 @@
--- A model that loads and is built whole is one that the code runs, and its names are names.
-use Rattle.std.proofs.Common.{List, [], ◌∷◌, ℕ}
+-- A setting that is well formed and built whole is one that the code runs.
+use Rattle.std.proofs.Common.{List, [], ◌∷◌}
 use Rattle.std.specs.List.{AllByRecursion}
-use Rattle.std.proofs.lemmas.List.Elements.{All-from_recursion}
-use Rattle.pssm_base.specs.Reading.{Contents}
-use Rattle.pssm_model.specs.Shapes.{HasShape}
+use Rattle.std.proofs.lemmas.List.Elements.{All-from_recursion, recursion_from_All}
 use Rattle.pssm_model.specs.BuiltMachine.{IsBuiltMachine}
+use Rattle.pssm_model.specs.WellFormed.{KeepsModelRules}
 use Rattle.pssm_semantics.specs.declared.setting.Class.{Class}
 use Rattle.pssm_semantics.specs.declared.setting.Setting.{Setting}
 use Rattle.pssm_semantics.specs.Built.{IsBuilt}
-use Rattle.pssm_semantics.specs.Names.{HasSpelledNames}
-use Rattle.pssm_flat.specs.Flat.{IsFlat}
-use Rattle.pssm_flat.proofs.ProperLaws.{flat_proper}
-use Rattle.pssm_flat.proofs.SpelledLaws.{flat_spelled}
-use Rattle.pssm_tool.specs.Loads.{AreBuilt}
-use Rattle.pssm_tool.specs.Due.{HasModel, HasBuiltModel}
-use Rattle.pssm_tool.specs.inner.Loading.{KeepRules}
-use Rattle.pssm_tool.proofs.LoadFaults.{rules_kept}
+use Rattle.pssm_semantics.specs.Proper.{ClassFits, IsWellFormed}
+use Rattle.pssm_load.specs.Loads.{AreBuilt}
+use Rattle.pssm_load.specs.inner.Loading.{KeepRules}
 
--- The machines of a setting that was read have the shape of machines.
-pub have_shape : (s : Setting) → IsFlat s → AllByRecursion (λ (x : Class). HasShape x.machine) s.classes
-have_shape s flat = flat.shape
+-- Machines of classes that fit, keep the rules of models and have no element that is not built are machines that the code runs.
+machines_run : (s : Setting) (classes : List Class) → AllByRecursion (ClassFits s) classes → KeepRules classes → AreBuilt classes → AllByRecursion (λ (x : Class). IsBuiltMachine x.machine) classes
+machines_run s [] fit rules built = tt
+machines_run s (x ∷ xs) fit rules built = (record { shape = fit.0.program.machine.shape; rules = rules.0; built = built.0 }, machines_run s xs fit.1 rules.1 built.1)
 
--- Machines that have their shape, keep the rules of models and have no element that is not built are machines that the code runs.
-machines_run : (classes : List Class) → AllByRecursion (λ (x : Class). HasShape x.machine) classes → KeepRules classes → AreBuilt classes → AllByRecursion (λ (x : Class). IsBuiltMachine x.machine) classes
-machines_run [] shapes rules built = tt
-machines_run (x ∷ xs) shapes rules built = (record { shape = shapes.0; rules = rules.0; built = built.0 }, machines_run xs shapes.1 rules.1 built.1)
-
-pub is_built : (contents : Contents) (path : List ℕ) (s : Setting) → HasBuiltModel contents path s → IsBuilt s
-is_built contents path s has =
-    let flat = has.0.loads.flat in
+pub is_built : (s : Setting) → IsWellFormed s → AreBuilt s.classes → IsBuilt s
+is_built s well built =
+    let fit = recursion_from_All (ClassFits s) s.classes well.proper.classes in
+    let keep = recursion_from_All (λ (x : Class). KeepsModelRules x.machine) s.classes well.rules in
     record {
-      proper = flat_proper s flat;
-      machines = All-from_recursion (λ (x : Class). IsBuiltMachine x.machine) s.classes (machines_run s.classes (have_shape s flat) (rules_kept s.classes has.0.loads.faults) has.1);
+      proper = well.proper;
+      machines = All-from_recursion (λ (x : Class). IsBuiltMachine x.machine) s.classes (machines_run s s.classes fit keep built);
     }
-
-pub names_spelled : (contents : Contents) (path : List ℕ) (s : Setting) → HasModel contents path s → HasSpelledNames s
-names_spelled contents path s has = flat_spelled s has.loads.flat

@@ -6,23 +6,21 @@ use Rattle.pssm_model.specs.declared.elements.Element.{Element}
 use Rattle.pssm_semantics.specs.declared.setting.Setting.{Setting}
 use Rattle.pssm_semantics.specs.declared.stimulus.Stimulus.{Stimulus}
 use Rattle.pssm_flat.specs.Text.{flat_text}
-use Rattle.pssm_flat.specs.Faults.{IsFlatFault}
-use Rattle.pssm_flat.proofs.FaultLaws.{one_setting, not_both}
 use Rattle.pssm_journal.specs.Judged.{IsJudged}
 use Rattle.pssm_journal.proofs.Judgements.{judged_once}
-use Rattle.pssm_tool.specs.declared.load.LoadFault.{LoadFault}
-use Rattle.pssm_tool.specs.declared.load.LoadFault.TheVariants as wrongs
+use Rattle.pssm_load.specs.declared.fault.LoadFault.{LoadFault}
+use Rattle.pssm_load.specs.declared.fault.LoadFault.TheVariants as wrongs
+use Rattle.pssm_load.specs.Loads.{Reads, ReadsSetting, IsLoadFault, AreBuilt, IsFirstUnbuilt}
+use Rattle.pssm_load.proofs.LoadFaults.{none_of_built}
 use Rattle.pssm_tool.specs.declared.words.Options.{Options}
 use Rattle.pssm_tool.specs.declared.answer.Answer.{Answer}
 use Rattle.pssm_tool.specs.declared.answer.Answer.TheVariants.{WellFormed, Usage, TooLarge, Journal, Flat, BadModel}
 use Rattle.pssm_tool.specs.declared.run.Ended.{Ended}
 use Rattle.pssm_tool.specs.Words.{Meaning, Judges, Runs, Checks, Prints, Means}
 use Rattle.pssm_tool.specs.Stimuli.{AreStimuli}
-use Rattle.pssm_tool.specs.Loads.{AreClassFaults, IsLoadFault, AreBuilt, IsFirstUnbuilt}
 use Rattle.pssm_tool.specs.Answers.{code_of}
 use Rattle.pssm_tool.specs.Due.{model_of, IsAboutRuns, HasModel, HasBuiltModel, answer_to, IsDueForJournal, large_journal, judged, IsDueForRun, unfit, ran, IsDueForModel, IsOwed, usage, large_model, bad_model, unbuilt, on_model, IsTold}
 use Rattle.pssm_tool.proofs.WordLaws.{one_meaning}
-use Rattle.pssm_tool.proofs.LoadFaults.{no_class_faults, none_of_built, rules_kept}
 use Rattle.pssm_tool.proofs.DueLaws.{model_named, journal_named}
 
 -- ---- what the paths hold
@@ -56,25 +54,24 @@ journal_once contents setting journal held a b told (judged bytes said read v e)
     let same : others ≡ bytes = same_read contents journal held bytes others told read read_also in
     e ∙ ap answer_to (judged_once setting bytes said also v (subst (λ (x : List ℕ). IsJudged setting x also) same w)) ∙ sym f
 
+-- Bytes have one setting, or a fault, and not both.
+pub record HasOneLoad : Type 0 where
+  pub setting : (bytes : List ℕ) (a b : Setting) → Reads bytes a → Reads bytes b → a ≡ b
+  pub apart : (bytes : List ℕ) (setting : Setting) (fault : LoadFault) → ReadsSetting bytes setting [] → IsLoadFault bytes fault → ⊥
+
 -- what is told of the model's path
-module _ (contents : Contents) (model held : List ℕ) (told : contents model ≡ Some held) where
+module _ (law : HasOneLoad) (contents : Contents) (model held : List ℕ) (told : contents model ≡ Some held) where
   -- Two readings of a model's path give one setting.
   pub model_once : (s t : Setting) → HasModel contents model s → HasModel contents model t → s ≡ t
   model_once s t p q =
-      one_setting s t p.loads.flat q.loads.flat
-      (sym p.loads.spelled ∙ read_is contents model p.bytes held told p.reads ∙ sym (read_is contents model q.bytes held told q.reads) ∙ q.loads.spelled)
+      let same : q.bytes ≡ p.bytes = same_read contents model held p.bytes q.bytes told p.reads q.reads in
+      law.setting p.bytes s t p.loads.reads (subst (λ (bytes : List ℕ). Reads bytes t) same q.loads.reads)
 
   -- Nothing is wrong with a model that loads.
   fault_or_loads : (bytes : List ℕ) (fault : LoadFault) (s : Setting) → ReadsWhole contents model 16777216 bytes → IsLoadFault bytes fault → HasModel contents model s → ⊥
-  fault_or_loads bytes (wrongs.Flat fault) s reads wrong has =
-      let same : bytes ≡ flat_text s = same_read contents model held has.bytes bytes told has.reads reads ∙ has.loads.spelled in
-      not_both s fault has.loads.flat (subst (λ (t : List ℕ). IsFlatFault t fault) same wrong)
-  fault_or_loads bytes (wrongs.Faults list) s reads wrong has =
-      let same : wrong.0 ≡ s =
-      one_setting wrong.0 s wrong.1.flat has.loads.flat (sym wrong.1.spelled ∙ same_read contents model held has.bytes bytes told has.reads reads ∙ has.loads.spelled) in
-      wrong.2 (no_class_faults wrong.0.classes list wrong.1.faults (rules_kept wrong.0.classes (subst (λ (x : Setting). AreClassFaults x.classes []) (sym same) has.loads.faults)))
-  fault_or_loads bytes (wrongs.NotBuilt class e) s reads wrong has = wrong
-  fault_or_loads bytes wrongs.NoMemory s reads wrong has = wrong
+  fault_or_loads bytes fault s reads wrong has =
+      let same : has.bytes ≡ bytes = same_read contents model held bytes has.bytes told reads has.reads in
+      law.apart bytes s fault (subst (λ (read : List ℕ). ReadsSetting read s []) same has.loads) wrong
 
   -- A model that is built whole has no element that is not.
   unbuilt_or_built : (name : List ℕ) (e : Element) (s t : Setting) → HasModel contents model s → HasModel contents model t → IsFirstUnbuilt s.classes name e → AreBuilt t.classes → ⊥
@@ -100,7 +97,7 @@ run_once s options names a b (ran stimuli text ended are is e) (ran others also 
 
 -- ---- the words
 
-module _ (words : List (List ℕ)) (contents : Contents) (told : IsTold words contents) where
+module _ (law : HasOneLoad) (words : List (List ℕ)) (contents : Contents) (told : IsTold words contents) where
   model_told : (meaning : Meaning) → Means words meaning → (held : List ℕ) × (contents (model_of meaning) ≡ Some held)
   model_told meaning means = told_bytes (contents (model_of meaning)) (told (model_of meaning) (model_named words meaning means))
 
@@ -137,13 +134,13 @@ module _ (words : List (List ℕ)) (contents : Contents) (told : IsTold words co
       → HasModel contents (model_of b) s → ⊥
   faults_or_loads a b bytes fault s p q reads wrong has =
       let model = model_told a p in
-      fault_or_loads contents (model_of a) model.0 model.1 bytes fault s reads wrong (moved (λ m. HasModel contents (model_of m) s) a b p q has)
+      fault_or_loads law contents (model_of a) model.0 model.1 bytes fault s reads wrong (moved (λ m. HasModel contents (model_of m) s) a b p q has)
 
   forms_or_due : (a b : Meaning) (name : List ℕ) (e : Element) (s t : Setting) (q : Answer) → Means words a → Means words b → IsAboutRuns a → HasModel contents (model_of a) s → IsFirstUnbuilt s.classes name e
       → HasModel contents (model_of b) t → IsDueForModel contents t b q → ⊥
   forms_or_due a b name e s t q p o about has first also due =
       let model = model_told a p in
-      unbuilt_or_built contents (model_of a) model.0 model.1 name e s t has (moved (λ m. HasModel contents (model_of m) t) a b p o also) first
+      unbuilt_or_built law contents (model_of a) model.0 model.1 name e s t has (moved (λ m. HasModel contents (model_of m) t) a b p o also) first
       (due_built a t q about (moved (λ m. IsDueForModel contents t m q) a b p o due))
 
   model_or_model : (a b : Meaning) (s t : Setting) (r q : Answer) → Means words a → Means words b → HasModel contents (model_of a) s → HasModel contents (model_of b) t
@@ -151,7 +148,7 @@ module _ (words : List (List ℕ)) (contents : Contents) (told : IsTold words co
   model_or_model a b s t r q p o has also due done =
       let model = model_told a p in
       let here = moved (λ m. HasModel contents (model_of m) t) a b p o also in
-      let same = model_once contents (model_of a) model.0 model.1 t s here has in
+      let same = model_once law contents (model_of a) model.0 model.1 t s here has in
       model_answer_once a s r q p due (subst (λ (x : Setting). IsDueForModel contents x a q) same (moved (λ m. IsDueForModel contents t m q) a b p o done))
 
   -- Two answers that are owed are alike.
@@ -190,10 +187,10 @@ module _ (words : List (List ℕ)) (contents : Contents) (told : IsTold words co
   run_answered a options model names s stimuli (bad_model b bytes fault o reads wrong e) is has are = absurd (faults_or_loads b (Runs options model names) bytes fault s o is reads wrong has.0)
   run_answered a options model names s stimuli (unbuilt b t name x o about also first e) is has are =
       let model_is = model_told (Runs options model names) is in
-      absurd (unbuilt_or_built contents model model_is.0 model_is.1 name x t s (moved (λ m. HasModel contents (model_of m) t) (Runs options model names) b is o also) has.0 first has.1)
+      absurd (unbuilt_or_built law contents model model_is.0 model_is.1 name x t s (moved (λ m. HasModel contents (model_of m) t) (Runs options model names) b is o also) has.0 first has.1)
   run_answered a options model names s stimuli (on_model b t o also due) is has are =
       let model_is = model_told (Runs options model names) is in
-      let same = model_once contents model model_is.0 model_is.1 t s (moved (λ m. HasModel contents (model_of m) t) (Runs options model names) b is o also) has.0 in
+      let same = model_once law contents model model_is.0 model_is.1 t s (moved (λ m. HasModel contents (model_of m) t) (Runs options model names) b is o also) has.0 in
       by_run (subst (λ (x : Setting). IsDueForModel contents x (Runs options model names) a) same (moved (λ m. IsDueForModel contents t m a) (Runs options model names) b is o due)).1 where
         by_run : IsDueForRun s options names a → IsJournal a
         by_run (unfit none e) = absurd (none stimuli are)

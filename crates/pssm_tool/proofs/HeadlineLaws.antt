@@ -14,20 +14,20 @@ use Rattle.pssm_tool.specs.Answers.{code_of, IsFailure}
 use Rattle.pssm_tool.specs.Due.{HasBuiltModel, judged, IsOwed, on_model, IsTold}
 use Rattle.pssm_tool.specs.Headline.{HoldsPrefix, AcceptsPrefixes, IsContinued}
 use Rattle.pssm_tool.proofs.DueLaws.{model_named}
-use Rattle.pssm_tool.proofs.DueOnce.{IsJournal, told_bytes, model_once}
+use Rattle.pssm_tool.proofs.DueOnce.{IsJournal, told_bytes, HasOneLoad, model_once}
 use Rattle.pssm_tool.proofs.AnswerLaws.{exactly_owed}
 
 -- A journal that continues to a complete run is admissible.
 pub prefix_admissible : (setting : Setting) (J : List Entry) → IsPrefixOfRun setting J → IsAdmissibleIn setting J
 prefix_admissible setting J (more, run) = IsAdmissible-front (Holds setting) J more run.admissible
 
-module _ (words : List (List ℕ)) (contents : Contents) (known : IsTold words contents) (model journal : List ℕ) (setting : Setting)
+module _ (law : HasOneLoad) (words : List (List ℕ)) (contents : Contents) (known : IsTold words contents) (model journal : List ℕ) (setting : Setting)
     (is : Means words (Judges model journal)) (has : HasBuiltModel contents model setting) where
   -- An accepted journal is a prefix of a complete run.
   continued_is_prefix : IsContinued contents model journal → HoldsPrefix contents journal setting
   continued_is_prefix h =
       let held = told_bytes (contents model) (known model (model_named words (Judges model journal) is)) in
-      let same : h.setting ≡ setting = model_once contents model held.0 held.1 h.setting setting h.model_is has.0 in
+      let same : h.setting ≡ setting = model_once law contents model held.0 held.1 h.setting setting h.model_is has.0 in
       subst (λ s. HoldsPrefix contents journal s) same (h.entries, h.holds, (h.completes.2.more, h.completes.2.run))
 
   -- A prefix of a complete run is owed its acceptance.
@@ -54,10 +54,10 @@ no_journal n code (inr (inl failure)) = inr failure
 no_journal n code (inr (inr journal)) = let e = journal.2 in absurd cc
 
 -- What comes is exact in both directions.
-pub accepts_prefixes : {P : Type 0} (words : List (List ℕ)) (contents : Contents) (code : ℕ) (came : Answer) → IsTold words contents → IsOwed words contents came
+pub accepts_prefixes : {P : Type 0} (law : HasOneLoad) (words : List (List ℕ)) (contents : Contents) (code : ℕ) (came : Answer) → IsTold words contents → IsOwed words contents came
     → (code ≢ 6 → code ≢ 7 → (code ≡ code_of came) × P)
     → (code ≡ 0 → (model journal : List ℕ) → Means words (Judges model journal) → IsContinued contents model journal) → AcceptsPrefixes words contents code
-accepts_prefixes words contents code came known owed told continued model journal setting is has = (
-  λ zero. continued_is_prefix words contents known model journal setting is has (continued zero model journal is),
-  λ h. no_journal (length h.0) code (exactly_owed words contents code came (Accept (length h.0)) known owed told (prefix_is_owed words contents known model journal setting is has h)),
+accepts_prefixes law words contents code came known owed told continued model journal setting is has = (
+  λ zero. continued_is_prefix law words contents known model journal setting is has (continued zero model journal is),
+  λ h. no_journal (length h.0) code (exactly_owed law words contents code came (Accept (length h.0)) known owed told (prefix_is_owed law words contents known model journal setting is has h)),
 )

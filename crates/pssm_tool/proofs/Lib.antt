@@ -5,13 +5,10 @@ pub mod CallLaws
 pub mod PostLaws
 pub mod RunLaws
 pub mod TextLaws
-pub mod LoadFaults
 pub mod BuiltLaws
 pub mod LoadLaws
 pub mod DueLaws
 pub mod DueOnce
 pub mod AnswerLaws
 pub mod HeadlineLaws
-pub mod FaultLists
-pub mod FirstNotBuilt
 pub mod AlwaysDue

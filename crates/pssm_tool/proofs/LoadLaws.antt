@@ -1,58 +1,21 @@
 -- How a model that is not there is told.
-use Rattle.std.proofs.Common.{◌≡◌, ◌≢◌, ◌⊎◌, ℕ, List, [], Result, Ok, Err, IfOk, IfErr, refl, sym, subst, inl, inr, ⊎_elim}
-use Rattle.std.proofs.lemmas.List.Elements.{All-from_recursion}
+use Rattle.std.proofs.Common.{◌≡◌, ◌≢◌, ◌⊎◌, ℕ, List, [], Result, Ok, Err, IfOk, IfErr, refl, sym, subst, inl, inr}
 use Rattle.pssm_base.specs.Reading.{Contents, ReadsWhole}
-use Rattle.pssm_model.specs.WellFormed.{KeepsModelRules}
 use Rattle.pssm_semantics.specs.declared.setting.Setting.{Setting}
-use Rattle.pssm_semantics.specs.Proper.{IsProper, IsWellFormed}
-use Rattle.pssm_flat.specs.declared.fault.FlatFault.{FlatFault}
-use Rattle.pssm_flat.specs.declared.fault.FlatFault.TheVariants as texts
-use Rattle.pssm_flat.specs.Flat.{IsFlat}
-use Rattle.pssm_flat.specs.Text.{flat_text}
-use Rattle.pssm_flat.specs.Faults.{IsFlatFault}
-use Rattle.pssm_tool.specs.declared.load.LoadFault.{LoadFault}
-use Rattle.pssm_tool.specs.declared.load.LoadFault.TheVariants.{Flat, Faults, NotBuilt, NoMemory}
+use Rattle.pssm_load.specs.declared.fault.LoadFault.{LoadFault}
+use Rattle.pssm_load.specs.declared.fault.LoadFault.TheVariants.{Flat, Xmi, Redef, Act, Shape, Faults, NotBuilt, NoMemory}
+use Rattle.pssm_load.specs.Loads.{ReadsSetting, AreBuilt, IsLoadFault}
+use Rattle.pssm_load.specs.inner.Loading.{NamesUnbuilt}
 use Rattle.pssm_tool.specs.declared.answer.Answer.{Answer}
 use Rattle.pssm_tool.specs.declared.answer.Answer.TheVariants.{BadModel}
 use Rattle.pssm_tool.specs.declared.failure.Failure.{Failure}
 use Rattle.pssm_tool.specs.declared.failure.Failure.TheVariants as failures
-use Rattle.pssm_tool.specs.Loads.{ReadsSetting, AreClassFaults, AreBuilt, IsLoadFault}
 use Rattle.pssm_tool.specs.Due.{HasModel, HasBuiltModel}
-use Rattle.pssm_tool.specs.inner.Loading.{BreakRules, NamesUnbuilt}
 use Rattle.pssm_tool.specs.inner.Failures.{LacksModel, has_fault, LacksBuiltModel, not_built, FailedAt, IsFound}
-use Rattle.pssm_tool.proofs.LoadFaults.{rules_kept}
-
--- ---- the bytes
-
--- The setting that the bytes spell, kept as it was, breaks no rule.
-pub loads_kept : (bytes : List ℕ) (s : Setting) (r : Result Setting LoadFault) → IsFlat s → bytes ≡ flat_text s → IfOk r (λ kept. kept ≡ s) → IfOk r (λ _. AreClassFaults s.classes [])
-    → IfOk r (λ setting. ReadsSetting bytes setting [])
-loads_kept bytes s (Ok kept) flat spelled same none = subst (λ (x : Setting). ReadsSetting bytes x []) (sym same) (record { flat = flat; spelled = spelled; faults = none })
-loads_kept bytes s (Err fault) flat spelled same none = tt
-
--- A proper setting that is kept as it was, because its machines keep the rules, is well formed.
-pub well_formed_kept : (s : Setting) (r : Result Setting LoadFault) → IsProper s → IfOk r (λ kept. kept ≡ s) → IfOk r (λ _. AreClassFaults s.classes []) → IfOk r IsWellFormed
-well_formed_kept s (Ok kept) proper same none =
-    subst IsWellFormed (sym same) (record { proper = proper; rules = All-from_recursion (λ c. KeepsModelRules c.machine) s.classes (rules_kept s.classes none) })
-well_formed_kept s (Err fault) proper same none = tt
 
 -- What is wrong with bytes.
 abbrev pub IsWrong : List ℕ → LoadFault → Type 0
 IsWrong bytes fault = (fault ≡ NoMemory) ⊎ IsLoadFault bytes fault
-
--- Its machines break rules.
-pub breaks_rules : (bytes : List ℕ) (s : Setting) (r : Result Setting LoadFault) → IsFlat s → bytes ≡ flat_text s → IfErr r (BreakRules s.classes) → IfErr r (IsWrong bytes)
-breaks_rules bytes s (Ok kept) flat spelled broken = tt
-breaks_rules bytes s (Err (Flat fault)) flat spelled broken = absurd broken
-breaks_rules bytes s (Err (Faults list)) flat spelled broken = inr (s, record { flat = flat; spelled = spelled; faults = broken.0 }, broken.1)
-breaks_rules bytes s (Err (NotBuilt class e)) flat spelled broken = absurd broken
-breaks_rules bytes s (Err NoMemory) flat spelled broken = inl refl
-
--- The text has a fault.
-pub text_wrong : (bytes : List ℕ) (text : FlatFault) (fault : LoadFault) → (text ≡ texts.NoMemory) ⊎ IsFlatFault bytes text → (fault ≡ NoMemory) ⊎ ((fault ≡ Flat text) × (text ≢ texts.NoMemory)) → IsWrong bytes fault
-text_wrong bytes text fault wrong (inl none) = inl none
-text_wrong bytes text fault wrong (inr is) =
-    inr (subst (λ (f : LoadFault). IsLoadFault bytes f) (sym is.0) (⊎_elim (λ none. absurd (is.1 none)) (λ w. w) wrong))
 
 -- ---- the path
 
@@ -66,6 +29,10 @@ pub lacks_by_form : (contents : Contents) (path : List ℕ) (s : Setting) (fault
     → LacksBuiltModel contents path (BadModel fault)
 lacks_by_form contents path s fault has (inl none) other = absurd (other none)
 lacks_by_form contents path s (Flat text) has (inr names) other = absurd names
+lacks_by_form contents path s (Xmi fault) has (inr names) other = absurd names
+lacks_by_form contents path s (Redef fault) has (inr names) other = absurd names
+lacks_by_form contents path s (Act id fault) has (inr names) other = absurd names
+lacks_by_form contents path s (Shape class shape) has (inr names) other = absurd names
 lacks_by_form contents path s (Faults list) has (inr names) other = absurd names
 lacks_by_form contents path s (NotBuilt class e) has (inr names) other = not_built s class e has names refl
 lacks_by_form contents path s NoMemory has (inr names) other = absurd names
@@ -123,3 +90,8 @@ path_built contents path s (Err fault) has same built = tt
 pub path_unbuilt : (contents : Contents) (path : List ℕ) (s : Setting) (kept : Result Setting LoadFault) → HasModel contents path s → IfErr kept (λ fault. (fault ≡ NoMemory) ⊎ NamesUnbuilt s.classes fault)
     → IfErr kept (λ fault. fault ≢ NoMemory → LacksBuiltModel contents path (BadModel fault))
 path_unbuilt contents path s kept has wrong = if_err kept (λ fault w. lacks_by_form contents path s fault has w) wrong
+
+-- What holds of the setting holds of the one that was kept as it was.
+pub kept_with : (P : Setting → Type 0) (s : Setting) (kept : Result Setting LoadFault) → P s → IfOk kept (λ x. x ≡ s) → IfOk kept P
+kept_with P s (Ok x) holds same = subst P (sym same) holds
+kept_with P s (Err fault) holds same = tt

@@ -10,16 +10,16 @@ use Rattle.pssm_flat.specs.Text.{flat_text}
 use Rattle.pssm_lines.specs.declared.fault.LineFault.{LineFault}
 use Rattle.pssm_lines.specs.declared.fault.LineFault.TheVariants as faults
 use Rattle.pssm_journal.specs.Judged.{Judged, Accepted, Refused, Limited, BadText, IsJudged}
+use Rattle.pssm_load.specs.declared.fault.LoadFault.{LoadFault}
+use Rattle.pssm_load.specs.declared.fault.LoadFault.TheVariants.{NotBuilt}
+use Rattle.pssm_load.specs.Loads.{BeginsFlat, ReadsSetting, IsLoadFault, AreBuilt, IsFirstUnbuilt}
 use Rattle.pssm_tool.specs.declared.words.Options.{Options}
-use Rattle.pssm_tool.specs.declared.load.LoadFault.{LoadFault}
-use Rattle.pssm_tool.specs.declared.load.LoadFault.TheVariants.{NotBuilt}
 use Rattle.pssm_tool.specs.declared.answer.Answer.{Answer}
 use Rattle.pssm_tool.specs.declared.answer.Answer.TheVariants.{Accept, Refuse, Limit, WellFormed, Usage, BadLine, NoEnd, TooLarge, Journal, Flat, BadModel}
 use Rattle.pssm_tool.specs.declared.run.Ended.{Ended}
 use Rattle.pssm_tool.specs.Words.{Meaning, Judges, Runs, Checks, Prints, Means, IsUsage}
 use Rattle.pssm_tool.specs.Stimuli.{AreStimuli}
 use Rattle.pssm_tool.specs.RunTexts.{IsRunText}
-use Rattle.pssm_tool.specs.Loads.{ReadsSetting, IsLoadFault, AreBuilt, IsFirstUnbuilt}
 use Rattle.pssm_tool.specs.Answers.{text_of}
 
 -- the most bytes that a model or a journal may have
@@ -49,7 +49,7 @@ ReadFailed words before after = (path : List ℕ) × NamePath words path × Rose
 
 -- ---- the model
 
--- The path has the flat text of the setting, which breaks no rule of models.
+-- The path has a model, in the flat form or as a model file, with this setting, which breaks no rule of models.
 pub record HasModel (contents : Contents) (path : List ℕ) (setting : Setting) : Type 0 where
   pub bytes : List ℕ
   pub reads : ReadsWhole contents path most_bytes bytes
@@ -58,6 +58,11 @@ pub record HasModel (contents : Contents) (path : List ℕ) (setting : Setting) 
 -- It has such a setting, and the code runs every element of it.
 abbrev pub HasBuiltModel : Contents → List ℕ → Setting → Type 0
 HasBuiltModel contents path setting = HasModel contents path setting × AreBuilt setting.classes
+
+-- What is read of the model's path, where the words name one, begins as the flat form does.
+abbrev pub HasFlatModel : List (List ℕ) → Contents → Type 0
+HasFlatModel words contents =
+    (meaning : Meaning) (bytes : List ℕ) → Means words meaning → ReadsWhole contents (model_of meaning) most_bytes bytes → BeginsFlat bytes
 
 -- The command is about runs of the model, so the code has to know its forms.
 abbrev pub IsAboutRuns : Meaning → Type 0

@@ -1,7 +1,8 @@
 pub mod Words
 pub mod Stimuli
 pub mod RunTexts
-pub mod Loads
+pub mod FaultWords
+pub mod FileRefusals
 pub mod Refusals
 pub mod Answers
 pub mod Due

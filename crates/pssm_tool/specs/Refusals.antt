@@ -6,15 +6,13 @@ use Rattle.pssm_model.specs.declared.elements.Element.{Element}
 use Rattle.pssm_model.specs.declared.elements.Element.TheVariants as elements
 use Rattle.pssm_model.specs.declared.elements.FaultPlace.{FaultPlace}
 use Rattle.pssm_model.specs.declared.elements.FaultPlace.TheVariants as places
-use Rattle.pssm_model.specs.declared.elements.Shape.{Shape}
-use Rattle.pssm_model.specs.declared.elements.Shape.TheVariants as shapes
-use Rattle.pssm_acts.specs.declared.act_fault.ActFault.{ActFault}
-use Rattle.pssm_acts.specs.declared.act_fault.ActFault.TheVariants as acts
 use Rattle.pssm_flat.specs.declared.fault.FlatFault.TheVariants as texts
 use Rattle.pssm_flat.specs.Text.{line}
-use Rattle.pssm_tool.specs.declared.load.ClassFault.{ClassFault}
-use Rattle.pssm_tool.specs.declared.load.LoadFault.{LoadFault}
-use Rattle.pssm_tool.specs.declared.load.LoadFault.TheVariants.{Flat, Faults, NotBuilt}
+use Rattle.pssm_load.specs.declared.fault.ClassFault.{ClassFault}
+use Rattle.pssm_load.specs.declared.fault.LoadFault.{LoadFault}
+use Rattle.pssm_load.specs.declared.fault.LoadFault.TheVariants.{Flat, Xmi, Redef, Act, Shape, Faults, NotBuilt, NoMemory}
+use Rattle.pssm_tool.specs.FaultWords.{shape_word, act_word, act_place}
+use Rattle.pssm_tool.specs.FileRefusals.{xmi_text, redefine_text, act_text, shape_text}
 
 -- `r0`, `v5`, `t2`
 abbrev pub element_text : Element → List ℕ
@@ -35,38 +33,18 @@ rule_text n = (if nat_lt n 10 then codes "E0" else codes "E") ++ decimal n
 abbrev pub fault_line : ClassFault → List ℕ
 fault_line f = line (rule_text f.fault.rule ++ codes " " ++ f.class ++ codes " " ++ place_text f.fault.element)
 
--- the name of a fault of a machine's shape
-abbrev pub shape_word : Shape → List ℕ
-shape_word (shapes.BadOwner e) = codes "BadOwner"
-shape_word (shapes.BadEnd e) = codes "BadEnd"
-shape_word (shapes.TooMany e) = codes "TooMany"
-shape_word (shapes.TooDeep e) = codes "TooDeep"
-shape_word shapes.NoMemory = []
-
--- the name of a fault of an action text
-abbrev pub act_word : ActFault → List ℕ
-act_word (acts.Syntax at) = codes "Syntax"
-act_word (acts.UnknownName at) = codes "UnknownName"
-act_word (acts.WideNumber at) = codes "WideNumber"
-act_word (acts.Arity at) = codes "Arity"
-act_word (acts.TooLong at) = codes "TooLong"
-act_word acts.NoMemory = []
-
--- the byte of the action text at which it stands, from 0
-abbrev pub act_place : ActFault → ℕ
-act_place (acts.Syntax at) = at
-act_place (acts.UnknownName at) = at
-act_place (acts.WideNumber at) = at
-act_place (acts.Arity at) = at
-act_place (acts.TooLong at) = at
-act_place acts.NoMemory = 0
-
--- `flat line L bad line`, `flat line L shape S`, `flat line L act F byte B`, a line for each rule that is broken, or `not built CLASS E`; want of memory has no line
+-- `flat line L bad line`, `flat line L shape S`, `flat line L act F byte B`; the line on a model file, on a redefinition, on the text of a behaviour or on
+-- the shape of a machine; a line for each rule that is broken; or `not built CLASS E`. Want of memory has no line.
 abbrev pub load_fault_text : LoadFault → List ℕ
 load_fault_text (Flat (texts.BadLine l)) = line (codes "flat line " ++ decimal l ++ codes " bad line")
 load_fault_text (Flat (texts.Shape l shape)) = line (codes "flat line " ++ decimal l ++ codes " shape " ++ shape_word shape)
 load_fault_text (Flat (texts.Act l fault)) =
     line (codes "flat line " ++ decimal l ++ codes " act " ++ act_word fault ++ codes " byte " ++ decimal (act_place fault))
+load_fault_text (Flat texts.NoMemory) = []
+load_fault_text (Xmi fault) = xmi_text fault
+load_fault_text (Redef fault) = redefine_text fault
+load_fault_text (Act id fault) = act_text id fault
+load_fault_text (Shape class shape) = shape_text class shape
 load_fault_text (Faults list) = flat_map fault_line list
 load_fault_text (NotBuilt class e) = line (codes "not built " ++ class ++ codes " " ++ element_text e)
-load_fault_text _ = []
+load_fault_text NoMemory = []

@@ -1,5 +1,4 @@
 pub mod Calls
 pub mod Running
-pub mod Loading
 pub mod Verdicts
 pub mod Failures

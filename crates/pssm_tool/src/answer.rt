@@ -5,10 +5,10 @@ ghost use Rattle.pssm_semantics.specs.Verdict.{number_of};
 ghost use Rattle.pssm_flat.specs.Text.{line};
 ghost use Rattle.pssm_tool.specs.Answers.{text_of, code_of};
 
-use crate::load::LoadFault;
 use crate::refusal::fault_text;
 use crate::run::Ended;
 use crate::status::Status;
+use pssm_load::LoadFault;
 use pssm_model::Text;
 use pssm_semantics::Rule;
 use std::alloc::{AllocError as NoMemory, Global};
@@ -22,7 +22,7 @@ pub enum Answer {
     Refuse { entry: u32, rule: Rule },
     /// With this entry, counted from 1, the journal passes its limits, and no earlier entry breaks a rule.
     Limit { entry: u32 },
-    /// The model reads, and its machines keep the rules of models.
+    /// The model reads, in either form, and its machines keep the rules of models.
     WellFormed,
     /// The words mean no command, or a stimulus among them does not fit the model: it names what the model does not have,
     /// or has not as many arguments as its signal has parameters.

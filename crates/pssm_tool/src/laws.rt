@@ -1,4 +1,4 @@
-//! A law of answers: something is always owed.
+//! A law of answers: something is always owed where the model is of the flat form.
 ghost use Rattle.std.specs.Prelude.{List, ℕ};
 ghost use Rattle.pssm_base.specs.Reading.{Contents};
 ghost use Rattle.pssm_semantics.specs.declared.setting.Setting.{Setting};
@@ -7,13 +7,14 @@ ghost use Rattle.pssm_tool.specs.declared.answer.Answer.{Answer};
 ghost use Rattle.pssm_tool.specs.declared.words.Options.{Options};
 ghost use Rattle.pssm_tool.specs.Words.{Means, Runs};
 ghost use Rattle.pssm_tool.specs.Stimuli.{AreStimuli};
-ghost use Rattle.pssm_tool.specs.Due.{HasBuiltModel, IsOwed, IsTold};
+ghost use Rattle.pssm_tool.specs.Due.{HasBuiltModel, HasFlatModel, IsOwed, IsTold};
 
-/// Where it is told what the files hold that words name, something is owed: an answer, or a run. So one of the clauses
-/// `exactly` and `runs` of [`crate::pssm`] speaks of each call.
+/// Where it is told what the files hold that words name, and the model is of the flat form, something is owed: an
+/// answer, or a run. So one of the clauses `exactly` and `runs` of [`crate::pssm`] speaks of each such call. It is not
+/// said that each model file is either read or has a fault.
 #[tactic(auto, using(crate::proofs::AlwaysDue::always_due))]
 pub fn always_due()
-    ensures { (words : List (List ℕ)) (contents : Contents) → IsTold words contents
+    ensures { (words : List (List ℕ)) (contents : Contents) → IsTold words contents → HasFlatModel words contents
         → ((answer : Answer) → IsOwed words contents answer → ⊥)
         → ((options : Options) (model : List ℕ) (names : List (List ℕ)) (setting : Setting) (stimuli : List Stimulus)
         → Means words (Runs options model names) → HasBuiltModel contents model setting

@@ -1,15 +1,17 @@
 //! The call that does what the words of the program say.
 //!
 //! `judge MODEL JOURNAL` says whether a journal of a state machine's run is what UML says, `run MODEL STIMULUS*` runs a
-//! state machine and writes the journal, `check MODEL` says what is wrong with a model, and `flat MODEL` writes its flat
-//! text. [`pssm`] does all of it, over inputs and a sink that it is handed; its clauses are what the program promises.
+//! state machine and writes the journal, `check MODEL` says what is wrong with a model, and `flat MODEL` writes its
+//! flat text. A model is in the flat form, or a model file as an editor writes it. [`pssm`] does all of it, over inputs
+//! and a sink that it is handed; its clauses are what the program promises.
 #![tactic(auto)]
 
 mod answer;
 mod commands;
 mod failure;
+mod fault_words;
+mod file_refusal;
 mod laws;
-mod load;
 mod model;
 mod refusal;
 mod run;

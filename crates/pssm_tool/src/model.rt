@@ -2,14 +2,15 @@
 ghost use Rattle.std.specs.Prelude.{IfOk, IfErr};
 ghost use Rattle.pssm_base.specs.Faults.{NoneFell};
 ghost use Rattle.pssm_base.specs.Reading.{SameContent};
+ghost use Rattle.pssm_semantics.specs.Names.{HasSpelledNames};
 ghost use Rattle.pssm_semantics.specs.Proper.{IsWellFormed};
 ghost use Rattle.pssm_tool.specs.Due.{HasModel, HasBuiltModel};
 ghost use Rattle.pssm_tool.specs.inner.Failures.{LacksModel, LacksBuiltModel, FailedAt, IsFound, TellsFault};
 
 use crate::answer::Answer;
 use crate::failure::Failure;
-use crate::load::{LoadFault, built, load};
 use pssm_base::{Inputs, WholeFault, read_whole};
+use pssm_load::{LoadFault, built, load};
 use pssm_semantics::Setting;
 use std::alloc::Global;
 
@@ -24,6 +25,7 @@ pub fn model<I: Inputs>(
 ) -> Result<Result<Setting, Answer>, Failure>
     ensures loads { IfOk result (λ found. IfOk found (HasModel (I.content inputs.old) path.now)) }
     ensures well_formed { IfOk result (λ found. IfOk found IsWellFormed) }
+    ensures spelled { IfOk result (λ found. IfOk found HasSpelledNames) }
     ensures lacks { IfOk result (λ found. IfErr found (LacksModel (I.content inputs.old) path.now)) }
     ensures failed { IfErr result (FailedAt (I.faults inputs.old path.now) (I.faults inputs.new path.now)) }
     ensures counts { NoneFell (I.faults inputs.old) (I.faults inputs.new) }
@@ -47,6 +49,8 @@ pub fn built_model<I: Inputs>(
     path: &str,
 ) -> Result<Result<Setting, Answer>, Failure>
     ensures built { IfOk result (λ found. IfOk found (HasBuiltModel (I.content inputs.old) path.now)) }
+    ensures well_formed { IfOk result (λ found. IfOk found IsWellFormed) }
+    ensures spelled { IfOk result (λ found. IfOk found HasSpelledNames) }
     ensures lacks { IfOk result (λ found. IfErr found (LacksBuiltModel (I.content inputs.old) path.now)) }
     ensures failed { IfErr result (FailedAt (I.faults inputs.old path.now) (I.faults inputs.new path.now)) }
     ensures counts { NoneFell (I.faults inputs.old) (I.faults inputs.new) }

@@ -2,14 +2,15 @@
 ghost use Rattle.std.specs.Prelude.{◌≡◌, ◌++◌, IfOk, OnOk, codes, string_bytes};
 ghost use Rattle.std.specs.List.{flat_map};
 ghost use Rattle.std.specs.Fmt.{decimal};
-ghost use Rattle.pssm_tool.specs.Refusals.{element_text, place_text, rule_text, fault_line, shape_word};
-ghost use Rattle.pssm_tool.specs.Refusals.{act_word, act_place, load_fault_text};
+ghost use Rattle.pssm_tool.specs.Refusals.{element_text, place_text, rule_text, fault_line};
+ghost use Rattle.pssm_tool.specs.Refusals.{load_fault_text};
 
 use crate::answer::bytes_of;
-use crate::load::{ClassFault, LoadFault};
-use pssm_acts::ActFault;
+use crate::fault_words::{act_byte, act_name, shape_name};
+use crate::file_refusal::{act_text, redefine_text, shape_text, xmi_text};
 use pssm_flat::FlatFault;
-use pssm_model::{Element, FaultPlace, Shape, Text};
+use pssm_load::{ClassFault, LoadFault};
+use pssm_model::{Element, FaultPlace, Text};
 use pssm_spelling::put_number;
 use std::alloc::{AllocError as NoMemory, Global};
 
@@ -19,6 +20,10 @@ pub fn fault_text(alloc: Global, fault: &LoadFault) -> Result<Text, NoMemory>
 {
     match fault {
         LoadFault::Flat(flat) => flat_fault_text(alloc, *flat),
+        LoadFault::Xmi(file) => xmi_text(alloc, file),
+        LoadFault::Redef(fault) => redefine_text(alloc, fault),
+        LoadFault::Act { id, fault } => act_text(alloc, id.as_slice(), *fault),
+        LoadFault::Shape { class, shape } => shape_text(alloc, class.as_slice(), *shape),
         LoadFault::Faults { list } => list_text(alloc, list.as_slice()),
         LoadFault::NotBuilt { class, element } => not_built(alloc, class.as_slice(), *element),
         LoadFault::NoMemory => Err(NoMemory),
@@ -61,53 +66,12 @@ fn shape_line(alloc: Global, line: u32, shape: &str) -> Result<String, NoMemory>
     format!(in alloc; "flat line {line} shape {shape}\n")
 }
 
-// The name of a fault of a machine's shape; none on want of memory.
-fn shape_name(shape: Shape) -> &'static str
-    ensures { result.now ≡ shape_word shape }
-{
-    match shape {
-        Shape::BadOwner(_) => "BadOwner",
-        Shape::BadEnd(_) => "BadEnd",
-        Shape::TooMany(_) => "TooMany",
-        Shape::TooDeep(_) => "TooDeep",
-        Shape::NoMemory => "",
-    }
-}
-
 // The line on an action text.
 fn act_line(alloc: Global, line: u32, fault: &str, byte: u32) -> Result<String, NoMemory>
     ensures { IfOk result (λ text. string_bytes text ≡ codes "flat line " ++ decimal line ++ codes " act "
         ++ fault.now ++ codes " byte " ++ decimal byte ++ codes "\n") }
 {
     format!(in alloc; "flat line {line} act {fault} byte {byte}\n")
-}
-
-// The name of a fault of an action text; none on want of memory.
-fn act_name(fault: ActFault) -> &'static str
-    ensures { result.now ≡ act_word fault }
-{
-    match fault {
-        ActFault::Syntax { .. } => "Syntax",
-        ActFault::UnknownName { .. } => "UnknownName",
-        ActFault::WideNumber { .. } => "WideNumber",
-        ActFault::Arity { .. } => "Arity",
-        ActFault::TooLong { .. } => "TooLong",
-        ActFault::NoMemory => "",
-    }
-}
-
-// The byte of an action text at which its fault stands.
-fn act_byte(fault: ActFault) -> u32
-    ensures { result ≡ act_place fault }
-{
-    match fault {
-        ActFault::Syntax { at }
-        | ActFault::UnknownName { at }
-        | ActFault::WideNumber { at }
-        | ActFault::Arity { at }
-        | ActFault::TooLong { at } => at,
-        ActFault::NoMemory => 0,
-    }
 }
 
 // A line for each fault.

@@ -4,8 +4,8 @@ ghost use Rattle.std.specs.Io.KnownBytes.{Appends, Keeps};
 ghost use Rattle.pssm_semantics.specs.declared.entry.Rule.{Rule};
 ghost use Rattle.pssm_semantics.specs.declared.setting.Setting.{Setting};
 ghost use Rattle.pssm_semantics.specs.declared.stimulus.Stimulus.{Stimulus};
+ghost use Rattle.pssm_load.specs.declared.fault.LoadFault.{LoadFault};
 ghost use Rattle.pssm_tool.specs.declared.answer.Answer.{Answer};
-ghost use Rattle.pssm_tool.specs.declared.load.LoadFault.{LoadFault};
 ghost use Rattle.pssm_tool.specs.declared.run.Ended.{Ended};
 ghost use Rattle.pssm_tool.specs.declared.words.Options.{Options};
 ghost use Rattle.pssm_base.specs.Faults.{Rose};
@@ -23,15 +23,17 @@ use crate::failure::Failure;
 use crate::status::Status;
 use crate::words::{Command, command_of};
 use pssm_base::{Gate, Inputs, Sink, put_all};
+use pssm_load::one_load;
 use std::alloc::Global;
 
 /// Does what the words say, and answers how the program ends. `words` are those after the program's name.
 ///
 /// `judge MODEL JOURNAL` judges a journal of a run of the model, and writes one line.
 /// `run [--seed N] [--workers W] [--limit L] MODEL STIMULUS*` runs the model and writes the journal. `check MODEL` says
-/// whether the model is well formed, and `flat MODEL` writes its flat text. What is written goes to `out` at once, after
-/// all else is done; before that nothing is written. `rt` and `gate` are for commands that start workers, of which there
-/// is none yet.
+/// whether the model is well formed, and `flat MODEL` writes its flat text. A model is in the flat form, where its
+/// bytes begin with `pssm-flat`, and otherwise a model file as an editor writes it. What is written goes to `out` at
+/// once, after all else is done; before that nothing is written. `rt` and `gate` are for commands that start workers,
+/// of which there is none yet.
 pub fn pssm<R, I: Inputs, S: Sink, G: Gate + Sync>(
     _rt: &R,
     alloc: Global,
@@ -59,8 +61,8 @@ pub fn pssm<R, I: Inputs, S: Sink, G: Gate + Sync>(
     // ---- What is written is owed: by status, the answer whose text was written whole.
 
     // 0: the journal is admissible, and `accept N` says how many entries it has; or the journal was written of a run
-    // that ended where nothing more can happen; or the model keeps the rules of models, and `well formed` or its flat
-    // text was written.
+    // that ended where nothing more can happen; or the model, of either form, keeps the rules of models, and
+    // `well formed` or its flat text was written.
     ensures accepted { result.code ≡ 0
         → ((n : ℕ) × Gives (texts words.now) (I.content inputs.old)
         (S.taken out.old) (S.taken out.new) (Answer.Accept n))
@@ -79,8 +81,9 @@ pub fn pssm<R, I: Inputs, S: Sink, G: Gate + Sync>(
     ensures usage { result.code ≡ 2 → Gives (texts words.now) (I.content inputs.old)
         (S.taken out.old) (S.taken out.new) Answer.Usage }
 
-    // 3: the model's bytes are no flat text, or its machines break rules of models, or `judge` or `run` does not know
-    // one of its forms yet; the lines say which and where.
+    // 3: the model's bytes are no flat text and no model file that is read, or a class cannot be flattened, a body has
+    // a fault, a machine has no shape, or rules of models are broken, or `judge` or `run` does not know one of its
+    // forms yet; the lines say which and where.
     ensures bad_model { result.code ≡ 3 → (fault : LoadFault) × Gives (texts words.now) (I.content inputs.old)
         (S.taken out.old) (S.taken out.new) (Answer.BadModel fault) }
 
@@ -135,6 +138,7 @@ pub fn pssm<R, I: Inputs, S: Sink, G: Gate + Sync>(
     // There is no other status.
     ensures no_other { result.code ≤ 9 }
 {
+    one_load();
     match answer(alloc, words, inputs) {
         Ok(answer) => tell(alloc, answer, out),
         Err(Failure::ReadFault) => Status { code: 5 },

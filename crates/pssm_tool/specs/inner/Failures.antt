@@ -4,14 +4,14 @@ use Rattle.pssm_base.specs.Faults.{Rose}
 use Rattle.pssm_base.specs.Reading.{Contents, ReadsWhole, HoldsMore}
 use Rattle.pssm_model.specs.declared.elements.Element.{Element}
 use Rattle.pssm_semantics.specs.declared.setting.Setting.{Setting}
-use Rattle.pssm_tool.specs.declared.load.LoadFault.{LoadFault}
-use Rattle.pssm_tool.specs.declared.load.LoadFault.TheVariants as faults
+use Rattle.pssm_load.specs.declared.fault.LoadFault.{LoadFault}
+use Rattle.pssm_load.specs.declared.fault.LoadFault.TheVariants as faults
+use Rattle.pssm_load.specs.Loads.{IsLoadFault, IsFirstUnbuilt}
 use Rattle.pssm_tool.specs.declared.answer.Answer.{Answer}
 use Rattle.pssm_tool.specs.declared.answer.Answer.TheVariants.{Accept, TooLarge, BadModel}
 use Rattle.pssm_tool.specs.declared.failure.Failure.{Failure}
 use Rattle.pssm_tool.specs.declared.failure.Failure.TheVariants.{ReadFault, NoMemory}
 use Rattle.pssm_tool.specs.Words.{Judges, Means}
-use Rattle.pssm_tool.specs.Loads.{IsLoadFault, IsFirstUnbuilt}
 use Rattle.pssm_tool.specs.Due.{most_bytes, HasModel, ReadFailed}
 use Rattle.pssm_tool.specs.Headline.{IsContinued}
 

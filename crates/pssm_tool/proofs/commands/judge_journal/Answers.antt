@@ -1,3 +1,4 @@
+use Rattle.pssm_semantics.specs.Proper.{IsWellFormed}
 use Rattle.pssm_tool.specs.Words.{Judges}
 use Rattle.pssm_tool.specs.Due.{HasBuiltModel}
 use Rattle.pssm_tool.specs.inner.Failures.{LacksBuiltModel}
@@ -19,7 +20,8 @@ returns-in-Err-clause-failed g c = λ words is.
 pub judge-requires : goal.judge-requires
 judge-requires g c =
     let has : HasBuiltModel (g.I.Inputs.content c.args.inputs.now) c.args.path.now c.in-Ok-Ok.setting = (rw c.in-Ok-Ok.field-0-is at c.in-Ok-Ok.ensures.built) in
-    record { built = is_built (g.I.Inputs.content c.args.inputs.now) c.args.path.now c.in-Ok-Ok.setting has }
+    let well : IsWellFormed c.in-Ok-Ok.setting = (rw c.in-Ok-Ok.field-0-is at c.in-Ok-Ok.ensures.well_formed) in
+    record { built = is_built c.in-Ok-Ok.setting well has.1 }
 
 -- The journal was judged.
 pub returns-clause-owed : goal.returns-clause-owed

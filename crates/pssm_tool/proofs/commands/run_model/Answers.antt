@@ -3,13 +3,14 @@ use Rattle.std.specs.List.{AllByRecursion}
 use Rattle.pssm_semantics.specs.declared.setting.Setting.{Setting}
 use Rattle.pssm_semantics.specs.declared.stimulus.Stimulus.{Stimulus}
 use Rattle.pssm_semantics.specs.Names.{HasSpelledNames}
+use Rattle.pssm_semantics.specs.Proper.{IsWellFormed}
 use Rattle.pssm_tool.specs.Words.{texts, Runs}
 use Rattle.pssm_tool.specs.Due.{HasBuiltModel, unfit, ran, on_model}
 use Rattle.pssm_tool.specs.inner.Running.{IsKnown}
 use Rattle.pssm_tool.specs.inner.Failures.{LacksBuiltModel}
 use Rattle.pssm_tool.proofs.CallLaws.{all_known}
 use Rattle.pssm_tool.proofs.DueLaws.{lacks_built_owed, failed_at_model}
-use Rattle.pssm_tool.proofs.BuiltLaws.{is_built, names_spelled}
+use Rattle.pssm_tool.proofs.BuiltLaws.{is_built}
 use Rattle.pssm_tool.proofs.TextLaws.{run_text}
 use Rattle.pssm_tool.proofs.commands.run_model.Goals as goal
 
@@ -33,7 +34,8 @@ returns-in_default-clause-owed g c = λ words is.
 pub run-requires-clause-built : goal.run-requires-clause-built
 run-requires-clause-built g c =
     let has : HasBuiltModel (g.I.Inputs.content c.args.inputs.now) c.args.path.now c.in-Ok-Ok.setting = (rw c.in-Ok-Ok.field-0-is at c.in-Ok-Ok.ensures.built) in
-    is_built (g.I.Inputs.content c.args.inputs.now) c.args.path.now c.in-Ok-Ok.setting has
+    let well : IsWellFormed c.in-Ok-Ok.setting = (rw c.in-Ok-Ok.field-0-is at c.in-Ok-Ok.ensures.well_formed) in
+    is_built c.in-Ok-Ok.setting well has.1
 
 pub run-requires-clause-known : goal.run-requires-clause-known
 run-requires-clause-known g c =
@@ -43,8 +45,8 @@ run-requires-clause-known g c =
 -- Its names are names.
 pub text_of-text-requires : goal.text_of-text-requires
 text_of-text-requires g c =
-    let has : HasBuiltModel (g.I.Inputs.content c.args.inputs.now) c.args.path.now c.in-Ok-Ok.setting = (rw c.in-Ok-Ok.field-0-is at c.in-Ok-Ok.ensures.built) in
-    subst (λ (s : Setting). HasSpelledNames s) (sym c.in_ok-system.ensures.setting) (names_spelled (g.I.Inputs.content c.args.inputs.now) c.args.path.now c.in-Ok-Ok.setting has.0)
+    let spelled : HasSpelledNames c.in-Ok-Ok.setting = (rw c.in-Ok-Ok.field-0-is at c.in-Ok-Ok.ensures.spelled) in
+    subst (λ (s : Setting). HasSpelledNames s) (sym c.in_ok-system.ensures.setting) spelled
 
 pub returns-clause-owed : goal.returns-clause-owed
 returns-clause-owed g c = λ words is.

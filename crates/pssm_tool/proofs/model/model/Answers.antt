@@ -1,7 +1,8 @@
 use Rattle.std.proofs.Common.{List, ℕ, IfErr, IfOk, [], subst, arith}
+use Rattle.pssm_semantics.specs.Names.{HasSpelledNames}
 use Rattle.pssm_semantics.specs.Proper.{IsWellFormed}
+use Rattle.pssm_load.specs.Loads.{ReadsSetting}
 use Rattle.pssm_tool.specs.Due.{HasModel}
-use Rattle.pssm_tool.specs.Loads.{ReadsSetting}
 use Rattle.pssm_tool.specs.inner.Failures.{LacksModel}
 use Rattle.pssm_tool.proofs.LoadLaws.{IsWrong, found_with, found_lacks, found_failed, path_loads, path_lacks}
 use Rattle.pssm_tool.proofs.model.model.Goals as goal
@@ -14,6 +15,9 @@ returns-clause-loads g c =
 
 pub returns-clause-well_formed : goal.returns-clause-well_formed
 returns-clause-well_formed g c = found_with IsWellFormed c.load-loaded.result c.found.result c.load-loaded.ensures.well_formed c.found.ensures
+
+pub returns-clause-spelled : goal.returns-clause-spelled
+returns-clause-spelled g c = found_with HasSpelledNames c.load-loaded.result c.found.result c.load-loaded.ensures.spelled c.found.ensures
 
 pub returns-clause-lacks : goal.returns-clause-lacks
 returns-clause-lacks g c =

@@ -1,6 +1,7 @@
 use Rattle.std.proofs.Common.{sym, ◌∙◌, inl, inr, arith}
 use Rattle.pssm_tool.specs.Words.{texts}
 use Rattle.pssm_tool.proofs.AnswerLaws.{gives_good, gives_refuse, gives_usage, gives_bad_model, gives_bad_journal, gives_limit, gives_too_large, run_accepted, accepted_goes_on, exactly_owed, runs_owed}
+use Rattle.pssm_tool.proofs.DueOnce.{HasOneLoad}
 use Rattle.pssm_tool.proofs.HeadlineLaws.{accepts_prefixes}
 use Rattle.pssm_tool.proofs.top.pssm.Goals as goal
 
@@ -62,12 +63,14 @@ returns-in-Ok-clause-accepts_runs g c options model stimuli is code = elim code 
 -- The answer that is owed is the one that comes.
 pub returns-in-Ok-clause-exactly : goal.returns-in-Ok-clause-exactly
 returns-in-Ok-clause-exactly g c answer known due =
-    exactly_owed (texts c.args.words.now) (g.I.Inputs.content c.args.inputs.now) c.tell.result.code c.in-Ok.answer answer known c.in-Ok.ensures.owed c.tell.ensures.told due
+    let law : HasOneLoad = record { setting = c.one_load.ensures.setting; apart = c.one_load.ensures.apart } in
+    exactly_owed law (texts c.args.words.now) (g.I.Inputs.content c.args.inputs.now) c.tell.result.code c.in-Ok.answer answer known c.in-Ok.ensures.owed c.tell.ensures.told due
 
 -- The run that is owed comes.
 pub returns-in-Ok-clause-runs : goal.returns-in-Ok-clause-runs
 returns-in-Ok-clause-runs g c options model names setting stimuli known is has are =
-    runs_owed (texts c.args.words.now) (g.I.Inputs.content c.args.inputs.now) c.tell.result.code c.in-Ok.answer options model names setting stimuli known c.in-Ok.ensures.owed c.tell.ensures.told is has are
+    let law : HasOneLoad = record { setting = c.one_load.ensures.setting; apart = c.one_load.ensures.apart } in
+    runs_owed law (texts c.args.words.now) (g.I.Inputs.content c.args.inputs.now) c.tell.result.code c.in-Ok.answer options model names setting stimuli known c.in-Ok.ensures.owed c.tell.ensures.told is has are
 
 -- The journal that was accepted goes on to a complete run.
 pub returns-in-Ok-clause-continued : goal.returns-in-Ok-clause-continued
@@ -78,7 +81,8 @@ returns-in-Ok-clause-continued g c zero model journal is =
 -- Accepted, and a prefix of a complete run.
 pub returns-in-Ok-clause-headline : goal.returns-in-Ok-clause-headline
 returns-in-Ok-clause-headline g c known =
-    accepts_prefixes (texts c.args.words.now) (g.I.Inputs.content c.args.inputs.now) c.tell.result.code c.in-Ok.answer known c.in-Ok.ensures.owed c.tell.ensures.told
+    let law : HasOneLoad = record { setting = c.one_load.ensures.setting; apart = c.one_load.ensures.apart } in
+    accepts_prefixes law (texts c.args.words.now) (g.I.Inputs.content c.args.inputs.now) c.tell.result.code c.in-Ok.answer known c.in-Ok.ensures.owed c.tell.ensures.told
     (λ zero model journal is.
     let told = c.tell.ensures.told (λ e. omega arith) (λ e. omega arith) in
     accepted_goes_on (texts c.args.words.now) (g.I.Inputs.content c.args.inputs.now) c.in-Ok.answer model journal c.in-Ok.ensures.owed c.in-Ok.ensures.goes_on (sym told.0 ∙ zero) is)

@@ -1,0 +1,7 @@
+pub mod LoadFaults
+pub mod FaultLists
+pub mod FirstNotBuilt
+pub mod OneFaultList
+pub mod OneLoad
+pub mod ReadShapes
+pub mod LoadLaws
