@@ -1,8 +1,7 @@
 -- What the whole file says of elements, asked by their numbers.
-use Rattle.std.proofs.Common.{◌≡◌, ◌<◌, ◌≤◌, ◌+◌, ℕ, Bool, true, false, ◌||◌, List, [], ◌∷◌, length, map, drop, get_or, Option, Some, None, IfSome, refl, sym, ap, subst, ◌∙◌, arith}
+use Rattle.std.proofs.Common.{◌≡◌, ◌<◌, ◌+◌, ℕ, Bool, true, false, ◌||◌, List, length, map, drop, get_or, Option, Some, None, IfSome, refl, sym, ap, subst, ◌∙◌, arith}
 use Rattle.std.specs.Prelude.{slice_get, option_map}
 use Rattle.std.specs.List.{list_any}
-use Rattle.std.specs.Option.{option_map_or}
 use Rattle.std.proofs.Math.Seq.{drop-cons}
 use Rattle.std.proofs.Math.Numerals.{add-one}
 use Rattle.std.proofs.lemmas.Iterator.Adapters.{position_from-zero}
@@ -10,7 +9,7 @@ use Rattle.std.proofs.lemmas.Option.{same_Some, slice_get-get_or}
 use Rattle.pssm_xml.specs.Documents.{Element}
 use Rattle.pssm_xml.specs.Elements.{HasParent, IsNamed}
 use Rattle.pssm_roles.specs.Ids.{has_id, meant_by}
-use Rattle.pssm_roles.specs.Roles.{HasRole, root_role, role_in, names_rule}
+use Rattle.pssm_roles.specs.Roles.{HasRole, root_role, role_in}
 use Rattle.pssm_roles.specs.Roles.HasRole.{root, child}
 use Rattle.pssm_roles.specs.inner.Asked.{Gives, AreFirst}
 use Rattle.pssm_roles.specs.inner.Seen.{seen}
@@ -45,14 +44,6 @@ pub any_further : (p : ℕ × List ℕ → Bool) (found : List Reference) (i : �
     → list_any p (map seen found) ≡ list_any p (map seen (drop i found)) → list_any p (map seen found) ≡ list_any p (map seen (drop (i + 1) found))
 any_further p found i d in_found fails so =
     so ∙ any_split p found i d in_found ∙ ap (λ (b : Bool). b || list_any p (map seen (drop (i + 1) found))) fails
-
--- The one reference is to the rule.
-pub one_names : (doc : List Element) (n : ℕ) (found : List Reference) (d : Reference) (b : Bool) → n < length doc → 1 ≤ length found → length found < 2
-    → Gives doc n (has_id (get_or found 0 d).id.now) b → b ≡ names_rule doc n (map seen found)
-one_names doc n [] d b in_doc some few gives = absurd (omega (arith, some))
-one_names doc n (r ∷ []) d b in_doc some few gives =
-    let e = element_there doc n in_doc in gives e.0 e.1 ∙ ap (λ (o : Option Element). option_map_or (has_id r.id.now) o false) (sym e.1)
-one_names doc n (r ∷ s ∷ more) d b in_doc some few gives = absurd (omega (arith, few))
 
 -- ---- roles
 

@@ -1,4 +1,5 @@
 mod AskedLaws
+mod GuardLaws
 mod IdLaws
 mod ReferenceLaws
 mod RoleLaws

@@ -1,3 +1,4 @@
 pub mod Asked
+pub mod Guards
 pub mod Numbers
 pub mod Seen

@@ -5,6 +5,7 @@
 #![tactic(auto)]
 
 mod asked;
+mod guards;
 mod ids;
 mod laws;
 mod references;

@@ -4,9 +4,11 @@ ghost use Rattle.std.specs.Prelude.{◌≡◌, ◌<◌, length, map, codes, IfOk
 ghost use Rattle.std.specs.List.{list_any};
 ghost use Rattle.pssm_roles.specs.Roles as roles;
 ghost use Rattle.pssm_roles.specs.inner.Asked.{Gives};
+ghost use Rattle.pssm_roles.specs.inner.Guards.{AreGuards};
 ghost use Rattle.pssm_roles.specs.inner.Seen.{seen};
 
-use crate::asked::{guard_role, has_id, is_owned_machine, is_point, reference_role, type_at};
+use crate::asked::{guard_role, is_owned_machine, is_point, reference_role, type_at};
+use crate::guards::is_named_rule;
 use crate::ids::Ids;
 use crate::references::{Reference, references_of};
 use crate::role::Role;
@@ -85,32 +87,12 @@ fn ends_on_machine(alloc: Global, elements: &Elements, ids: &Ids, t: u32) -> Res
     Ok(begins || ends)
 }
 
-// Whether the one reference is to the element with this number.
-fn names_rule(elements: &Elements, n: u32, found: &[Reference]) -> bool
-    requires { n < length elements.now }
-    ensures { result ≡ roles.names_rule elements.now n (map seen found.now) }
-{
-    match found {
-        [one] => has_id(elements, n, one.id),
-        _ => false,
-    }
-}
-
-// Whether the guard of the transition names the rule.
-fn is_named_rule(alloc: Global, elements: &Elements, t: u32, n: u32) -> Result<bool, NoMemory>
-    requires parent { t < length elements.now }
-    requires within { n < length elements.now }
-    ensures { IfOk result (λ named. named ≡ roles.is_named_rule elements.now t n) }
-{
-    let found = references_of(alloc, elements, t, b"guard")?;
-    Ok(names_rule(elements, n, &found))
-}
-
 // The role of the element, where the table says this of it.
 fn settled(
     alloc: Global,
     elements: &Elements,
     ids: &Ids,
+    guards: &[Option<Reference>],
     parent: u32,
     n: u32,
     row: Role,
@@ -118,6 +100,7 @@ fn settled(
     requires same { ids.now ≡ elements.now }
     requires parent { parent < length elements.now }
     requires within { n < length elements.now }
+    requires known { AreGuards elements.now (length elements.now) guards.now }
     ensures { IfOk result (λ role. role ≡ roles.settled elements.now parent n row) }
 {
     match row {
@@ -138,7 +121,7 @@ fn settled(
             })
         }
         Role::IdleRule => {
-            let named = is_named_rule(alloc, elements, parent, n)?;
+            let named = is_named_rule(elements, guards, parent, n);
             Ok(if named { Role::Guard } else { Role::IdleRule })
         }
         _ => Ok(row),
@@ -150,6 +133,7 @@ pub(crate) fn role_in(
     alloc: Global,
     elements: &Elements,
     ids: &Ids,
+    guards: &[Option<Reference>],
     above: Role,
     parent: u32,
     n: u32,
@@ -157,6 +141,7 @@ pub(crate) fn role_in(
     requires same { ids.now ≡ elements.now }
     requires parent { parent < length elements.now }
     requires within { n < length elements.now }
+    requires known { AreGuards elements.now (length elements.now) guards.now }
     ensures { IfOk result (Gives elements.now n (roles.role_in elements.now above parent n)) }
 {
     let reference = reference_role(elements, n);
@@ -168,5 +153,5 @@ pub(crate) fn role_in(
         reference,
         guard,
     );
-    settled(alloc, elements, ids, parent, n, row)
+    settled(alloc, elements, ids, guards, parent, n, row)
 }
