@@ -108,6 +108,10 @@ counts_at doc n _ = []
 abbrev pub has_several : List Element → ℕ → Role → Bool
 has_several doc n r = list_any (nat_lt 1) (counts_at doc n r)
 
+-- It has no `xmi:id`, or an empty one, which is none (this profile's choice).
+abbrev pub LacksId : List Element → ℕ → Type 0
+LacksId doc n = HasNoValue doc n (codes "xmi:id") ⊎ HasValue doc n (codes "xmi:id") []
+
 -- An element of this role lacks what it needs: it owes this. Of a class that is not active no id is asked.
 abbrev pub Lacks : List Element → ℕ → Role → Owed → Type 0
 Lacks doc n r owed.Type = (r ≡ role.OtherVertex) × HasNoValue doc n (codes "xmi:type")
@@ -115,7 +119,7 @@ Lacks doc n r owed.Source = (r ≡ role.Transition) × RefersToNothing doc n (co
 Lacks doc n r owed.Target = (r ≡ role.Transition) × RefersToNothing doc n (codes "target")
 Lacks doc n r owed.Event = (r ≡ role.Trigger) × RefersToNothing doc n (codes "event")
 Lacks doc n r owed.Signal = (r ≡ role.SignalEvent) × RefersToNothing doc n (codes "signal")
-Lacks doc n r owed.Id = IsTrue (needs_id r) × HasNoValue doc n (codes "xmi:id")
+Lacks doc n r owed.Id = IsTrue (needs_id r) × LacksId doc n
 
 -- ---- what the values say
 

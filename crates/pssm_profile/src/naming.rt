@@ -1,17 +1,21 @@
 //! Ids, addresses and names of an element.
 ghost use Rattle.std.specs.Prelude.{◌≡◌, ◌↔◌, ◌<◌, ℕ, List, length, IsTrue, codes};
-ghost use Rattle.pssm_xml.specs.Elements.{HasNoValue, HasValue};
+ghost use Rattle.pssm_xml.specs.Elements.{HasValue};
+ghost use Rattle.pssm_profile.specs.Flaws.{LacksId};
 ghost use Rattle.pssm_profile.specs.Kinds.{name_of};
 
 use pssm_values::has_long_name;
 use pssm_xml::Elements;
 
-/// Whether the element has no `xmi:id`.
+/// Whether the element has no `xmi:id` or an empty one, which is none (this profile's choice).
 pub fn lacks_id(elements: &Elements, n: u32) -> bool
     requires { n < length elements.now }
-    ensures { IsTrue result ↔ HasNoValue elements.now n (codes "xmi:id") }
+    ensures { IsTrue result ↔ LacksId elements.now n }
 {
-    elements.value_of(n, b"xmi:id").is_none()
+    match elements.value_of(n, b"xmi:id") {
+        None => true,
+        Some(id) => id.is_empty(),
+    }
 }
 
 /// Whether the element has an `href`, so that what it stands for is in another file.

@@ -1,5 +1,5 @@
 -- The numbers of elements by their ids.
-use Rattle.std.proofs.Common.{◌≡◌, ◌<◌, ◌≤◌, ℕ, zero, suc, ◌+◌, Bool, true, false, cond, List, [], ◌∷◌, length, drop, Option, Some, None, refl, sym, ap, subst, ◌∙◌, arith, ⊎_elim}
+use Rattle.std.proofs.Common.{◌≡◌, ◌≢◌, ◌==◌, ◌<◌, ◌≤◌, ℕ, zero, suc, ◌+◌, Bool, true, false, cond, List, [], ◌∷◌, length, drop, Option, Some, None, refl, sym, ap, subst, ◌∙◌, arith, ⊎_elim}
 use Rattle.std.specs.Prelude.{slice_get, codes}
 use Rattle.std.specs.Option.{option_and_then, option_map_or}
 use Rattle.std.specs.List.{position_from}
@@ -134,9 +134,9 @@ value_of_it doc n id e at has = by_value (attribute_value (codes "xmi:id") e) re
       let same : own ≡ id = (bytes_decides own id).0 (sym (ap (λ (v : Option (List ℕ)). option_map_or (λ (x : List ℕ). bytes_eq x id) v false) is) ∙ has) in
       ap (option_and_then (attribute_value (codes "xmi:id"))) at ∙ is ∙ ap (λ x. Some x) same
 
--- An element before this one has the id exactly where the id means one before it.
-pub repeats_where : (doc : List Element) (n : ℕ) (id : List ℕ) → HasValue doc n (codes "xmi:id") id → IsLess n (meant_by doc id) → RepeatsId doc n
-repeats_where doc n id own less = by_number (meant_by doc id) refl less where
+-- An element before this one has the id exactly where the id is not empty and means one before it.
+pub repeats_where : (doc : List Element) (n : ℕ) (id : List ℕ) → HasValue doc n (codes "xmi:id") id → id ≢ [] → IsLess n (meant_by doc id) → RepeatsId doc n
+repeats_where doc n id own some less = by_number (meant_by doc id) refl less where
   by_number : (o : Option ℕ) → meant_by doc id ≡ o → IsLess n o → RepeatsId doc n
   by_number None none less = absurd less
   by_number (Some m) is less =
@@ -144,6 +144,7 @@ repeats_where doc n id own less = by_number (meant_by doc id) refl less where
       let same : found.0 ≡ m = (let e = found.2 in omega (arith, e)) in
       record {
         id = id;
+        some = some;
         earlier = m;
         own = own;
         before = less;
@@ -157,6 +158,11 @@ means_earlier doc n id own r =
     let first = first_from (has_id id) 0 doc r.earlier there.0 there.1 there.2 in
     let least = first.2 in let before = r.before in
     subst (IsLess n) (sym (position_from-zero (has_id id) doc ∙ first.1)) (let lt : first.0 < n = omega (arith, least, before) in lt)
+
+-- what the test for an empty id says
+pub not_empty : (id : List ℕ) (b : Bool) → b ≡ (length id == 0) → b ≡ false → id ≢ []
+not_empty [] b is other empty = let e : true ≡ false = sym is ∙ other in absurd cc
+not_empty (c ∷ cs) b is other empty = absurd cc
 
 pub none_repeated : (doc : List Element) (n : ℕ) → HasNoValue doc n (codes "xmi:id") → RepeatsId doc n → ⊥
 none_repeated doc n has r =

@@ -1,5 +1,5 @@
 -- Ids of elements: which element an id means, and which elements repeat an id (XMI 2.5.1 7.6.1, element identification attributes).
-use Rattle.std.specs.Prelude.{◌<◌, ℕ, Bool, false, List, Option, bytes_eq, codes, position, slice_get}
+use Rattle.std.specs.Prelude.{◌<◌, ◌≢◌, ℕ, Bool, false, List, [], Option, bytes_eq, codes, position, slice_get}
 use Rattle.std.specs.Option.{option_map_or, option_and_then}
 use Rattle.pssm_xml.specs.Documents.{Element}
 use Rattle.pssm_xml.specs.Elements.{attribute_value, HasValue}
@@ -17,9 +17,10 @@ meant_by doc id = position (has_id id) doc
 abbrev pub element_meant : List Element → List ℕ → Option Element
 element_meant doc id = option_and_then (slice_get doc) (meant_by doc id)
 
--- The element with this number has an id that an element before it has, so that the id means another one.
+-- The element with this number has an id that an element before it has, so that the id means another one. An empty `xmi:id` is none (this profile's choice).
 pub record RepeatsId (doc : List Element) (n : ℕ) : Type 0 where
   pub id : List ℕ
+  pub some : id ≢ []
   pub earlier : ℕ
   pub own : HasValue doc n (codes "xmi:id") id
   pub before : earlier < n

@@ -89,7 +89,7 @@ impl Ids {
         self.numbers.get(id).copied()
     }
 
-    /// Whether an element before this one has its id.
+    /// Whether an element before this one has its id. An empty `xmi:id` is none (this profile's choice).
     pub fn repeats(&self, elements: &Elements, n: u32) -> bool
         requires same { elements.now ≡ self.now }
         requires within { n < length elements.now }
@@ -97,7 +97,7 @@ impl Ids {
     {
         match elements.value_of(n, b"xmi:id") {
             None => false,
-            Some(id) => self.is_before(id, n),
+            Some(id) => !id.is_empty() && self.is_before(id, n),
         }
     }
 
