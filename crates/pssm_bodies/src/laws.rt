@@ -9,7 +9,7 @@ ghost use Rattle.pssm_bodies.specs.Faults.{IsBodyFault};
 ghost use Rattle.pssm_bodies.specs.Slots.{HasEachOnce};
 ghost use Rattle.pssm_bodies.specs.Programs.{IsProgrammed};
 
-/// A flat draft has one machine with one program, or one body with the first fault, and not both.
+/// A flat draft has at most one machine with one program, and at most one body with the first fault, and not both.
 pub fn one_outcome()
     ensures program { (names : Names) (flat : FlatDraft) (m n : DraftMachine) (p q : Program)
         → IsProgrammed names flat m p → IsProgrammed names flat n q → (m ≡ n) × (p ≡ q) }

@@ -8,7 +8,7 @@ use pssm_flat::one_reading;
 use pssm_settings::one_setting;
 use pssm_xmi::one_answer;
 
-/// Bytes have one setting, or one fault, and not both.
+/// Bytes have at most one setting and at most one fault, and not both.
 pub fn one_load()
     ensures setting { (bytes : List ℕ) (a b : Setting) → Reads bytes a → Reads bytes b → a ≡ b }
     ensures apart { (bytes : List ℕ) (setting : Setting) (fault : LoadFault) → ReadsSetting bytes setting []

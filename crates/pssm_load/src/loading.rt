@@ -136,10 +136,10 @@ fn read(alloc: Global, bytes: &[u8]) -> Result<Setting, LoadFault>
 /// The setting of the bytes of a model, whose machines break no rule of models. Bytes that begin with `pssm-flat` are
 /// of the flat form, and all others those of a model file (this profile's choice).
 ///
-/// The first fault comes: of the text; then, class by class, that of flattening its machine, that of the first of its
-/// bodies in the order of the file, and that of its machine's shape; then all rules of models that the machines break
-/// (this profile's choice of the order). `NoMemory`: memory ran out; it comes in place of any other answer. Nothing is
-/// left of what is refused.
+/// The first fault comes: of the flat text or of the model file; then, class by class, that of flattening its machine,
+/// that of the first of its bodies in the order of the file, and that of its machine's shape; then all rules of models
+/// that the machines break (this profile's choice of the order). `NoMemory`: memory ran out; it comes in place of any
+/// other answer. Nothing is left of what is refused.
 pub fn load(alloc: Global, bytes: &[u8]) -> Result<Setting, LoadFault>
     requires { length bytes.now ≤ 16777216 }
     ensures loads { IfOk result (λ setting. ReadsSetting bytes.now setting []) }

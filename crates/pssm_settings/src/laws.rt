@@ -6,7 +6,7 @@ ghost use Rattle.pssm_settings.specs.declared.fault.DraftFault.{DraftFault};
 ghost use Rattle.pssm_settings.specs.Settings.{IsSettingOf};
 ghost use Rattle.pssm_settings.specs.Failures.{IsFirstFailure};
 
-/// A draft has one setting or one fault, and not both.
+/// A draft has at most one setting and at most one fault, and not both.
 pub fn one_setting()
     ensures setting { (draft : Draft) (a b : Setting)
         → IsSettingOf draft a → IsSettingOf draft b → a ≡ b }

@@ -13,7 +13,7 @@ use pssm_profile::one_flaw_comes;
 use pssm_roles::one_role;
 use pssm_xml::one_tree;
 
-/// A file has one draft or one fault, and not both.
+/// A file has at most one draft and at most one fault, and not both.
 pub fn one_answer()
     ensures draft { (bytes : List ℕ) (d e : Draft)
         → ReadsDraft bytes d → ReadsDraft bytes e → d ≡ e }
