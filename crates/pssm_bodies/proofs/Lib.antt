@@ -20,3 +20,6 @@ pub mod FitMarks
 pub mod FitSound
 pub mod FitNumbers
 pub mod FitLaws
+pub mod SomeReading
+pub mod SomeNumbers
+pub mod SomeOutcome

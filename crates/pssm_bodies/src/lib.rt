@@ -18,6 +18,6 @@ mod texts;
 
 pub use body_fault::BodyFault;
 pub use fitting::programs_fit;
-pub use laws::one_outcome;
+pub use laws::{one_outcome, some_outcome};
 pub use reading::{Programmed, read_bodies};
 pub use slot::{Reading, Slot};

@@ -8,3 +8,4 @@ pub mod TableLaws
 pub mod SearchLaws
 pub mod StepLaws
 pub mod OneLaws
+pub mod SomeFault

@@ -1,11 +1,12 @@
 //! What is known of every draft.
-ghost use Rattle.std.specs.Prelude.{◌≡◌, ℕ};
+ghost use Rattle.std.specs.Prelude.{◌≡◌, ℕ, List};
 ghost use Rattle.pssm_model.specs.declared.draft_setting.Draft.{Draft};
 ghost use Rattle.pssm_model.specs.declared.draft_setting.ElementRef.{ElementRef};
 ghost use Rattle.pssm_heritage.specs.declared.kinds.ElementKind.{ElementKind};
 ghost use Rattle.pssm_heritage.specs.declared.kinds.RedefRule.{RedefRule};
 ghost use Rattle.pssm_heritage.specs.declared.fault.RedefFault.{RedefFault};
-ghost use Rattle.pssm_breaches.specs.Rules.{Breaks};
+ghost use Rattle.pssm_heritage.specs.Chains.{IsChain};
+ghost use Rattle.pssm_breaches.specs.Rules.{Breaks, BreaksNothing};
 ghost use Rattle.pssm_breaches.specs.Faults.{IsFirstBreach, IsRedefFault};
 
 /// An element breaks one rule before all others, and of the elements of a machine one is the first that breaks a rule.
@@ -19,4 +20,10 @@ pub fn one_breach()
 /// A machine has one fault.
 pub fn one_fault()
     ensures { (draft : Draft) (m : ℕ) (f g : RedefFault) → IsRedefFault draft m f → IsRedefFault draft m g → f ≡ g }
+{}
+
+/// A machine that does not extend itself keeps all rules, or it has a fault.
+pub fn some_fault()
+    ensures { (draft : Draft) (m : ℕ) (machines : List ℕ) → IsChain draft m machines → (BreaksNothing draft m → ⊥)
+        → ((f : RedefFault) → IsRedefFault draft m f → ⊥) → ⊥ }
 {}

@@ -17,5 +17,5 @@ mod walk;
 
 pub use breach::{Breach, fault_of};
 pub use breaches::broken_by;
-pub use laws::{one_breach, one_fault};
+pub use laws::{one_breach, one_fault, some_fault};
 pub use walk::first_breach;

@@ -4,3 +4,4 @@ pub mod ElementLaws
 pub mod RowLaws
 pub mod NumberLaws
 pub mod OneLaws
+pub mod SomeLineage

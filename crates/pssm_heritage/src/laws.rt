@@ -1,12 +1,14 @@
 //! What is known of every draft.
-ghost use Rattle.std.specs.Prelude.{◌≡◌, ℕ, List};
+ghost use Rattle.std.specs.Prelude.{◌≡◌, ◌<◌, ℕ, List, length};
 ghost use Rattle.pssm_model.specs.declared.draft_setting.Draft.{Draft};
 ghost use Rattle.pssm_model.specs.declared.draft_setting.ElementRef.{ElementRef};
+ghost use Rattle.pssm_model.specs.DraftSettings.{IsInRange};
 ghost use Rattle.pssm_heritage.specs.declared.kinds.ElementKind.{ElementKind};
 ghost use Rattle.pssm_heritage.specs.declared.fault.RedefFault.{RedefFault};
 ghost use Rattle.pssm_heritage.specs.Chains.{IsChain};
 ghost use Rattle.pssm_heritage.specs.Becoming.{Became};
 ghost use Rattle.pssm_heritage.specs.Faults.{IsCycleFault};
+ghost use Rattle.pssm_heritage.specs.Heritages.{Lineage, IsLineage};
 
 /// A machine has one chain of machines or one fault of a circle, and not both.
 pub fn one_chain()
@@ -22,4 +24,10 @@ pub fn one_chain()
 pub fn one_form()
     ensures { (draft : Draft) (kind : ElementKind) (e o p : ElementRef)
         → Became draft kind e o → Became draft kind e p → o ≡ p }
+{}
+
+/// What a machine inherits is known, or it has the fault of a circle.
+pub fn some_lineage()
+    ensures { (draft : Draft) (m : ℕ) → IsInRange draft → m < length draft.machines
+        → ((lineage : Lineage) → IsLineage draft m lineage → ⊥) → ((f : RedefFault) → IsCycleFault draft m f → ⊥) → ⊥ }
 {}

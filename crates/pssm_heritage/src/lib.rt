@@ -17,4 +17,4 @@ pub use elements::{count_of, redefined_by, region_at, transition_at, vertex_at};
 pub use fault::RedefFault;
 pub use heritage::Heritage;
 pub use kinds::{ElementKind, RedefRule};
-pub use laws::{one_chain, one_form};
+pub use laws::{one_chain, one_form, some_lineage};

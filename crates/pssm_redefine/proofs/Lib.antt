@@ -16,3 +16,6 @@ pub mod OneLaws
 pub mod SameLists
 pub mod SameLineage
 pub mod SameFlat
+pub mod SomeOrder
+pub mod SomeMerged
+pub mod SomeFlat

@@ -1,7 +1,8 @@
 //! What is known of every draft.
-ghost use Rattle.std.specs.Prelude.{◌≡◌, ℕ};
+ghost use Rattle.std.specs.Prelude.{◌≡◌, ◌<◌, ℕ, length};
 ghost use Rattle.pssm_model.specs.declared.draft_setting.Draft.{Draft};
 ghost use Rattle.pssm_model.specs.declared.draft_setting.FlatDraft.{FlatDraft};
+ghost use Rattle.pssm_model.specs.DraftSettings.{IsInRange};
 ghost use Rattle.pssm_heritage.specs.declared.fault.RedefFault.{RedefFault};
 ghost use Rattle.pssm_redefine.specs.Flattening.{Flattens, IsFaultOfClass};
 
@@ -16,4 +17,11 @@ pub fn flat_or_fault()
 /// A class has one flat draft.
 pub fn one_flat()
     ensures { (draft : Draft) (class : ℕ) (f g : FlatDraft) → Flattens draft class f → Flattens draft class g → f ≡ g }
+{}
+
+/// A class of a draft in range has a flat draft, or a fault.
+pub fn some_flat()
+    ensures { (draft : Draft) (class : ℕ) → IsInRange draft → class < length draft.classes
+        → ((flat : FlatDraft) → Flattens draft class flat → ⊥)
+        → ((fault : RedefFault) → IsFaultOfClass draft class fault → ⊥) → ⊥ }
 {}

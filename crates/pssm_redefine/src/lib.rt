@@ -23,6 +23,6 @@ mod vertices;
 
 pub use flattening::{flatten, flattened};
 pub use gathering::gather;
-pub use laws::{flat_or_fault, one_flat};
+pub use laws::{flat_or_fault, one_flat, some_flat};
 pub use machine::merge;
 pub use parts::{Ends, Gathered};

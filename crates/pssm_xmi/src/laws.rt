@@ -1,5 +1,5 @@
 //! What is known of every file.
-ghost use Rattle.std.specs.Prelude.{◌≡◌, ℕ, List};
+ghost use Rattle.std.specs.Prelude.{◌≡◌, ◌≤◌, ℕ, List, length};
 ghost use Rattle.pssm_model.specs.declared.draft_setting.Draft.{Draft};
 ghost use Rattle.pssm_model.specs.DraftSettings.{IsInRange, IsPlainDraft};
 ghost use Rattle.pssm_xml.specs.Documents.{Placed, Element, IsDocument};
@@ -26,6 +26,13 @@ pub fn one_answer()
     one_role();
     one_flaw_comes();
 }
+
+/// A file has a draft or a fault: it cannot be that it has neither.
+pub fn some_answer()
+    ensures { (bytes : List ℕ) → length bytes ≤ 16777216
+        → ((draft : Draft) → ReadsDraft bytes draft → ⊥)
+        → ((fault : XmiFault) → IsXmiFault bytes fault → ⊥) → ⊥ }
+{}
 
 /// In a document every element stands behind that in which it stands.
 pub fn ordered_document()

@@ -11,5 +11,5 @@ mod last;
 mod laws;
 mod reading;
 
-pub use laws::{one_answer, ordered_document, sound_draft};
+pub use laws::{one_answer, ordered_document, some_answer, sound_draft};
 pub use reading::read_xmi;
