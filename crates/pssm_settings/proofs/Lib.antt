@@ -14,3 +14,5 @@ pub mod ClassLaws
 pub mod ListingLaws
 pub mod SameShapes
 pub mod SameSettings
+pub mod SomeShape
+pub mod SomeSetting

@@ -33,22 +33,26 @@ one_more_loaded draft classes class number last before loaded = record { each = 
       (λ (kept : slice_get (classes ++ class ∷ []) n ≡ slice_get classes n). before.each n other (sym kept ∙ is))
       (get_more classes class n)
 
+-- The next class is the first that fails.
+pub first_fails : (draft : Draft) (classes : List Class) (number : ℕ) (fault : DraftFault) → length classes ≡ number → AreLoadedClasses draft classes
+    → number < length draft.classes → FailsClass draft number fault → IsFirstFailure draft fault
+first_fails draft [] number fault last before within fails =
+    record { number = number; is = within; before = λ earlier lt. absurd (omega (arith, last, lt)); fails = fails }
+first_fails draft (first ∷ more) number fault last before within fails = record {
+  number = number;
+  is = within;
+  before = λ earlier lt. (
+    get_or (first ∷ more) earlier first,
+    before.each earlier (get_or (first ∷ more) earlier first) (slice_get-get_or (first ∷ more) earlier first (omega (arith, last, lt))),
+  );
+  fails = fails;
+}
+
 -- The next class fails.
 pub next_fails : (draft : Draft) (classes : List Class) (number : ℕ) (fault : DraftFault) → length classes ≡ number → AreLoadedClasses draft classes
     → number < length draft.classes → (fault ≡ faults.NoMemory) ⊎ FailsClass draft number fault → (fault ≡ faults.NoMemory) ⊎ IsFirstFailure draft fault
 next_fails draft classes number fault last before within (inl none) = inl none
-next_fails draft [] number fault last before within (inr fails) =
-    inr (record { number = number; is = within; before = λ earlier lt. absurd (omega (arith, last, lt)); fails = fails })
-next_fails draft (first ∷ more) number fault last before within (inr fails) =
-    inr (record {
-      number = number;
-      is = within;
-      before = λ earlier lt. (
-        get_or (first ∷ more) earlier first,
-        before.each earlier (get_or (first ∷ more) earlier first) (slice_get-get_or (first ∷ more) earlier first (omega (arith, last, lt))),
-      );
-      fails = fails;
-    })
+next_fails draft classes number fault last before within (inr fails) = inr (first_fails draft classes number fault last before within fails)
 
 -- One class more is loaded, and counted.
 pub more_loaded : (draft : Draft) (classes : List Class) (class : Class) (number : ℕ) (all : List Class) → length classes ≡ number → AreLoadedClasses draft classes

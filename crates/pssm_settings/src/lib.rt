@@ -13,6 +13,6 @@ mod proper;
 mod whole;
 
 pub use fault::DraftFault;
-pub use laws::one_setting;
+pub use laws::{one_setting, some_setting};
 pub use proper::proper_setting;
 pub use whole::setting_of;
