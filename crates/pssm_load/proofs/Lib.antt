@@ -5,3 +5,4 @@ pub mod OneFaultList
 pub mod OneLoad
 pub mod ReadShapes
 pub mod LoadLaws
+pub mod SomeLoad

@@ -13,5 +13,5 @@ mod rules;
 
 pub use fault::{ClassFault, LoadFault};
 pub use forms::built;
-pub use laws::one_load;
+pub use laws::{one_load, some_load};
 pub use loading::load;

@@ -1,27 +1,29 @@
--- Something is owed for all words and files whose model is of the flat form.
-use Rattle.std.proofs.Common.{◌≡◌, ◌<◌, ℕ, List, [], ◌∷◌, length, refl, sym, subst, inl, inr}
+-- Something is owed for all words and files.
+use Rattle.std.proofs.Common.{◌≡◌, ◌<◌, ◌≤◌, ℕ, List, [], ◌∷◌, length, refl, sym, subst, inl, inr}
 use Rattle.std.specs.Prelude.{Option, Some, IfSome}
 use Rattle.std.proofs.lemmas.Bool.{cases_lt}
 use Rattle.pssm_base.specs.Reading.{Contents, ReadsWhole, HoldsMore}
 use Rattle.pssm_semantics.specs.declared.setting.Setting.{Setting}
 use Rattle.pssm_semantics.specs.declared.stimulus.Stimulus.{Stimulus}
 use Rattle.pssm_flat.specs.Text.{flat_text}
-use Rattle.pssm_flat.proofs.EveryText.{setting_or_fault}
 use Rattle.pssm_judge.proofs.EveryJournal.{something_said}
 use Rattle.pssm_load.specs.declared.fault.ClassFault.{ClassFault}
+use Rattle.pssm_load.specs.declared.fault.LoadFault.{LoadFault}
 use Rattle.pssm_load.specs.declared.fault.LoadFault.TheVariants as faults
-use Rattle.pssm_load.specs.Loads.{BeginsFlat, Reads, flat, AreClassFaults, flat_form, rules}
-use Rattle.pssm_load.proofs.FaultLists.{class_faults_listed}
+use Rattle.pssm_load.specs.Loads.{ReadsSetting, IsLoadFault, rules}
 use Rattle.pssm_load.proofs.FirstNotBuilt.{built_or_first}
-use Rattle.pssm_load.proofs.ReadShapes.{have_shape}
 use Rattle.pssm_tool.specs.declared.words.Options.{Options}
 use Rattle.pssm_tool.specs.declared.answer.Answer.{Answer}
 use Rattle.pssm_tool.specs.declared.answer.Answer.TheVariants.{WellFormed, Usage, TooLarge, Flat, BadModel}
 use Rattle.pssm_tool.specs.Words.{Meaning, Judges, Runs, Checks, Prints, Means}
 use Rattle.pssm_tool.specs.Stimuli.{AreStimuli}
-use Rattle.pssm_tool.specs.Due.{most_bytes, model_of, HasModel, HasBuiltModel, answer_to, large_journal, judged, unfit, IsOwed, usage, large_model, bad_model, unbuilt, on_model, IsTold, HasFlatModel}
+use Rattle.pssm_tool.specs.Due.{most_bytes, model_of, HasModel, HasBuiltModel, answer_to, large_journal, judged, unfit, IsOwed, usage, large_model, bad_model, unbuilt, on_model, IsTold}
 use Rattle.pssm_tool.proofs.DueLaws.{model_named, journal_named}
 use Rattle.pssm_tool.proofs.DueOnce.{told_bytes}
+
+-- Bytes have a setting, with the rules that its machines break, or a fault.
+abbrev pub SettingOrFault : Type 0
+SettingOrFault = (bytes : List ℕ) → length bytes ≤ most_bytes → ((setting : Setting) (list : List ClassFault) → ReadsSetting bytes setting list → ⊥) → ((fault : LoadFault) → IsLoadFault bytes fault → ⊥) → ⊥
 
 -- A path of which it is told what it holds holds more than may be read, or is read whole.
 large_or_read : (contents : Contents) (path : List ℕ) → ((held : List ℕ) × (contents path ≡ Some held)) → (HoldsMore contents path most_bytes → ⊥) → ((bytes : List ℕ) → ReadsWhole contents path most_bytes bytes → ⊥) → ⊥
@@ -53,29 +55,19 @@ module _ (words : List (List ℕ)) (contents : Contents) (told : IsTold words co
       (λ built. no_answer Usage (on_model (Runs options model names) setting is has (built, unfit (λ stimuli are. no_run options model names setting stimuli is (has, built) are) refl)))
       (λ name e first. no_answer (BadModel (faults.NotBuilt name e)) (unbuilt (Runs options model names) setting name e is tt has first refl))
 
-  -- A model that was read.
-  never_read : (meaning : Meaning) → Means words meaning → (bytes : List ℕ) → ReadsWhole contents (model_of meaning) most_bytes bytes → (setting : Setting) → Reads bytes setting → ⊥
-  never_read meaning is bytes reads setting read = class_faults_listed setting.classes (have_shape bytes setting read) by_list where
-    by_list : (list : List ClassFault) → AreClassFaults setting.classes list → ⊥
-    by_list [] are = never_loaded meaning is setting (record { bytes = bytes; reads = reads; loads = record { reads = read; faults = are } })
-    by_list (f ∷ list) are =
-        no_answer (BadModel (faults.Faults (f ∷ list)))
-        (bad_model meaning bytes (faults.Faults (f ∷ list)) is reads (rules setting (record { reads = read; faults = are }) (λ none. absurd cc)) refl)
+  -- A model that was read, with the rules that its machines break.
+  never_read : (meaning : Meaning) → Means words meaning → (bytes : List ℕ) → ReadsWhole contents (model_of meaning) most_bytes bytes → (setting : Setting) (list : List ClassFault) → ReadsSetting bytes setting list → ⊥
+  never_read meaning is bytes reads setting [] loads = never_loaded meaning is setting (record { bytes = bytes; reads = reads; loads = loads })
+  never_read meaning is bytes reads setting (f ∷ list) loads =
+      no_answer (BadModel (faults.Faults (f ∷ list))) (bad_model meaning bytes (faults.Faults (f ∷ list)) is reads (rules setting loads (λ none. absurd cc)) refl)
 
-  -- A model of the flat form.
-  never_flat : (meaning : Meaning) → Means words meaning → (bytes : List ℕ) → ReadsWhole contents (model_of meaning) most_bytes bytes → BeginsFlat bytes → ⊥
-  never_flat meaning is bytes reads begins =
-      setting_or_fault bytes
-      (λ setting has_text spelled. never_read meaning is bytes reads setting (flat begins has_text spelled))
-      (λ fault wrong. no_answer (BadModel (faults.Flat fault)) (bad_model meaning bytes (faults.Flat fault) is reads (flat_form begins wrong) refl))
-
-  never_meant : HasFlatModel words contents → (meaning : Meaning) → Means words meaning → ⊥
-  never_meant of_flat meaning is =
+  never_meant : SettingOrFault → (meaning : Meaning) → Means words meaning → ⊥
+  never_meant some_load meaning is =
       large_or_read contents (model_of meaning) (told_bytes (contents (model_of meaning)) (told (model_of meaning) (model_named words meaning is)))
       (λ large. no_answer TooLarge (large_model meaning is large refl))
-      (λ bytes reads. never_flat meaning is bytes reads (of_flat meaning bytes is reads))
+      (λ bytes reads. some_load bytes reads.at_most (never_read meaning is bytes reads) (λ fault wrong. no_answer (BadModel fault) (bad_model meaning bytes fault is reads wrong refl)))
 
--- Where it is told what the files hold, and the model is of the flat form, an answer or a run is owed.
-pub always_due : (words : List (List ℕ)) (contents : Contents) → IsTold words contents → HasFlatModel words contents → ((answer : Answer) → IsOwed words contents answer → ⊥)
+-- Where it is told what the files hold, an answer or a run is owed.
+pub always_due : SettingOrFault → (words : List (List ℕ)) (contents : Contents) → IsTold words contents → ((answer : Answer) → IsOwed words contents answer → ⊥)
     → ((options : Options) (model : List ℕ) (names : List (List ℕ)) (setting : Setting) (stimuli : List Stimulus) → Means words (Runs options model names) → HasBuiltModel contents model setting → AreStimuli setting names stimuli → ⊥) → ⊥
-always_due words contents told of_flat no_answer no_run = no_answer Usage (usage (never_meant words contents told no_answer no_run of_flat) refl)
+always_due some_load words contents told no_answer no_run = no_answer Usage (usage (never_meant words contents told no_answer no_run some_load) refl)

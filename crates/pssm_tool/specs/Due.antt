@@ -12,7 +12,7 @@ use Rattle.pssm_lines.specs.declared.fault.LineFault.TheVariants as faults
 use Rattle.pssm_journal.specs.Judged.{Judged, Accepted, Refused, Limited, BadText, IsJudged}
 use Rattle.pssm_load.specs.declared.fault.LoadFault.{LoadFault}
 use Rattle.pssm_load.specs.declared.fault.LoadFault.TheVariants.{NotBuilt}
-use Rattle.pssm_load.specs.Loads.{BeginsFlat, ReadsSetting, IsLoadFault, AreBuilt, IsFirstUnbuilt}
+use Rattle.pssm_load.specs.Loads.{ReadsSetting, IsLoadFault, AreBuilt, IsFirstUnbuilt}
 use Rattle.pssm_tool.specs.declared.words.Options.{Options}
 use Rattle.pssm_tool.specs.declared.answer.Answer.{Answer}
 use Rattle.pssm_tool.specs.declared.answer.Answer.TheVariants.{Accept, Refuse, Limit, WellFormed, Usage, BadLine, NoEnd, TooLarge, Journal, Flat, BadModel}
@@ -58,11 +58,6 @@ pub record HasModel (contents : Contents) (path : List ℕ) (setting : Setting) 
 -- It has such a setting, and the code runs every element of it.
 abbrev pub HasBuiltModel : Contents → List ℕ → Setting → Type 0
 HasBuiltModel contents path setting = HasModel contents path setting × AreBuilt setting.classes
-
--- What is read of the model's path, where the words name one, begins as the flat form does.
-abbrev pub HasFlatModel : List (List ℕ) → Contents → Type 0
-HasFlatModel words contents =
-    (meaning : Meaning) (bytes : List ℕ) → Means words meaning → ReadsWhole contents (model_of meaning) most_bytes bytes → BeginsFlat bytes
 
 -- The command is about runs of the model, so the code has to know its forms.
 abbrev pub IsAboutRuns : Meaning → Type 0

@@ -1,0 +1,5 @@
+use Rattle.pssm_tool.proofs.AlwaysDue.{always_due}
+use Rattle.pssm_tool.proofs.laws.always_due.Goals as goal
+
+pub returns : goal.returns
+returns c = always_due c.some_load.ensures
