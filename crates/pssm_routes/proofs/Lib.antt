@@ -1,0 +1,5 @@
+pub mod Starting
+pub mod Leading
+pub mod Routed
+pub mod Areas
+pub mod Settling

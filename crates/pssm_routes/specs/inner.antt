@@ -1,0 +1,5 @@
+pub mod Grounds
+pub mod Starts
+pub mod Ways
+pub mod Steps
+pub mod Sets

@@ -1,0 +1,57 @@
+-- From where a route starts and where it exits, which is all that conflicts and priorities ask of it.
+use Rattle.std.specs.Prelude.{◌≡◌, ◌⊎◌, ◌<◌, List, [], ◌∷◌, length, Contains}
+use Rattle.pssm_model.specs.declared.ids.VertexId.{VertexId}
+use Rattle.pssm_model.specs.declared.ids.TransId.{TransId}
+use Rattle.pssm_model.specs.declared.elements.DraftMachine.{DraftMachine}
+use Rattle.pssm_model.specs.declared.elements.VertexKind.TheVariants as kinds
+use Rattle.pssm_model.specs.declared.steps.Route.{Route}
+use Rattle.pssm_model.specs.Forest.{HasKind, IsOrLiesIn}
+use Rattle.pssm_model.specs.Legs.{Leaves, Scope, LegScope, LiesInScope}
+use Rattle.pssm_model.specs.Legs.Scope as scopes
+use Rattle.pssm_routes.specs.declared.areas.Area.{Area}
+use Rattle.pssm_routes.specs.declared.areas.Area.TheVariants.{Nowhere, Inside, Within}
+use Rattle.pssm_routes.specs.declared.areas.Ground.{Ground}
+
+-- The route starts with one transition, which leaves this State.
+pub record IsFrom (m : DraftMachine) (p : Route) (t : TransId) (s : VertexId) : Type 0 where
+  pub starts : p.starts ≡ t ∷ []
+  pub leaves : Leaves m t s
+  pub state : HasKind m s kinds.State
+
+-- the scope that an area names
+abbrev pub scope_of : Area → Scope
+scope_of Nowhere = scopes.Nowhere
+scope_of (Inside s) = scopes.Inside s
+scope_of (Within r) = scopes.Within r
+
+-- the source of the route, and the scope of its one leg
+pub record IsGroundOf (m : DraftMachine) (p : Route) (ground : Ground) : Type 0 where
+  pub start : TransId
+  pub from : IsFrom m p start ground.source
+  pub area : LegScope m p start (scope_of ground.area)
+
+-- the grounds of the routes, one after another
+abbrev pub AreGrounds : DraftMachine → List Route → List Ground → Type 0
+AreGrounds m [] [] = Unit {0}
+AreGrounds m (p ∷ routes) (ground ∷ grounds) = IsGroundOf m p ground × AreGrounds m routes grounds
+AreGrounds m _ _ = ⊥
+
+-- One route exits the source of the other, or their sources are one, or one lies in the other.
+abbrev pub Clash : DraftMachine → Ground → Ground → Type 0
+Clash m a b =
+    LiesInScope m b.source (scope_of a.area) ⊎ LiesInScope m a.source (scope_of b.area) ⊎ IsOrLiesIn m a.source b.source ⊎ IsOrLiesIn m b.source a.source
+
+-- Some ground among them clashes with it.
+abbrev pub ClashesWithSome : DraftMachine → List Ground → Ground → Type 0
+ClashesWithSome m grounds b = (a : Ground) × Contains grounds a × Clash m a b
+
+-- The area names a place of the machine.
+abbrev pub IsAreaIn : DraftMachine → Area → Type 0
+IsAreaIn m Nowhere = Unit {0}
+IsAreaIn m (Inside s) = s.0 < length m.vertices
+IsAreaIn m (Within r) = r.0 < length m.regions
+
+-- The ground names places of the machine.
+pub record IsGroundIn (m : DraftMachine) (ground : Ground) : Type 0 where
+  pub source : ground.source.0 < length m.vertices
+  pub area : IsAreaIn m ground.area

@@ -1,0 +1,105 @@
+//! Where routes exit, and which of them conflict (UML 2.5.1, 14.2.3.9, conflicting transitions).
+ghost use Rattle.std.specs.Prelude.{◌≡◌, ◌↔◌, ◌<◌, length, IsTrue};
+ghost use Rattle.pssm_model.specs.Legs.{LiesInScope};
+ghost use Rattle.pssm_model.specs.Routes.{IsStateRoute};
+ghost use Rattle.pssm_routes.specs.SingleLegs.{HasSingleLegs};
+ghost use Rattle.pssm_routes.specs.inner.Grounds.{scope_of, IsGroundOf, IsAreaIn, IsGroundIn, Clash};
+
+use pssm_model::{Machine, Owner, RegionId, Route, TransKind, VertexId};
+
+/// Where a route exits: nowhere, inside a State, or in a region.
+#[derive(Clone, Copy, PartialEq, Eq, Debug)]
+pub enum Area {
+    Nowhere,
+    Inside(VertexId),
+    Within(RegionId),
+}
+
+/// From where a route starts, and where it exits.
+#[derive(Clone, Copy, PartialEq, Eq, Debug)]
+pub struct Ground {
+    pub source: VertexId,
+    pub area: Area,
+}
+
+// The innermost region in which the vertex lies and which is the region or lies around it.
+fn enclosing(machine: &Machine, v: VertexId, region: RegionId) -> RegionId
+    requires vertex { v.0 < length machine.now.vertices }
+    requires region { region.0 < length machine.now.regions }
+    ensures there { result.0 < length machine.now.regions }
+{
+    let mut around = region;
+    while !machine.lies_in_region(v, around) {
+        match machine.region_owner(around) {
+            Owner::State(s) => around = machine.home(s),
+            _ => return around,
+        }
+    }
+    around
+}
+
+// The innermost region in which all vertices of an external route lie.
+fn common_region(machine: &Machine, route: &Route, source: VertexId) -> RegionId
+    requires source { source.0 < length machine.now.vertices }
+    requires legs { HasSingleLegs machine.now }
+    requires route { IsStateRoute machine.now route.now }
+    ensures there { result.0 < length machine.now.regions }
+{
+    let mut common = machine.home(source);
+    for t in route.starts.as_slice() {
+        common = enclosing(machine, machine.target(*t), common);
+    }
+    for t in route.rest.as_slice() {
+        common = enclosing(machine, machine.target(*t), common);
+    }
+    common
+}
+
+/// From where a route of States starts, and where it exits.
+pub fn ground_of(machine: &Machine, route: &Route) -> Ground
+    requires legs { HasSingleLegs machine.now }
+    requires route { IsStateRoute machine.now route.now }
+    ensures ground { IsGroundOf machine.now route.now result }
+    ensures there { IsGroundIn machine.now result }
+{
+    let start = route.starts.as_slice()[0];
+    let source = machine.source(start);
+    let area = match machine.transition(start).kind {
+        TransKind::Internal => Area::Nowhere,
+        TransKind::Local => Area::Inside(source),
+        TransKind::External => Area::Within(common_region(machine, route, source)),
+    };
+    Ground { source, area }
+}
+
+/// Whether a vertex lies in the area.
+pub fn covers(machine: &Machine, area: Area, v: VertexId) -> bool
+    requires vertex { v.0 < length machine.now.vertices }
+    requires area { IsAreaIn machine.now area }
+    ensures { IsTrue result ↔ LiesInScope machine.now v (scope_of area) }
+{
+    match area {
+        Area::Nowhere => false,
+        Area::Inside(s) => machine.lies_in_state(v, s),
+        Area::Within(r) => machine.lies_in_region(v, r),
+    }
+}
+
+/// Whether two vertices are one, or one lies in the other.
+pub fn are_on_one_chain(machine: &Machine, v: VertexId, w: VertexId) -> bool
+    requires first { v.0 < length machine.now.vertices }
+    requires second { w.0 < length machine.now.vertices }
+{
+    v == w || machine.lies_in_state(v, w) || machine.lies_in_state(w, v)
+}
+
+/// Whether one of two routes exits the source of the other, or their sources are one or lie in one another.
+pub fn clash(machine: &Machine, a: Ground, b: Ground) -> bool
+    requires first { IsGroundIn machine.now a }
+    requires second { IsGroundIn machine.now b }
+    ensures { IsTrue result ↔ Clash machine.now a b }
+{
+    covers(machine, a.area, b.source)
+        || covers(machine, b.area, a.source)
+        || are_on_one_chain(machine, a.source, b.source)
+}

@@ -1,0 +1,121 @@
+//! Which routes can join others without a conflict.
+ghost use Rattle.std.specs.Prelude.{◌↔◌, ◌<◌, length, All, IsTrue, IfSome, IfNone};
+ghost use Rattle.pssm_model.specs.declared.ids.VertexId.{VertexId};
+ghost use Rattle.pssm_model.specs.declared.ids.RegionId.{RegionId};
+ghost use Rattle.pssm_model.specs.declared.steps.Event.{Event};
+ghost use Rattle.pssm_model.specs.Configuration.{Configuration};
+ghost use Rattle.pssm_model.specs.declared.elements.VertexKind.TheVariants as kinds;
+ghost use Rattle.pssm_model.specs.Forest.{HasKind, LiesInRegion};
+ghost use Rattle.pssm_model.specs.Legs.{Leaves};
+ghost use Rattle.pssm_model.specs.Routes.{Truth};
+ghost use Rattle.pssm_routes.specs.Telling.{CanBeAsked, Tells};
+ghost use Rattle.pssm_routes.specs.SingleLegs.{HasSingleLegs};
+ghost use Rattle.pssm_routes.specs.inner.Grounds.{IsGroundIn};
+ghost use Rattle.pssm_routes.specs.inner.Starts.{IsStarted};
+ghost use Rattle.pssm_routes.specs.inner.Steps.{IsJoiningStep};
+ghost use Rattle.pssm_routes.specs.inner.Sets.{HasJoiner, IsTouched, HoldsSource, IsCeiling};
+
+use crate::areas::{Ground, are_on_one_chain, covers};
+use crate::seeking::{Search, Step, find_way};
+use pssm_model::{GuardId, Machine, Owner, RegionId, TransId, TransKind, VertexId};
+
+// Whether a source is the State, lies in it or has it inside, or an area covers the State.
+fn is_touched(machine: &Machine, grounds: &[Ground], s: VertexId) -> bool
+    requires there { s.0 < length machine.now.vertices }
+    requires grounds { All (IsGroundIn machine.now) grounds.now }
+    ensures { IsTrue result ↔ IsTouched machine.now grounds.now s }
+{
+    for ground in grounds {
+        if covers(machine, ground.area, s) || are_on_one_chain(machine, ground.source, s) {
+            return true;
+        }
+    }
+    false
+}
+
+// Whether a source lies in the region.
+fn holds_source(machine: &Machine, grounds: &[Ground], region: RegionId) -> bool
+    requires there { region.0 < length machine.now.regions }
+    requires grounds { All (IsGroundIn machine.now) grounds.now }
+    ensures { IsTrue result ↔ HoldsSource machine.now grounds.now region }
+{
+    for ground in grounds {
+        if machine.lies_in_region(ground.source, region) {
+            return true;
+        }
+    }
+    false
+}
+
+// The largest region around the State in which no source lies; none exactly where there is none.
+fn ceiling(machine: &Machine, grounds: &[Ground], s: VertexId) -> Option<RegionId>
+    requires there { s.0 < length machine.now.vertices }
+    requires grounds { All (IsGroundIn machine.now) grounds.now }
+    ensures inside { IfSome result (λ r. r.0 < length machine.now.regions) }
+    ensures some { IfSome result (IsCeiling machine.now grounds.now s) }
+    ensures none { IfNone result ((r : RegionId) → LiesInRegion machine.now s r → (HoldsSource machine.now grounds.now r → ⊥) → ⊥) }
+{
+    let mut found = None;
+    let mut region = machine.home(s);
+    while !holds_source(machine, grounds, region) {
+        found = Some(region);
+        match machine.region_owner(region) {
+            Owner::State(owner) => region = machine.home(owner),
+            _ => return found,
+        }
+    }
+    found
+}
+
+/// Where a route may go that clashes with none of the routes that fire.
+enum Room {
+    Shut,
+    Open(Option<RegionId>),
+}
+
+// Where a route with this start may go.
+fn room_for(machine: &Machine, grounds: &[Ground], t: TransId) -> Room
+    requires there { t.0 < length machine.now.transitions }
+    requires grounds { All (IsGroundIn machine.now) grounds.now }
+{
+    let source = machine.source(t);
+    if is_touched(machine, grounds, source) {
+        return Room::Shut;
+    }
+    match machine.transition(t).kind {
+        TransKind::External => match ceiling(machine, grounds, source) {
+            Some(region) => Room::Open(Some(region)),
+            None => Room::Shut,
+        },
+        _ => Room::Open(None),
+    }
+}
+
+/// Seeks a way for a route with this start that clashes with none of the grounds; none exactly where there is no such
+/// route.
+pub fn find_joiner<T: Fn(GuardId) -> bool>(
+    machine: &Machine,
+    truth: &T,
+    grounds: &[Ground],
+    t: TransId,
+    search: &mut Search,
+) -> Option<Step>
+    requires legs { HasSingleLegs machine.now }
+    requires there { t.0 < length machine.now.transitions }
+    requires grounds { All (IsGroundIn machine.now) grounds.now }
+    requires askable { CanBeAsked machine.now (T.pre truth.now) }
+    requires source { (v : VertexId) → Leaves machine.now t v → HasKind machine.now v kinds.State }
+    ensures some { (now : Configuration) (event : Event) (s : VertexId) (values : Truth) → Tells (T.post truth.now) values
+        → IsStarted machine.now now event t s
+        → IfSome result (IsJoiningStep machine.now now values event grounds.now search.new t) }
+    ensures none { (now : Configuration) (event : Event) (values : Truth) → Tells (T.post truth.now) values
+        → IfNone result (HasJoiner machine.now now values event grounds.now t → ⊥) }
+{
+    match room_for(machine, grounds, t) {
+        Room::Shut => None,
+        Room::Open(within) => {
+            *search = Search::new();
+            find_way(machine, truth, within, t, search)
+        }
+    }
+}
