@@ -1,5 +1,5 @@
-pub mod Starting
+pub mod Enabled
 pub mod Leading
 pub mod Routed
-pub mod Areas
+pub mod Conflicts
 pub mod Settling

@@ -34,8 +34,7 @@ impl Chosen {
         truth: &T,
         t: TransId,
         search: &mut Search,
-    ) -> Result<bool, NoMemory>
-    {
+    ) -> Result<bool, NoMemory> {
         let Some(last) = find_joiner(machine, truth, self.grounds.as_slice(), t, search) else {
             return Ok(false);
         };
@@ -55,8 +54,7 @@ impl Chosen {
         event: Event,
         source: VertexId,
         search: &mut Search,
-    ) -> Result<(), NoMemory>
-    {
+    ) -> Result<(), NoMemory> {
         for t in machine.outgoing(source) {
             if is_started(machine, config, event, *t)
                 && self.add_by(alloc, machine, truth, *t, search)?
@@ -76,8 +74,7 @@ impl Chosen {
         truth: &T,
         event: Event,
         states: &[VertexId],
-    ) -> Result<(), NoMemory>
-    {
+    ) -> Result<(), NoMemory> {
         let mut search = Search::new();
         for s in states {
             self.add_from(alloc, machine, config, truth, event, *s, &mut search)?;
@@ -87,8 +84,7 @@ impl Chosen {
 }
 
 // The number of the first start of a route.
-fn first_start(route: &Route) -> u16
-{
+fn first_start(route: &Route) -> u16 {
     match route.starts.as_slice() {
         [start, ..] => start.0,
         [] => 0,
@@ -131,7 +127,10 @@ pub fn pick_firing_set<T: Fn(GuardId) -> bool>(
     };
     chosen.add_from_each(alloc, machine, config, truth, event, first)?;
     chosen.add_from_each(alloc, machine, config, truth, event, later)?;
-    let Chosen { mut routes, grounds: _ } = chosen;
+    let Chosen {
+        mut routes,
+        grounds: _,
+    } = chosen;
     routes.sort_by_key(|route| first_start(route))?;
     Ok(Firing {
         routes: Row::from_vec(routes),

@@ -64,7 +64,14 @@ pub fn overrides<T: Fn(GuardId) -> bool>(
     for number in 0..machine.vertices() {
         let source = VertexId(number);
         if (source == state || machine.lies_in_state(source, state))
-            && reacts(machine, config, truth, Event::Signal(signal), source, &mut search)
+            && reacts(
+                machine,
+                config,
+                truth,
+                Event::Signal(signal),
+                source,
+                &mut search,
+            )
         {
             return true;
         }

@@ -94,11 +94,7 @@ fn makes_route(machine: &Machine, start: TransId, rest: &[TransId]) -> bool
 }
 
 // Whether the transitions are true.
-fn are_true<T: Fn(GuardId) -> bool>(
-    machine: &Machine,
-    truth: &T,
-    transitions: &[TransId],
-) -> bool
+fn are_true<T: Fn(GuardId) -> bool>(machine: &Machine, truth: &T, transitions: &[TransId]) -> bool
     requires there { All (λ t. t.0 < length machine.now.transitions) transitions.now }
     requires askable { CanBeAsked machine.now (T.pre truth.now) }
     ensures { (values : Truth) → Tells (T.post truth.now) values

@@ -37,15 +37,17 @@ impl Search {
     {
         Search {
             seen: [false; 4096],
-            steps: [Step { by: TransId(0), before: None }; 4096],
+            steps: [Step {
+                by: TransId(0),
+                before: None,
+            }; 4096],
             count: 0,
         }
     }
 
     // Comes to the target of a step's transition. It answers whether that is no junction; a junction is marked, and the
     // step kept, unless it was seen before.
-    fn comes_out(&mut self, machine: &Machine, step: Step) -> bool
-    {
+    fn comes_out(&mut self, machine: &Machine, step: Step) -> bool {
         let target = machine.target(step.by);
         if machine.vertex(target).kind != VertexKind::Junction {
             return true;
@@ -65,8 +67,7 @@ impl Search {
         truth: &T,
         within: Option<RegionId>,
         place: u16,
-    ) -> Option<Step>
-    {
+    ) -> Option<Step> {
         let junction = machine.target(self.steps[place as usize].by);
         for t in machine.outgoing(junction) {
             let step = Step {
@@ -132,7 +133,10 @@ pub fn find_way<T: Fn(GuardId) -> bool>(
     if !is_open(machine, truth, within, start) {
         return None;
     }
-    let first = Step { by: start, before: None };
+    let first = Step {
+        by: start,
+        before: None,
+    };
     if search.comes_out(machine, first) {
         return Some(first);
     }

@@ -57,8 +57,7 @@ fn are_listed(routes: &[Route]) -> bool
 }
 
 // Whether the first start of the first route has a lower number than that of the second.
-fn starts_before(first: &Route, second: &Route) -> bool
-{
+fn starts_before(first: &Route, second: &Route) -> bool {
     match (first.starts.as_slice(), second.starts.as_slice()) {
         ([t, ..], [u, ..]) => t.0 < u.0,
         _ => true,
@@ -66,11 +65,7 @@ fn starts_before(first: &Route, second: &Route) -> bool
 }
 
 // The grounds of the routes, one after another.
-fn grounds_of(
-    alloc: Global,
-    machine: &Machine,
-    routes: &[Route],
-) -> Result<Vec<Ground>, NoMemory>
+fn grounds_of(alloc: Global, machine: &Machine, routes: &[Route]) -> Result<Vec<Ground>, NoMemory>
     requires legs { HasSingleLegs machine.now }
     requires routes { All (IsStateRoute machine.now) routes.now }
     ensures grounds { IfOk result (λ grounds. AreGrounds machine.now routes.now grounds.items) }
@@ -204,14 +199,16 @@ pub fn is_firing_set<T: Fn(GuardId) -> bool>(
     }
     let grounds = grounds_of(alloc, machine, routes)?;
     let states = candidates(alloc, machine, config, truth, event)?;
-    Ok(start_among(grounds.as_slice(), states.as_slice())
-        && !clash_together(machine, grounds.as_slice())
-        && !joins_from_some(
-            machine,
-            config,
-            truth,
-            event,
-            grounds.as_slice(),
-            states.as_slice(),
-        ))
+    Ok(
+        start_among(grounds.as_slice(), states.as_slice())
+            && !clash_together(machine, grounds.as_slice())
+            && !joins_from_some(
+                machine,
+                config,
+                truth,
+                event,
+                grounds.as_slice(),
+                states.as_slice(),
+            ),
+    )
 }

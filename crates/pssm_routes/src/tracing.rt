@@ -8,8 +8,7 @@ use pssm_model::{Route, Row, TransId};
 use std::alloc::{AllocError as NoMemory, Global};
 
 // The transitions of the trail that leads to the step, the last first, without the one that has no step before it.
-fn later_transitions(alloc: Global, search: &Search, last: Step) -> Result<Vec<TransId>, NoMemory>
-{
+fn later_transitions(alloc: Global, search: &Search, last: Step) -> Result<Vec<TransId>, NoMemory> {
     let mut found = Vec::new(alloc);
     let mut step = last;
     while let Some(place) = step.before {

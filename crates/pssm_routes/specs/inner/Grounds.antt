@@ -7,7 +7,7 @@ use Rattle.pssm_model.specs.declared.elements.VertexKind.TheVariants as kinds
 use Rattle.pssm_model.specs.declared.steps.Route.{Route}
 use Rattle.pssm_model.specs.Forest.{HasKind, IsOrLiesIn}
 use Rattle.pssm_model.specs.Legs.{Leaves, Scope, LegScope, LiesInScope}
-use Rattle.pssm_model.specs.Legs.Scope as scopes
+use Rattle.pssm_model.specs.Legs.Scope.{Nowhere as nowhere, Inside as inside, Within as within}
 use Rattle.pssm_routes.specs.declared.areas.Area.{Area}
 use Rattle.pssm_routes.specs.declared.areas.Area.TheVariants.{Nowhere, Inside, Within}
 use Rattle.pssm_routes.specs.declared.areas.Ground.{Ground}
@@ -20,9 +20,9 @@ pub record IsFrom (m : DraftMachine) (p : Route) (t : TransId) (s : VertexId) : 
 
 -- the scope that an area names
 abbrev pub scope_of : Area → Scope
-scope_of Nowhere = scopes.Nowhere
-scope_of (Inside s) = scopes.Inside s
-scope_of (Within r) = scopes.Within r
+scope_of Nowhere = nowhere
+scope_of (Inside s) = inside s
+scope_of (Within r) = within r
 
 -- the source of the route, and the scope of its one leg
 pub record IsGroundOf (m : DraftMachine) (p : Route) (ground : Ground) : Type 0 where
