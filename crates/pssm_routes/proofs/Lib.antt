@@ -3,3 +3,6 @@ pub mod Leading
 pub mod Routed
 pub mod Conflicts
 pub mod Settling
+pub mod RegionChains
+pub mod OneLeg
+pub mod CommonRegions
