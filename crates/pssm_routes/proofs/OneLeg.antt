@@ -51,7 +51,7 @@ module _ {m : DraftMachine} (b : HasSingleLegs m) (shape : HasShape m) (p : Rout
   pub on_start : On p t
   on_start = Contains-append_left p.starts p.rest t (subst (λ ts. Contains ts t) (sym starts) (in_one t))
 
-  is_start : (u : TransId) → Contains p.starts u → u ≡ t
+  pub is_start : (u : TransId) → Contains p.starts u → u ≡ t
   is_start u h = is_one t u (subst (λ ts. Contains ts u) starts h)
 
   pub start_or_rest : (u : TransId) → On p u → (u ≡ t) ⊎ Contains p.rest u

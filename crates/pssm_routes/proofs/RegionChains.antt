@@ -28,11 +28,11 @@ module _ (m : DraftMachine) where
       (under_cases m p k (Region r) e second)
 
   -- under what is owned by the machine nothing lies further up
-  under_top : (p : Owner) (r : RegionId) → owner_of m p ≡ Some Top → LiesUnder m p (Region r) → ⊥
+  pub under_top : (p : Owner) (r : RegionId) → owner_of m p ≡ Some Top → LiesUnder m p (Region r) → ⊥
   under_top p r e under =
       ⊎_elim (λ same. absurd (cc)) (λ more. top_lies_nowhere (Region r) more) (under_cases m p Top (Region r) e under)
 
-  under_state : (p : Owner) (s : VertexId) (r : RegionId) → owner_of m p ≡ Some (State s) → LiesUnder m p (Region r) → LiesUnder m (State s) (Region r)
+  pub under_state : (p : Owner) (s : VertexId) (r : RegionId) → owner_of m p ≡ Some (State s) → LiesUnder m p (Region r) → LiesUnder m (State s) (Region r)
   under_state p s r e under = ⊎_elim (λ same. absurd (cc)) (λ more. more) (under_cases m p (State s) (Region r) e under)
 
   -- whether a place lies in a region can be told
