@@ -6,3 +6,4 @@ pub mod Settling
 pub mod RegionChains
 pub mod OneLeg
 pub mod CommonRegions
+pub mod LegScopes
