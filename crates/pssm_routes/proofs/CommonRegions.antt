@@ -40,6 +40,15 @@ scope_same m P Q r back there h = record {
 abbrev pub IsOneOf : VertexId → VertexId → VertexId → Type 0
 IsOneOf s w v = (v ≡ s) ⊎ (v ≡ w)
 
+-- what is in a list of two
+pub one_of_two : (s w v : VertexId) → Contains (s ∷ w ∷ []) v → IsOneOf s w v
+one_of_two s w v h = at h.0 h.1 h.2
+  where
+    at : (k : ℕ) → k < length (s ∷ w ∷ []) → get_or (s ∷ w ∷ []) k v ≡ v → IsOneOf s w v
+    at zero lt e = inl (sym e)
+    at (suc zero) lt e = inr (sym e)
+    at (suc (suc k)) lt e = absurd (omega (arith, lt))
+
 -- the second are the first and one more
 pub record HasOneMore (P Q : VertexId → Type 0) (w : VertexId) : Type 0 where
   pub kept : (v : VertexId) → P v → Q v
@@ -271,3 +280,21 @@ module _ {m : DraftMachine} (b : HasSingleLegs m) (shape : HasShape m) (p : Rout
 
     pub some_leg_scope : (c : RegionId) × IsScope m (IsOfLeg m p t) c
     some_leg_scope = let found = scope_so_far (length p.rest) (omega arith) in (found.0, leg_scope found.0 found.1)
+
+    -- the loop over the rest, one transition further
+    module _ (list : List TransId) (same : list ≡ p.rest) (count : ℕ) (inside : count < length list) (u : TransId) (here : u ≡ get_or list count u)
+        (w : VertexId) (enters : Enters m u w) where
+      pub next_shares : ShareRegion m s w
+      next_shares =
+          target_shares u w (of_rest b shape p route t starts u (subst (λ ts. Contains ts u) same (count, inside, sym here))) enters
+
+      one_more : HasOneMore (IsMet m t p.rest count) (IsMet m t p.rest (count + 1)) w
+      one_more =
+          one_more_met m t p.rest count u w (subst (λ ts. count < length ts) same inside) (subst (λ ts. u ≡ get_or ts count u) same here) enters
+
+      pub next_stays : (c : RegionId) → IsScope m (IsMet m t p.rest count) c → LiesInRegion m w c → IsScope m (IsMet m t p.rest (count + 1)) c
+      next_stays c h lies = scope_stays m (IsMet m t p.rest count) (IsMet m t p.rest (count + 1)) s w one_more c h lies
+
+      pub next_grows : (c r : RegionId) → IsScope m (IsMet m t p.rest count) c → (LiesInRegion m w c → ⊥) → IsScope m (IsOneOf s w) r
+          → IsScope m (IsMet m t p.rest (count + 1)) r
+      next_grows c r h out both = scope_grows m (IsMet m t p.rest count) (IsMet m t p.rest (count + 1)) s w one_more c r (inl (inl l)) h out both

@@ -84,7 +84,7 @@ module _ {m : DraftMachine} (b : HasSingleLegs m) (shape : HasShape m) (p : Rout
       (no_some_point b shape p route t starts t)
       scope
 
-  start_kind : (kind : TransKind) × Goes m t kind
+  pub start_kind : (kind : TransKind) × Goes m t kind
   start_kind =
       let x = on_there b shape p route t starts t start_on in
       (x.0.kind, mapped_at (λ (y : Transition). y.kind) (transition_at m t) x.0 x.1)

@@ -1,11 +1,13 @@
 //! Where routes exit, and which of them conflict (UML 2.5.1, 14.2.3.9, conflicting transitions).
-ghost use Rattle.std.specs.Prelude.{◌≡◌, ◌↔◌, ◌<◌, length, IsTrue};
-ghost use Rattle.pssm_model.specs.Legs.{LiesInScope};
-ghost use Rattle.pssm_model.specs.Routes.{IsStateRoute};
+ghost use Rattle.std.specs.Prelude.{◌≡◌, ◌⊎◌, ◌↔◌, ◌<◌, length, IsTrue};
+ghost use Rattle.pssm_model.specs.Forest.{IsOrLiesIn, IsScope};
+ghost use Rattle.pssm_model.specs.Legs.{IsOfLeg, LegScope, LiesInScope};
+ghost use Rattle.pssm_model.specs.Routes.{IsRoute, IsStateRoute};
+ghost use Rattle.pssm_model.specs.WellFormed.{ShareRegion};
 ghost use Rattle.pssm_routes.specs.SingleLegs.{HasSingleLegs};
-ghost use Rattle.pssm_routes.specs.inner.Grounds.{scope_of, IsGroundOf, IsAreaIn, IsGroundIn, Clash};
+ghost use Rattle.pssm_routes.specs.inner.Grounds.{scope_of, IsFrom, IsGroundOf, IsAreaIn, IsGroundIn, Clash};
 
-use pssm_model::{Machine, Owner, RegionId, Route, TransKind, VertexId};
+use pssm_model::{Machine, RegionId, Route, TransId, TransKind, VertexId};
 
 /// Where a route exits: nowhere, inside a State, or in a region.
 #[derive(Clone, Copy, PartialEq, Eq, Debug)]
@@ -22,37 +24,54 @@ pub struct Ground {
     pub area: Area,
 }
 
-// The innermost region in which the vertex lies and which is the region or lies around it.
-fn enclosing(machine: &Machine, v: VertexId, region: RegionId) -> RegionId
-    requires vertex { v.0 < length machine.now.vertices }
-    requires region { region.0 < length machine.now.regions }
+// The innermost region in which two vertices lie that share one.
+fn shared_region(machine: &Machine, v: VertexId, w: VertexId) -> RegionId
+    requires first { v.0 < length machine.now.vertices }
+    requires second { w.0 < length machine.now.vertices }
+    requires shared { ShareRegion machine.now v w }
+    ensures scope { IsScope machine.now (λ x. (x ≡ v) ⊎ (x ≡ w)) result }
     ensures there { result.0 < length machine.now.regions }
 {
-    let mut around = region;
-    while !machine.lies_in_region(v, around) {
-        match machine.region_owner(around) {
-            Owner::State(s) => around = machine.home(s),
-            _ => return around,
-        }
+    let _shaped = machine.regions();
+    match machine.scope(&[v, w]) {
+        Some(region) => region,
+        None => unreachable!(),
     }
-    around
 }
 
-// The innermost region in which all vertices of an external route lie.
-fn common_region(machine: &Machine, route: &Route, source: VertexId) -> RegionId
-    requires source { source.0 < length machine.now.vertices }
+// The innermost region in which the source of a route and all its targets lie.
+fn common_region(machine: &Machine, route: &Route, start: TransId, source: VertexId) -> RegionId
     requires legs { HasSingleLegs machine.now }
-    requires route { IsStateRoute machine.now route.now }
+    requires route { IsRoute machine.now route.now }
+    requires from { IsFrom machine.now route.now start source }
+    ensures scope { IsScope machine.now (IsOfLeg machine.now route.now start) result }
     ensures there { result.0 < length machine.now.regions }
 {
-    let mut common = machine.home(source);
-    for t in route.starts.as_slice() {
-        common = enclosing(machine, machine.target(*t), common);
-    }
+    let _shaped = machine.regions();
+    let mut common = shared_region(machine, source, machine.target(start));
     for t in route.rest.as_slice() {
-        common = enclosing(machine, machine.target(*t), common);
+        let target = machine.target(*t);
+        if !machine.lies_in_region(target, common) {
+            common = shared_region(machine, source, target);
+        }
     }
     common
+}
+
+// Where a route of States exits.
+fn area_of(machine: &Machine, route: &Route, start: TransId, source: VertexId) -> Area
+    requires legs { HasSingleLegs machine.now }
+    requires route { IsRoute machine.now route.now }
+    requires from { IsFrom machine.now route.now start source }
+    ensures area { LegScope machine.now route.now start (scope_of result) }
+    ensures there { IsAreaIn machine.now result }
+{
+    let _shaped = machine.regions();
+    match machine.transition(start).kind {
+        TransKind::Internal => Area::Nowhere,
+        TransKind::Local => Area::Inside(source),
+        TransKind::External => Area::Within(common_region(machine, route, start, source)),
+    }
 }
 
 /// From where a route of States starts, and where it exits.
@@ -64,11 +83,7 @@ pub fn ground_of(machine: &Machine, route: &Route) -> Ground
 {
     let start = route.starts.as_slice()[0];
     let source = machine.source(start);
-    let area = match machine.transition(start).kind {
-        TransKind::Internal => Area::Nowhere,
-        TransKind::Local => Area::Inside(source),
-        TransKind::External => Area::Within(common_region(machine, route, source)),
-    };
+    let area = area_of(machine, route, start, source);
     Ground { source, area }
 }
 
@@ -89,6 +104,7 @@ pub fn covers(machine: &Machine, area: Area, v: VertexId) -> bool
 pub fn are_on_one_chain(machine: &Machine, v: VertexId, w: VertexId) -> bool
     requires first { v.0 < length machine.now.vertices }
     requires second { w.0 < length machine.now.vertices }
+    ensures { IsTrue result ↔ (IsOrLiesIn machine.now v w ⊎ IsOrLiesIn machine.now w v) }
 {
     v == w || machine.lies_in_state(v, w) || machine.lies_in_state(w, v)
 }
