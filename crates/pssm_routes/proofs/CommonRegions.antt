@@ -6,13 +6,12 @@ use Rattle.pssm_model.specs.declared.ids.VertexId.{VertexId}
 use Rattle.pssm_model.specs.declared.ids.RegionId.{RegionId}
 use Rattle.pssm_model.specs.declared.ids.TransId.{TransId}
 use Rattle.pssm_model.specs.declared.elements.DraftMachine.{DraftMachine}
-use Rattle.pssm_model.specs.declared.elements.FaultPlace.TheVariants as places
 use Rattle.pssm_model.specs.declared.elements.VertexKind.TheVariants as kinds
 use Rattle.pssm_model.specs.declared.elements.Owner.{Owner}
-use Rattle.pssm_model.specs.declared.elements.Owner.TheVariants.{Top, Region, State}
+use Rattle.pssm_model.specs.declared.elements.Owner.TheVariants.{Region, State}
 use Rattle.pssm_model.specs.declared.steps.Route.{Route}
 use Rattle.pssm_model.specs.Shapes.{HasShape}
-use Rattle.pssm_model.specs.Forest.{owner_of, vertex_at, HasKind, LiesUnder, LiesInRegion, IsWithin, HasRegionsAbove, IsScope}
+use Rattle.pssm_model.specs.Forest.{owner_of, HasKind, LiesUnder, LiesInRegion, IsWithin, HasRegionsAbove, IsScope}
 use Rattle.pssm_model.specs.Forest.LiesUnder.{owned, further}
 use Rattle.pssm_model.specs.Forest.HasRegionsAbove.{region, state, machine}
 use Rattle.pssm_model.specs.Legs.{Leaves, Enters, On, IsOfLeg}
@@ -21,11 +20,11 @@ use Rattle.pssm_model.specs.Routes.IsReached.{start, on}
 use Rattle.pssm_model.specs.WellFormed.{ShareRegion}
 use Rattle.pssm_model.specs.WellFormed.Breaks.{E21}
 use Rattle.pssm_model.proofs.ElementLaws.{leaves_one, enters_one}
-use Rattle.pssm_model.proofs.RouteLaws.{in_one, is_one, reached_is_on}
+use Rattle.pssm_model.proofs.RouteLaws.{reached_is_on}
 use Rattle.pssm_model.proofs.OwnerChains.{circle_is_endless, under_further}
-use Rattle.pssm_model.proofs.Nesting.{under_cases, region_cases, shallower, lies_within}
+use Rattle.pssm_model.proofs.Nesting.{region_cases, shallower, lies_within}
 use Rattle.pssm_routes.specs.SingleLegs.{HasSingleLegs}
-use Rattle.pssm_routes.proofs.RegionChains.{on_one_chain, lies_or_not, IsTopmost, topmost, shares_topmost, topmost_of_other, kind_there, counted, some_region, under_top, under_state}
+use Rattle.pssm_routes.proofs.RegionChains.{on_one_chain, lies_or_not, IsTopmost, topmost, shares_topmost, topmost_of_other, vertex_there, counted, some_region, under_top, under_state}
 use Rattle.pssm_routes.proofs.OneLeg.{on_start, is_start, start_or_rest, of_rest, source_of, target_of, of_leg_cases, source_of_leg, target_of_leg}
 
 -- the innermost region of the same vertices is the same
@@ -234,7 +233,7 @@ module _ {m : DraftMachine} (b : HasSingleLegs m) (shape : HasShape m) (p : Rout
 
     pub target_shares : (u : TransId) (w : VertexId) → On p u → Enters m u w → ShareRegion m s w
     target_shares u w is e =
-        let x = kind_there shape s source_there in
+        let x = vertex_there shape s source_there in
         let some = some_region shape s x.0 x.1 state in
         let above = counted shape s source_there in
         let top = topmost m (State s) above.0 some.0 above.1 some.1 in

@@ -1,5 +1,5 @@
 -- The one leg of a route, where it exits, and when two routes conflict.
-use Rattle.std.proofs.Common.{◌≡◌, ◌≢◌, ◌⊎◌, ◌↔◌, ◌<◌, [], ◌∷◌, length, refl, sym, ap, subst, ◌∙◌, inl, inr, ⊎_elim, Contains}
+use Rattle.std.proofs.Common.{◌≡◌, ◌≢◌, ◌↔◌, [], ◌∷◌, refl, sym, ap, subst, ◌∙◌, inl, inr, ⊎_elim, Contains}
 use Rattle.pssm_model.specs.declared.ids.VertexId.{VertexId}
 use Rattle.pssm_model.specs.declared.ids.RegionId.{RegionId}
 use Rattle.pssm_model.specs.declared.ids.TransId.{TransId}
@@ -8,8 +8,8 @@ use Rattle.pssm_model.specs.declared.elements.TransKind.{TransKind}
 use Rattle.pssm_model.specs.declared.elements.TransKind.TheVariants.{External, Local, Internal}
 use Rattle.pssm_model.specs.declared.steps.Route.{Route}
 use Rattle.pssm_model.specs.Shapes.{HasShape}
-use Rattle.pssm_model.specs.Forest.{LiesInRegion, LiesUnder, IsOrLiesIn, IsWithin, IsScope}
-use Rattle.pssm_model.specs.declared.elements.Owner.TheVariants.{Region, State}
+use Rattle.pssm_model.specs.Forest.{LiesInRegion, IsOrLiesIn, IsWithin, IsScope}
+use Rattle.pssm_model.specs.declared.elements.Owner.TheVariants.{State}
 use Rattle.pssm_model.specs.Legs.{Leaves, Goes, Enters, On, IsOfLeg, Scope, LegScope, LiesInScope, Exits}
 use Rattle.pssm_model.specs.Legs.Scope.{Nowhere as nowhere, Inside as inside, Within as within}
 use Rattle.pssm_model.specs.Routes.{IsRoute, IsSource, IsStateRoute, HasStarts, Conflict}
@@ -19,10 +19,10 @@ use Rattle.pssm_routes.specs.declared.areas.Area.{Area}
 use Rattle.pssm_routes.specs.declared.areas.Area.TheVariants.{Nowhere, Inside, Within}
 use Rattle.pssm_routes.specs.declared.areas.Ground.{Ground}
 use Rattle.pssm_routes.specs.SingleLegs.{HasSingleLegs}
-use Rattle.pssm_routes.specs.inner.Grounds.{scope_of, IsFrom, IsGroundOf, Clash}
+use Rattle.pssm_routes.specs.inner.Grounds.{scope_of, IsGroundOf, Clash}
 use Rattle.pssm_routes.proofs.RegionChains.{on_one_chain}
 use Rattle.pssm_routes.proofs.OneLeg.{source_of, source_of_leg, target_of_leg, of_leg_cases, on_start}
-use Rattle.pssm_routes.proofs.LegScopes.{IsAround, IsScopeBy, start_kind, scope_by, some_leg, one_leg_scope, scope_of_internal, scope_of_local, exits_is, exits_of, shared_touch}
+use Rattle.pssm_routes.proofs.LegScopes.{IsAround, IsScopeBy, start_kind, scope_by, some_leg, one_leg_scope, exits_is, exits_of, shared_touch}
 
 -- the area of a scope
 abbrev area_of : Scope → Area
@@ -92,6 +92,7 @@ module _ {m : DraftMachine} (b : HasSingleLegs m) (shape : HasShape m) where
       where
         kind : (kind : TransKind) × Goes m ground.start kind
         kind = start_kind b shape p route.0 ground.start ground.from.starts g.source ground.from.leaves ground.from.state
+
         by : (kind : TransKind) → IsScopeBy b shape p route.0 ground.start ground.from.starts g.source ground.from.leaves ground.from.state kind (scope_of g.area)
             → IsAround m g.source (scope_of g.area)
         by Internal h = subst (IsAround m g.source) (sym h) tt
@@ -174,11 +175,11 @@ module _ {m : DraftMachine} (b : HasSingleLegs m) (shape : HasShape m) where
         (λ exits. inr (inl (subst (λ x. LiesInScope m x (scope_of c.area)) (source_is p first a ground exits.0 exits.2)
         (exits_in q second c other Active exits.0 exits.1))))
         (λ chain. (let s = source_is p first a ground chain.0 chain.2 in
-            let r = source_is q second c other chain.1 chain.3 in
-            ⊎_elim
-            (λ lies. inr (inr (inl (subst (λ x. IsOrLiesIn m x c.source) s (subst (IsOrLiesIn m chain.0) r lies)))))
-            (λ lies. inr (inr (inr (subst (λ x. IsOrLiesIn m x a.source) r (subst (IsOrLiesIn m chain.1) s lies)))))
-            chain.4))))
+        let r = source_is q second c other chain.1 chain.3 in
+        ⊎_elim
+        (λ lies. inr (inr (inl (subst (λ x. IsOrLiesIn m x c.source) s (subst (IsOrLiesIn m chain.0) r lies)))))
+        (λ lies. inr (inr (inr (subst (λ x. IsOrLiesIn m x a.source) r (subst (IsOrLiesIn m chain.1) s lies)))))
+        chain.4))))
         h.1
 
     conflict_of : Active a.source → Active c.source → p ≢ q → Clash m a c → Conflict m Active p q

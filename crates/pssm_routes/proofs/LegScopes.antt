@@ -1,5 +1,5 @@
 -- Where the one leg of a route exits, and what follows where a vertex lies in the scopes of two.
-use Rattle.std.proofs.Common.{◌≡◌, ◌⊎◌, [], ◌∷◌, Some, Contains, refl, sym, ap, subst, inl, inr, ⊎_elim}
+use Rattle.std.proofs.Common.{◌≡◌, ◌⊎◌, [], ◌∷◌, Some, refl, sym, ap, subst, inl, inr, ⊎_elim}
 use Rattle.pssm_model.specs.declared.ids.VertexId.{VertexId}
 use Rattle.pssm_model.specs.declared.ids.RegionId.{RegionId}
 use Rattle.pssm_model.specs.declared.ids.TransId.{TransId}
@@ -11,17 +11,17 @@ use Rattle.pssm_model.specs.declared.elements.TransKind.TheVariants.{External, L
 use Rattle.pssm_model.specs.declared.elements.Owner.TheVariants.{Region, State}
 use Rattle.pssm_model.specs.declared.steps.Route.{Route}
 use Rattle.pssm_model.specs.Shapes.{HasShape}
-use Rattle.pssm_model.specs.Forest.{transition_at, owner_of, HasKind, IsScope, LiesUnder, LiesInRegion, LiesInState, IsOrLiesIn, IsWithin}
-use Rattle.pssm_model.specs.Legs.{Leaves, Goes, On, IsInternal, IsLocalFrom, IsOfLeg, Scope, LegScope, LiesInScope, Exits}
+use Rattle.pssm_model.specs.Forest.{transition_at, owner_of, HasKind, IsScope, LiesInRegion, LiesInState, IsOrLiesIn}
+use Rattle.pssm_model.specs.Legs.{Leaves, Goes, On, IsInternal, IsOfLeg, Scope, LegScope, LiesInScope, Exits}
 use Rattle.pssm_model.specs.Legs.Scope.{Nowhere, Inside, Within}
 use Rattle.pssm_model.specs.Legs.LegScope.{internal, local, point, other}
 use Rattle.pssm_model.specs.Routes.{IsRoute}
 use Rattle.pssm_model.proofs.ElementLaws.{mapped_at, leaves_one}
-use Rattle.pssm_model.proofs.Nesting.{under_cases, lies_within}
+use Rattle.pssm_model.proofs.Nesting.{lies_within}
 use Rattle.pssm_model.proofs.Scopes.{one_scope}
 use Rattle.pssm_routes.specs.SingleLegs.{HasSingleLegs}
 use Rattle.pssm_routes.proofs.RegionChains.{on_one_chain, under_state}
-use Rattle.pssm_routes.proofs.OneLeg.{on_start, one_leg, on_there, no_later_leg, no_point, no_some_point, internal_is_start, local_is_start, local_from_start, alone, of_leg_same, source_of_leg}
+use Rattle.pssm_routes.proofs.OneLeg.{on_start, on_there, no_later_leg, no_point, no_some_point, internal_is_start, local_is_start, local_from_start, alone, of_leg_same, source_of_leg}
 use Rattle.pssm_routes.proofs.CommonRegions.{scope_same, some_leg_scope}
 
 module _ {m : DraftMachine} (b : HasSingleLegs m) (shape : HasShape m) (p : Route) (route : IsRoute m p) (t : TransId) (starts : p.starts ≡ t ∷ [])

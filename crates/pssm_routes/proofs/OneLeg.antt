@@ -1,31 +1,27 @@
 -- A route that starts with one transition is one leg where no vertex cuts it.
-use Rattle.std.proofs.Common.{◌≡◌, ◌≢◌, ◌⊎◌, ◌↔◌, ◌<◌, ℕ, [], ◌∷◌, ◌++◌, length, Some, Contains, refl, sym, ap, subst, inl, inr, ⊎_elim}
+use Rattle.std.proofs.Common.{◌≡◌, ◌⊎◌, ◌<◌, [], ◌∷◌, length, Some, Contains, sym, subst, inl, inr, ⊎_elim}
 use Rattle.std.proofs.lemmas.List.Elements.{Contains-append_left, Contains-append_right, Contains-append_cases, All-contains}
 use Rattle.pssm_model.specs.declared.ids.VertexId.{VertexId}
-use Rattle.pssm_model.specs.declared.ids.RegionId.{RegionId}
 use Rattle.pssm_model.specs.declared.ids.TransId.{TransId}
 use Rattle.pssm_model.specs.declared.elements.DraftMachine.{DraftMachine}
 use Rattle.pssm_model.specs.declared.elements.Transition.{Transition}
 use Rattle.pssm_model.specs.declared.elements.Vertex.{Vertex}
 use Rattle.pssm_model.specs.declared.elements.VertexKind.{VertexKind}
 use Rattle.pssm_model.specs.declared.elements.VertexKind.TheVariants as kinds
-use Rattle.pssm_model.specs.declared.elements.TransKind.TheVariants.{External, Local, Internal}
-use Rattle.pssm_model.specs.declared.elements.FaultPlace.TheVariants as places
-use Rattle.pssm_model.specs.declared.elements.Element.TheVariants as elements
+use Rattle.pssm_model.specs.declared.elements.TransKind.TheVariants.{Local, Internal}
 use Rattle.pssm_model.specs.declared.steps.Route.{Route}
 use Rattle.pssm_model.specs.Shapes.{HasShape}
-use Rattle.pssm_model.specs.Forest.{vertex_at, transition_at, HasKind, IsScope}
-use Rattle.pssm_model.specs.Legs.{transitions_of, Leaves, Enters, Goes, On, AreJoined, SameLeg, NextLeg, LaterLeg, IsLocalFrom, IsInternal, IsOfLeg, PassesPoint, PassesSomePoint}
+use Rattle.pssm_model.specs.Forest.{vertex_at, transition_at, HasKind}
+use Rattle.pssm_model.specs.Legs.{transitions_of, Leaves, Enters, Goes, On, AreJoined, SameLeg, LaterLeg, IsLocalFrom, IsInternal, IsOfLeg, PassesPoint, PassesSomePoint}
 use Rattle.pssm_model.specs.Legs.SameLeg.{itself, joined}
 use Rattle.pssm_model.specs.Legs.LaterLeg.{next, after}
 use Rattle.pssm_model.specs.Routes.{GoesOnAt, IsRoute, IsReached}
 use Rattle.pssm_model.specs.Routes.IsReached.{start, on}
-use Rattle.pssm_model.specs.WellFormed.{Breaks}
 use Rattle.pssm_model.specs.WellFormed.Breaks.{E13}
 use Rattle.pssm_model.proofs.ElementLaws.{mapped_at, some_at, kind_unique, leaves_one, enters_one}
 use Rattle.pssm_model.proofs.RouteLaws.{in_one, is_one, reached_is_on}
 use Rattle.pssm_routes.specs.SingleLegs.{HasSingleLegs}
-use Rattle.pssm_routes.proofs.RegionChains.{kind_there}
+use Rattle.pssm_routes.proofs.RegionChains.{vertex_there}
 
 module _ (m : DraftMachine) (p : Route) where
   -- the transitions of a leg are of its route
@@ -90,7 +86,7 @@ module _ {m : DraftMachine} (b : HasSingleLegs m) (shape : HasShape m) (p : Rout
   passes_junction u w v is e l in_rest =
       let x = on_there w is in
       let same : x.0.target ≡ v = enters_one m w x.0.target v (mapped_at (λ (y : Transition). y.target) (transition_at m w) x.0 x.1) e in
-      let there = kind_there shape v (subst (λ y. y.0 < length m.vertices) same (shape.ends w x.0 x.1).1) in
+      let there = vertex_there shape v (subst (λ y. y.0 < length m.vertices) same (shape.ends w x.0 x.1).1) in
       let k : HasKind m v there.0.kind = mapped_at (λ (y : Vertex). y.kind) (vertex_at m v) there.0 there.1 in
       goes_on_junction u v there.0.kind in_rest l k (route.goes_on w v there.0.kind is e k)
 

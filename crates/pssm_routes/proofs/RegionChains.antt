@@ -13,8 +13,8 @@ use Rattle.pssm_model.specs.Forest.LiesUnder.{owned, further}
 use Rattle.pssm_model.specs.Forest.HasRegionsAbove.{region, state, machine}
 use Rattle.pssm_model.specs.Shapes.{HasShape, OwnsVertex}
 use Rattle.pssm_model.specs.WellFormed.{ShareRegion}
-use Rattle.pssm_model.proofs.ElementLaws.{mapped_at, mapped_some, some_at, same_region}
-use Rattle.pssm_model.proofs.OwnerChains.{top_lies_nowhere, counted_is_place, circle_is_endless, under_further}
+use Rattle.pssm_model.proofs.ElementLaws.{mapped_at, some_at, same_region}
+use Rattle.pssm_model.proofs.OwnerChains.{top_lies_nowhere, counted_is_place}
 use Rattle.pssm_model.proofs.Nesting.{under_cases, region_cases, shallower, lies_within}
 
 module _ (m : DraftMachine) where
@@ -92,9 +92,9 @@ module _ (m : DraftMachine) where
   topmost_of_other v w top h lies = record { lies = lies; last = h.last }
 
 module _ {m : DraftMachine} (shape : HasShape m) where
-  -- a vertex of a kind is there
-  pub kind_there : (v : VertexId) → v.0 < length m.vertices → (x : Vertex) × (vertex_at m v ≡ Some x)
-  kind_there v lt = some_at m.vertices v.0 lt
+  -- the vertex of a number, and how many regions stand above it
+  pub vertex_there : (v : VertexId) → v.0 < length m.vertices → (x : Vertex) × (vertex_at m v ≡ Some x)
+  vertex_there v lt = some_at m.vertices v.0 lt
 
   pub counted : (v : VertexId) → v.0 < length m.vertices → (n : ℕ) × HasRegionsAbove m (State v) n
   counted v lt =

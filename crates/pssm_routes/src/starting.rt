@@ -9,7 +9,6 @@ use pssm_model::{Event, Machine, TransId, VertexId, VertexKind};
 
 // Whether the signal triggers the transition out of the State, or it is the completion of this State and the
 // transition has no trigger.
-#[tactic(auto, using(crate::proofs::RegionChains::some_region, crate::proofs::OneLeg::target_of_leg, crate::proofs::Conflicts::conflict_clashes))]
 fn is_caused_by(machine: &Machine, event: Event, t: TransId, source: VertexId) -> bool
     requires { t.0 < length machine.now.transitions }
     ensures { IsTrue result ↔ IsCausedBy machine.now event t source }

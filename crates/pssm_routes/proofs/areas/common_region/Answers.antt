@@ -27,7 +27,7 @@ loop-t-preserved c =
     IsScope c.args.machine.now (IsMet c.args.machine.now c.args.start c.args.route.now.rest (c.loop-t.t-index + 1)) x
     × (x.0 < length c.args.machine.now.regions) in
     elim c.if-not-lies_in_region.branch [
-      then-not-lies_in_region w ↦ subst more (sym w.common-is) (
+      | then-not-lies_in_region w ↦ subst more (sym w.common-is) (
         next_grows c.requires.legs c.regions-shaped.ensures.shaped _ c.requires.route _ from.starts _ from.leaves from.state
             c.as_slice-t-items.result.now c.as_slice-t-items.ensures c.loop-t.t-index c.loop-t-test.true _
             (get_or_default _ _ _ _ c.loop-t-test.true) _ c.target-target.ensures.enters _ _ c.loop-t.invariant.0
