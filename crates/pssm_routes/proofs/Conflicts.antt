@@ -74,8 +74,11 @@ module _ {m : DraftMachine} (b : HasSingleLegs m) (shape : HasShape m) where
     starts_with : (t : TransId) → p.starts ≡ t ∷ [] → ground.start ≡ t
     starts_with t starts = let first = ground.from.starts in cc
 
-    area_is : (kind : TransKind) → Goes m ground.start kind
-        → IsScopeBy b shape p route.0 ground.start ground.from.starts g.source ground.from.leaves ground.from.state kind (scope_of g.area)
+    -- what the kind of its start says of its area
+    abbrev IsAreaBy : TransKind → Type 0
+    IsAreaBy kind = IsScopeBy b shape p route.0 ground.start ground.from.starts g.source ground.from.leaves ground.from.state kind (scope_of g.area)
+
+    area_is : (kind : TransKind) → Goes m ground.start kind → IsAreaBy kind
     area_is kind goes =
         scope_by b shape p route.0 ground.start ground.from.starts g.source ground.from.leaves ground.from.state kind (scope_of g.area) goes ground.area
 
@@ -93,8 +96,7 @@ module _ {m : DraftMachine} (b : HasSingleLegs m) (shape : HasShape m) where
         kind : (kind : TransKind) × Goes m ground.start kind
         kind = start_kind b shape p route.0 ground.start ground.from.starts g.source ground.from.leaves ground.from.state
 
-        by : (kind : TransKind) → IsScopeBy b shape p route.0 ground.start ground.from.starts g.source ground.from.leaves ground.from.state kind (scope_of g.area)
-            → IsAround m g.source (scope_of g.area)
+        by : (kind : TransKind) → IsAreaBy kind → IsAround m g.source (scope_of g.area)
         by Internal h = subst (IsAround m g.source) (sym h) tt
         by Local h = subst (IsAround m g.source) (sym h) refl
         by External h =

@@ -18,7 +18,8 @@ pub shared_region-common-requires-then-not-lies_in_region-clause-shared :
 shared_region-common-requires-then-not-lies_in_region-clause-shared c =
     let from = c.requires.from in
     next_shares c.requires.legs c.regions-shaped.ensures.shaped _ c.requires.route _ from.starts _ from.leaves from.state
-    c.as_slice-t-items.result.now c.as_slice-t-items.ensures c.loop-t.t-index c.loop-t-test.true _ (get_or_default _ _ _ _ c.loop-t-test.true) _ c.target-target.ensures.enters
+    c.as_slice-t-items.result.now c.as_slice-t-items.ensures c.loop-t.t-index c.loop-t-test.true _
+    (get_or_default _ _ _ _ c.loop-t-test.true) _ c.target-target.ensures.enters
 
 pub loop-t-preserved : goal.loop-t-preserved
 loop-t-preserved c =
