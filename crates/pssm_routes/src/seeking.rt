@@ -1,14 +1,18 @@
 //! The search for a way over junctions: each junction is gone on from once, and no memory is taken.
-ghost use Rattle.std.specs.Prelude.{◌≡◌, ◌↔◌, ◌<◌, length, IsTrue, IfSome, IfNone};
+ghost use Rattle.std.specs.Prelude.{◌≡◌, ◌↔◌, ◌<◌, ◌+◌, Option, length, IsTrue, IfSome, IfNone};
 ghost use Rattle.pssm_model.specs.declared.ids.VertexId.{VertexId};
+ghost use Rattle.pssm_model.specs.declared.ids.RegionId.{RegionId};
+ghost use Rattle.pssm_model.specs.declared.ids.TransId.{TransId};
 ghost use Rattle.pssm_model.specs.declared.elements.DraftMachine.{DraftMachine};
 ghost use Rattle.pssm_model.specs.declared.elements.VertexKind.TheVariants as kinds;
 ghost use Rattle.pssm_model.specs.Forest.{HasKind};
 ghost use Rattle.pssm_model.specs.Legs.{Leaves};
 ghost use Rattle.pssm_model.specs.Routes.{Truth};
+ghost use Rattle.pssm_routes.specs.declared.seeking.Search.{Search};
 ghost use Rattle.pssm_routes.specs.Telling.{CanBeAsked, Tells};
 ghost use Rattle.pssm_routes.specs.inner.Ways.{IsAllowed, IsOpen, LeadsOut};
 ghost use Rattle.pssm_routes.specs.inner.Steps.{SeesDeadEnds, IsFound};
+ghost use Rattle.pssm_routes.specs.inner.Seeking.{ComesTo, Tries, ComesOnce, IsUnderWay};
 
 use crate::guards::is_true_at;
 use pssm_model::{GuardId, Machine, RegionId, TransId, VertexId, VertexKind};
@@ -33,7 +37,7 @@ impl Search {
     /// A search that has seen nothing.
     pub fn new() -> Search
         ensures count { result.count ≡ 0 }
-        ensures nothing { (m : DraftMachine) (truth : Truth) → SeesDeadEnds m truth result }
+        ensures nothing { (m : DraftMachine) (truth : Truth) (within : Option RegionId) → SeesDeadEnds m truth within result }
     {
         Search {
             seen: [false; 4096],
@@ -47,7 +51,13 @@ impl Search {
 
     // Comes to the target of a step's transition. It answers whether that is no junction; a junction is marked, and the
     // step kept, unless it was seen before.
-    fn comes_out(&mut self, machine: &Machine, step: Step) -> bool {
+    fn comes_out(&mut self, machine: &Machine, step: Step) -> bool
+        requires there { step.by.0 < length machine.now.transitions }
+        requires once { ComesOnce machine.now self.now }
+        ensures comes { ComesTo machine.now self.old step self.new result }
+        ensures once { ComesOnce machine.now self.new }
+    {
+        let _shaped = machine.regions();
         let target = machine.target(step.by);
         if machine.vertex(target).kind != VertexKind::Junction {
             return true;
@@ -60,21 +70,53 @@ impl Search {
         false
     }
 
-    // Goes on from the junction to which the step with this place came.
+    // Comes to the target of a step's transition, if that is open. It answers whether it does and that is no junction.
+    fn leads_out<T: Fn(GuardId) -> bool>(
+        &mut self,
+        machine: &Machine,
+        truth: &T,
+        within: Option<RegionId>,
+        step: Step,
+    ) -> bool
+        requires there { step.by.0 < length machine.now.transitions }
+        requires region { IfSome within (λ r. r.0 < length machine.now.regions) }
+        requires askable { CanBeAsked machine.now (T.pre truth.now) }
+        requires once { ComesOnce machine.now self.now }
+        ensures tries { (values : Truth) → Tells (T.post truth.now) values
+            → Tries machine.now values within self.old step self.new result }
+        ensures once { ComesOnce machine.now self.new }
+    {
+        is_open(machine, truth, within, step.by) && self.comes_out(machine, step)
+    }
+
+    // Goes on from the junction to which the step with this place came. It answers the last step of a way out, if there
+    // is one.
     fn go_on<T: Fn(GuardId) -> bool>(
         &mut self,
         machine: &Machine,
         truth: &T,
         within: Option<RegionId>,
         place: u16,
-    ) -> Option<Step> {
+    ) -> Option<Step>
+        requires place { place < self.now.count }
+        requires region { IfSome within (λ r. r.0 < length machine.now.regions) }
+        requires askable { CanBeAsked machine.now (T.pre truth.now) }
+        requires once { ComesOnce machine.now self.now }
+        ensures found { (values : Truth) (start : TransId) (before : Search) → Tells (T.post truth.now) values
+            → IsUnderWay machine.now values within start before self.old place
+            → IfSome result (IsFound machine.now values within self.new start) }
+        ensures none { (values : Truth) (start : TransId) (before : Search) → Tells (T.post truth.now) values
+            → IsUnderWay machine.now values within start before self.old place
+            → IfNone result (IsUnderWay machine.now values within start before self.new (place + 1)) }
+        ensures once { ComesOnce machine.now self.new }
+    {
         let junction = machine.target(self.steps[place as usize].by);
         for t in machine.outgoing(junction) {
             let step = Step {
                 by: *t,
                 before: Some(place),
             };
-            if is_open(machine, truth, within, *t) && self.comes_out(machine, step) {
+            if self.leads_out(machine, truth, within, step) {
                 return Some(step);
             }
         }
@@ -83,6 +125,7 @@ impl Search {
 }
 
 // Whether the vertex lies in the region, if one is named.
+#[tactic(auto, using(crate::proofs::Sought::keeps_more, crate::proofs::Sought::few))]
 fn is_allowed(machine: &Machine, within: Option<RegionId>, v: VertexId) -> bool
     requires vertex { v.0 < length machine.now.vertices }
     requires region { IfSome within (λ r. r.0 < length machine.now.regions) }
@@ -130,14 +173,11 @@ pub fn find_way<T: Fn(GuardId) -> bool>(
         → IfNone result (SeesDeadEnds machine.now values within search.new) }
 {
     search.count = 0;
-    if !is_open(machine, truth, within, start) {
-        return None;
-    }
     let first = Step {
         by: start,
         before: None,
     };
-    if search.comes_out(machine, first) {
+    if search.leads_out(machine, truth, within, first) {
         return Some(first);
     }
     let mut place = 0;
