@@ -1,11 +1,11 @@
 -- A search for a way out: what coming to a junction does to what the search keeps, and what it knows at its end.
-use Rattle.std.proofs.Common.{◌≡◌, ◌⊎◌, ◌↔◌, ◌<◌, ◌≤◌, ◌+◌, ℕ, zero, suc, List, [], ◌∷◌, ◌++◌, length, take, map, get_or, set, Bool, true, false, eqb, Option, Some, None, slice_get, slice_index_or, option_map, unwrap_or, Contains, refl, sym, ap, subst, ◌∙◌, inl, inr, ⊎_elim, append-nil, arith, min}
+use Rattle.std.proofs.Common.{◌≡◌, ◌⊎◌, ◌↔◌, ◌<◌, ◌≤◌, ◌+◌, ℕ, zero, suc, List, [], ◌∷◌, ◌++◌, length, take, map, get_or, set, replicate, Bool, true, false, eqb, Option, Some, None, slice_get, slice_index_or, option_map, unwrap_or, Contains, refl, sym, ap, subst, ◌∙◌, inl, inr, ⊎_elim, append-nil, arith, min}
 use Rattle.std.specs.List.{IsDistinct, list_any}
-use Rattle.std.proofs.lemmas.Bool.{eqb-true}
+use Rattle.std.proofs.lemmas.Bool.{eqb-true, cases_lt}
 use Rattle.std.proofs.lemmas.Bool.Decides.{eqb_tells}
-use Rattle.std.proofs.lemmas.List.{length-map, get_or-map, length_push, take_more_set, length-take-le}
+use Rattle.std.proofs.lemmas.List.{length-map, get_or-map, length_push, take_more_set, length-take-le, get_or-replicate, get_or_past, length-replicate, get_or-set_same, get_or-set_other}
 use Rattle.std.proofs.lemmas.List.Elements.{Contains-append_cases}
-use Rattle.std.proofs.lemmas.Option.{slice_get_within, slice_get-get_or, get_or_from_slice_get}
+use Rattle.std.proofs.lemmas.Option.{slice_get_within, slice_get-get_or, get_or_from_slice_get, same_Some}
 use Rattle.std.proofs.lemmas.Map.Keys.{IsDistinct-from_apart}
 use Rattle.std.proofs.lemmas.Map.Views.{Contains-from_any}
 use Rattle.std.proofs.lemmas.Map.Steps.{length-le_from_distinct_below}
@@ -60,6 +60,9 @@ length_taken : {X : Type 0} (n : ℕ) (xs : List X) → length (take n xs) ≤ n
 length_taken zero xs = omega arith
 length_taken (suc n) [] = omega arith
 length_taken (suc n) (x ∷ xs) = let h = length_taken n xs in omega (arith, h)
+
+below_more_cases : (k n : ℕ) → k < n + 1 → (k < n) ⊎ (k ≡ n)
+below_more_cases k n lt = ⊎_elim (λ less. inl less) (λ not. inr (omega (arith, lt, not))) (cases_lt k n)
 
 in_cons : {X : Type 0} (y : X) (xs : List X) (x : X) → Contains (y ∷ xs) x → (x ≡ y) ⊎ Contains xs x
 in_cons y xs x h = ⊎_elim (λ head. inl (is_one y x head)) (λ tail. inr tail) (Contains-append_cases (y ∷ []) xs x h)
@@ -337,33 +340,34 @@ module _ {m : DraftMachine} {truth : Truth} {within : Option RegionId} {start : 
         (λ was. dead v u was leaves (ends opened enters not))
         (λ came. not (tried_from v u came leaves w opened enters).0)
         (h.keeps.marks v seen)
-    all_dead v u seen leaves (on {u = further} {v = w} opened enters j leaves_on rest) =
+    all_dead v u seen leaves (on {u = onward} {v = w} opened enters j leaves_on rest) =
         ⊎_elim
         (λ was. dead v u was leaves (on opened enters j leaves_on rest))
-        (λ came. all_dead w further (tried_from v u came leaves w opened enters).1 leaves_on rest)
+        (λ came. all_dead w onward (tried_from v u came leaves w opened enters).1 leaves_on rest)
         (h.keeps.marks v seen)
 
     pub start_dead : LeadsOut m truth within start → ⊥
     start_dead (ends {v = w} opened enters not) = not (h.begun w opened enters).0
-    start_dead (on {u = further} {v = w} opened enters j leaves rest) = all_dead w further (h.begun w opened enters).1 leaves rest
+    start_dead (on {u = onward} {v = w} opened enters j leaves rest) = all_dead w onward (h.begun w opened enters).1 leaves rest
 
 -- going on from one junction
+pub goes_from_start : {m : DraftMachine} {Told : Truth → Type 0} {within : Option RegionId} {place : ℕ} {items : List TransId} {initial : Search}
+    → ComesOnce m initial → GoesOn m Told within place items initial initial 0
+goes_from_start once = record {
+  once = once;
+  here = λ truth s told there. there;
+  keeps = λ truth start before told h. h;
+  tried = λ truth k u told lt. absurd (omega (arith, lt));
+}
+
 module _ {m : DraftMachine} {Told : Truth → Type 0} {within : Option RegionId} {place : ℕ} {items : List TransId} {initial search : Search} {step : Step}
     {v : VertexId} (at : slice_get (kept initial) place ≡ Some step) (e : Enters m step.by v) where
-  pub goes_from_start : ComesOnce m initial → GoesOn m Told within place items initial initial 0
-  goes_from_start once = record {
-    once = once;
-    here = λ s there. there;
-    keeps = λ truth start before told h. h;
-    tried = λ truth k u told lt. absurd (omega (arith, lt));
-  }
-
   module _ {index : ℕ} (h : GoesOn m Told within place items initial search index) where
     led_from_here : (truth : Truth) (start : TransId) (before : Search) (u : TransId) → Told truth → Leaves m u v
         → IsUnderWay m truth within start before initial place → IsOpen m truth within u
         → IsLed m truth within start search (record { by = u; before = Some place })
     led_from_here truth start before u told leaves under opened =
-        let there = h.here step at in
+        let there = h.here truth step told at in
         let came = h.once.comes place step there in
         let same = enters_one m step.by came.0 v came.1 e in
         led_on search place step u v ((h.keeps truth start before told under).keeps.led place step there) there e
@@ -375,7 +379,7 @@ module _ {m : DraftMachine} {Told : Truth → Type 0} {within : Option RegionId}
           → GoesOn m Told within place items initial new (index + 1)
       goes_more item once tries = record {
         once = once;
-        here = λ s there. kept_grows (tries_grows (tries _ _)) place s (h.here s there);
+        here = λ truth s told there. kept_grows (tries_grows (tries truth told)) place s (h.here truth s told there);
         keeps = λ truth start before told under.
             let was = h.keeps truth start before told under in
             record {
@@ -385,6 +389,70 @@ module _ {m : DraftMachine} {Told : Truth → Type 0} {within : Option RegionId}
         tried = λ truth k w told lt there.
             ⊎_elim
             (λ early. tried_grows (tries_grows (tries truth told)) w (h.tried truth k w told early there))
-            (λ last. let same = there_is k w last there in subst (IsTried m truth within new) same (tries_tells (tries truth told)))
-            (cases_below k index lt);
+            (λ last. subst (IsTried m truth within new) (same_Some u w (sym item ∙ subst (λ n. slice_get items n ≡ Some w) last there))
+            (tries_tells (tries truth told)))
+            (below_more_cases k index lt);
       }
+
+      pub goes_out : (truth : Truth) (start : TransId) (before : Search) → Told truth → IsUnderWay m truth within start before initial place
+          → Tries m truth within search (record { by = u; before = Some place }) new true
+          → IsFound m truth within new start (record { by = u; before = Some place })
+      goes_out truth start before told under tries = tries_finds start (led_from_here truth start before u told leaves under) tries
+
+    -- where all transitions out of the junction are tried, it has gone on from one step more
+    pub goes_on_at_end : length items ≤ index → ((u : TransId) → Leaves m u v → Contains items u) → (truth : Truth) (start : TransId) (before : Search)
+        → Told truth → IsUnderWay m truth within start before initial place → IsUnderWay m truth within start before search (place + 1)
+    goes_on_at_end all listed truth start before told under =
+        let was = h.keeps truth start before told under in
+        let there = h.here truth step told at in
+        record {
+          begun = was.begun;
+          keeps = record {
+            led = was.keeps.led;
+            gone = λ k s lt here.
+                ⊎_elim
+                (λ early. was.keeps.gone k s early here)
+                (λ last u w enters leaves.
+                let same : step ≡ s = same_Some step s (sym there ∙ subst (λ n. slice_get (kept search) n ≡ Some s) last here) in
+                let target = enters_one m step.by w v (subst (λ (a : Step). Enters m a.by w) (sym same) enters) e in
+                let item = at_place items u (listed u (subst (Leaves m u) target leaves)) in
+                let inside = slice_get_within items item.0 u item.1 in
+                h.tried truth item.0 u told (omega (arith, inside, all)) item.1)
+                (below_more_cases k place lt);
+            reached = let inside = slice_get_within (kept search) place step there in omega (arith, inside);
+            marks = was.keeps.marks;
+          };
+        }
+
+-- nothing is marked at first
+pub nothing_marked : (n k : ℕ) → get_or (replicate n false) k false ≡ true → ⊥
+nothing_marked n k h =
+    ⊎_elim
+    (λ (inside : k < n). let is = get_or-replicate n k false false inside in let clash : false ≡ true = sym is ∙ h in cc)
+    (λ (past : n ≤ k).
+    let is = get_or_past (replicate n false) k false (let long = length-replicate n false in omega (arith, past, long)) in
+    let clash : false ≡ true = sym is ∙ h in
+    cc)
+    (cases_lt k n)
+
+-- to mark a junction and to keep the step is to come to it for the first time
+module _ {m : DraftMachine} {old : Search} (step : Step) {v : VertexId} where
+  pub comes_first : ComesOnce m old → Enters m step.by v → HasKind m v kinds.Junction → (IsSeen old v → ⊥) → v.0 < length old.seen → HasShape m
+      → length old.steps ≡ 4096
+      → ComesTo m old step (record { seen = set old.seen v.0 true; steps = set old.steps old.count step; count = old.count + 1 }) false
+  comes_first once e j free inside shape long =
+      first e j free
+      (λ w.
+      ⊎_elim
+      (λ same. (λ is. inr (same_vertex w v same.1), λ h. subst (λ k. get_or (set old.seen v.0 true) k false ≡ true) (sym same.1)
+      (get_or-set_same old.seen v.0 true false inside)))
+      (λ differ.
+      let other = get_or-set_other old.seen v.0 w.0 true false differ.1 in
+      (λ is. inl (sym other ∙ is), λ h. ⊎_elim (λ is. other ∙ is) (λ same. absurd (differ.1 (ap (λ (x : VertexId). x.0) same))) h))
+      (eqb_tells w.0 v.0))
+      (take_more_set old.steps old.count step (let room = room_for step once e free j shape long in omega (arith, room, long)))
+
+  pub once_first : ComesOnce m old → Enters m step.by v → HasKind m v kinds.Junction → (IsSeen old v → ⊥) → v.0 < length old.seen → HasShape m
+      → length old.steps ≡ 4096 → ComesOnce m (record { seen = set old.seen v.0 true; steps = set old.steps old.count step; count = old.count + 1 })
+  once_first once e j free inside shape long =
+      once_more once (comes_first once e j free inside shape long) (let room = room_for step once e free j shape long in omega (arith, room))

@@ -125,7 +125,6 @@ impl Search {
 }
 
 // Whether the vertex lies in the region, if one is named.
-#[tactic(auto, using(crate::proofs::Sought::keeps_more, crate::proofs::Sought::few))]
 fn is_allowed(machine: &Machine, within: Option<RegionId>, v: VertexId) -> bool
     requires vertex { v.0 < length machine.now.vertices }
     requires region { IfSome within (λ r. r.0 < length machine.now.regions) }

@@ -81,7 +81,7 @@ pub record IsUnderWay (m : DraftMachine) (truth : Truth) (within : Option Region
 pub record GoesOn (m : DraftMachine) (Told : Truth → Type 0) (within : Option RegionId) (place : ℕ) (items : List TransId) (initial search : Search)
     (index : ℕ) : Type 0 where
   pub once : ComesOnce m search
-  pub here : (step : Step) → slice_get (kept initial) place ≡ Some step → slice_get (kept search) place ≡ Some step
+  pub here : (truth : Truth) (step : Step) → Told truth → slice_get (kept initial) place ≡ Some step → slice_get (kept search) place ≡ Some step
   pub keeps : (truth : Truth) (start : TransId) (before : Search) → Told truth → IsUnderWay m truth within start before initial place
       → IsUnderWay m truth within start before search place
   pub tried : (truth : Truth) (k : ℕ) (u : TransId) → Told truth → k < index → slice_get items k ≡ Some u → IsTried m truth within search u
