@@ -1,9 +1,9 @@
 -- A search for a way out: what coming to a junction does to what the search keeps, and what it knows at its end.
-use Rattle.std.proofs.Common.{◌≡◌, ◌⊎◌, ◌↔◌, ◌<◌, ◌≤◌, ◌+◌, ℕ, zero, suc, List, [], ◌∷◌, ◌++◌, length, take, map, get_or, set, replicate, Bool, true, false, eqb, Option, Some, None, slice_get, slice_index_or, option_map, unwrap_or, Contains, refl, sym, ap, subst, ◌∙◌, inl, inr, ⊎_elim, append-nil, arith, min}
-use Rattle.std.specs.List.{IsDistinct, list_any}
+use Rattle.std.proofs.Common.{◌≡◌, ◌⊎◌, ◌<◌, ◌≤◌, ◌+◌, ℕ, zero, suc, List, [], ◌∷◌, ◌++◌, length, take, map, get_or, set, replicate, Bool, true, false, eqb, Option, Some, None, slice_get, option_map, unwrap_or, Contains, refl, sym, ap, subst, ◌∙◌, inl, inr, ⊎_elim, append-nil, arith}
+use Rattle.std.specs.List.{IsDistinct}
 use Rattle.std.proofs.lemmas.Bool.{eqb-true, cases_lt}
 use Rattle.std.proofs.lemmas.Bool.Decides.{eqb_tells}
-use Rattle.std.proofs.lemmas.List.{length-map, get_or-map, length_push, take_more_set, length-take-le, get_or-replicate, get_or_past, length-replicate, get_or-set_same, get_or-set_other}
+use Rattle.std.proofs.lemmas.List.{length-map, get_or-map, length_push, take_more_set, length-take-le, get_or-replicate, get_or_past, length-replicate, get_or-set_same, get_or-set_other, get_or-take}
 use Rattle.std.proofs.lemmas.List.Elements.{Contains-append_cases}
 use Rattle.std.proofs.lemmas.Option.{slice_get_within, slice_get-get_or, get_or_from_slice_get, same_Some}
 use Rattle.std.proofs.lemmas.Map.Keys.{IsDistinct-from_apart}
@@ -20,16 +20,16 @@ use Rattle.pssm_model.specs.Forest.{vertex_at, transition_at, HasKind}
 use Rattle.pssm_model.specs.Legs.{Leaves, Enters}
 use Rattle.pssm_model.specs.Routes.{Truth}
 use Rattle.pssm_model.specs.Shapes.{HasShape}
-use Rattle.pssm_model.proofs.ElementLaws.{mapped_some, enters_one, same_vertex, nothing_in_nil, some_at}
+use Rattle.pssm_model.proofs.ElementLaws.{mapped_some, enters_one, same_vertex, nothing_in_nil}
 use Rattle.pssm_model.proofs.RouteLaws.{is_one}
 use Rattle.pssm_routes.specs.declared.seeking.Step.{Step}
 use Rattle.pssm_routes.specs.declared.seeking.Search.{Search}
-use Rattle.pssm_routes.specs.inner.Ways.{IsOpen, IsWay, IsWayOut, LeadsOut}
+use Rattle.pssm_routes.specs.inner.Ways.{IsOpen, LeadsOut}
 use Rattle.pssm_routes.specs.inner.Ways.IsWay.{begins, goes_on}
 use Rattle.pssm_routes.specs.inner.Ways.LeadsOut.{ends, on}
 use Rattle.pssm_routes.specs.inner.Steps.{IsTrail, IsSeen, IsFound, SeesDeadEnds}
 use Rattle.pssm_routes.specs.inner.Steps.IsTrail.{first as trail_first, further}
-use Rattle.pssm_routes.specs.inner.Seeking.{kept, ComesTo, Tries, ComesOnce, IsLed, IsLedOn, IsTried, IsGoneOnFrom, IsCameTo, KeepsWays, IsUnderWay, GoesOn}
+use Rattle.pssm_routes.specs.inner.Seeking.{kept, ComesTo, Tries, ComesOnce, IsLed, IsLedOn, IsTried, HasStepTo, KeepsWays, IsUnderWay, GoesOn}
 use Rattle.pssm_routes.specs.inner.Seeking.ComesTo.{out, again, first}
 use Rattle.pssm_routes.specs.inner.Seeking.Tries.{closed, comes}
 
@@ -67,8 +67,11 @@ below_more_cases k n lt = ⊎_elim (λ less. inl less) (λ not. inr (omega (arit
 in_cons : {X : Type 0} (y : X) (xs : List X) (x : X) → Contains (y ∷ xs) x → (x ≡ y) ⊎ Contains xs x
 in_cons y xs x h = ⊎_elim (λ head. inl (is_one y x head)) (λ tail. inr tail) (Contains-append_cases (y ∷ []) xs x h)
 
-pub at_place : {X : Type 0} (xs : List X) (x : X) → Contains xs x → (k : ℕ) × (slice_get xs k ≡ Some x)
+at_place : {X : Type 0} (xs : List X) (x : X) → Contains xs x → (k : ℕ) × (slice_get xs k ≡ Some x)
 at_place xs x h = (h.0, slice_get-get_or xs h.0 x h.1 ∙ ap Some h.2)
+
+nothing_at : {X : Type 0} (k : ℕ) (x : X) → slice_get [] k ≡ Some x → ⊥
+nothing_at k x e = cc
 
 -- a trail stays one as further steps are kept
 trail_more : {xs : List Step} (ys : List Step) {step : Step} {path : List TransId} → IsTrail xs step path → IsTrail (xs ++ ys) step path
@@ -79,23 +82,30 @@ trail_of_taken : {xs : List Step} (n : ℕ) {step : Step} {path : List TransId} 
 trail_of_taken n (trail_first t) = trail_first t
 trail_of_taken {xs = xs} n (further {k = k} {step = step} u at before) = further u (at_taken n xs k step at) (trail_of_taken n before)
 
--- a search keeps more steps than another, and has marked more
+-- that one search keeps more steps than another, and has marked more
 record Grows (old new : Search) : Type 0 where
   more : List Step
   steps : kept new ≡ kept old ++ more
   seen : (v : VertexId) → IsSeen old v → IsSeen new v
 
+same_grows : {old new : Search} → new ≡ old → Grows old new
+same_grows {old = old} same = record {
+  more = [];
+  steps = ap kept same ∙ sym (append-nil (kept old));
+  seen = λ v h. subst (λ s. IsSeen s v) (sym same) h;
+}
+
 module _ {m : DraftMachine} {old new : Search} {step : Step} where
   grows : {ends : Bool} → ComesTo m old step new ends → Grows old new
-  grows (out free same) = record { more = []; steps = ap kept same ∙ sym (append-nil (kept old)); seen = λ v h. subst (λ s. IsSeen s v) (sym same) h }
-  grows (again e j h same) = record { more = []; steps = ap kept same ∙ sym (append-nil (kept old)); seen = λ v g. subst (λ s. IsSeen s v) (sym same) g }
+  grows (out free same) = same_grows same
+  grows (again e j h same) = same_grows same
   grows (first e j free marks steps) = record { more = step ∷ []; steps = steps; seen = λ v h. (marks v).1 (inl h) }
 
 module _ {old new : Search} (g : Grows old new) where
   kept_grows : (k : ℕ) (step : Step) → slice_get (kept old) k ≡ Some step → slice_get (kept new) k ≡ Some step
   kept_grows k step at = subst (λ xs. slice_get xs k ≡ Some step) (sym g.steps) (at_left (kept old) g.more k step at)
 
-  came_grows : (m : DraftMachine) (v : VertexId) → IsCameTo m old v → IsCameTo m new v
+  came_grows : (m : DraftMachine) (v : VertexId) → HasStepTo m old v → HasStepTo m new v
   came_grows m v h = (h.0, h.1, kept_grows h.0 h.1 h.2, h.3)
 
   module _ {m : DraftMachine} {truth : Truth} {within : Option RegionId} where
@@ -113,14 +123,14 @@ module _ {old new : Search} (g : Grows old new) where
 
 -- coming to the target of a step's transition leaves what a search keeps
 module _ {m : DraftMachine} {truth : Truth} {within : Option RegionId} {start : TransId} {before : Search} {place : ℕ} {old new : Search} {step : Step} where
-  pub keeps_more : {ends : Bool} → KeepsWays m truth within start before old place → IsLed m truth within start old step → ComesTo m old step new ends
+  keeps_more : {ends : Bool} → KeepsWays m truth within start before old place → IsLed m truth within start old step → ComesTo m old step new ends
       → KeepsWays m truth within start before new place
   keeps_more h led (out free same) = subst (λ s. KeepsWays m truth within start before s place) (sym same) h
   keeps_more h led (again e j seen same) = subst (λ s. KeepsWays m truth within start before s place) (sym same) h
   keeps_more h led (first {v = v} e j free marks steps) =
       let g : Grows old new = record { more = step ∷ []; steps = steps; seen = λ w is. (marks w).1 (inl is) } in
       let split : (k : ℕ) (s : Step) → slice_get (kept new) k ≡ Some s → (slice_get (kept old) k ≡ Some s) ⊎ ((k ≡ length (kept old)) × (step ≡ s)) =
-          λ k s at. at_cases (kept old) step k s (subst (λ xs. slice_get xs k ≡ Some s) steps at) in
+      λ k s at. at_cases (kept old) step k s (subst (λ xs. slice_get xs k ≡ Some s) steps at) in
       record {
         led = λ k s at.
             ⊎_elim
@@ -143,8 +153,12 @@ module _ {m : DraftMachine} {truth : Truth} {within : Option RegionId} {start : 
         marks = λ w is.
             ⊎_elim
             (λ was. ⊎_elim (λ early. inl early) (λ came. inr (came_grows g m w came)) (h.marks w was))
-            (λ same. inr (length (kept old), step, subst (λ xs. slice_get xs (length (kept old)) ≡ Some step) (sym steps) (at_last (kept old) step),
-            subst (Enters m step.by) (sym same) e))
+            (λ same. inr (
+              length (kept old),
+              step,
+              subst (λ xs. slice_get xs (length (kept old)) ≡ Some step) (sym steps) (at_last (kept old) step),
+              subst (Enters m step.by) (sym same) e,
+            ))
             ((marks w).0 is);
       }
 
@@ -165,35 +179,35 @@ module _ (m : DraftMachine) where
   abbrev EndThere : List Step → Type 0
   EndThere steps = (k : ℕ) (a : Step) → slice_get steps k ≡ Some a → (v : VertexId) × Enters m a.by v × (v.0 < length m.vertices)
 
-  pub few : (steps : List Step) → AreApart steps → EndThere steps → length steps ≤ length m.vertices
+  few : (steps : List Step) → AreApart steps → EndThere steps → length steps ≤ length m.vertices
   few steps apart there =
       let d : Step = record { by = record { 0 = 0 }; before = None } in
       let at : (k : ℕ) → k < length steps → slice_get steps k ≡ Some (get_or steps k d) = λ k lt. slice_get-get_or steps k d lt in
       let number : (k n : ℕ) → k < length steps → get_or (map number_of steps) k n ≡ number_of (get_or steps k d) = λ k n lt.
-          get_or-map number_of steps k d n lt in
+      get_or-map number_of steps k d n lt in
       let distinct : IsDistinct eqb (map number_of steps) =
-          IsDistinct-from_apart eqb (map number_of steps)
-          (λ i j n lt inside.
-          let long : j < length steps = subst (λ k. j < k) (length-map steps number_of) inside in
-          let short : i < length steps = omega (arith, lt, long) in
-          let a = there i (get_or steps i d) (at i short) in
-          let b = there j (get_or steps j d) (at j long) in
-          ⊎_elim
-          (λ same. absurd (apart i j (get_or steps i d) (get_or steps j d) a.0 lt (at i short) (at j long) a.1
-          (subst (Enters m (get_or steps j d).by)
-          (same_vertex b.0 a.0
-          (sym (number_is (get_or steps j d) b.0 b.1) ∙ sym (number j n long) ∙ sym same.1 ∙ number i n short ∙ number_is (get_or steps i d) a.0 a.1))
-          b.1)))
-          (λ differ. differ.0)
-          (eqb_tells (get_or (map number_of steps) i n) (get_or (map number_of steps) j n))) in
+      IsDistinct-from_apart eqb (map number_of steps)
+      (λ i j n lt inside.
+      let long : j < length steps = subst (λ k. j < k) (length-map steps number_of) inside in
+      let short : i < length steps = omega (arith, lt, long) in
+      let a = there i (get_or steps i d) (at i short) in
+      let b = there j (get_or steps j d) (at j long) in
+      ⊎_elim
+      (λ same. absurd (apart i j (get_or steps i d) (get_or steps j d) a.0 lt (at i short) (at j long) a.1
+      (subst (Enters m (get_or steps j d).by)
+      (same_vertex b.0 a.0
+      (sym (number_is (get_or steps j d) b.0 b.1) ∙ sym (number j n long) ∙ sym same.1 ∙ number i n short ∙ number_is (get_or steps i d) a.0 a.1))
+      b.1)))
+      (λ differ. differ.0)
+      (eqb_tells (get_or (map number_of steps) i n) (get_or (map number_of steps) j n))) in
       let most = length-le_from_distinct_below (map number_of steps) (length m.vertices) distinct
-          (λ n found.
-          let k = at_place (map number_of steps) n (Contains-from_any eqb-true n (map number_of steps) found) in
-          let inside : k.0 < length steps = subst (λ j. k.0 < j) (length-map steps number_of) (slice_get_within (map number_of steps) k.0 n k.1) in
-          let a = there k.0 (get_or steps k.0 d) (at k.0 inside) in
-          let same : n ≡ a.0.0 =
-              sym (get_or_from_slice_get (map number_of steps) k.0 n n k.1) ∙ number k.0 n inside ∙ number_is (get_or steps k.0 d) a.0 a.1 in
-          subst (λ j. j < length m.vertices) (sym same) a.2) in
+      (λ n found.
+      let k = at_place (map number_of steps) n (Contains-from_any eqb-true n (map number_of steps) found) in
+      let inside : k.0 < length steps = subst (λ j. k.0 < j) (length-map steps number_of) (slice_get_within (map number_of steps) k.0 n k.1) in
+      let a = there k.0 (get_or steps k.0 d) (at k.0 inside) in
+      let same : n ≡ a.0.0 =
+      sym (get_or_from_slice_get (map number_of steps) k.0 n n k.1) ∙ number k.0 n inside ∙ number_is (get_or steps k.0 d) a.0 a.1 in
+      subst (λ j. j < length m.vertices) (sym same) a.2) in
       subst (λ n. n ≤ length m.vertices) (length-map steps number_of) most
 
 -- the steps after one more come to one vertex each, and there is room for it
@@ -220,10 +234,10 @@ module _ {m : DraftMachine} {old : Search} (step : Step) {v : VertexId} (h : Com
   pub room_for : HasKind m v kinds.Junction → HasShape m → length old.steps ≡ 4096 → old.count < 4096
   room_for j shape long =
       let there : EndThere m (kept old ++ step ∷ []) = λ k a at.
-          ⊎_elim
-          (λ was. let came = h.comes k a was in (came.0, came.1, kind_there came.0 came.2))
-          (λ is. (v, subst (λ (s : Step). Enters m s.by v) is.1 e, kind_there v j))
-          (at_cases (kept old) step k a at) in
+      ⊎_elim
+      (λ was. let came = h.comes k a was in (came.0, came.1, kind_there came.0 came.2))
+      (λ is. (v, subst (λ (s : Step). Enters m s.by v) is.1 e, kind_there v j))
+      (at_cases (kept old) step k a at) in
       let most = few m (kept old ++ step ∷ []) apart_more there in
       let longer = length_push (kept old) step in
       let room = h.room in
@@ -234,7 +248,7 @@ module _ {m : DraftMachine} {old : Search} (step : Step) {v : VertexId} (h : Com
       kind_there : (w : VertexId) → HasKind m w kinds.Junction → w.0 < length m.vertices
       kind_there w is = let x = mapped_some (λ (y : Vertex). y.kind) (vertex_at m w) kinds.Junction is in slice_get_within m.vertices w.0 x.0 x.1
 
-pub once_more : {m : DraftMachine} {old new : Search} {step : Step} {ends : Bool} → ComesOnce m old → ComesTo m old step new ends → new.count ≤ 4096
+once_more : {m : DraftMachine} {old new : Search} {step : Step} {ends : Bool} → ComesOnce m old → ComesTo m old step new ends → new.count ≤ 4096
     → ComesOnce m new
 once_more {m = m} h (out free same) room = subst (ComesOnce m) (sym same) h
 once_more {m = m} h (again e j seen same) room = subst (ComesOnce m) (sym same) h
@@ -269,7 +283,7 @@ module _ {m : DraftMachine} {truth : Truth} {within : Option RegionId} where
   -- what trying a step leaves, and what it tells
   module _ {old new : Search} {step : Step} where
     tries_grows : {ends : Bool} → Tries m truth within old step new ends → Grows old new
-    tries_grows (closed shut same) = record { more = []; steps = ap kept same ∙ sym (append-nil (kept old)); seen = λ v h. subst (λ s. IsSeen s v) (sym same) h }
+    tries_grows (closed shut same) = same_grows same
     tries_grows (comes opened c) = grows c
 
     tries_keeps : {ends : Bool} (start : TransId) (before : Search) (place : ℕ) → KeepsWays m truth within start before old place
@@ -308,28 +322,32 @@ module _ {m : DraftMachine} {truth : Truth} {within : Option RegionId} {start : 
     seen = λ w is. ⊎_elim (λ same. subst (IsSeen search) (sym same) seen) (λ later. h.led.seen w later) (in_cons v h.led.junctions w is);
   }
 
-  -- a search that has kept nothing, after it has tried the start
-  pub under_way_from_start : {empty new : Search} → empty.count ≡ 0
-      → Tries m truth within empty (record { by = start; before = None }) new false → IsUnderWay m truth within start empty new 0
-  under_way_from_start {empty = empty} {new = new} none tries = record {
-    begun = tries_tells tries;
-    keeps = tries_keeps start empty 0
-        (record {
-          led = λ k step at. absurd (nothing k step at);
-          gone = λ k step lt. absurd (omega (arith, lt));
-          reached = omega arith;
-          marks = λ v is. inl is;
-        })
-        (start_led empty) tries;
-  }
-    where
-      nothing : (k : ℕ) (step : Step) → slice_get (kept empty) k ≡ Some step → ⊥
-      nothing k step at = let clash : None ≡ Some step = subst (λ n. slice_get (take n empty.steps) k ≡ Some step) none at in cc
+  -- a search that keeps nothing yet, and has tried the start
+  module _ {before new : Search} where
+    pub under_way_from_start : Tries m truth within (record { seen = before.seen; steps = before.steps; count = 0 })
+        (record { by = start; before = None }) new false → IsUnderWay m truth within start before new 0
+    under_way_from_start tries =
+        let empty : Search = record { seen = before.seen; steps = before.steps; count = 0 } in
+        record {
+          begun = tries_tells tries;
+          keeps = tries_keeps start before 0
+              (record {
+                led = λ k step at. absurd (nothing_at k step at);
+                gone = λ k step lt. absurd (omega (arith, lt));
+                reached = omega arith;
+                marks = λ v is. inl is;
+              })
+              (start_led empty) tries;
+        }
+
+  pub found_from_start : {empty new : Search} → Tries m truth within empty (record { by = start; before = None }) new true
+      → IsFound m truth within new start (record { by = start; before = None })
+  found_from_start {empty = empty} tries = tries_finds start (start_led empty) tries
 
   -- where it has gone on from all that it keeps, nothing leads out
   module _ {before search : Search} {place : ℕ} (h : IsUnderWay m truth within start before search place) (all : length (kept search) ≤ place)
       (dead : SeesDeadEnds m truth within before) where
-    tried_from : (v : VertexId) (u : TransId) → IsCameTo m search v → Leaves m u v → IsTried m truth within search u
+    tried_from : (v : VertexId) (u : TransId) → HasStepTo m search v → Leaves m u v → IsTried m truth within search u
     tried_from v u came leaves =
         let inside = slice_get_within (kept search) came.0 came.1 came.2 in
         h.keeps.gone came.0 came.1 (omega (arith, inside, all)) came.2 u v came.3 leaves
@@ -351,15 +369,6 @@ module _ {m : DraftMachine} {truth : Truth} {within : Option RegionId} {start : 
     start_dead (on {u = onward} {v = w} opened enters j leaves rest) = all_dead w onward (h.begun w opened enters).1 leaves rest
 
 -- going on from one junction
-pub goes_from_start : {m : DraftMachine} {Told : Truth → Type 0} {within : Option RegionId} {place : ℕ} {items : List TransId} {initial : Search}
-    → ComesOnce m initial → GoesOn m Told within place items initial initial 0
-goes_from_start once = record {
-  once = once;
-  here = λ truth s told there. there;
-  keeps = λ truth start before told h. h;
-  tried = λ truth k u told lt. absurd (omega (arith, lt));
-}
-
 module _ {m : DraftMachine} {Told : Truth → Type 0} {within : Option RegionId} {place : ℕ} {items : List TransId} {initial search : Search} {step : Step}
     {v : VertexId} (at : slice_get (kept initial) place ≡ Some step) (e : Enters m step.by v) where
   module _ {index : ℕ} (h : GoesOn m Told within place items initial search index) where
@@ -444,8 +453,11 @@ module _ {m : DraftMachine} {old : Search} (step : Step) {v : VertexId} where
       first e j free
       (λ w.
       ⊎_elim
-      (λ same. (λ is. inr (same_vertex w v same.1), λ h. subst (λ k. get_or (set old.seen v.0 true) k false ≡ true) (sym same.1)
-      (get_or-set_same old.seen v.0 true false inside)))
+      (λ same. (
+        λ is. inr (same_vertex w v same.1),
+        λ h. subst (λ k. get_or (set old.seen v.0 true) k false ≡ true) (sym same.1)
+            (get_or-set_same old.seen v.0 true false inside),
+      ))
       (λ differ.
       let other = get_or-set_other old.seen v.0 w.0 true false differ.1 in
       (λ is. inl (sym other ∙ is), λ h. ⊎_elim (λ is. other ∙ is) (λ same. absurd (differ.1 (ap (λ (x : VertexId). x.0) same))) h))
@@ -456,3 +468,26 @@ module _ {m : DraftMachine} {old : Search} (step : Step) {v : VertexId} where
       → length old.steps ≡ 4096 → ComesOnce m (record { seen = set old.seen v.0 true; steps = set old.steps old.count step; count = old.count + 1 })
   once_first once e j free inside shape long =
       once_more once (comes_first once e j free inside shape long) (let room = room_for step once e free j shape long in omega (arith, room))
+
+-- a transition that ends somewhere is there
+pub enters_there : (m : DraftMachine) (t : TransId) (v : VertexId) → Enters m t v → t.0 < length m.transitions
+enters_there m t v h =
+    let x = mapped_some (λ (y : Transition). y.target) (transition_at m t) v h in
+    slice_get_within m.transitions t.0 x.0 x.1
+
+-- the step at a place below the count is kept, and no other
+pub kept_at : (search : Search) (place : ℕ) (d : Step) → place < search.count → search.count ≤ 4096 → length search.steps ≡ 4096
+    → slice_get (kept search) place ≡ Some (get_or search.steps place d)
+kept_at search place d lt room long =
+    let whole = length-take-le search.count search.steps (subst (λ n. search.count ≤ n) (sym long) room) in
+    slice_get-get_or (kept search) place d (subst (λ n. place < n) (sym whole) lt) ∙ ap Some (get_or-take search.count search.steps place d lt)
+
+pub kept_short : (search : Search) (place : ℕ) → search.count ≤ place → length (kept search) ≤ place
+kept_short search place h = let most = length_taken search.count search.steps in omega (arith, h, most)
+
+pub entered_at : {m : DraftMachine} {search : Search} (place : ℕ) (d : Step) → ComesOnce m search → place < search.count → length search.steps ≡ 4096
+    → (get_or search.steps place d).by.0 < length m.transitions
+entered_at {m = m} {search = search} place d once lt long =
+    let step = get_or search.steps place d in
+    let came = once.comes place step (kept_at search place d lt once.room long) in
+    enters_there m step.by came.0 came.1

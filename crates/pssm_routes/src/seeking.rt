@@ -17,15 +17,16 @@ ghost use Rattle.pssm_routes.specs.inner.Seeking.{ComesTo, Tries, ComesOnce, IsU
 use crate::guards::is_true_at;
 use pssm_model::{GuardId, Machine, RegionId, TransId, VertexId, VertexKind};
 
-/// By which transition a search came to a junction, and the place of the step before it, if there is one.
+/// By which transition a search came to a junction, and the place of the step before it, if there
+/// is one.
 #[derive(Clone, Copy, PartialEq, Eq, Debug)]
 pub struct Step {
     pub by: TransId,
     pub before: Option<u16>,
 }
 
-/// What a search has seen: a mark for each junction, and the steps by which it came to them, in the order in which it
-/// did. A machine has at most 4,096 vertices.
+/// What a search has seen: a mark for each junction, and the steps by which it came to them, in the
+/// order in which it did. A machine has at most 4,096 vertices.
 #[derive(Drop)]
 pub struct Search {
     pub seen: [bool; 4096],
@@ -37,7 +38,8 @@ impl Search {
     /// A search that has seen nothing.
     pub fn new() -> Search
         ensures count { result.count ≡ 0 }
-        ensures nothing { (m : DraftMachine) (truth : Truth) (within : Option RegionId) → SeesDeadEnds m truth within result }
+        ensures nothing { (m : DraftMachine) (truth : Truth) (within : Option RegionId)
+            → SeesDeadEnds m truth within result }
     {
         Search {
             seen: [false; 4096],
@@ -49,8 +51,8 @@ impl Search {
         }
     }
 
-    // Comes to the target of a step's transition. It answers whether that is no junction; a junction is marked, and the
-    // step kept, unless it was seen before.
+    // Comes to the target of a step's transition. It answers whether that is no junction; a
+    // junction is marked, and the step kept, unless it was seen before.
     fn comes_out(&mut self, machine: &Machine, step: Step) -> bool
         requires there { step.by.0 < length machine.now.transitions }
         requires once { ComesOnce machine.now self.now }
@@ -70,8 +72,9 @@ impl Search {
         false
     }
 
-    // Comes to the target of a step's transition, if that is open. It answers whether it does and that is no junction.
-    fn leads_out<T: Fn(GuardId) -> bool>(
+    // Comes to the target of a step's transition if the transition is open. It answers whether it
+    // is and its target is no junction.
+    fn try_step<T: Fn(GuardId) -> bool>(
         &mut self,
         machine: &Machine,
         truth: &T,
@@ -89,8 +92,8 @@ impl Search {
         is_open(machine, truth, within, step.by) && self.comes_out(machine, step)
     }
 
-    // Goes on from the junction to which the step with this place came. It answers the last step of a way out, if there
-    // is one.
+    // Goes on from the junction to which the step with this place came. It answers the last step of
+    // a way out, if it comes to the end of one.
     fn go_on<T: Fn(GuardId) -> bool>(
         &mut self,
         machine: &Machine,
@@ -102,12 +105,15 @@ impl Search {
         requires region { IfSome within (λ r. r.0 < length machine.now.regions) }
         requires askable { CanBeAsked machine.now (T.pre truth.now) }
         requires once { ComesOnce machine.now self.now }
-        ensures found { (values : Truth) (start : TransId) (before : Search) → Tells (T.post truth.now) values
+        ensures found { (values : Truth) (start : TransId) (before : Search)
+            → Tells (T.post truth.now) values
             → IsUnderWay machine.now values within start before self.old place
             → IfSome result (IsFound machine.now values within self.new start) }
-        ensures none { (values : Truth) (start : TransId) (before : Search) → Tells (T.post truth.now) values
+        ensures none { (values : Truth) (start : TransId) (before : Search)
+            → Tells (T.post truth.now) values
             → IsUnderWay machine.now values within start before self.old place
-            → IfNone result (IsUnderWay machine.now values within start before self.new (place + 1)) }
+            → IfNone result
+            (IsUnderWay machine.now values within start before self.new (place + 1)) }
         ensures once { ComesOnce machine.now self.new }
     {
         let junction = machine.target(self.steps[place as usize].by);
@@ -116,7 +122,7 @@ impl Search {
                 by: *t,
                 before: Some(place),
             };
-            if self.leads_out(machine, truth, within, step) {
+            if self.try_step(machine, truth, within, step) {
                 return Some(step);
             }
         }
@@ -146,13 +152,14 @@ fn is_open<T: Fn(GuardId) -> bool>(
     requires there { t.0 < length machine.now.transitions }
     requires region { IfSome within (λ r. r.0 < length machine.now.regions) }
     requires askable { CanBeAsked machine.now (T.pre truth.now) }
-    ensures { (values : Truth) → Tells (T.post truth.now) values → (IsTrue result ↔ IsOpen machine.now values within t) }
+    ensures { (values : Truth) → Tells (T.post truth.now) values
+        → (IsTrue result ↔ IsOpen machine.now values within t) }
 {
     is_allowed(machine, within, machine.target(t)) && is_true_at(machine, truth, t)
 }
 
-/// Seeks a way from the transition over junctions that the search has not seen. It answers the last transition of a
-/// way, and the place of the step before it; none exactly where there is no way.
+/// Seeks a way from the transition over junctions that the search has not seen. It answers the last
+/// transition of a way, and the place of the step before it; none exactly where there is no way.
 pub fn find_way<T: Fn(GuardId) -> bool>(
     machine: &Machine,
     truth: &T,
@@ -163,12 +170,15 @@ pub fn find_way<T: Fn(GuardId) -> bool>(
     requires there { start.0 < length machine.now.transitions }
     requires region { IfSome within (λ r. r.0 < length machine.now.regions) }
     requires askable { CanBeAsked machine.now (T.pre truth.now) }
-    requires source { (v : VertexId) → Leaves machine.now start v → HasKind machine.now v kinds.Junction → ⊥ }
+    requires source { (v : VertexId) → Leaves machine.now start v
+        → HasKind machine.now v kinds.Junction → ⊥ }
     ensures found { (values : Truth) → Tells (T.post truth.now) values
         → IfSome result (IsFound machine.now values within search.new start) }
-    ensures none { (values : Truth) → Tells (T.post truth.now) values → SeesDeadEnds machine.now values within search.old
+    ensures none { (values : Truth) → Tells (T.post truth.now) values
+        → SeesDeadEnds machine.now values within search.old
         → IfNone result (LeadsOut machine.now values within start → ⊥) }
-    ensures dead { (values : Truth) → Tells (T.post truth.now) values → SeesDeadEnds machine.now values within search.old
+    ensures dead { (values : Truth) → Tells (T.post truth.now) values
+        → SeesDeadEnds machine.now values within search.old
         → IfNone result (SeesDeadEnds machine.now values within search.new) }
 {
     search.count = 0;
@@ -176,7 +186,7 @@ pub fn find_way<T: Fn(GuardId) -> bool>(
         by: start,
         before: None,
     };
-    if search.leads_out(machine, truth, within, first) {
+    if search.try_step(machine, truth, within, first) {
         return Some(first);
     }
     let mut place = 0;

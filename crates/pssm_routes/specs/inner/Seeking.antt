@@ -60,24 +60,24 @@ IsTried m truth within search u =
 abbrev pub IsGoneOnFrom : DraftMachine → Truth → Option RegionId → Search → Step → Type 0
 IsGoneOnFrom m truth within search step = (u : TransId) (v : VertexId) → Enters m step.by v → Leaves m u v → IsTried m truth within search u
 
--- A kept step came to the junction.
-abbrev pub IsCameTo : DraftMachine → Search → VertexId → Type 0
-IsCameTo m search v = (k : ℕ) × (step : Step) × (slice_get (kept search) k ≡ Some step) × Enters m step.by v
+-- A kept step came to the vertex.
+abbrev pub HasStepTo : DraftMachine → Search → VertexId → Type 0
+HasStepTo m search v = (k : ℕ) × (step : Step) × (slice_get (kept search) k ≡ Some step) × Enters m step.by v
 
--- The search has gone on from the first steps, so many as the place says, and has found no way out; it has marked nothing but what
--- it came to since it was the one before.
+-- Each kept step tells a way; the search has gone on from those before the place, and has found no way out; it has marked only what the
+-- search before had marked, or what a kept step came to.
 pub record KeepsWays (m : DraftMachine) (truth : Truth) (within : Option RegionId) (start : TransId) (before search : Search) (place : ℕ) : Type 0 where
   pub led : (k : ℕ) (step : Step) → slice_get (kept search) k ≡ Some step → IsLedOn m truth within start search step
   pub gone : (k : ℕ) (step : Step) → k < place → slice_get (kept search) k ≡ Some step → IsGoneOnFrom m truth within search step
   pub reached : place ≤ length (kept search)
-  pub marks : (v : VertexId) → IsSeen search v → IsSeen before v ⊎ IsCameTo m search v
+  pub marks : (v : VertexId) → IsSeen search v → IsSeen before v ⊎ HasStepTo m search v
 
--- So it is, and it has tried the start.
+-- The search has tried the start, and has gone on from the kept steps before the place.
 pub record IsUnderWay (m : DraftMachine) (truth : Truth) (within : Option RegionId) (start : TransId) (before search : Search) (place : ℕ) : Type 0 where
   pub begun : IsTried m truth within search start
   pub keeps : KeepsWays m truth within start before search place
 
--- While the search goes on from the step with this place, it has tried the first of the transitions, and all else stays.
+-- While the search goes on from the kept step with this place, it has tried the transitions before the index.
 pub record GoesOn (m : DraftMachine) (Told : Truth → Type 0) (within : Option RegionId) (place : ℕ) (items : List TransId) (initial search : Search)
     (index : ℕ) : Type 0 where
   pub once : ComesOnce m search

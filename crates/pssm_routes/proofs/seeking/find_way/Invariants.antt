@@ -1,5 +1,5 @@
 -- it has gone on from so many steps, and found no way out
-use Rattle.std.proofs.Common.{ℕ, ◌-◌, ◌≤◌}
+use Rattle.std.proofs.Common.{◌-◌}
 use Rattle.pssm_model.specs.Routes.{Truth}
 use Rattle.pssm_routes.specs.Telling.{Tells}
 use Rattle.pssm_routes.specs.inner.Seeking.{ComesOnce, IsUnderWay}

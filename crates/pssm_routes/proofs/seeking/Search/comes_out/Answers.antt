@@ -1,12 +1,9 @@
 -- the target is no junction, or was seen before, or is marked now
 use Rattle.std.proofs.Common.{rules, ◌≡◌, ◌<◌, length, refl, subst}
-use Rattle.pssm_model.specs.declared.ids.VertexId.{VertexId}
 use Rattle.pssm_model.specs.declared.elements.VertexKind.TheVariants as kinds
 use Rattle.pssm_model.specs.Forest.{HasKind}
 use Rattle.pssm_model.proofs.ElementLaws.{kind_at, enters_one}
-use Rattle.pssm_routes.specs.inner.Steps.{IsSeen}
-use Rattle.pssm_routes.specs.inner.Seeking.{ComesTo, ComesOnce}
-use Rattle.pssm_routes.specs.inner.Seeking.ComesTo.{out, again, first}
+use Rattle.pssm_routes.specs.inner.Seeking.ComesTo.{out, again}
 use Rattle.pssm_routes.proofs.Sought.{room_for, comes_first, once_first}
 use Rattle.pssm_routes.proofs.seeking.Search.comes_out.Goals as goal
 
@@ -16,7 +13,7 @@ returns-then-ne-clause-comes c =
     (λ v enters j.
     let same = enters_one c.args.machine.now c.args.step.by v c.target-target.result enters c.target-target.ensures.enters in
     let is = (kind_at c.args.machine.now c.target-target.result c.vertex.result.now kinds.Junction c.vertex.ensures).0
-        (subst (λ w. HasKind c.args.machine.now w kinds.Junction) same j) in
+    (subst (λ w. HasKind c.args.machine.now w kinds.Junction) same j) in
     search (rules, is))
     refl
 

@@ -1,4 +1,4 @@
-use Rattle.std.proofs.Common.{rules, ◌≡◌, ℕ, true, false, get_or, replicate}
+-- nothing is marked
 use Rattle.pssm_routes.proofs.Sought.{nothing_marked}
 use Rattle.pssm_routes.proofs.seeking.Search.new.Goals as goal
 
