@@ -7,3 +7,4 @@ pub mod RegionChains
 pub mod OneLeg
 pub mod CommonRegions
 pub mod LegScopes
+pub mod Sought

@@ -2,4 +2,5 @@ pub mod Grounds
 pub mod Starts
 pub mod Ways
 pub mod Steps
+pub mod Seeking
 pub mod Sets
