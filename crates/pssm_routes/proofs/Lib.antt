@@ -3,3 +3,4 @@ pub mod Leading
 pub mod Routed
 pub mod Conflicts
 pub mod Settling
+pub mod Unmet

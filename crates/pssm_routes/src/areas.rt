@@ -1,5 +1,6 @@
 //! Where routes exit, and which of them conflict (UML 2.5.1, 14.2.3.9, conflicting transitions).
-ghost use Rattle.std.specs.Prelude.{◌≡◌, ◌↔◌, ◌<◌, length, IsTrue};
+ghost use Rattle.std.specs.Prelude.{◌≡◌, ◌⊎◌, ◌↔◌, ◌<◌, length, IsTrue};
+ghost use Rattle.pssm_model.specs.Forest.{IsOrLiesIn};
 ghost use Rattle.pssm_model.specs.Legs.{LiesInScope};
 ghost use Rattle.pssm_model.specs.Routes.{IsStateRoute};
 ghost use Rattle.pssm_routes.specs.SingleLegs.{HasSingleLegs};
@@ -89,6 +90,7 @@ pub fn covers(machine: &Machine, area: Area, v: VertexId) -> bool
 pub fn are_on_one_chain(machine: &Machine, v: VertexId, w: VertexId) -> bool
     requires first { v.0 < length machine.now.vertices }
     requires second { w.0 < length machine.now.vertices }
+    ensures { IsTrue result ↔ (IsOrLiesIn machine.now v w ⊎ IsOrLiesIn machine.now w v) }
 {
     v == w || machine.lies_in_state(v, w) || machine.lies_in_state(w, v)
 }

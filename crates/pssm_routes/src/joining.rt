@@ -13,11 +13,20 @@ ghost use Rattle.pssm_routes.specs.SingleLegs.{HasSingleLegs};
 ghost use Rattle.pssm_routes.specs.inner.Grounds.{IsGroundIn};
 ghost use Rattle.pssm_routes.specs.inner.Starts.{IsStarted};
 ghost use Rattle.pssm_routes.specs.inner.Steps.{IsJoiningStep};
-ghost use Rattle.pssm_routes.specs.inner.Sets.{HasJoiner, IsTouched, HoldsSource, IsCeiling};
+ghost use Rattle.pssm_routes.specs.inner.Sets.{HasJoiner, Touches, IsTouched, HoldsSource, IsCeiling};
 
 use crate::areas::{Ground, are_on_one_chain, covers};
 use crate::seeking::{Search, Step, find_way};
 use pssm_model::{GuardId, Machine, Owner, RegionId, TransId, TransKind, VertexId};
+
+// Whether the source of the ground is the State, lies in it or has it inside, or its area covers the State.
+fn touches(machine: &Machine, ground: Ground, s: VertexId) -> bool
+    requires there { s.0 < length machine.now.vertices }
+    requires ground { IsGroundIn machine.now ground }
+    ensures { IsTrue result ↔ Touches machine.now s ground }
+{
+    covers(machine, ground.area, s) || are_on_one_chain(machine, ground.source, s)
+}
 
 // Whether a source is the State, lies in it or has it inside, or an area covers the State.
 fn is_touched(machine: &Machine, grounds: &[Ground], s: VertexId) -> bool
@@ -26,7 +35,7 @@ fn is_touched(machine: &Machine, grounds: &[Ground], s: VertexId) -> bool
     ensures { IsTrue result ↔ IsTouched machine.now grounds.now s }
 {
     for ground in grounds {
-        if covers(machine, ground.area, s) || are_on_one_chain(machine, ground.source, s) {
+        if touches(machine, *ground, s) {
             return true;
         }
     }

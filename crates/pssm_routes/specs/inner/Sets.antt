@@ -36,10 +36,13 @@ abbrev pub HasJoiner : DraftMachine → Configuration → Truth → Event → Li
 HasJoiner m now truth event grounds t =
     (q : Route) × (b : Ground) × IsEnabled m now truth event q × (q.starts ≡ t ∷ []) × IsGroundOf m q b × (ClashesWithSome m grounds b → ⊥)
 
--- The State, or one that it lies in or that lies in it, is a source, or some area covers it.
+-- The State, or one that it lies in or that lies in it, is the source of the ground, or its area covers the State.
+abbrev pub Touches : DraftMachine → VertexId → Ground → Type 0
+Touches m s a = LiesInScope m s (scope_of a.area) ⊎ IsOrLiesIn m a.source s ⊎ IsOrLiesIn m s a.source
+
+-- Some ground touches the State.
 abbrev pub IsTouched : DraftMachine → List Ground → VertexId → Type 0
-IsTouched m grounds s =
-    (a : Ground) × Contains grounds a × (LiesInScope m s (scope_of a.area) ⊎ IsOrLiesIn m a.source s ⊎ IsOrLiesIn m s a.source)
+IsTouched m grounds s = (a : Ground) × Contains grounds a × Touches m s a
 
 -- A source lies in the region.
 abbrev pub HoldsSource : DraftMachine → List Ground → RegionId → Type 0
