@@ -4,3 +4,4 @@ pub mod Routed
 pub mod Conflicts
 pub mod Settling
 pub mod Unmet
+pub mod Ceilings

@@ -2,10 +2,11 @@
 ghost use Rattle.std.specs.Prelude.{◌↔◌, ◌<◌, length, All, IsTrue, IfSome, IfNone};
 ghost use Rattle.pssm_model.specs.declared.ids.VertexId.{VertexId};
 ghost use Rattle.pssm_model.specs.declared.ids.RegionId.{RegionId};
+ghost use Rattle.pssm_model.specs.declared.elements.Owner.{Owner};
 ghost use Rattle.pssm_model.specs.declared.steps.Event.{Event};
 ghost use Rattle.pssm_model.specs.Configuration.{Configuration};
 ghost use Rattle.pssm_model.specs.declared.elements.VertexKind.TheVariants as kinds;
-ghost use Rattle.pssm_model.specs.Forest.{HasKind, LiesInRegion};
+ghost use Rattle.pssm_model.specs.Forest.{HasKind, LiesUnder, LiesInRegion};
 ghost use Rattle.pssm_model.specs.Legs.{Leaves};
 ghost use Rattle.pssm_model.specs.Routes.{Truth};
 ghost use Rattle.pssm_routes.specs.Telling.{CanBeAsked, Tells};
@@ -13,7 +14,7 @@ ghost use Rattle.pssm_routes.specs.SingleLegs.{HasSingleLegs};
 ghost use Rattle.pssm_routes.specs.inner.Grounds.{IsGroundIn};
 ghost use Rattle.pssm_routes.specs.inner.Starts.{IsStarted};
 ghost use Rattle.pssm_routes.specs.inner.Steps.{IsJoiningStep};
-ghost use Rattle.pssm_routes.specs.inner.Sets.{HasJoiner, Touches, IsTouched, HoldsSource, IsCeiling};
+ghost use Rattle.pssm_routes.specs.inner.Sets.{HasJoiner, Touches, IsTouched, HoldsSource, IsCeiling, IsNextOut, IsRoomFor, IsRoomIn};
 
 use crate::areas::{Ground, are_on_one_chain, covers};
 use crate::seeking::{Search, Step, find_way};
@@ -56,21 +57,40 @@ fn holds_source(machine: &Machine, grounds: &[Ground], region: RegionId) -> bool
     false
 }
 
+// The innermost region in which a region is nested, if there is one.
+fn next_out(machine: &Machine, region: RegionId) -> Option<RegionId>
+    requires there { region.0 < length machine.now.regions }
+    ensures inside { IfSome result (λ r. r.0 < length machine.now.regions) }
+    ensures some { IfSome result (IsNextOut machine.now region) }
+    ensures none { IfNone result ((r : RegionId) → LiesUnder machine.now (Owner.Region region) (Owner.Region r) → ⊥) }
+{
+    let _shaped = machine.regions();
+    match machine.region_owner(region) {
+        Owner::State(owner) => Some(machine.home(owner)),
+        _ => None,
+    }
+}
+
 // The largest region around the State in which no source lies; none exactly where there is none.
 fn ceiling(machine: &Machine, grounds: &[Ground], s: VertexId) -> Option<RegionId>
     requires there { s.0 < length machine.now.vertices }
     requires grounds { All (IsGroundIn machine.now) grounds.now }
     ensures inside { IfSome result (λ r. r.0 < length machine.now.regions) }
     ensures some { IfSome result (IsCeiling machine.now grounds.now s) }
-    ensures none { IfNone result ((r : RegionId) → LiesInRegion machine.now s r → (HoldsSource machine.now grounds.now r → ⊥) → ⊥) }
+    ensures none { IfNone result ((r : RegionId) → LiesInRegion machine.now s r
+        → (HoldsSource machine.now grounds.now r → ⊥) → ⊥) }
 {
     let mut found = None;
     let mut region = machine.home(s);
+    let mut left = machine.depth(s);
     while !holds_source(machine, grounds, region) {
         found = Some(region);
-        match machine.region_owner(region) {
-            Owner::State(owner) => region = machine.home(owner),
-            _ => return found,
+        match next_out(machine, region) {
+            Some(next) => {
+                region = next;
+                left -= 1;
+            }
+            None => return found,
         }
     }
     found
@@ -82,20 +102,29 @@ enum Room {
     Open(Option<RegionId>),
 }
 
+// Where an external route out of the State may go.
+fn outer_room(machine: &Machine, grounds: &[Ground], source: VertexId) -> Room {
+    match ceiling(machine, grounds, source) {
+        Some(region) => Room::Open(Some(region)),
+        None => Room::Shut,
+    }
+}
+
 // Where a route with this start may go.
 fn room_for(machine: &Machine, grounds: &[Ground], t: TransId) -> Room
+    requires legs { HasSingleLegs machine.now }
     requires there { t.0 < length machine.now.transitions }
     requires grounds { All (IsGroundIn machine.now) grounds.now }
+    ensures inside { IsRoomIn machine.now result }
+    ensures room { IsRoomFor machine.now grounds.now t result }
 {
+    let _shaped = machine.regions();
     let source = machine.source(t);
     if is_touched(machine, grounds, source) {
         return Room::Shut;
     }
     match machine.transition(t).kind {
-        TransKind::External => match ceiling(machine, grounds, source) {
-            Some(region) => Room::Open(Some(region)),
-            None => Room::Shut,
-        },
+        TransKind::External => outer_room(machine, grounds, source),
         _ => Room::Open(None),
     }
 }

@@ -1,6 +1,7 @@
 //! The search for a way over junctions: each junction is gone on from once, and no memory is taken.
-ghost use Rattle.std.specs.Prelude.{◌≡◌, ◌↔◌, ◌<◌, length, IsTrue, IfSome, IfNone};
+ghost use Rattle.std.specs.Prelude.{◌≡◌, ◌↔◌, ◌<◌, length, Option, IsTrue, IfSome, IfNone};
 ghost use Rattle.pssm_model.specs.declared.ids.VertexId.{VertexId};
+ghost use Rattle.pssm_model.specs.declared.ids.RegionId.{RegionId};
 ghost use Rattle.pssm_model.specs.declared.elements.DraftMachine.{DraftMachine};
 ghost use Rattle.pssm_model.specs.declared.elements.VertexKind.TheVariants as kinds;
 ghost use Rattle.pssm_model.specs.Forest.{HasKind};
@@ -33,7 +34,7 @@ impl Search {
     /// A search that has seen nothing.
     pub fn new() -> Search
         ensures count { result.count ≡ 0 }
-        ensures nothing { (m : DraftMachine) (truth : Truth) → SeesDeadEnds m truth result }
+        ensures nothing { (m : DraftMachine) (truth : Truth) (within : Option RegionId) → SeesDeadEnds m truth within result }
     {
         Search {
             seen: [false; 4096],
