@@ -5,3 +5,4 @@ pub mod Conflicts
 pub mod Settling
 pub mod Unmet
 pub mod Ceilings
+pub mod Joiners

@@ -102,14 +102,6 @@ enum Room {
     Open(Option<RegionId>),
 }
 
-// Where an external route out of the State may go.
-fn outer_room(machine: &Machine, grounds: &[Ground], source: VertexId) -> Room {
-    match ceiling(machine, grounds, source) {
-        Some(region) => Room::Open(Some(region)),
-        None => Room::Shut,
-    }
-}
-
 // Where a route with this start may go.
 fn room_for(machine: &Machine, grounds: &[Ground], t: TransId) -> Room
     requires legs { HasSingleLegs machine.now }
@@ -124,7 +116,10 @@ fn room_for(machine: &Machine, grounds: &[Ground], t: TransId) -> Room
         return Room::Shut;
     }
     match machine.transition(t).kind {
-        TransKind::External => outer_room(machine, grounds, source),
+        TransKind::External => match ceiling(machine, grounds, source) {
+            Some(region) => Room::Open(Some(region)),
+            None => Room::Shut,
+        },
         _ => Room::Open(None),
     }
 }
