@@ -15,7 +15,8 @@ use Rattle.pssm_model.proofs.ElementLaws.{mapped_some}
 use Rattle.pssm_model.proofs.OwnerChains.{top_lies_nowhere, under_further}
 use Rattle.pssm_model.proofs.Nesting.{under_cases, shallower, within_further, lies_within}
 use Rattle.pssm_routes.specs.declared.areas.Ground.{Ground}
-use Rattle.pssm_routes.specs.inner.Sets.{HoldsSource, IsCeiling, IsNextOut}
+use Rattle.pssm_routes.specs.inner.Rooms.{IsNextOut}
+use Rattle.pssm_routes.specs.inner.Sets.{HoldsSource, IsCeiling}
 
 module _ (m : DraftMachine) (shape : HasShape m) (r : RegionId) where
   -- the State that owns a region is one of the machine, and its home is the next region

@@ -5,4 +5,5 @@ pub mod Conflicts
 pub mod Settling
 pub mod Unmet
 pub mod Ceilings
-pub mod Joiners
+pub mod Rooms
+pub mod JoiningSteps

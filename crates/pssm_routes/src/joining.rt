@@ -3,8 +3,6 @@ ghost use Rattle.std.specs.Prelude.{◌↔◌, ◌<◌, length, All, IsTrue, IfS
 ghost use Rattle.pssm_model.specs.declared.ids.VertexId.{VertexId};
 ghost use Rattle.pssm_model.specs.declared.ids.RegionId.{RegionId};
 ghost use Rattle.pssm_model.specs.declared.elements.Owner.{Owner};
-ghost use Rattle.pssm_model.specs.declared.steps.Event.{Event};
-ghost use Rattle.pssm_model.specs.Configuration.{Configuration};
 ghost use Rattle.pssm_model.specs.declared.elements.VertexKind.TheVariants as kinds;
 ghost use Rattle.pssm_model.specs.Forest.{HasKind, LiesUnder, LiesInRegion};
 ghost use Rattle.pssm_model.specs.Legs.{Leaves};
@@ -12,9 +10,9 @@ ghost use Rattle.pssm_model.specs.Routes.{Truth};
 ghost use Rattle.pssm_routes.specs.Telling.{CanBeAsked, Tells};
 ghost use Rattle.pssm_routes.specs.SingleLegs.{HasSingleLegs};
 ghost use Rattle.pssm_routes.specs.inner.Grounds.{IsGroundIn};
-ghost use Rattle.pssm_routes.specs.inner.Starts.{IsStarted};
 ghost use Rattle.pssm_routes.specs.inner.Steps.{IsJoiningStep};
-ghost use Rattle.pssm_routes.specs.inner.Sets.{HasJoiner, Touches, IsTouched, HoldsSource, IsCeiling, IsNextOut, IsRoomFor, IsRoomIn};
+ghost use Rattle.pssm_routes.specs.inner.Sets.{HasFreeRoute, IsTouched, HoldsSource, IsCeiling};
+ghost use Rattle.pssm_routes.specs.inner.Rooms.{Touches, IsNextOut, IsRoomFor, IsRoomIn};
 
 use crate::areas::{Ground, are_on_one_chain, covers};
 use crate::seeking::{Search, Step, find_way};
@@ -126,6 +124,7 @@ fn room_for(machine: &Machine, grounds: &[Ground], t: TransId) -> Room
 
 /// Seeks a way for a route with this start that clashes with none of the grounds; none exactly where there is no such
 /// route.
+#[tactic(auto, using(crate::proofs::JoiningSteps::state_no_junction))]
 pub fn find_joiner<T: Fn(GuardId) -> bool>(
     machine: &Machine,
     truth: &T,
@@ -138,12 +137,12 @@ pub fn find_joiner<T: Fn(GuardId) -> bool>(
     requires grounds { All (IsGroundIn machine.now) grounds.now }
     requires askable { CanBeAsked machine.now (T.pre truth.now) }
     requires source { (v : VertexId) → Leaves machine.now t v → HasKind machine.now v kinds.State }
-    ensures some { (now : Configuration) (event : Event) (s : VertexId) (values : Truth) → Tells (T.post truth.now) values
-        → IsStarted machine.now now event t s
-        → IfSome result (IsJoiningStep machine.now now values event grounds.now search.new t) }
-    ensures none { (now : Configuration) (event : Event) (values : Truth) → Tells (T.post truth.now) values
-        → IfNone result (HasJoiner machine.now now values event grounds.now t → ⊥) }
+    ensures some { (values : Truth) → Tells (T.post truth.now) values
+        → IfSome result (IsJoiningStep machine.now values grounds.now search.new t) }
+    ensures none { (values : Truth) → Tells (T.post truth.now) values
+        → IfNone result (HasFreeRoute machine.now values grounds.now t → ⊥) }
 {
+    let _shaped = machine.regions();
     match room_for(machine, grounds, t) {
         Room::Shut => None,
         Room::Open(within) => {

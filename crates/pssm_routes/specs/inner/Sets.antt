@@ -1,22 +1,18 @@
 -- What makes a list of routes a firing set, one route at a time.
-use Rattle.std.specs.Prelude.{◌≡◌, ◌⊎◌, ◌<◌, List, [], ◌∷◌, length, Option, IfSome, Contains}
+use Rattle.std.specs.Prelude.{◌≡◌, ◌⊎◌, ◌<◌, List, [], ◌∷◌, All, Option, Some, None, Contains}
 use Rattle.pssm_model.specs.declared.ids.VertexId.{VertexId}
 use Rattle.pssm_model.specs.declared.ids.RegionId.{RegionId}
 use Rattle.pssm_model.specs.declared.ids.TransId.{TransId}
 use Rattle.pssm_model.specs.declared.elements.DraftMachine.{DraftMachine}
 use Rattle.pssm_model.specs.declared.steps.Route.{Route}
 use Rattle.pssm_model.specs.declared.steps.Event.{Event}
-use Rattle.pssm_model.specs.declared.elements.Owner.TheVariants.{Region}
-use Rattle.pssm_model.specs.Forest.{LiesUnder, LiesInRegion, IsOrLiesIn, IsWithin}
-use Rattle.pssm_model.specs.Legs.{Enters, On, LiesInScope}
+use Rattle.pssm_model.specs.Forest.{LiesInRegion, IsOrLiesIn, IsWithin}
+use Rattle.pssm_model.specs.Legs.{On, LiesInScope}
 use Rattle.pssm_model.specs.Configuration.{Configuration}
-use Rattle.pssm_model.specs.Routes.{Truth, IsStateRoute, IsEnabled, IsSource, Conflict}
+use Rattle.pssm_model.specs.Routes.{Truth, IsStateRoute, IsTrueAt, IsEnabled, IsSource, Conflict}
 use Rattle.pssm_routes.specs.declared.areas.Ground.{Ground}
-use Rattle.pssm_routes.specs.declared.joining.Room.{Room}
-use Rattle.pssm_routes.specs.declared.joining.Room.TheVariants.{Shut, Open}
 use Rattle.pssm_routes.specs.inner.Grounds.{scope_of, IsGroundOf, ClashesWithSome}
-use Rattle.pssm_routes.specs.inner.Starts.{IsOutranked}
-use Rattle.pssm_routes.specs.inner.Ways.{IsAllowed}
+use Rattle.pssm_routes.specs.inner.Starts.{IsStarted, IsOutranked, IsCandidate}
 
 -- The route could join the others: it is enabled, is none of them, conflicts with none, and no enabled route starts in its source.
 pub record CanJoin (m : DraftMachine) (now : Configuration) (truth : Truth) (event : Event) (routes : List Route) (q : Route) : Type 0 where
@@ -40,13 +36,26 @@ abbrev pub HasJoiner : DraftMachine → Configuration → Truth → Event → Li
 HasJoiner m now truth event grounds t =
     (q : Route) × (b : Ground) × IsEnabled m now truth event q × (q.starts ≡ t ∷ []) × IsGroundOf m q b × (ClashesWithSome m grounds b → ⊥)
 
--- The State, or one that it lies in or that lies in it, is the source of the ground, or its area covers the State.
-abbrev pub Touches : DraftMachine → VertexId → Ground → Type 0
-Touches m s a = LiesInScope m s (scope_of a.area) ⊎ IsOrLiesIn m a.source s ⊎ IsOrLiesIn m s a.source
+-- A route of States with this start and true guards clashes with none of the grounds.
+abbrev pub HasFreeRoute : DraftMachine → Truth → List Ground → TransId → Type 0
+HasFreeRoute m truth grounds t =
+    (q : Route) × (b : Ground) × IsStateRoute m q × (q.starts ≡ t ∷ []) × ((u : TransId) → On q u → IsTrueAt m truth u) × IsGroundOf m q b
+    × (ClashesWithSome m grounds b → ⊥)
 
--- Some ground touches the State.
+-- No two of the grounds clash.
+abbrev pub AreApart : DraftMachine → List Ground → Type 0
+AreApart m [] = Unit {0}
+AreApart m (ground ∷ grounds) = (ClashesWithSome m grounds ground → ⊥) × AreApart m grounds
+
+-- A further route could start at one of the States.
+abbrev pub HasJoinerFrom : DraftMachine → Configuration → Truth → Event → List VertexId → List Ground → Type 0
+HasJoinerFrom m now truth event states grounds =
+    (s : VertexId) × (t : TransId) × Contains states s × IsStarted m now event t s × HasJoiner m now truth event grounds t
+
+-- The State, or one that it lies in or that lies in it, is a source, or some area covers it.
 abbrev pub IsTouched : DraftMachine → List Ground → VertexId → Type 0
-IsTouched m grounds s = (a : Ground) × Contains grounds a × Touches m s a
+IsTouched m grounds s =
+    (a : Ground) × Contains grounds a × (LiesInScope m s (scope_of a.area) ⊎ IsOrLiesIn m a.source s ⊎ IsOrLiesIn m s a.source)
 
 -- A source lies in the region.
 abbrev pub HoldsSource : DraftMachine → List Ground → RegionId → Type 0
@@ -57,34 +66,3 @@ pub record IsCeiling (m : DraftMachine) (grounds : List Ground) (s : VertexId) (
   pub around : LiesInRegion m s r
   pub free : HoldsSource m grounds r → ⊥
   pub largest : (q : RegionId) → LiesInRegion m s q → (HoldsSource m grounds q → ⊥) → IsWithin m q r
-
--- the innermost region in which the region is nested
-pub record IsNextOut (m : DraftMachine) (r next : RegionId) : Type 0 where
-  pub nested : LiesUnder m (Region r) (Region next)
-  pub innermost : (q : RegionId) → LiesUnder m (Region r) (Region q) → IsWithin m next q
-
--- Each route with this start clashes with one of the grounds.
-abbrev pub IsShut : DraftMachine → List Ground → TransId → Type 0
-IsShut m grounds t =
-    (q : Route) (b : Ground) → IsStateRoute m q → q.starts ≡ t ∷ [] → IsGroundOf m q b → (ClashesWithSome m grounds b → ⊥) → ⊥
-
--- All transitions of the route end where they may.
-abbrev pub EndsWithin : DraftMachine → Option RegionId → Route → Type 0
-EndsWithin m within q = (u : TransId) (v : VertexId) → On q u → Enters m u v → IsAllowed m within v
-
--- The routes with this start that clash with none of the grounds are those that end in the region, if one is named.
-pub record IsOpenRoom (m : DraftMachine) (grounds : List Ground) (t : TransId) (within : Option RegionId) : Type 0 where
-  pub ends : (q : Route) (b : Ground) → IsStateRoute m q → q.starts ≡ t ∷ [] → IsGroundOf m q b → (ClashesWithSome m grounds b → ⊥)
-      → EndsWithin m within q
-  pub clear : (q : Route) (b : Ground) → IsStateRoute m q → q.starts ≡ t ∷ [] → IsGroundOf m q b → EndsWithin m within q
-      → ClashesWithSome m grounds b → ⊥
-
--- where a route with this start may go
-abbrev pub IsRoomFor : DraftMachine → List Ground → TransId → Room → Type 0
-IsRoomFor m grounds t Shut = IsShut m grounds t
-IsRoomFor m grounds t (Open within) = IsOpenRoom m grounds t within
-
--- A region that a room names is one of the machine.
-abbrev pub IsRoomIn : DraftMachine → Room → Type 0
-IsRoomIn m Shut = Unit {0}
-IsRoomIn m (Open within) = IfSome within (λ r. r.0 < length m.regions)

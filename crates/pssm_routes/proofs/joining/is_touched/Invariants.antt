@@ -1,6 +1,6 @@
 use Rattle.std.proofs.Common.{take, Contains}
 use Rattle.pssm_routes.specs.declared.areas.Ground.{Ground}
-use Rattle.pssm_routes.specs.inner.Sets.{Touches}
+use Rattle.pssm_routes.specs.inner.Rooms.{Touches}
 use Rattle.pssm_routes.proofs.joining.is_touched.Given as goal
 
 -- none so far touches the State

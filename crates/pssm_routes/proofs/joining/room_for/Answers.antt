@@ -1,6 +1,6 @@
 use Rattle.std.proofs.Common.{refl}
 use Rattle.std.proofs.lemmas.Bool.{false≢true}
-use Rattle.pssm_routes.proofs.Joiners.{goes_at, goes_by, touched_is_shut, open_unless_external, shut_without_ceiling, open_below_ceiling}
+use Rattle.pssm_routes.proofs.Rooms.{goes_at, goes_by, touched_is_shut, open_unless_external, shut_without_ceiling, open_below_ceiling}
 use Rattle.pssm_routes.proofs.joining.room_for.Goals as goal
 
 pub returns-then-is_touched : goal.returns-then-is_touched

@@ -19,7 +19,8 @@ use Rattle.pssm_routes.specs.declared.areas.Area.TheVariants.{Within}
 use Rattle.pssm_routes.specs.declared.areas.Ground.{Ground}
 use Rattle.pssm_routes.specs.SingleLegs.{HasSingleLegs}
 use Rattle.pssm_routes.specs.inner.Grounds.{scope_of, IsGroundOf, Clash, ClashesWithSome}
-use Rattle.pssm_routes.specs.inner.Sets.{Touches, IsTouched, HoldsSource, IsCeiling, IsShut, IsOpenRoom}
+use Rattle.pssm_routes.specs.inner.Rooms.{Touches, IsShut, IsOpenRoom}
+use Rattle.pssm_routes.specs.inner.Sets.{IsTouched, HoldsSource, IsCeiling}
 use Rattle.pssm_routes.proofs.Conflicts.{area_of_internal, area_of_local, area_of_external}
 
 one_start : (t u : TransId) → t ∷ [] ≡ u ∷ [] → t ≡ u
