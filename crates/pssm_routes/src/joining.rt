@@ -80,6 +80,7 @@ fn ceiling(machine: &Machine, grounds: &[Ground], s: VertexId) -> Option<RegionI
 {
     let mut found = None;
     let mut region = machine.home(s);
+    // More regions than stand above that one.
     let mut left = machine.depth(s);
     while !holds_source(machine, grounds, region) {
         found = Some(region);
