@@ -1,5 +1,5 @@
 -- Climbing from a State, region by region, to the largest region around it in which no source lies.
-use Rattle.std.proofs.Common.{◌≡◌, ◌⊎◌, ◌<◌, ◌+◌, ℕ, List, length, Option, Some, None, IfSome, IfNone, sym, subst, refl, inl, inr, ⊎_elim, arith}
+use Rattle.std.proofs.Common.{◌≡◌, ◌⊎◌, ◌<◌, ◌+◌, ℕ, List, length, Option, Some, None, IfSome, IfNone, sym, refl, inl, inr, ⊎_elim, arith}
 use Rattle.std.proofs.lemmas.Option.{slice_get_within}
 use Rattle.pssm_model.specs.declared.ids.VertexId.{VertexId}
 use Rattle.pssm_model.specs.declared.ids.RegionId.{RegionId}
@@ -9,7 +9,7 @@ use Rattle.pssm_model.specs.declared.elements.VertexKind.TheVariants as kinds
 use Rattle.pssm_model.specs.declared.elements.Owner.{Owner}
 use Rattle.pssm_model.specs.declared.elements.Owner.TheVariants.{Top, Region, State}
 use Rattle.pssm_model.specs.Shapes.{HasShape}
-use Rattle.pssm_model.specs.Forest.{owner_of, vertex_at, HasKind, LiesUnder, LiesInRegion, HasRegionsAbove, IsWithin, IsHome}
+use Rattle.pssm_model.specs.Forest.{owner_of, vertex_at, LiesUnder, LiesInRegion, HasRegionsAbove, IsWithin, IsHome}
 use Rattle.pssm_model.specs.Forest.LiesUnder.{further}
 use Rattle.pssm_model.proofs.ElementLaws.{mapped_some}
 use Rattle.pssm_model.proofs.OwnerChains.{top_lies_nowhere, under_further}

@@ -1,5 +1,5 @@
 -- A way found in the room for a start is a route that joins; where there is no way, no route joins.
-use Rattle.std.proofs.Common.{◌≡◌, ◌<◌, List, length, Option, Some, None, IfSome, IfNone}
+use Rattle.std.proofs.Common.{◌<◌, List, length, Option, Some, None, IfSome, IfNone}
 use Rattle.pssm_model.specs.declared.ids.VertexId.{VertexId}
 use Rattle.pssm_model.specs.declared.ids.RegionId.{RegionId}
 use Rattle.pssm_model.specs.declared.ids.TransId.{TransId}
