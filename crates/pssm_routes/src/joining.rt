@@ -18,7 +18,7 @@ use crate::areas::{Ground, are_on_one_chain, covers};
 use crate::seeking::{Search, Step, find_way};
 use pssm_model::{GuardId, Machine, Owner, RegionId, TransId, TransKind, VertexId};
 
-// Whether the source of the ground is the State, lies in it or has it inside, or its area covers the State.
+// Whether the State is on one owner chain with the source of the ground, or lies in its area.
 fn touches(machine: &Machine, ground: Ground, s: VertexId) -> bool
     requires there { s.0 < length machine.now.vertices }
     requires ground { IsGroundIn machine.now ground }
@@ -60,7 +60,8 @@ fn next_out(machine: &Machine, region: RegionId) -> Option<RegionId>
     requires there { region.0 < length machine.now.regions }
     ensures inside { IfSome result (λ r. r.0 < length machine.now.regions) }
     ensures some { IfSome result (IsNextOut machine.now region) }
-    ensures none { IfNone result ((r : RegionId) → LiesUnder machine.now (Owner.Region region) (Owner.Region r) → ⊥) }
+    ensures none { IfNone result ((r : RegionId)
+        → LiesUnder machine.now (Owner.Region region) (Owner.Region r) → ⊥) }
 {
     let _shaped = machine.regions();
     match machine.region_owner(region) {
