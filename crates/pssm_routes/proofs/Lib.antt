@@ -8,3 +8,7 @@ pub mod OneLeg
 pub mod CommonRegions
 pub mod LegScopes
 pub mod Sought
+pub mod Unmet
+pub mod Ceilings
+pub mod Rooms
+pub mod JoiningSteps

@@ -4,3 +4,4 @@ pub mod Ways
 pub mod Steps
 pub mod Seeking
 pub mod Sets
+pub mod Rooms

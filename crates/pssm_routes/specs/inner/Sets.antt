@@ -7,12 +7,12 @@ use Rattle.pssm_model.specs.declared.elements.DraftMachine.{DraftMachine}
 use Rattle.pssm_model.specs.declared.steps.Route.{Route}
 use Rattle.pssm_model.specs.declared.steps.Event.{Event}
 use Rattle.pssm_model.specs.Forest.{LiesInRegion, IsOrLiesIn, IsWithin}
-use Rattle.pssm_model.specs.Legs.{LiesInScope}
+use Rattle.pssm_model.specs.Legs.{On, LiesInScope}
 use Rattle.pssm_model.specs.Configuration.{Configuration}
-use Rattle.pssm_model.specs.Routes.{Truth, IsEnabled, IsSource, Conflict}
+use Rattle.pssm_model.specs.Routes.{Truth, IsStateRoute, IsTrueAt, IsEnabled, IsSource, Conflict}
 use Rattle.pssm_routes.specs.declared.areas.Ground.{Ground}
 use Rattle.pssm_routes.specs.inner.Grounds.{scope_of, IsGroundOf, ClashesWithSome}
-use Rattle.pssm_routes.specs.inner.Starts.{IsOutranked, IsCandidate}
+use Rattle.pssm_routes.specs.inner.Starts.{IsStarted, IsOutranked, IsCandidate}
 
 -- The route could join the others: it is enabled, is none of them, conflicts with none, and no enabled route starts in its source.
 pub record CanJoin (m : DraftMachine) (now : Configuration) (truth : Truth) (event : Event) (routes : List Route) (q : Route) : Type 0 where
@@ -35,6 +35,22 @@ IsFull m now truth event routes = (q : Route) → CanJoin m now truth event rout
 abbrev pub HasJoiner : DraftMachine → Configuration → Truth → Event → List Ground → TransId → Type 0
 HasJoiner m now truth event grounds t =
     (q : Route) × (b : Ground) × IsEnabled m now truth event q × (q.starts ≡ t ∷ []) × IsGroundOf m q b × (ClashesWithSome m grounds b → ⊥)
+
+-- A route of States with this start and true guards clashes with none of the grounds.
+abbrev pub HasFreeRoute : DraftMachine → Truth → List Ground → TransId → Type 0
+HasFreeRoute m truth grounds t =
+    (q : Route) × (b : Ground) × IsStateRoute m q × (q.starts ≡ t ∷ []) × ((u : TransId) → On q u → IsTrueAt m truth u) × IsGroundOf m q b
+    × (ClashesWithSome m grounds b → ⊥)
+
+-- No two of the grounds clash.
+abbrev pub AreApart : DraftMachine → List Ground → Type 0
+AreApart m [] = Unit {0}
+AreApart m (ground ∷ grounds) = (ClashesWithSome m grounds ground → ⊥) × AreApart m grounds
+
+-- A further route could start at one of the States.
+abbrev pub HasJoinerFrom : DraftMachine → Configuration → Truth → Event → List VertexId → List Ground → Type 0
+HasJoinerFrom m now truth event states grounds =
+    (s : VertexId) × (t : TransId) × Contains states s × IsStarted m now event t s × HasJoiner m now truth event grounds t
 
 -- The State, or one that it lies in or that lies in it, is a source, or some area covers it.
 abbrev pub IsTouched : DraftMachine → List Ground → VertexId → Type 0

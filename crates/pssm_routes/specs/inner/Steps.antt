@@ -4,11 +4,9 @@ use Rattle.pssm_model.specs.declared.ids.VertexId.{VertexId}
 use Rattle.pssm_model.specs.declared.ids.RegionId.{RegionId}
 use Rattle.pssm_model.specs.declared.ids.TransId.{TransId}
 use Rattle.pssm_model.specs.declared.elements.DraftMachine.{DraftMachine}
-use Rattle.pssm_model.specs.Legs.{Leaves}
+use Rattle.pssm_model.specs.Legs.{Leaves, On}
 use Rattle.pssm_model.specs.declared.steps.Route.{Route}
-use Rattle.pssm_model.specs.declared.steps.Event.{Event}
-use Rattle.pssm_model.specs.Configuration.{Configuration}
-use Rattle.pssm_model.specs.Routes.{Truth, IsAscending, IsEnabled}
+use Rattle.pssm_model.specs.Routes.{Truth, IsAscending, IsStateRoute, IsTrueAt}
 use Rattle.pssm_routes.specs.declared.seeking.Step.{Step}
 use Rattle.pssm_routes.specs.declared.seeking.Search.{Search}
 use Rattle.pssm_routes.specs.declared.areas.Ground.{Ground}
@@ -40,9 +38,9 @@ pub record IsRouteOver (start : TransId) (path : List TransId) (q : Route) : Typ
   pub rest : (u : TransId) → Contains q.rest u ↔ (Contains path u × (u ≢ start))
   pub ascending : IsAscending q.rest
 
--- Each route over the path that the search has found is enabled and clashes with none of the grounds.
-abbrev pub IsJoiningStep : DraftMachine → Configuration → Truth → Event → List Ground → Search → TransId → Step → Type 0
-IsJoiningStep m now truth event grounds search t last =
+-- Each route over the path that the search has found is one of States with true guards and clashes with none of the grounds.
+abbrev pub IsJoiningStep : DraftMachine → Truth → List Ground → Search → TransId → Step → Type 0
+IsJoiningStep m truth grounds search t last =
     (path : List TransId) × IsTrail search.steps last path
     × ((q : Route) → IsRouteOver t path q
-    → IsEnabled m now truth event q × ((b : Ground) → IsGroundOf m q b → ClashesWithSome m grounds b → ⊥))
+    → IsStateRoute m q × ((u : TransId) → On q u → IsTrueAt m truth u) × ((b : Ground) → IsGroundOf m q b → ClashesWithSome m grounds b → ⊥))
