@@ -1,15 +1,9 @@
 //! Where routes exit, and which of them conflict (UML 2.5.1, 14.2.3.9, conflicting transitions).
 ghost use Rattle.std.specs.Prelude.{◌≡◌, ◌⊎◌, ◌↔◌, ◌<◌, length, IsTrue};
-<<<<<<< HEAD
 ghost use Rattle.pssm_model.specs.Forest.{IsOrLiesIn, IsScope};
 ghost use Rattle.pssm_model.specs.Legs.{IsOfLeg, LegScope, LiesInScope};
 ghost use Rattle.pssm_model.specs.Routes.{IsRoute, IsStateRoute};
 ghost use Rattle.pssm_model.specs.WellFormed.{ShareRegion};
-=======
-ghost use Rattle.pssm_model.specs.Forest.{IsOrLiesIn};
-ghost use Rattle.pssm_model.specs.Legs.{LiesInScope};
-ghost use Rattle.pssm_model.specs.Routes.{IsStateRoute};
->>>>>>> b2edfbd19cb39bc796f0af2e7224653d1996a4ab
 ghost use Rattle.pssm_routes.specs.SingleLegs.{HasSingleLegs};
 ghost use Rattle.pssm_routes.specs.inner.Grounds.{scope_of, IsFrom, IsGroundOf, IsAreaIn, IsGroundIn, Clash};
 
