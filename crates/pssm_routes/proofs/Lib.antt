@@ -3,3 +3,5 @@ pub mod Leading
 pub mod Routed
 pub mod Conflicts
 pub mod Settling
+pub mod TrailLaws
+pub mod OrderLaws

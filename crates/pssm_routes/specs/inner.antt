@@ -3,3 +3,4 @@ pub mod Starts
 pub mod Ways
 pub mod Steps
 pub mod Sets
+pub mod Trails
