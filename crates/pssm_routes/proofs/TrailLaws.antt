@@ -13,7 +13,8 @@ use Rattle.std.proofs.lemmas.Option.{slice_get_within}
 use Rattle.pssm_model.specs.declared.ids.TransId.{TransId}
 use Rattle.pssm_model.proofs.ElementLaws.{same_transition, nothing_in_nil}
 use Rattle.pssm_routes.specs.declared.seeking.Step.{Step}
-use Rattle.pssm_routes.specs.inner.Steps.{IsTrail}
+use Rattle.pssm_model.specs.Routes.{IsAscending}
+use Rattle.pssm_routes.specs.inner.Steps.{IsTrail, IsRouteOver}
 use Rattle.pssm_routes.specs.inner.Steps.IsTrail.{first, further}
 use Rattle.pssm_routes.specs.inner.Trails.{step_before}
 
@@ -231,3 +232,15 @@ module _ (steps : List Step) (start : TransId) (last : Step) where
   pub traced_none : (found : List TransId) (next : Option Step) (turns : ℕ) → next ≡ None → IsTracedTo steps start last found next turns
       → (path : List TransId) → IsTrail steps last path → (u : TransId) → Contains found u ↔ (Contains path u × (u ≢ start))
   traced_none found next turns none h = traced_end found turns (subst (λ o. IsTracedTo steps start last found o turns) none h)
+
+-- the route of the transitions that were met, put in order
+pub route_over : (start : TransId) (path starts found sorted rest : List TransId) → starts ≡ start ∷ []
+    → ((u : TransId) → Contains found u ↔ (Contains path u × (u ≢ start)))
+    → ((u : TransId) → Contains sorted u ↔ Contains found u) → IsAscending sorted → rest ≡ sorted
+    → IsRouteOver start path (record { starts = starts; rest = rest })
+route_over start path starts found sorted rest one met same ascending put = record {
+  starts = one;
+  rest = λ u. subst (λ ts. Contains ts u ↔ (Contains path u × (u ≢ start))) (sym put)
+      (λ inside. (met u).0 ((same u).0 inside), λ both. (same u).1 ((met u).1 both));
+  ascending = subst IsAscending (sym put) ascending;
+}

@@ -44,7 +44,7 @@ fn later_transitions(
 }
 
 // Puts the transitions in ascending number, each once.
-#[tactic(auto, using(crate::proofs::OrderLaws::once_same, crate::proofs::OrderLaws::once_ascends))]
+#[tactic(auto, using(crate::proofs::OrderLaws::put_keeps, crate::proofs::OrderLaws::put_ascends))]
 fn put_in_order(transitions: &mut Vec<TransId>) -> Result<(), NoMemory>
     ensures same { (u : TransId) → OnOk result (Contains transitions.new.items u ↔ Contains transitions.old.items u) }
     ensures ascending { OnOk result (IsAscending transitions.new.items) }

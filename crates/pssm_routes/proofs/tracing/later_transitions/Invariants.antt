@@ -1,4 +1,3 @@
-use Rattle.std.proofs.Common.{◌≡◌, ◌+◌, length}
 use Rattle.pssm_routes.proofs.TrailLaws.{IsTracedTo}
 use Rattle.pssm_routes.proofs.tracing.later_transitions.Given as goal
 
