@@ -12,3 +12,5 @@ pub mod Unmet
 pub mod Ceilings
 pub mod Rooms
 pub mod JoiningSteps
+pub mod TrailLaws
+pub mod OrderLaws

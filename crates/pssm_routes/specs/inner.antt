@@ -5,3 +5,4 @@ pub mod Steps
 pub mod Seeking
 pub mod Sets
 pub mod Rooms
+pub mod Trails
