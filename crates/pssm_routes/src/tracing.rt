@@ -1,5 +1,5 @@
 //! The route of a way that a search has found.
-ghost use Rattle.std.specs.Prelude.{◌≡◌, ◌↔◌, ◌≢◌, ◌<◌, List, Contains, IfOk, OnOk};
+ghost use Rattle.std.specs.Prelude.{◌≡◌, ◌↔◌, ◌≢◌, List, Contains, IfOk, OnOk};
 ghost use Rattle.pssm_model.specs.declared.ids.TransId.{TransId};
 ghost use Rattle.pssm_model.specs.Routes.{IsAscending};
 ghost use Rattle.pssm_routes.specs.inner.Steps.{IsTrail, IsRouteOver};
@@ -44,7 +44,6 @@ fn later_transitions(
 }
 
 // Puts the transitions in ascending number, each once.
-#[tactic(auto, using(crate::proofs::OrderLaws::put_keeps, crate::proofs::OrderLaws::put_ascends))]
 fn put_in_order(transitions: &mut Vec<TransId>) -> Result<(), NoMemory>
     ensures same { (u : TransId) → OnOk result (Contains transitions.new.items u ↔ Contains transitions.old.items u) }
     ensures ascending { OnOk result (IsAscending transitions.new.items) }
