@@ -19,8 +19,8 @@ fn step_before(search: &Search, step: Step) -> Option<Step>
     }
 }
 
-// The transitions of the trail that leads to the step, but for the start. A trail takes no step twice, so it has at most
-// one transition more than there are steps.
+// The transitions of the trail that leads to the step, but for the start. A trail takes no step
+// twice, so it has at most one transition more than there are steps.
 #[tactic(auto, using(crate::proofs::TrailLaws::traced_at_start))]
 fn later_transitions(
     alloc: Global,
