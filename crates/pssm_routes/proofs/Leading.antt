@@ -1,5 +1,5 @@
 -- An enabled route leads out: its transitions follow one another over junctions until one ends on none.
-use Rattle.std.proofs.Common.{◌≡◌, ◌≢◌, ◌⊎◌, ◌+◌, ◌≤◌, ◌<◌, ℕ, zero, suc, List, [], ◌∷◌, ◌++◌, length, true, false, Option, Contains, refl, subst, inl, inr, ⊎_elim, arith, eqb}
+use Rattle.std.proofs.Common.{◌≡◌, ◌≢◌, ◌⊎◌, ◌+◌, ◌≤◌, ◌<◌, ℕ, zero, suc, List, [], ◌∷◌, ◌++◌, length, Option, Contains, refl, subst, inl, inr, ⊎_elim, arith, eqb}
 use Rattle.std.specs.List.{list_any, IsDistinct}
 use Rattle.std.proofs.lemmas.Bool.{eqb-true, cases_Bool}
 use Rattle.std.proofs.lemmas.Cmp.{nat_eq_equiv}
@@ -27,7 +27,7 @@ use Rattle.pssm_model.specs.Paths.{LeadsOn, IsPseudostate}
 use Rattle.pssm_model.specs.Paths.LeadsOn.{next, after}
 use Rattle.pssm_model.specs.Routes.{Truth, IsStateRoute, IsTrueAt}
 use Rattle.pssm_model.specs.WellFormed.Breaks.{E19}
-use Rattle.pssm_model.proofs.ElementLaws.{some_at, mapped_some, mapped_at, same_vertex, enters_one, kind_unique, nothing_in_nil}
+use Rattle.pssm_model.proofs.ElementLaws.{some_at, mapped_some, mapped_at, same_vertex, kind_unique, nothing_in_nil}
 use Rattle.pssm_routes.specs.SingleLegs.{HasSingleLegs}
 use Rattle.pssm_routes.specs.inner.Ways.{IsAllowed, IsOpen, LeadsOut}
 use Rattle.pssm_routes.specs.inner.Ways.LeadsOut.{ends, on}
@@ -76,7 +76,7 @@ module _ {m : DraftMachine} (b : HasSingleLegs m) where
 
   passed_none : (v : VertexId) → IsPassed v []
   unfolding IsDistinct
-  passed_none v = record { distinct = tt; lead = λ n inside. absurd (nothing_in_nil n inside); }
+  passed_none v = record { distinct = tt; lead = λ n inside. absurd (nothing_in_nil n inside) }
 
   not_passed : (v : VertexId) (ns : List ℕ) → IsPassed v ns → Contains ns v.0 → ⊥
   not_passed v ns h inside =
@@ -98,7 +98,7 @@ module _ {m : DraftMachine} (b : HasSingleLegs m) where
   few_passed : (v : VertexId) (ns : List ℕ) → HasKind m v kinds.Junction → IsPassed v ns → length ns < length m.vertices
   few_passed v ns kind h =
       let few = length-le_from_distinct_below (ns ++ v.0 ∷ []) (length m.vertices) (distinct_with v ns h)
-          (λ q found. below_with v ns kind h q (Contains-from_any eqb-true q (ns ++ v.0 ∷ []) found)) in
+      (λ q found. below_with v ns kind h q (Contains-from_any eqb-true q (ns ++ v.0 ∷ []) found)) in
       let long = length_push ns v.0 in omega arith
 
   is_pseudostate : (v : VertexId) → HasKind m v kinds.Junction → IsPseudostate m v
@@ -120,7 +120,7 @@ module _ {m : DraftMachine} (b : HasSingleLegs m) (shape : HasShape m) where
   module _ (truth : Truth) (within : Option RegionId) (p : Route) (route : IsStateRoute m p)
       (guards : (u : TransId) → On p u → IsTrueAt m truth u) (allowed : (u : TransId) (v : VertexId) → On p u → Enters m u v → IsAllowed m within v) where
     is_open_on : (u : TransId) → On p u → IsOpen m truth within u
-    is_open_on u is_on = record { guard = guards u is_on; target = λ v enters. allowed u v is_on enters; }
+    is_open_on u is_on = record { guard = guards u is_on; target = λ v enters. allowed u v is_on enters }
 
     -- a transition of the route leads out where those that go on from the junction at its end do
     abbrev GoesOut : VertexId → Type 0
@@ -134,9 +134,9 @@ module _ {m : DraftMachine} (b : HasSingleLegs m) (shape : HasShape m) where
         let of_kind : HasKind m end.0 end.1 = end.3 in
         ⊎_elim
         (λ same. (
-          let kind : HasKind m end.0 kinds.Junction = subst (HasKind m end.0) same of_kind in
-          let one = route.0.goes_on u end.0 kinds.Junction is_on at kind in
-          on (is_open_on u is_on) at kind one.2 (further end.0 at kind one.0 one.1 one.2)
+        let kind : HasKind m end.0 kinds.Junction = subst (HasKind m end.0) same of_kind in
+        let one = route.0.goes_on u end.0 kinds.Junction is_on at kind in
+        on (is_open_on u is_on) at kind one.2 (further end.0 at kind one.0 one.1 one.2)
         ))
         (λ other. ends (is_open_on u is_on) at (λ kind. other (kind_unique m end.0 end.1 kinds.Junction of_kind kind)))
         (junction_split end.1)

@@ -1,5 +1,5 @@
 -- A way out is a route: its transitions, in ascending number.
-use Rattle.std.proofs.Common.{◌≡◌, ◌≢◌, ◌⊎◌, ◌<◌, List, [], ◌∷◌, ◌++◌, length, Option, Some, Contains, refl, sym, subst, ◌∙◌, inl, inr, ⊎_elim, get_or}
+use Rattle.std.proofs.Common.{◌≡◌, ◌⊎◌, ◌<◌, List, [], ◌∷◌, length, Option, Some, Contains, sym, subst, ◌∙◌, inl, inr, ⊎_elim, get_or}
 use Rattle.std.proofs.lemmas.List.Elements.{Contains-push, Contains-push_cases, Contains-append_left, Contains-append_right, Contains-append_cases, All-contains_itself}
 use Rattle.std.proofs.lemmas.Option.{slice_get_within}
 use Rattle.pssm_model.specs.declared.ids.VertexId.{VertexId}
@@ -14,9 +14,9 @@ use Rattle.pssm_model.specs.declared.elements.VertexKind.TheVariants as kinds
 use Rattle.pssm_model.specs.declared.steps.Route.{Route}
 use Rattle.pssm_model.specs.Forest.{HasKind, transition_at}
 use Rattle.pssm_model.specs.Legs.{Leaves, Enters, On, transitions_of}
-use Rattle.pssm_model.specs.Routes.{Truth, IsRoute, IsSource, IsReached, IsStateRoute, IsTrueAt, EndsAt, GoesOnAt, HasOne, guard_of, IsAscending}
+use Rattle.pssm_model.specs.Routes.{Truth, IsReached, IsStateRoute, IsTrueAt, EndsAt, GoesOnAt, HasOne, guard_of, IsAscending}
 use Rattle.pssm_model.specs.Routes.IsReached.{start as reached_first, on as reached_after}
-use Rattle.pssm_model.proofs.ElementLaws.{mapped_some, mapped_at, leaves_one, kind_unique, nothing_in_nil}
+use Rattle.pssm_model.proofs.ElementLaws.{mapped_some, mapped_at, leaves_one, kind_unique}
 use Rattle.pssm_model.proofs.RouteLaws.{in_one, is_one, one_in_order}
 use Rattle.pssm_routes.specs.SingleLegs.{HasSingleLegs}
 use Rattle.pssm_routes.specs.inner.Ways.{IsAllowed, IsOpen, LeadsOut, IsWay, IsWayOut}
@@ -66,9 +66,9 @@ module _ {m : DraftMachine} {truth : Truth} {within : Option RegionId} {start : 
   way_leaves (goes_on {u = u} {v = v} {junctions = junctions} {path = path} before enters kind new leaves opened) w inside =
       ⊎_elim
       (λ earlier. ⊎_elim
-        (λ is. inl is)
-        (λ left. inr (left.0, Contains-append_right (v ∷ []) junctions left.0 left.1, left.2, left.3))
-        (way_leaves before w earlier))
+      (λ is. inl is)
+      (λ left. inr (left.0, Contains-append_right (v ∷ []) junctions left.0 left.1, left.2, left.3))
+      (way_leaves before w earlier))
       (λ same. inr (v, Contains-append_left (v ∷ []) junctions v (in_one v), kind, subst (λ x. Leaves m x v) same leaves))
       (Contains-push_cases path u w inside)
 
@@ -79,13 +79,13 @@ module _ {m : DraftMachine} {truth : Truth} {within : Option RegionId} {start : 
   way_goes_on (goes_on {t = t} {u = u} {v = q} {path = path} before end kind new leaves opened) w v inside enters =
       ⊎_elim
       (λ earlier. ⊎_elim
-        (λ is. (
-          let ends_there : Enters m t v = subst (λ x. Enters m x v) is enters in
-          let same : q ≡ v = cc in
-          inr (u, Contains-push path u, subst (Leaves m u) same leaves)
-        ))
-        (λ left. inr (left.0, Contains-append_left path (u ∷ []) left.0 left.1, left.2))
-        (way_goes_on before w v earlier enters))
+      (λ is. (
+      let ends_there : Enters m t v = subst (λ x. Enters m x v) is enters in
+      let same : q ≡ v = cc in
+      inr (u, Contains-push path u, subst (Leaves m u) same leaves)
+      ))
+      (λ left. inr (left.0, Contains-append_left path (u ∷ []) left.0 left.1, left.2))
+      (way_goes_on before w v earlier enters))
       (λ same. inl (sym same))
       (Contains-push_cases path u w inside)
 
@@ -104,16 +104,16 @@ module _ {m : DraftMachine} {truth : Truth} {within : Option RegionId} {start : 
     way_leaves_once (begins opened) w x v first second left right kind = is_one start w first ∙ sym (is_one start x second)
     way_leaves_once (goes_on {u = u} {v = q} {junctions = junctions} {path = path} before enters at new leaves opened) w x v first second left right kind =
         let clash = λ (y : TransId) (earlier : Contains path y) (out : Leaves m y v) (last : Leaves m u v).
-            new (subst (Contains junctions) (leaves_one m u v q last leaves) (way_differs before y v earlier out kind)) in
+        new (subst (Contains junctions) (leaves_one m u v q last leaves) (way_differs before y v earlier out kind)) in
         ⊎_elim
         (λ a. ⊎_elim
-          (λ c. way_leaves_once before w x v a c left right kind)
-          (λ same. absurd (clash w a left (subst (λ y. Leaves m y v) (sym same) right)))
-          (Contains-push_cases path u x second))
+        (λ c. way_leaves_once before w x v a c left right kind)
+        (λ same. absurd (clash w a left (subst (λ y. Leaves m y v) (sym same) right)))
+        (Contains-push_cases path u x second))
         (λ same. ⊎_elim
-          (λ c. absurd (clash x c right (subst (λ y. Leaves m y v) (sym same) left)))
-          (λ again. sym same ∙ again)
-          (Contains-push_cases path u x second))
+        (λ c. absurd (clash x c right (subst (λ y. Leaves m y v) (sym same) left)))
+        (λ again. sym same ∙ again)
+        (Contains-push_cases path u x second))
         (Contains-push_cases path u w first)
 
 module _ {m : DraftMachine} (b : HasSingleLegs m) (truth : Truth) (within : Option RegionId) (start last : TransId) (path : List TransId)
@@ -158,7 +158,7 @@ module _ {m : DraftMachine} (b : HasSingleLegs m) (truth : Truth) (within : Opti
         ⊎_elim
         (earlier u)
         (λ same. subst (IsReached m q) same
-          (reached_after (earlier t (way_has_last before)) enters left (in_rest x v (more x (Contains-push part x)) left kind)))
+        (reached_after (earlier t (way_has_last before)) enters left (in_rest x v (more x (Contains-push part x)) left kind)))
         (Contains-push_cases part x u inside)
 
     one_from : (t : TransId) (v : VertexId) → On q t → Enters m t v → HasKind m v kinds.Junction → HasOne m (transitions_of q) v

@@ -60,7 +60,7 @@ record HasPlaces (steps : List Step) (n : ℕ) (ks : List ℕ) : Type 0 where
 module _ {steps : List Step} where
   no_places : HasPlaces steps 1 []
   unfolding IsDistinct
-  no_places = record { count = refl; distinct = tt; shorter = λ k inside. absurd (nothing_in_nil k inside); }
+  no_places = record { count = refl; distinct = tt; shorter = λ k inside. absurd (nothing_in_nil k inside) }
 
   more_places : (path : List TransId) (k : ℕ) (step : Step) (u : TransId) (ks : List ℕ) → slice_get steps k ≡ Some step → IsTrail steps step path
       → HasPlaces steps (length path) ks → HasPlaces steps (length (path ++ u ∷ [])) (ks ++ k ∷ [])
@@ -69,11 +69,11 @@ module _ {steps : List Step} where
       let wide = length_push ks k in
       let one = h.count in
       let new = λ (inside : Contains ks k). (
-        let old = h.shorter k inside in
-        let same : old.0 ≡ step = cc in
-        let paths : old.1 ≡ path = trail_unique (subst (λ s. IsTrail steps s old.1) same old.3) trail in
-        let less : length path < length path = subst (λ p. length p < length path) paths old.4 in
-        never less
+      let old = h.shorter k inside in
+      let same : old.0 ≡ step = cc in
+      let paths : old.1 ≡ path = trail_unique (subst (λ s. IsTrail steps s old.1) same old.3) trail in
+      let less : length path < length path = subst (λ p. length p < length path) paths old.4 in
+      never less
       ) in
       record {
         count = omega arith;
@@ -96,9 +96,9 @@ module _ {steps : List Step} where
   trail_length {path = path} trail =
       let places = trail_places trail in
       let few = length-le_from_distinct_below places.0 (length steps) places.1.distinct
-          (λ q found. (
-          let at = places.1.shorter q (Contains-from_any eqb-true q places.0 found) in slice_get_within steps q at.0 at.2
-          )) in
+      (λ q found. (
+      let at = places.1.shorter q (Contains-from_any eqb-true q places.0 found) in slice_get_within steps q at.0 at.2
+      )) in
       let count = places.1.count in omega arith
 
 -- what a walk back over a trail has met after so many turns, but for the start
@@ -139,9 +139,9 @@ module _ (steps : List Step) (start : TransId) (last : Step) where
         short = omega arith;
         later = λ u there other. ⊎_elim
             (λ ahead. ⊎_elim
-              (λ further. inl further)
-              (λ here. absurd (other (sym here ∙ is)))
-              (Contains-push_cases split.0 step.by u (subst (λ ts. Contains ts u) split.2 ahead)))
+            (λ further. inl further)
+            (λ here. absurd (other (sym here ∙ is)))
+            (Contains-push_cases split.0 step.by u (subst (λ ts. Contains ts u) split.2 ahead)))
             (λ before. inr before)
             (was.later u there other);
         taken = was.taken;
@@ -163,15 +163,15 @@ module _ (steps : List Step) (start : TransId) (last : Step) where
         short = omega arith;
         later = λ u there apart. ⊎_elim
             (λ ahead. ⊎_elim
-              (λ further. inl further)
-              (λ here. inr (subst (Contains (found ++ step.by ∷ [])) here (Contains-push found step.by)))
-              (Contains-push_cases split.0 step.by u (subst (λ ts. Contains ts u) split.2 ahead)))
+            (λ further. inl further)
+            (λ here. inr (subst (Contains (found ++ step.by ∷ [])) here (Contains-push found step.by)))
+            (Contains-push_cases split.0 step.by u (subst (λ ts. Contains ts u) split.2 ahead)))
             (λ before. inr (Contains-append_left found (step.by ∷ []) u before))
             (was.later u there apart);
         taken = λ u there. ⊎_elim
             (was.taken u)
             (λ here. subst (λ t. Contains path t × (t ≢ start)) here
-              (was.inside step.by (subst (λ ts. Contains ts step.by) (sym split.2) (Contains-push split.0 step.by)), other))
+            (was.inside step.by (subst (λ ts. Contains ts step.by) (sym split.2) (Contains-push split.0 step.by)), other))
             (Contains-push_cases found step.by u there);
         inside = λ u there. was.inside u (subst (λ ts. Contains ts u) (sym split.2) (Contains-append_left split.0 (step.by ∷ []) u there));
       }
@@ -204,10 +204,10 @@ module _ (steps : List Step) (start : TransId) (last : Step) where
   traced_other found new now next step turns differs test is added at before h =
       let here : IsTracedTo steps start last found (Some step) turns = subst (λ o. IsTracedTo steps start last found o turns) at h in
       let other = λ (same : step.by ≡ start). (
-        let number = ap (λ (t : TransId). t.0) same in
-        let yes : eqb step.by.0 start.0 ≡ true = grind (arith, nat_tests) in
-        let no : not true ≡ true = ap not (sym yes) ∙ sym test ∙ is in
-        differ no
+      let number = ap (λ (t : TransId). t.0) same in
+      let yes : eqb step.by.0 start.0 ≡ true = grind (arith, nat_tests) in
+      let no : not true ≡ true = ap not (sym yes) ∙ sym test ∙ is in
+      differ no
       ) in
       let turned = traced_turn found step turns other here in
       subst (λ ts. IsTracedTo steps start last ts next (turns + 1)) (sym added)

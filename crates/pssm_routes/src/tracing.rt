@@ -1,5 +1,5 @@
 //! The route of a way that a search has found.
-ghost use Rattle.std.specs.Prelude.{◌≡◌, ◌↔◌, ◌≢◌, ◌<◌, List, Contains, IfOk, OnOk};
+ghost use Rattle.std.specs.Prelude.{◌≡◌, ◌↔◌, ◌≢◌, List, Contains, IfOk, OnOk};
 ghost use Rattle.pssm_model.specs.declared.ids.TransId.{TransId};
 ghost use Rattle.pssm_model.specs.Routes.{IsAscending};
 ghost use Rattle.pssm_routes.specs.inner.Steps.{IsTrail, IsRouteOver};
@@ -19,8 +19,8 @@ fn step_before(search: &Search, step: Step) -> Option<Step>
     }
 }
 
-// The transitions of the trail that leads to the step, but for the start. A trail takes no step twice, so it has at most
-// one transition more than there are steps.
+// The transitions of the trail that leads to the step, but for the start. A trail takes no step
+// twice, so it has at most one transition more than there are steps.
 #[tactic(auto, using(crate::proofs::TrailLaws::traced_at_start))]
 fn later_transitions(
     alloc: Global,
@@ -44,7 +44,6 @@ fn later_transitions(
 }
 
 // Puts the transitions in ascending number, each once.
-#[tactic(auto, using(crate::proofs::OrderLaws::put_keeps, crate::proofs::OrderLaws::put_ascends))]
 fn put_in_order(transitions: &mut Vec<TransId>) -> Result<(), NoMemory>
     ensures same { (u : TransId) → OnOk result (Contains transitions.new.items u ↔ Contains transitions.old.items u) }
     ensures ascending { OnOk result (IsAscending transitions.new.items) }
