@@ -1,21 +1,28 @@
--- The premise of what the order of a step is built for: every vertex is an initial vertex or a State, in any nesting of regions, and every transition is
--- external and ends on a State. Later work widens this premise; no definition changes with it.
+-- The premise of what the order of a step is built for: every vertex is an initial vertex or a State, in any nesting of regions, and every transition
+-- ends on a State. Later work widens this premise; no definition changes with it.
 use Rattle.std.specs.Prelude.{◌≡◌, ◌⊎◌}
 use Rattle.std.specs.List.{AllByRecursion}
 use Rattle.pssm_model.specs.declared.elements.DraftMachine.{DraftMachine}
 use Rattle.pssm_model.specs.declared.elements.Vertex.{Vertex}
 use Rattle.pssm_model.specs.declared.elements.VertexKind.TheVariants as kinds
 use Rattle.pssm_model.specs.declared.elements.Transition.{Transition}
-use Rattle.pssm_model.specs.declared.elements.TransKind.TheVariants.{External}
-use Rattle.pssm_model.specs.Forest.{HasKind}
+use Rattle.pssm_model.specs.declared.elements.TransKind.TheVariants.{External, Local, Internal}
+use Rattle.pssm_model.specs.Forest.{HasKind, LiesInState}
 
 -- an initial vertex or a State
 abbrev pub IsInitialOrState : Vertex → Type 0
 IsInitialOrState x = (x.kind ≡ kinds.Initial) ⊎ (x.kind ≡ kinds.State)
 
--- an external transition that ends on a State
+-- The transition is external; or it is local, and ends in the State that it leaves; or it is internal, and ends on the State that it leaves.
+abbrev pub GoesPlainly : DraftMachine → Transition → Type 0
+GoesPlainly m x =
+    (x.kind ≡ External)
+    ⊎ ((x.kind ≡ Local) × HasKind m x.source kinds.State × LiesInState m x.target x.source)
+    ⊎ ((x.kind ≡ Internal) × HasKind m x.source kinds.State × (x.source ≡ x.target))
+
+-- such a transition that ends on a State
 pub record EndsOnState (m : DraftMachine) (x : Transition) : Type 0 where
-  pub external : x.kind ≡ External
+  pub goes : GoesPlainly m x
   pub target : HasKind m x.target kinds.State
 
 -- a machine of such vertices and transitions

@@ -1,13 +1,16 @@
 -- The premises of what is built: the classes and settings that the code runs, and the entries of the runs of these. Later work widens these premises; no
 -- definition changes with them.
-use Rattle.std.specs.Prelude.{◌≡◌, ◌⊎◌, ◌<◌, ◌≤◌, [], ◌∷◌, length, All}
+use Rattle.std.specs.Prelude.{◌≡◌, ◌⊎◌, ◌<◌, ◌≤◌, length, All}
+use Rattle.std.specs.List.{AllByRecursion}
 use Rattle.pssm_model.specs.declared.ids.TransId.{TransId}
+use Rattle.pssm_model.specs.declared.steps.Route.{Route}
 use Rattle.pssm_model.specs.declared.steps.Firing.{Firing}
 use Rattle.pssm_model.specs.declared.steps.Mode.TheVariants.{Plain}
 use Rattle.pssm_model.specs.declared.steps.How.{How}
 use Rattle.pssm_model.specs.declared.steps.How.TheVariants.{By, Nothing}
 use Rattle.pssm_model.specs.BuiltMachine.{IsBuiltMachine}
 use Rattle.pssm_model.specs.Routes.{single_route}
+use Rattle.pssm_model.specs.FiringSets.{IsListed}
 use Rattle.pssm_semantics.specs.declared.entry.Entry.{Entry}
 use Rattle.pssm_semantics.specs.declared.entry.Entry.TheVariants.{Post, Start, Take, Exit, Effect, Enter, Opened}
 use Rattle.pssm_semantics.specs.declared.setting.Class.{Class}
@@ -25,16 +28,20 @@ pub record IsBuilt (setting : Setting) : Type 0 where
   pub proper : IsProper setting
   pub machines : All (λ c. IsBuiltMachine c.machine) setting.classes
 
--- Nothing fires, or one transition does.
+-- the route of one transition, which is one of the first 8,192
+abbrev pub IsBuiltRoute : Route → Type 0
+IsBuiltRoute route = (t : TransId) × (route ≡ single_route t) × (t.0 < 8192)
+
+-- routes of one transition each, listed in ascending number
 abbrev pub IsBuiltFiring : Firing → Type 0
-IsBuiltFiring firing = (firing.routes ≡ []) ⊎ ((t : TransId) × (firing.routes ≡ single_route t ∷ []))
+IsBuiltFiring firing = AllByRecursion IsBuiltRoute firing.routes × IsListed firing.routes
 
 -- no way, or the route of one transition
 abbrev pub IsBuiltWay : How → Type 0
 IsBuiltWay how = (how ≡ Nothing) ⊎ ((t : TransId) × (how ≡ By (single_route t)))
 
 -- an entry of an object of a class that the code runs: at most 64 outputs, openings by default, by no way or by the route of one
--- transition, firings of at most one such route, and no completion, pick or do step (this profile's choice of entries)
+-- transition, firings of such routes, and no completion, pick or do step (this profile's choice of entries)
 abbrev pub HasBuiltForm : Entry → Type 0
 HasBuiltForm (Post o signal args) = Unit {0}
 HasBuiltForm (Start o) = Unit {0}
