@@ -1,5 +1,9 @@
 -- How the regions of a machine that the code runs open by default.
-use Rattle.std.proofs.Common.{◌↔◌, refl, sym, subst, ⊎_elim}
+use Rattle.std.proofs.Common.{◌≡◌, ◌↔◌, ◌<◌, List, [], ◌∷◌, length, Bool, IsTrue, Contains, refl, sym, subst, ⊎_elim, arith}
+use Rattle.std.specs.Bool.{◌==◌}
+use Rattle.std.proofs.lemmas.Bool.{eqb-true}
+use Rattle.std.proofs.lemmas.List.Elements.{Contains-get_or}
+use Rattle.pssm_model.specs.declared.ids.VertexId.{VertexId}
 use Rattle.pssm_model.specs.declared.ids.RegionId.{RegionId}
 use Rattle.pssm_model.specs.declared.elements.DraftMachine.{DraftMachine}
 use Rattle.pssm_model.specs.declared.steps.Mode.TheVariants.{Plain}
@@ -8,8 +12,10 @@ use Rattle.pssm_model.specs.declared.steps.How.TheVariants.{By, Restore, Nothing
 use Rattle.pssm_model.specs.declared.steps.Item.TheVariants as items
 use Rattle.pssm_model.specs.Routes.{Truth, single_route}
 use Rattle.pssm_model.specs.FiringSets.{IsLateRoute}
+use Rattle.pssm_model.specs.Paths.{IsInitialOf}
 use Rattle.pssm_model.specs.Ways.{Memory, OpensByDefault, IsWay}
 use Rattle.pssm_model.specs.BuiltMachine.{IsBuiltMachine}
+use Rattle.pssm_model.proofs.ElementLaws.{nothing_in_nil}
 use Rattle.pssm_plan.proofs.NestedRoutes.{late_route_is, late_route_of}
 use Rattle.pssm_object.specs.inner.Firing.{IsDefaultWay}
 use Rattle.pssm_object.proofs.BuiltMachines.{nested, initial_true, leaving_there, initial_leads, known_initial}
@@ -48,3 +54,21 @@ module _ {m : DraftMachine} (b : IsBuiltMachine m) where
       (λ i. let out = initial_leads b i.0 i.1.0 in (By (single_route out.0), (i.0, out.0, i.1, out.1, refl)))
       (λ none. (Nothing, λ v i. none (v, i)))
       (known_initial b r)
+
+-- a region without initial vertices
+no_initial : (m : DraftMachine) (r : RegionId) (initials : List VertexId)
+    → ((v : VertexId) → Contains initials v ↔ IsInitialOf m r v)
+    → IsTrue (length initials == 0) ↔ ((v : VertexId) → IsInitialOf m r v → ⊥)
+no_initial m r [] are = (λ e v is. nothing_in_nil v ((are v).1 is), λ none. refl)
+no_initial m r (v ∷ vs) are = (
+  λ e. absurd (let no : length (v ∷ vs) ≡ 0 = eqb-true (length (v ∷ vs)) 0 e in omega arith),
+  λ none. absurd (none v ((are v).0 (Contains-get_or (v ∷ vs) 0 v (omega arith)))),
+)
+
+-- opens by none
+pub opens_by_none : (m : DraftMachine) (r : RegionId) (how : How) (initials : List VertexId) (empty : Bool) → how ≡ Nothing
+    → ((v : VertexId) → Contains initials v ↔ IsInitialOf m r v) → empty ≡ (length initials == 0)
+    → IsTrue empty ↔ IsDefaultWay m r how
+opens_by_none m r how initials empty is are e =
+    subst (λ h. IsTrue empty ↔ IsDefaultWay m r h) (sym is)
+    (subst (λ b. IsTrue b ↔ IsDefaultWay m r Nothing) (sym e) (no_initial m r initials are))

@@ -1,9 +1,7 @@
 pub mod BuiltMachines
-pub mod Finding
-pub mod Reactions
 pub mod PlanItems
 pub mod BuiltWays
-pub mod BuiltFiring
+pub mod Fired
 pub mod CourseLaws
 pub mod UnderWay
 pub mod Going
@@ -12,7 +10,6 @@ pub mod Behaving
 pub mod Kept
 pub mod Rules
 pub mod Standings
-pub mod Firings
 pub mod Judged
 pub mod Accepted
 pub mod Following

@@ -15,7 +15,7 @@ use Rattle.pssm_semantics.proofs.Stores.{SameTakes, told_by-more}
 use Rattle.pssm_object.specs.Standing.{HasSignalsTaken}
 
 -- a fact about each element that is there is one about all
-each_contained : {X : Type 0} (P : X → Type 0) (xs : List X) → ((x : X) → Contains xs x → P x) → AllByRecursion P xs
+pub each_contained : {X : Type 0} (P : X → Type 0) (xs : List X) → ((x : X) → Contains xs x → P x) → AllByRecursion P xs
 each_contained P [] each = tt
 each_contained P (x ∷ xs) each = (each x (first_in x xs), each_contained P xs (λ y inside. each y (later_in x xs y inside)))
 

@@ -1,5 +1,5 @@
 -- Which entries of an object may follow, as far as the object itself shows it.
-use Rattle.std.specs.Prelude.{◌≡◌, ◌<◌, ◌++◌, List, [], ◌∷◌, length, Option, option_map, IsSome, IsSomeAnd, Bool, IsTrue}
+use Rattle.std.specs.Prelude.{◌≡◌, ◌↔◌, ◌<◌, ◌++◌, List, [], ◌∷◌, length, Option, option_map, IsSome, IsSomeAnd, Bool, IsTrue}
 use Rattle.pssm_model.specs.declared.elements.DraftMachine.{DraftMachine}
 use Rattle.pssm_semantics.specs.declared.entry.ObjectId.{ObjectId}
 use Rattle.pssm_semantics.specs.declared.entry.Entry.{Entry}
@@ -11,6 +11,7 @@ use Rattle.pssm_semantics.specs.Journal.{IsPost, object_of}
 use Rattle.pssm_semantics.specs.Pool.{told_by}
 use Rattle.pssm_semantics.specs.Known.{IsFiringOf, IsRouteOf, IsVertexOf, IsWayOf}
 use Rattle.pssm_semantics.specs.Rules.{KeepsOwn}
+use Rattle.pssm_semantics.specs.Deferral.{IsDeferred}
 use Rattle.pssm_semantics.specs.Verdict.{IsFirstBroken}
 use Rattle.pssm_object.specs.declared.object.Waiting.{Waiting}
 use Rattle.pssm_object.specs.Standing.{Standing, StandsAfter}
@@ -112,3 +113,9 @@ HasNoMove class x signal =
 abbrev pub Brings : Class → Standing → Option Waiting → Entry → Standing → Type 0
 Brings class old signal e new =
     (J : List Entry) → StandsAfter class J old → IsTold J (stimulus_for old.own signal) e → StandsAfter class (J ++ e ∷ []) new
+
+-- After all entries after which the object stands so, the answer is whether the object defers this signal
+-- (UML 2.5.1 14.2.3.4, deferred events).
+abbrev pub Defers : Class → Standing → Waiting → Bool → Type 0
+Defers class x signal answer =
+    (J : List Entry) → StandsAfter class J x → IsTrue answer ↔ IsDeferred class (told_by J) J x.own (stimulus_of x.own signal)

@@ -11,11 +11,11 @@ ghost use Rattle.pssm_object.specs.Tasks.{tasks_of_plan};
 ghost use Rattle.pssm_object.specs.inner.Situations.{standing_of, IsAtRest};
 ghost use Rattle.pssm_semantics.specs.Arguments.{ActArgsFit};
 ghost use Rattle.pssm_object.specs.inner.Working.{HasPlace, Makes, MakesBy};
-ghost use Rattle.pssm_object.specs.inner.Choosing.{IsReadyOpening, OpensNothing, OpensPlainly, TakesSignal, Chooses, DoesTask, LacksOpenings};
+ghost use Rattle.pssm_object.specs.inner.Choosing.{IsReadyOpening, OpensNothing, OpensPlainly, TakesSignal, Chooses, DoesTask, LacksOpenings, KeepsBackHere};
 
+use crate::firing::{is_kept_back, pick_firing};
 use crate::object::Waiting;
 use crate::opening::default_way;
-use crate::reacting::{active_at_top, pick_firing};
 use crate::situation::Situation;
 use crate::working::stated_act;
 use pssm_model::{Duplicate, Item, Machine, Mode, RegionId, Row};
@@ -32,6 +32,15 @@ impl Situation {
             Some(plan) => plan.finished(),
             None => false,
         }
+    }
+
+    /// Whether some active State keeps the signal back.
+    pub fn defers(&self, class: &Class, waiting: &Waiting) -> bool
+        requires class { IsBuiltClass class.now }
+        requires fits { Fits class.now.machine self.now.config }
+        ensures { IsTrue result ↔ KeepsBackHere class.now (standing_of self.now) waiting.now }
+    {
+        is_kept_back(class, &self.config, waiting, self.store.as_slice())
     }
 
     /// The start, a ready opening, or where the object rests the take of the signal; none where there is none of these.
@@ -91,8 +100,8 @@ impl Situation {
         requires fits { Fits class.now.machine self.now.config }
         ensures { IfOk result (λ entry. TakesSignal class.now (standing_of self.now) (Some waiting.now) (Some entry)) }
     {
-        let active = active_at_top(&class.machine, &self.config);
-        let firing = pick_firing(alloc, class, active, waiting, self.store.as_slice(), word)?;
+        let store = self.store.as_slice();
+        let firing = pick_firing(alloc, class, &self.config, waiting, store, word)?;
         Ok(Entry::Take {
             object: self.own,
             number: waiting.number,

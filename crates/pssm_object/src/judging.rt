@@ -3,18 +3,18 @@ ghost use Rattle.std.specs.Prelude.{◌≡◌, ◌<◌, ◌≢◌, ◌↔◌, le
 ghost use Rattle.std.specs.Option.{option_copied};
 ghost use Rattle.pssm_model.specs.declared.elements.DraftMachine.{DraftMachine};
 ghost use Rattle.pssm_semantics.specs.Built.{IsBuiltClass};
-ghost use Rattle.pssm_semantics.specs.Known.{IsFiringOf, IsWayOf};
+ghost use Rattle.pssm_semantics.specs.Known.{IsWayOf};
 ghost use Rattle.pssm_config.specs.Tables.{Fits};
 ghost use Rattle.pssm_plan.specs.Plans.{IsPlanOf};
 ghost use Rattle.pssm_object.specs.Following.{NamesPlaces};
 ghost use Rattle.pssm_object.specs.inner.Situations.{standing_of, IsAtRest};
 ghost use Rattle.pssm_semantics.specs.Arguments.{ActArgsFit};
 ghost use Rattle.pssm_object.specs.inner.Working.{HasPlace, Makes, MakesBy};
-ghost use Rattle.pssm_object.specs.inner.Judging.{JudgesRest, JudgesStart, JudgesTake, JudgesDone, JudgesItem, JudgesWork, JudgesOpened, JudgesNever, Judges};
+ghost use Rattle.pssm_object.specs.inner.Judging.{JudgesRest, JudgesStart, JudgesFiring, JudgesTake, JudgesDone, JudgesItem, JudgesWork, JudgesOpened, JudgesNever, Judges};
 
+use crate::firing::fires;
 use crate::object::Waiting;
 use crate::opening::opens_by;
-use crate::reacting::{active_at_top, fires};
 use crate::situation::Situation;
 use crate::working::stated_act;
 use pssm_model::{Firing, How, Item, Machine, Mode, RegionId, Row, Same};
@@ -40,7 +40,7 @@ impl Situation {
         match entry {
             Entry::Post { .. } => Ok(None),
             Entry::Start { .. } => Ok(self.judge_start()),
-            Entry::Take { firing, .. } => Ok(self.judge_take(class, firing, signal)),
+            Entry::Take { firing, .. } => self.judge_take(alloc, class, firing, signal),
             Entry::Done { .. } => Ok(self.judge_done()),
             Entry::Exit { state, outs, .. } => {
                 self.judge_work(alloc, class, Item::Exit(*state), outs)
@@ -75,22 +75,44 @@ impl Situation {
     }
 
     // The verdict on a take; without its signal what it fires is not asked.
-    fn judge_take(&self, class: &Class, firing: &Firing, signal: Option<&Waiting>) -> Option<Rule>
+    fn judge_take(
+        &self,
+        alloc: Global,
+        class: &Class,
+        firing: &Firing,
+        signal: Option<&Waiting>,
+    ) -> Result<Option<Rule>, NoMemory>
         requires class { IsBuiltClass class.now }
         requires fits { Fits class.now.machine self.now.config }
         requires plan { IfSome self.now.plan (IsPlanOf class.now.machine) }
-        requires names { IsFiringOf class.now.machine firing.now }
-        ensures { JudgesTake class.now (standing_of self.now) (option_copied signal.entry) firing.now.routes result }
+        ensures { IfOk result (JudgesTake class.now (standing_of self.now) (option_copied signal.entry) firing.now.routes) }
     {
         if let Err(rule) = self.at_rest() {
-            return Some(rule);
+            return Ok(Some(rule));
         }
-        let waiting = signal?;
-        let active = active_at_top(&class.machine, &self.config);
-        if fires(class, active, waiting, self.store.as_slice(), firing) {
-            None
+        match signal {
+            Some(waiting) => self.judge_firing(alloc, class, firing, waiting),
+            None => Ok(None),
+        }
+    }
+
+    // The verdict on what this signal fires, where the object rests.
+    fn judge_firing(
+        &self,
+        alloc: Global,
+        class: &Class,
+        firing: &Firing,
+        waiting: &Waiting,
+    ) -> Result<Option<Rule>, NoMemory>
+        requires class { IsBuiltClass class.now }
+        requires fits { Fits class.now.machine self.now.config }
+        ensures { IfOk result (JudgesFiring class.now (standing_of self.now) waiting.now firing.now.routes) }
+    {
+        let store = self.store.as_slice();
+        if fires(alloc, class, &self.config, waiting, store, firing)? {
+            Ok(None)
         } else {
-            Some(Rule::A7)
+            Ok(Some(Rule::A7))
         }
     }
 

@@ -6,11 +6,11 @@
 #![tactic(auto)]
 
 mod choosing;
+mod firing;
 mod judging;
 mod laws;
 mod object;
 mod opening;
-mod reacting;
 mod routes;
 mod situation;
 mod stepping;

@@ -45,7 +45,7 @@ impl Model for Object {
 impl Object {
     ghost use Rattle.pssm_object.specs.declared.object.Waiting.{Waiting as Signal};
     ghost use Rattle.pssm_object.specs.Standing.{StandsAfter, Stands};
-    ghost use Rattle.pssm_object.specs.Following.{NamesPlaces, IsCandidate, IsMove, IsQuiet, HasNext, IsHandedIn, CanCome, MayCome, BreaksFirst, HasNoMove, Brings};
+    ghost use Rattle.pssm_object.specs.Following.{NamesPlaces, IsCandidate, IsMove, IsQuiet, HasNext, IsHandedIn, CanCome, MayCome, BreaksFirst, HasNoMove, Brings, Defers};
     ghost use Rattle.pssm_object.specs.Tasks.{ready_tasks, AreReadyTasks, Does};
 
     /// An object of the class before its start, with the first values of the class's variables.
@@ -187,6 +187,16 @@ impl Object {
     {
         let _ = class;
         self.situation.is_at_rest() && !waiting
+    }
+
+    /// Whether the object defers the signal that waits: a State that is active defers it, and no route that the signal
+    /// enables starts at this State or in it (UML 2.5.1, 14.2.3.4, deferred events). It takes no memory.
+    pub fn defers(&self, class: &Class, waiting: &Waiting) -> bool
+        requires class { IsBuiltClass class.now }
+        requires stands { Stands class.now self.now }
+        ensures { Defers class.now self.now waiting.now result }
+    {
+        self.situation.defers(class, waiting)
     }
 
     /// The entry of a ready task, with the outputs of its behaviour.

@@ -1,17 +1,13 @@
 -- What an object may do next, where it stands so.
-use Rattle.std.specs.Prelude.{◌≡◌, ◌↔◌, ◌⊎◌, ◌≤◌, ◌<◌, ℕ, List, length, Option, Some, None, Contains, slice_get}
-use Rattle.pssm_model.specs.declared.ids.VertexId.{VertexId}
+use Rattle.std.specs.Prelude.{◌≡◌, ◌⊎◌, ◌≤◌, ◌<◌, ℕ, List, length, Option, Some, None, slice_get}
 use Rattle.pssm_model.specs.declared.ids.RegionId.{RegionId}
-use Rattle.pssm_model.specs.declared.ids.TransId.{TransId}
 use Rattle.pssm_model.specs.declared.elements.DraftMachine.{DraftMachine}
 use Rattle.pssm_model.specs.declared.steps.How.{How}
 use Rattle.pssm_model.specs.declared.steps.Mode.{Mode}
 use Rattle.pssm_model.specs.declared.steps.Mode.TheVariants.{Plain}
 use Rattle.pssm_model.specs.declared.steps.Item.{Item}
 use Rattle.pssm_model.specs.declared.steps.Item.TheVariants as items
-use Rattle.pssm_model.specs.Legs.{Leaves}
 use Rattle.pssm_model.specs.Order.{IsReady}
-use Rattle.pssm_semantics.specs.Values.{Store}
 use Rattle.pssm_plan.specs.declared.roster.Call.{Call}
 use Rattle.pssm_plan.specs.Agenda.{Agenda, course_of}
 use Rattle.pssm_semantics.specs.declared.entry.ObjectId.{ObjectId}
@@ -22,7 +18,7 @@ use Rattle.pssm_semantics.specs.declared.stimulus.Task.{Task}
 use Rattle.pssm_semantics.specs.declared.stimulus.Task.TheVariants as tasks
 use Rattle.pssm_object.specs.declared.object.Waiting.{Waiting}
 use Rattle.pssm_object.specs.Standing.{Standing}
-use Rattle.pssm_object.specs.inner.Firing.{Triggers, IsDefaultWay}
+use Rattle.pssm_object.specs.inner.Firing.{IsKeptBack, IsDefaultWay}
 use Rattle.pssm_object.specs.inner.Situations.{IsAtRest}
 use Rattle.pssm_object.specs.inner.Judging.{FiresHere}
 use Rattle.pssm_object.specs.inner.Working.{outcome_for}
@@ -82,7 +78,6 @@ DoesTask class x (tasks.Effect t) e = e ≡ Effect x.own t (outcome_for class x 
 DoesTask class x (tasks.Enter s) e = e ≡ Enter x.own s (outcome_for class x (items.Enter s)).outs
 DoesTask class x (tasks.DoStep s k) e = ⊥
 
--- exactly the transitions that leave the State and are triggered by the signal
-abbrev pub AreEnabled : Class → Store → Waiting → VertexId → List TransId → Type 0
-AreEnabled class store signal s found =
-    (t : TransId) → Contains found t ↔ (Leaves class.machine t s × Triggers class store signal t)
+-- An active State keeps the signal back.
+abbrev pub KeepsBackHere : Class → Standing → Waiting → Type 0
+KeepsBackHere class x signal = IsKeptBack class x.config x.store signal

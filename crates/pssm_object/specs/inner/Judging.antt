@@ -1,6 +1,5 @@
 -- The verdict on one more entry of an object, where it stands so.
 use Rattle.std.specs.Prelude.{◌≡◌, List, Option, Some, None, IfSome, IsSomeAnd}
-use Rattle.pssm_model.specs.declared.ids.VertexId.{VertexId}
 use Rattle.pssm_model.specs.declared.ids.RegionId.{RegionId}
 use Rattle.pssm_model.specs.declared.elements.DraftMachine.{DraftMachine}
 use Rattle.pssm_model.specs.declared.steps.Route.{Route}
@@ -20,7 +19,7 @@ use Rattle.pssm_semantics.specs.declared.setting.Class.{Class}
 use Rattle.pssm_object.specs.declared.object.Waiting.{Waiting}
 use Rattle.pssm_object.specs.Standing.{Standing}
 use Rattle.pssm_object.specs.inner.Firing.{Fires, IsDefaultWay}
-use Rattle.pssm_object.specs.inner.Situations.{IsAtRest, NamesActive}
+use Rattle.pssm_object.specs.inner.Situations.{IsAtRest}
 use Rattle.pssm_object.specs.inner.Working.{Makes}
 
 -- something that the last step calls has not run
@@ -41,13 +40,17 @@ JudgesStart plan (Some _) = ⊥
 
 -- The routes are what this signal fires.
 abbrev pub FiresHere : Class → Standing → List Route → Waiting → Type 0
-FiresHere class x routes signal =
-    (active : Option VertexId) × NamesActive class.machine x.config active × Fires class x.store signal active routes
+FiresHere class x routes signal = Fires class x.config x.store signal routes
 
 -- They are not.
 abbrev pub FiresOther : Class → Standing → List Route → Waiting → Type 0
-FiresOther class x routes signal =
-    (active : Option VertexId) × NamesActive class.machine x.config active × (Fires class x.store signal active routes → ⊥)
+FiresOther class x routes signal = FiresHere class x routes signal → ⊥
+
+-- the verdict on what a signal that is handed in fires
+abbrev pub JudgesFiring : Class → Standing → Waiting → List Route → Option Rule → Type 0
+JudgesFiring class x signal routes None = FiresHere class x routes signal
+JudgesFiring class x signal routes (Some A7) = FiresOther class x routes signal
+JudgesFiring class x signal routes (Some _) = ⊥
 
 -- the verdict on a take; what the signal fires is asked where the signal is handed in
 abbrev pub JudgesTake : Class → Standing → Option Waiting → List Route → Option Rule → Type 0

@@ -1,13 +1,10 @@
 -- Where an object stands, from what it keeps.
-use Rattle.std.specs.Prelude.{◌≡◌, ◌↔◌, Option, Some}
-use Rattle.pssm_model.specs.declared.ids.VertexId.{VertexId}
+use Rattle.std.specs.Prelude.{◌≡◌, Option, Some}
 use Rattle.pssm_model.specs.declared.elements.DraftMachine.{DraftMachine}
 use Rattle.pssm_model.specs.Items.{HasRunOut}
-use Rattle.pssm_config.specs.Tables.{Tables, configuration_of}
 use Rattle.pssm_plan.specs.Agenda.{Agenda, course_of}
 use Rattle.pssm_object.specs.declared.situation.Situation.{Situation}
 use Rattle.pssm_object.specs.Standing.{Standing}
-use Rattle.pssm_object.specs.inner.Firing.{IsActiveAtTop}
 
 -- where an object stands that keeps this
 abbrev pub standing_of : Situation → Standing
@@ -16,7 +13,3 @@ standing_of s = record { own = s.own; config = s.config; plan = s.plan; store = 
 -- The object has started, and everything that its last step calls has run.
 abbrev pub IsAtRest : DraftMachine → Option Agenda → Type 0
 IsAtRest m plan = (p : Agenda) × (plan ≡ Some p) × HasRunOut m (course_of p)
-
--- This is the active State that a top region owns, if one is active.
-abbrev pub NamesActive : DraftMachine → Tables → Option VertexId → Type 0
-NamesActive m tables active = (s : VertexId) → (active ≡ Some s) ↔ IsActiveAtTop m (configuration_of tables) s

@@ -1,5 +1,5 @@
 -- a region opens by none where it has no initial vertex
-use Rattle.pssm_object.proofs.Reactions.{opens_by_none}
+use Rattle.pssm_object.proofs.BuiltWays.{opens_by_none}
 use Rattle.pssm_object.proofs.opening.opens_by.Goals as goal
 
 pub returns-in-Nothing : goal.returns-in-Nothing

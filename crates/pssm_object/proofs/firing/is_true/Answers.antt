@@ -1,7 +1,7 @@
 -- a guard has the same value on the arguments as on these continued by zeros
 use Rattle.std.proofs.Common.{◌∙◌}
 use Rattle.pssm_object.proofs.Guards.{guard_value, guard_missing}
-use Rattle.pssm_object.proofs.reacting.is_true.Goals as goal
+use Rattle.pssm_object.proofs.firing.is_true.Goals as goal
 
 pub returns-in-Some : goal.returns-in-Some
 returns-in-Some c =

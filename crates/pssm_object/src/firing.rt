@@ -1,0 +1,144 @@
+//! What a signal fires where an object stands so, and whether the object defers it.
+ghost use Rattle.std.specs.Prelude.{◌≡◌, ◌↔◌, ◌<◌, IsTrue, IfOk, length, slice_get};
+ghost use Rattle.std.specs.Option.{option_copied};
+ghost use Rattle.pssm_model.specs.BuiltMachine.{IsBuiltMachine};
+ghost use Rattle.pssm_config.specs.Tables.{Fits};
+ghost use Rattle.pssm_semantics.specs.Deferral.{Defers};
+ghost use Rattle.pssm_object.specs.inner.Firing.{truth_at, Fires, OverridesThere, KeepsBack, IsKeptBack};
+
+use crate::object::Waiting;
+use pssm_config::Config;
+use pssm_model::{Event, Firing, GuardId, Machine, SignalId, VertexId};
+use pssm_routes::{is_firing_set, overrides, pick_firing_set};
+use pssm_semantics::{Class, Cond, truth};
+use std::alloc::{AllocError as NoMemory, Global};
+
+// Whether a guard is true at a take of the signal.
+fn is_true(class: &Class, guard: GuardId, signal: &Waiting, store: &[i64]) -> bool
+    ensures { result ≡ truth_at class.now store.now signal.now guard }
+{
+    let _at_most_eight = signal.args.as_slice();
+    match guard_at(class, guard) {
+        Some(cond) => truth(cond, store, &signal.args),
+        None => false,
+    }
+}
+
+// The guard with a number.
+fn guard_at(class: &Class, guard: GuardId) -> Option<&Cond>
+    ensures { option_copied result ≡ slice_get class.now.program.guards guard.0 }
+{
+    class.program.guards.as_slice().get(usize::from(guard.0))
+}
+
+/// Whether this is what the signal fires there.
+///
+/// `NoMemory`: memory ran out.
+pub fn fires(
+    alloc: Global,
+    class: &Class,
+    config: &Config,
+    signal: &Waiting,
+    store: &[i64],
+    firing: &Firing,
+) -> Result<bool, NoMemory>
+    requires built { IsBuiltMachine class.now.machine }
+    requires fits { Fits class.now.machine config.now }
+    ensures { IfOk result (λ is. IsTrue is ↔ Fires class.now config.now store.now signal.now firing.now.routes) }
+{
+    is_firing_set(
+        alloc,
+        &class.machine,
+        config,
+        &|guard: GuardId| is_true(class, guard, signal, store),
+        Event::Signal(signal.signal),
+        firing,
+    )
+}
+
+/// What the signal fires there: of all that it may fire, what the word settles.
+///
+/// `NoMemory`: memory ran out.
+pub fn pick_firing(
+    alloc: Global,
+    class: &Class,
+    config: &Config,
+    signal: &Waiting,
+    store: &[i64],
+    word: u64,
+) -> Result<Firing, NoMemory>
+    requires built { IsBuiltMachine class.now.machine }
+    requires fits { Fits class.now.machine config.now }
+    ensures { IfOk result (λ firing. Fires class.now config.now store.now signal.now firing.routes) }
+{
+    pick_firing_set(
+        alloc,
+        &class.machine,
+        config,
+        &|guard: GuardId| is_true(class, guard, signal, store),
+        Event::Signal(signal.signal),
+        word,
+    )
+}
+
+// Whether a route that the signal enables there starts at the State or in it.
+fn is_overridden(
+    class: &Class,
+    config: &Config,
+    signal: &Waiting,
+    store: &[i64],
+    state: VertexId,
+) -> bool
+    requires built { IsBuiltMachine class.now.machine }
+    requires fits { Fits class.now.machine config.now }
+    requires there { state.0 < length class.now.machine.vertices }
+    ensures { IsTrue result ↔ OverridesThere class.now config.now store.now signal.now state }
+{
+    overrides(
+        &class.machine,
+        config,
+        &|guard: GuardId| is_true(class, guard, signal, store),
+        signal.signal,
+        state,
+    )
+}
+
+// Whether the State lists the signal as deferred.
+fn lists_deferred(machine: &Machine, state: VertexId, signal: SignalId) -> bool
+    requires { state.0 < length machine.now.vertices }
+    ensures { IsTrue result ↔ Defers machine.now state signal }
+{
+    machine.vertex(state).defers.as_slice().contains(&signal)
+}
+
+// Whether the State is active there and keeps the signal back.
+fn keeps_back(
+    class: &Class,
+    config: &Config,
+    signal: &Waiting,
+    store: &[i64],
+    state: VertexId,
+) -> bool
+    requires built { IsBuiltMachine class.now.machine }
+    requires fits { Fits class.now.machine config.now }
+    requires there { state.0 < length class.now.machine.vertices }
+    ensures { IsTrue result ↔ KeepsBack class.now config.now store.now signal.now state }
+{
+    config.is_active(state)
+        && lists_deferred(&class.machine, state, signal.signal)
+        && !is_overridden(class, config, signal, store, state)
+}
+
+/// Whether some State is active there and keeps the signal back. It takes no memory.
+pub fn is_kept_back(class: &Class, config: &Config, signal: &Waiting, store: &[i64]) -> bool
+    requires built { IsBuiltMachine class.now.machine }
+    requires fits { Fits class.now.machine config.now }
+    ensures { IsTrue result ↔ IsKeptBack class.now config.now store.now signal.now }
+{
+    for number in 0..class.machine.vertices() {
+        if keeps_back(class, config, signal, store, VertexId(number)) {
+            return true;
+        }
+    }
+    false
+}
