@@ -24,7 +24,6 @@ use Rattle.pssm_model.specs.Legs.{Leaves}
 use Rattle.pssm_model.specs.Configuration.{do_steps_of}
 use Rattle.pssm_model.specs.Routes.{Truth, guard_of, HasTrueValue, IsTrueAt, Lists, HasNoTrigger}
 use Rattle.pssm_model.specs.Paths.{HasOut, IsInitialOf}
-use Rattle.pssm_model.specs.NotBuilt.{IsAtTop, IsFurtherReaction}
 use Rattle.pssm_model.specs.WellFormed.{IsBranch}
 use Rattle.pssm_model.specs.WellFormed.Breaks.{E01_top, E03, E10, E17}
 use Rattle.pssm_model.specs.Nested.{IsPlainlyNested}
@@ -32,6 +31,7 @@ use Rattle.pssm_model.specs.BuiltMachine.{IsBuiltMachine}
 use Rattle.pssm_model.specs.inner.Listed.{vertex_number, transition_number}
 use Rattle.pssm_model.proofs.ElementLaws.{mapped_some, mapped_at, some_at, some_and, and_some, same_region, nothing_in_nil, kind_at, kind_split}
 use Rattle.pssm_model.proofs.NestedFrom.{nested_from_rules}
+use Rattle.pssm_config.specs.Tables.{Tables, Fits, configuration_of}
 use Rattle.pssm_plan.proofs.SteadyRules.{initials_from_rules}
 use Rattle.pssm_plan.specs.Steadiness.{KeepsInitials}
 use Rattle.pssm_plan.proofs.Known.{Known, known_as, known_both, known_below, known_vertex}
@@ -104,6 +104,10 @@ module _ {m : DraftMachine} (b : IsBuiltMachine m) where
   pub state_of_active : (v : VertexId) → IsStateOrFinal m v → HasKind m v kinds.State
   state_of_active v is = ⊎_elim (λ k. k) (λ k. absurd (no_final v k)) is
 
+  -- what the tables of a configuration say to be active is a State of the machine
+  pub active_there : (tables : Tables) → Fits m tables → (s : VertexId) → (configuration_of tables).Active s → s.0 < length m.vertices
+  active_there tables fits s active = kind_there m s kinds.State (state_of_active s (fits.states s active))
+
   no_branch : (v : VertexId) → IsBranch m v → ⊥
   no_branch v h =
       ⊎_elim
@@ -117,50 +121,17 @@ module _ {m : DraftMachine} (b : IsBuiltMachine m) where
       let there = mapped_at (λ (x : Vertex). x.kind) (vertex_at m v) at.0 at.1 in
       ⊎_elim (λ i. inl (there ∙ ap Some i)) (λ s. inr (there ∙ ap Some s)) (kind_cases nested v at.0.kind there)
 
-  -- there is one top region
-  top_alone : (r q : RegionId) → owner_of m (Region r) ≡ Some Top → owner_of m (Region q) ≡ Some Top → r.0 < q.0 → ⊥
-  top_alone r q e f lt = b.built (elements.Region q) (f, (r, lt, e))
-
-  pub one_top : (r q : RegionId) → owner_of m (Region r) ≡ Some Top → owner_of m (Region q) ≡ Some Top → r ≡ q
-  one_top r q e f =
-      ⊎_elim
-      (λ lt. absurd (top_alone r q e f lt))
-      (λ ge. ⊎_elim
-      (λ lt. absurd (top_alone q r f e lt))
-      (λ le. same_region r q (omega arith))
-      (cases_lt q.0 r.0))
-      (cases_lt r.0 q.0)
-
+  -- there is a top region
   pub some_top : ((r : RegionId) → owner_of m (Region r) ≡ Some Top → ⊥) → ⊥
   some_top none = b.rules places.Top 1 (E01_top none)
 
-  -- a transition out of a State has a trigger, and leaves one that a top region owns
-  reaction_built : (t : TransId) (x : Transition) → transition_at m t ≡ Some x → IsFurtherReaction m x → ⊥
-  reaction_built t x e further = b.built (elements.Transition t) (x, e, inr (inl further))
-
-  at_top : (s : VertexId) → HasKind m s kinds.State → Known (IsAtTop m s)
-  at_top s k =
-      let home = home_of_state b.shape s (inl k) in
-      known_as
-      (λ top. (home.0, home.1, top))
-      (λ h. subst (λ r. owner_of m (Region r) ≡ Some Top) (let e = home.1 in let f = h.1 in cc) h.2)
-      (known_owner m (Region home.0) Top)
-
-  pub source_at_top : (t : TransId) (s : VertexId) → Leaves m t s → HasKind m s kinds.State → IsAtTop m s
-  source_at_top t s l k =
-      let at = mapped_some (λ (x : Transition). x.source) (transition_at m t) s l in
-      ⊎_elim
-      (λ top. top)
-      (λ not. absurd (reaction_built t at.0 at.1
-      (subst (λ w. HasKind m w kinds.State) (sym at.2) k, inr (λ top. not (subst (λ w. IsAtTop m w) at.2 top)))))
-      (at_top s k)
-
+  -- a transition out of a State has a trigger
   pub no_completion_transition : (t : TransId) (s : VertexId) → HasNoTrigger m t → Leaves m t s
       → HasKind m s kinds.State → ⊥
   no_completion_transition t s none l k =
       let at = mapped_some (λ (x : Transition). x.source) (transition_at m t) s l in
       let there = at.1 in
-      reaction_built t at.0 at.1 (subst (λ w. HasKind m w kinds.State) (sym at.2) k, inl (cc))
+      b.built (elements.Transition t) (at.0, at.1, (subst (λ w. HasKind m w kinds.State) (sym at.2) k, cc))
 
   -- what lists a signal leaves a State
   lists_from_initial : (t : TransId) (x : Transition) (signal : SignalId) → transition_at m t ≡ Some x
@@ -230,24 +201,10 @@ module _ {m : DraftMachine} (b : IsBuiltMachine m) where
       let at = mapped_some (λ (x : Transition). x.source) (transition_at m t) v leaves in
       inl (inl (mapped_at (λ (x : Transition). x.guard) (transition_at m t) at.0 at.1 ∙ ap Some (unguarded t at.0 v at.0.guard at.1 initial leaves refl)))
 
-  -- no State defers a signal or has do steps
-  pub nothing_deferred : (v : VertexId) (signal : SignalId) → HasKind m v kinds.State
-      → IsSomeAnd (vertex_at m v) (λ x. Contains x.defers signal) → ⊥
-  nothing_deferred v signal k h =
-      let at = some_and (λ (x : Vertex). Contains x.defers signal) (vertex_at m v) h in
-      b.built (elements.Vertex v) (
-        at.0,
-        at.1,
-        inr (
-          (kind_at m v at.0 kinds.State at.1).0 k,
-          inl (λ none.
-              nothing_in_nil signal (subst (λ gs. Contains gs signal) none at.2)),
-        ),
-      )
-
+  -- no State has do steps
   few_steps : (v : VertexId) (x : Vertex) (steps : List ActId) → vertex_at m v ≡ Some x → x.kind ≡ kinds.State → x.steps ≡ steps → length steps ≡ 0
   few_steps v x [] e k are = refl
-  few_steps v x (a ∷ rest) e k are = absurd (b.built (elements.Vertex v) (x, e, inr (k, inr (λ none. cc))))
+  few_steps v x (a ∷ rest) e k are = absurd (b.built (elements.Vertex v) (x, e, inr (k, λ none. cc)))
 
   pub no_do_steps : (v : VertexId) → HasKind m v kinds.State → do_steps_of m v ≡ 0
   no_do_steps v k =

@@ -1,0 +1,31 @@
+-- one State more is asked in each turn, and what is active is a State of the machine
+use Rattle.std.proofs.Common.{◌≡◌, ◌<◌, ℕ, refl, ap, subst, sym, ◌∙◌, ⊎_elim, arith}
+use Rattle.std.proofs.lemmas.Bool.{false≢true, cases_lt}
+use Rattle.pssm_model.specs.declared.ids.VertexId.{VertexId}
+use Rattle.pssm_object.specs.inner.Firing.{KeepsBack}
+use Rattle.pssm_object.proofs.BuiltMachines.{active_there}
+use Rattle.pssm_object.proofs.firing.is_kept_back.Goals as goal
+
+pub returns-then-keeps_back : goal.returns-then-keeps_back
+returns-then-keeps_back c = (λ yes. (_, c.keeps_back.ensures.0 c.if-keeps_back.true), λ is. refl)
+
+pub loop-number-preserved : goal.loop-number-preserved
+loop-number-preserved c = λ s lt keeps.
+    let Keeps : VertexId → Type 0 = KeepsBack c.args.class.now c.args.config.now c.args.store.now c.args.signal.now in
+    ⊎_elim
+    (λ before. c.loop-number.invariant s before keeps)
+    (λ past.
+    let same : s.0 ≡ c.loop-number.number = omega (arith, lt, past) in
+    false≢true
+    (sym c.if-keeps_back.false ∙ c.keeps_back.ensures.1 (subst Keeps (ap (λ n. let v : VertexId = record { 0 = n } in v) same) keeps)))
+    (cases_lt s.0 c.loop-number.number)
+
+pub returns : goal.returns
+returns c = (
+  λ no. absurd (false≢true no),
+  λ is. absurd (c.loop-number.invariant is.0
+      (let there = active_there c.requires.built c.args.config.now c.requires.fits is.0 is.1.0 in
+      let count = c.vertices-number-end.ensures in
+      let past = c.loop-number-test.false in
+      omega (arith, there, count, past)) is.1),
+)
