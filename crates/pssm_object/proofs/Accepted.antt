@@ -17,7 +17,7 @@ use Rattle.pssm_semantics.specs.declared.entry.Entry.{Entry}
 use Rattle.pssm_semantics.specs.declared.entry.Entry.TheVariants.{Post, Start, Take, Done, Exit, Effect, Enter, Opened, Pick, DoStep}
 use Rattle.pssm_semantics.specs.declared.entry.Rule.TheVariants.{A3, A4, A5, A7, A8, A9, A10, A11, A12}
 use Rattle.pssm_semantics.specs.declared.setting.Class.{Class}
-use Rattle.pssm_semantics.specs.Journal.{IsMemory, IsStart, object_of, configuration_after}
+use Rattle.pssm_semantics.specs.Journal.{IsMemory, IsStart, object_of}
 use Rattle.pssm_semantics.specs.Pool.{told_by}
 use Rattle.pssm_semantics.specs.Completion.{IsStepFinished}
 use Rattle.pssm_semantics.specs.Behaviours.{guards_at}
@@ -26,7 +26,7 @@ use Rattle.pssm_semantics.specs.Built.{IsBuiltClass}
 use Rattle.pssm_object.specs.declared.object.Waiting.{Waiting}
 use Rattle.pssm_object.specs.Standing.{Standing, StandsAfter}
 use Rattle.pssm_object.specs.Following.{stimulus_of, KeepsRule, KeepsRules}
-use Rattle.pssm_object.specs.inner.Firing.{IsDefaultWay, truth_at}
+use Rattle.pssm_object.specs.inner.Firing.{IsDefaultWay}
 use Rattle.pssm_object.specs.inner.Situations.{IsAtRest}
 use Rattle.pssm_object.specs.inner.Working.{act_for}
 use Rattle.pssm_object.specs.inner.Judging.{FiresHere, JudgesItem, Judges}
@@ -34,7 +34,6 @@ use Rattle.pssm_object.proofs.Standings.{plan_or_none, only_posts, step_of}
 use Rattle.pssm_object.proofs.UnderWay.{called_item_waits, cleared_item_is, finished_step}
 use Rattle.pssm_object.proofs.Rules.{starts_once, not_started, no_queue_head, no_do_step}
 use Rattle.pssm_object.proofs.BuiltWays.{way_is}
-use Rattle.pssm_object.proofs.Firings.{some_active, fires_so}
 use Rattle.pssm_object.proofs.Judged.{unended, fires_before, made_so, opens_plainly, no_pick}
 
 module _ (class : Class) (b : IsBuiltClass class) {J : List Entry} {x : Standing} (s : StandsAfter class J x) (signal : Option Waiting) where
@@ -62,13 +61,7 @@ module _ (class : Class) (b : IsBuiltClass class) {J : List Entry} {x : Standing
   fires_known : (known : Option Waiting) (number : ℕ) (firing : Firing) → KeepsRule class x known A7 J (Take x.own number firing)
       → IfSome known (FiresHere class x firing.routes)
   fires_known None number firing kept = tt
-  fires_known (Some w) number firing kept =
-      let active = some_active b.machine x.config s.fits in (
-        active.0,
-        active.1,
-        fires_so b.machine x.config (configuration_after m J x.own) s.now_is (truth_at class x.store w) w.signal firing.routes active.0 active.1
-            (fires_before class b s signal w firing (kept (stimulus_of x.own w) refl)),
-      )
+  fires_known (Some w) number firing kept = fires_before class b s signal w firing (kept (stimulus_of x.own w) refl)
 
   -- an opening goes by a default way
   opens_so : (r : RegionId) (mode : Mode) (how : How) → JudgesItem m x.plan (items.Opened r mode) None → KeepsRule class x signal A10 J (Opened x.own r mode how)

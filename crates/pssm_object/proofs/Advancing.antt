@@ -9,6 +9,7 @@ use Rattle.pssm_model.specs.declared.ids.TransId.{TransId}
 use Rattle.pssm_model.specs.declared.ids.SignalId.{SignalId}
 use Rattle.pssm_model.specs.declared.elements.DraftMachine.{DraftMachine}
 use Rattle.pssm_model.specs.declared.steps.Firing.{Firing}
+use Rattle.pssm_model.specs.declared.steps.Event.TheVariants.{Signal}
 use Rattle.pssm_model.specs.declared.steps.Mode.{Mode}
 use Rattle.pssm_model.specs.declared.steps.How.{How}
 use Rattle.pssm_model.specs.declared.steps.How.TheVariants.{Nothing}
@@ -55,7 +56,7 @@ use Rattle.pssm_object.specs.inner.Working.{act_for, nothing_from, outcome_for}
 use Rattle.pssm_object.specs.inner.Judging.{FiresHere, JudgesItem, Judges}
 use Rattle.pssm_object.specs.inner.Advancing.{HasRunOn, HasBegun, RunsHere, WorksHere, Begins, Takes, Advances}
 use Rattle.pssm_object.proofs.BuiltMachines.{nested, keeps_initials}
-use Rattle.pssm_object.proofs.BuiltFiring.{begins_by_firing, begins_by_start, fired_state_route}
+use Rattle.pssm_object.proofs.Fired.{begins_by_firing, begins_by_start, fired_state_route}
 use Rattle.pssm_object.proofs.Judged.{same_some, outcome_here}
 use Rattle.pssm_object.proofs.Following.{all_true, opens_now}
 use Rattle.pssm_object.proofs.Signals.{same_takes, signals_taken}
@@ -322,8 +323,8 @@ module _ (class : Class) (b : IsBuiltClass class) {J : List Entry} {x : Standing
         begins_here mach J x.own (configuration_of x.config) (Take x.own number firing) was_here.start (eq-eqb x.own.0 x.own.0 refl)
         (Contains-append_left J (Take x.own number firing ∷ []) was_here.start was_here.started.0, was_here.started.1) s.now_is
         (configuration-changed mach J (Take x.own number firing))
-        (λ route inside. fired_state_route b.machine (truth_at class x.store w) fires.0 w.signal firing.routes fires.2 route inside)
-        (begins_by_firing b.machine (configuration_of x.config) (truth_at class x.store w) fires.0 w.signal firing.routes consistent_now fires.1 fires.2)
+        (λ route inside. fired_state_route b.machine (configuration_of x.config) (truth_at class x.store w) (Signal w.signal) firing.routes fires route inside)
+        (begins_by_firing b.machine (configuration_of x.config) (truth_at class x.store w) w.signal firing.routes consistent_now fires)
         (λ v. known_true (slice_index_or x.config.active v.0 false))
 
     params_told : new.params ≡ params_of_head (told_by (J ++ e ∷ [])) (Some e)

@@ -45,9 +45,16 @@ known_mapped : {X Y : Type 0} (f : X → Y) (o : Option X) (y : Y) → ((x : X) 
 known_mapped f None y each = inr (λ e. cc)
 known_mapped f (Some x) y each = known_as (λ e. ap Some e) (λ e. cc) (each x)
 
--- whether a vertex is initial, and what a transition leaves
+-- whether a vertex is a State or initial, and what a transition leaves
 known_initial_kind : (k : VertexKind) → Known (k ≡ kinds.Initial)
 known_initial_kind k = ⊎_elim (λ s. inr (λ e. cc)) (⊎_elim (λ i. inl i) (λ other. inr other.1)) (kind_split k)
+
+known_state_kind : (k : VertexKind) → Known (k ≡ kinds.State)
+known_state_kind k = ⊎_elim (λ s. inl s) (⊎_elim (λ i. inr (λ e. cc)) (λ other. inr other.0)) (kind_split k)
+
+pub known_is_state : (m : DraftMachine) (v : VertexId) → Known (HasKind m v kinds.State)
+known_is_state m v =
+    known_mapped (λ (x : Vertex). x.kind) (vertex_at m v) kinds.State (λ x. known_state_kind x.kind)
 
 known_is_initial : (m : DraftMachine) (v : VertexId) → Known (HasKind m v kinds.Initial)
 known_is_initial m v =

@@ -1,123 +1,40 @@
 -- What is chosen may follow, nothing is chosen where nothing may, and an object is quiet exactly where it rests and no signal waits.
-use Rattle.std.proofs.Common.{◌≡◌, ◌⊎◌, ◌↔◌, ◌<◌, ◌&&◌, ℕ, List, [], ◌∷◌, length, Contains, All, Bool, true, false, not, IsTrue, MatchBool, IsSome, IsSomeAnd, IfSome, Option, Some, None, refl, sym, ap, subst, ◌∙◌, inl, inr, ⊎_elim, arith}
-use Rattle.std.proofs.lemmas.Bool.{cases_lt, false≢true}
-use Rattle.std.proofs.lemmas.List.Elements.{All-nil}
+use Rattle.std.proofs.Common.{◌≡◌, ◌⊎◌, ◌↔◌, ◌&&◌, List, Bool, true, false, not, IsTrue, MatchBool, IsSome, IsSomeAnd, IfSome, Option, Some, None, refl, sym, subst, ◌∙◌, inl, inr, ⊎_elim, slice_index_or}
+use Rattle.std.proofs.lemmas.Bool.{false≢true}
 use Rattle.pssm_model.specs.declared.ids.VertexId.{VertexId}
-use Rattle.pssm_model.specs.declared.ids.TransId.{TransId}
 use Rattle.pssm_model.specs.declared.ids.RegionId.{RegionId}
-use Rattle.pssm_model.specs.declared.ids.SignalId.{SignalId}
 use Rattle.pssm_model.specs.declared.elements.DraftMachine.{DraftMachine}
-use Rattle.pssm_model.specs.declared.elements.Guard.{Guard}
-use Rattle.pssm_model.specs.declared.elements.Guard.TheVariants.{Always, Otherwise, When}
-use Rattle.pssm_model.specs.declared.elements.Transition.{Transition}
-use Rattle.pssm_model.specs.Forest.{transition_at}
-use Rattle.pssm_model.specs.declared.steps.Route.{Route}
 use Rattle.pssm_model.specs.declared.steps.Firing.{Firing}
+use Rattle.pssm_model.specs.declared.steps.Event.TheVariants.{Signal}
 use Rattle.pssm_model.specs.declared.steps.Mode.{Mode}
 use Rattle.pssm_model.specs.declared.steps.How.{How}
 use Rattle.pssm_model.specs.declared.steps.Item.{Item}
 use Rattle.pssm_model.specs.declared.steps.Item.TheVariants as items
-use Rattle.pssm_model.specs.Legs.{Leaves}
-use Rattle.pssm_model.specs.Routes.{Truth, HasTrueValue, single_route}
 use Rattle.pssm_model.specs.Order.{IsReady}
-use Rattle.pssm_model.proofs.ElementLaws.{some_at, leaves_at, lists_at, mapped_at}
-use Rattle.pssm_model.proofs.RouteLaws.{all_of_one}
-use Rattle.pssm_model.specs.inner.Listed.{transition_number}
+use Rattle.pssm_config.specs.Tables.{configuration_of}
 use Rattle.pssm_plan.specs.Agenda.{Agenda, course_of}
-use Rattle.pssm_plan.proofs.Known.{Known, known_as, known_both, known_below, known_among, known_number, known_vertex}
+use Rattle.pssm_plan.proofs.KnownItems.{known_true}
 use Rattle.pssm_semantics.specs.declared.entry.Entry.{Entry}
 use Rattle.pssm_semantics.specs.declared.entry.Entry.TheVariants.{Post, Start, Take, Done, Exit, Effect, Enter, Opened, Pick, DoStep}
 use Rattle.pssm_semantics.specs.declared.setting.Class.{Class}
-use Rattle.pssm_semantics.specs.Known.{IsRouteOf}
 use Rattle.pssm_semantics.specs.Built.{IsBuiltClass}
 use Rattle.pssm_object.specs.declared.object.Waiting.{Waiting}
 use Rattle.pssm_object.specs.Standing.{Standing, StandsAfter}
 use Rattle.pssm_object.specs.Following.{NamesPlaces, KeepsRules, IsCandidate, IsMove, IsQuiet, HasNext, IsHandedIn}
-use Rattle.pssm_object.specs.inner.Firing.{IsTriggered, Reacts, FiresAt, IsDefaultWay, truth_at}
+use Rattle.pssm_object.specs.inner.Firing.{IsDefaultWay, truth_at}
 use Rattle.pssm_object.specs.inner.Situations.{IsAtRest}
 use Rattle.pssm_object.specs.inner.Working.{outcome_for}
 use Rattle.pssm_object.specs.inner.Judging.{FiresHere, JudgesItem, Judges}
 use Rattle.pssm_object.specs.inner.Choosing.{IsReadyOpening, TakesSignal, ChoosesOpening, Chooses}
-use Rattle.pssm_object.proofs.BuiltMachines.{leaving_there}
 use Rattle.pssm_object.proofs.BuiltWays.{default_way}
-use Rattle.pssm_object.proofs.Firings.{some_active}
+use Rattle.pssm_object.proofs.Fired.{fired_there}
+use Rattle.pssm_object.proofs.SomeFiring.{some_firing}
 use Rattle.pssm_object.proofs.Standings.{plan_or_none, step_of}
 use Rattle.pssm_object.proofs.Judged.{same_some, judged}
 use Rattle.pssm_object.proofs.Accepted.{accepted}
 use Rattle.pssm_object.proofs.Following.{ready_plain}
 use Rattle.pssm_object.proofs.Ready.{way_there, out_or_ready}
 use Rattle.pssm_object.proofs.PlanItems.{rests_where}
-
--- whether the State reacts to the signal is known
-known_signal : (a c : SignalId) → Known (a ≡ c)
-known_signal a c = known_as (λ e. ap (λ n. let x : SignalId = record { 0 = n } in x) e) (λ e. ap (λ (x : SignalId). x.0) e) (known_number a.0 c.0)
-
-known_true : (v : Bool) → Known (v ≡ true)
-known_true true = inl refl
-known_true false = inr (λ e. false≢true e)
-
-module _ (m : DraftMachine) (truth : Truth) where
-  -- the guard of a transition has a value
-  value_of_guard : (t : TransId) (x : Transition) (g : Guard) → transition_at m t ≡ Some x → x.guard ≡ g → Known (HasTrueValue m truth t)
-  value_of_guard t x Always e is = inl (inl (mapped_at (λ (y : Transition). y.guard) (transition_at m t) x e ∙ ap Some is))
-  value_of_guard t x Otherwise e is =
-      let guard = mapped_at (λ (y : Transition). y.guard) (transition_at m t) x e ∙ ap Some is in
-      inr (λ h. ⊎_elim (λ always. (let clash = sym guard ∙ always in cc)) (λ valued. (let clash = sym guard ∙ valued.1 in cc)) h)
-  value_of_guard t x (When g) e is =
-      let guard = mapped_at (λ (y : Transition). y.guard) (transition_at m t) x e ∙ ap Some is in
-      ⊎_elim
-      (λ yes. inl (inr (g, guard, yes)))
-      (λ no. inr (λ h. ⊎_elim
-      (λ always. (let clash = sym guard ∙ always in cc))
-      (λ valued. (let same : g ≡ valued.0 = (let both = sym guard ∙ valued.1 in cc) in no (subst (λ k. truth k ≡ true) (sym same) valued.2)))
-      h))
-      (known_true (truth g))
-
-  known_reaction_at : (s : VertexId) (signal : SignalId) (k : ℕ) → k < length m.transitions
-      → Known (Leaves m (transition_number k) s × IsTriggered m truth (transition_number k) signal)
-  known_reaction_at s signal k lt =
-      let at = some_at m.transitions k lt in
-      let t = transition_number k in
-      known_both
-      (known_as (λ e. (leaves_at m t at.0 s at.1).1 e) (λ h. (leaves_at m t at.0 s at.1).0 h) (known_vertex at.0.source s))
-      (known_both
-      (known_as
-      (λ h. (lists_at m t at.0 signal at.1).1 (subst (Contains at.0.triggers) h.2 h.1))
-      (λ h. (signal, (lists_at m t at.0 signal at.1).0 h, refl))
-      (known_among (λ g. g ≡ signal) at.0.triggers (λ g inside. known_signal g signal)))
-      (value_of_guard t at.0 at.0.guard at.1 refl))
-
-  known_reacts : (s : VertexId) (signal : SignalId) → Known (Reacts m truth s signal)
-  known_reacts s signal =
-      known_as
-      (λ h. (transition_number h.0, h.2.1.0, h.2.1.1))
-      (λ h. (h.0.0, leaving_there m h.0 s h.1, (leaving_there m h.0 s h.1, (h.1, h.2))))
-      (known_below (λ k. (k < length m.transitions) × (Leaves m (transition_number k) s × IsTriggered m truth (transition_number k) signal)) known_at
-      (length m.transitions))
-    where
-      known_at : (k : ℕ) → Known ((k < length m.transitions) × (Leaves m (transition_number k) s × IsTriggered m truth (transition_number k) signal))
-      known_at k =
-          ⊎_elim
-          (λ lt. known_as (λ h. (lt, h)) (λ h. h.1) (known_reaction_at s signal k lt))
-          (λ ge. inr (λ h. let lt = h.0 in omega (arith, lt, ge)))
-          (cases_lt k (length m.transitions))
-
-  -- something fires, or nothing
-  some_firing : (active : Option VertexId) (signal : SignalId) → (routes : List Route) × FiresAt m truth active signal routes
-  some_firing None signal = ([], λ s is. absurd (cc))
-  some_firing (Some s) signal =
-      ⊎_elim
-      (λ h. (single_route h.0 ∷ [], (s, refl, (h.0, refl, h.1, h.2))))
-      (λ none. ([], λ q is r. none (subst (λ v. Reacts m truth v signal) (sym (same_some s q is)) r)))
-      (known_reacts s signal)
-
-  -- what fires is of the machine
-  fired_there : (active : Option VertexId) (signal : SignalId) (routes : List Route) → FiresAt m truth active signal routes → All (IsRouteOf m) routes
-  fired_there active signal [] h = All-nil (IsRouteOf m)
-  fired_there active signal (route ∷ []) (s, is, (t, single, leaves, triggered)) =
-      all_of_one (IsRouteOf m) route
-      (subst (IsRouteOf m) (sym single) (all_of_one (λ (u : TransId). u.0 < length m.transitions) t (leaving_there m t s leaves)))
-  fired_there active signal (route ∷ other ∷ rest) h = absurd h
 
 module _ (class : Class) (b : IsBuiltClass class) (x : Standing) (signal : Option Waiting) where
   abbrev m : DraftMachine
@@ -140,7 +57,7 @@ module _ (class : Class) (b : IsBuiltClass class) (x : Standing) (signal : Optio
       no_post = λ post. post;
       names = subst (λ o. IsSomeAnd o (λ v. w.number ≡ v.number)) (sym is) refl;
     };
-    places = fired_there m (truth_at class x.store w) fires.0 w.signal firing.routes fires.2;
+    places = fired_there b.machine (configuration_of x.config) (truth_at class x.store w) (Signal w.signal) firing.routes fires;
     accepts = (rests, subst (λ o. IfSome o (FiresHere class x firing.routes)) (sym is) fires);
   }
 
@@ -215,10 +132,10 @@ module _ (class : Class) (b : IsBuiltClass class) (x : Standing) (signal : Optio
     -- a signal that waits is taken
     take_next : IsAtRest m x.plan → (w : Waiting) → signal ≡ Some w → HasNext class x signal J
     take_next rests w is =
-        let active = some_active b.machine x.config s.fits in
-        let routes = some_firing m (truth_at class x.store w) active.0 w.signal in
+        let known = λ (v : VertexId). known_true (slice_index_or x.config.active v.0 false) in
+        let routes = some_firing b.machine (configuration_of x.config) known (truth_at class x.store w) w.signal in
         let firing : Firing = record { routes = routes.0 } in
-        let chosen = take_chosen firing w is rests (active.0, active.1, routes.1) in
+        let chosen = take_chosen firing w is rests routes.1 in
         next_of (Take x.own w.number firing) chosen.candidate chosen.accepts
 
     some_signal : (o : Option Waiting) → IsSome o → (w : Waiting) × (o ≡ Some w)

@@ -4,6 +4,7 @@ use Rattle.pssm_model.specs.declared.ids.VertexId.{VertexId}
 use Rattle.pssm_model.specs.declared.ids.RegionId.{RegionId}
 use Rattle.pssm_model.specs.declared.elements.DraftMachine.{DraftMachine}
 use Rattle.pssm_model.specs.declared.steps.Firing.{Firing}
+use Rattle.pssm_model.specs.declared.steps.Event.TheVariants.{Signal}
 use Rattle.pssm_model.specs.declared.steps.Mode.{Mode}
 use Rattle.pssm_model.specs.declared.steps.How.{How}
 use Rattle.pssm_model.specs.declared.steps.How.TheVariants.{Nothing}
@@ -37,7 +38,7 @@ use Rattle.pssm_object.specs.inner.Working.{HasPlace}
 use Rattle.pssm_object.specs.inner.Judging.{FiresHere, JudgesItem, Judges}
 use Rattle.pssm_object.specs.inner.Advancing.{CanChange, CanRunHere, CanTake, CanFollow}
 use Rattle.pssm_object.proofs.BuiltMachines.{nested, keeps_initials}
-use Rattle.pssm_object.proofs.BuiltFiring.{fired_state_route}
+use Rattle.pssm_object.proofs.Fired.{fired_state_route}
 use Rattle.pssm_object.proofs.BuiltWays.{way_is}
 use Rattle.pssm_object.proofs.Rules.{called_is_plain}
 use Rattle.pssm_object.proofs.Standings.{plan_of, step_of, along_of}
@@ -113,8 +114,8 @@ module _ (class : Class) (b : IsBuiltClass class) {J : List Entry} {x : Standing
   can_take : (signal : Option Waiting) (number : ℕ) (firing : Firing) → IsSomeAnd signal (λ w. number ≡ w.number)
       → IfSome signal (FiresHere class x firing.routes) → CanTake m firing.routes signal
   can_take None number firing named fires = named
-  can_take (Some w) number firing named (active, names, fires) = λ route inside.
-      fired_state_route b.machine (truth_at class x.store w) active w.signal firing.routes fires route inside
+  can_take (Some w) number firing named fires = λ route inside.
+      fired_state_route b.machine (configuration_of x.config) (truth_at class x.store w) (Signal w.signal) firing.routes fires route inside
 
   pub can_follow : (signal : Option Waiting) (e : Entry) → NamesSignal signal e → Judges class x signal e None → CanFollow m x.plan x.config signal e
   can_follow signal (Post o g args) named h = tt

@@ -1,15 +1,14 @@
 -- An entry that keeps every rule has one of the forms that the entries of such an object have.
-use Rattle.std.proofs.Common.{◌≡◌, ℕ, List, [], ◌∷◌, IfSome, IsSomeAnd, Option, Some, None, refl, ap, ◌∙◌, inl, inr}
+use Rattle.std.proofs.Common.{◌≡◌, ℕ, List, IfSome, IsSomeAnd, Option, Some, None, refl, ap, inl, inr}
 use Rattle.pssm_model.specs.declared.ids.VertexId.{VertexId}
 use Rattle.pssm_model.specs.declared.ids.RegionId.{RegionId}
-use Rattle.pssm_model.specs.declared.ids.SignalId.{SignalId}
 use Rattle.pssm_model.specs.declared.elements.DraftMachine.{DraftMachine}
-use Rattle.pssm_model.specs.declared.steps.Route.{Route}
 use Rattle.pssm_model.specs.declared.steps.Firing.{Firing}
+use Rattle.pssm_model.specs.declared.steps.Event.TheVariants.{Signal}
 use Rattle.pssm_model.specs.declared.steps.How.{How}
 use Rattle.pssm_model.specs.declared.steps.How.TheVariants.{By, Restore, Nothing}
 use Rattle.pssm_model.specs.declared.steps.Item.TheVariants as items
-use Rattle.pssm_model.specs.Routes.{Truth}
+use Rattle.pssm_config.specs.Tables.{configuration_of}
 use Rattle.pssm_semantics.specs.declared.entry.Entry.{Entry}
 use Rattle.pssm_semantics.specs.declared.entry.Entry.TheVariants.{Post, Start, Take, Done, Exit, Effect, Enter, Opened, Pick, DoStep}
 use Rattle.pssm_semantics.specs.declared.entry.Rule.TheVariants.{A12}
@@ -21,17 +20,11 @@ use Rattle.pssm_semantics.proofs.Outcomes.{few_outs}
 use Rattle.pssm_object.specs.declared.object.Waiting.{Waiting}
 use Rattle.pssm_object.specs.Standing.{Standing, StandsAfter}
 use Rattle.pssm_object.specs.Following.{NamesSignal, KeepsRules}
-use Rattle.pssm_object.specs.inner.Firing.{FiresAt, IsDefaultWay, truth_at}
+use Rattle.pssm_object.specs.inner.Firing.{IsDefaultWay, truth_at}
 use Rattle.pssm_object.specs.inner.Judging.{FiresHere, Judges}
 use Rattle.pssm_object.proofs.Accepted.{accepted}
+use Rattle.pssm_object.proofs.Fired.{built_firing}
 use Rattle.pssm_object.proofs.Following.{ready_plain}
-
--- what fires is nothing or one transition
-plain_firing : (m : DraftMachine) (truth : Truth) (active : Option VertexId) (signal : SignalId) (firing : Firing) (routes : List Route) → firing.routes ≡ routes
-    → FiresAt m truth active signal routes → IsBuiltFiring firing
-plain_firing m truth active signal firing [] are h = inl are
-plain_firing m truth active signal firing (route ∷ []) are (s, is, (t, same, leaves, triggered)) = inr (t, are ∙ ap (λ r. r ∷ []) same)
-plain_firing m truth active signal firing (route ∷ other ∷ rest) are h = absurd h
 
 -- what opens a region by default is nothing or one transition
 plain_way : (m : DraftMachine) (r : RegionId) (how : How) → IsDefaultWay m r how → IsBuiltWay how
@@ -43,8 +36,8 @@ module _ (class : Class) (b : IsBuiltClass class) {J : List Entry} {x : Standing
   plain_take : (signal : Option Waiting) (number : ℕ) (firing : Firing) → IsSomeAnd signal (λ w. number ≡ w.number)
       → IfSome signal (FiresHere class x firing.routes) → IsBuiltFiring firing
   plain_take None number firing named fires = absurd named
-  plain_take (Some w) number firing named (active, names, fires) =
-      plain_firing class.machine (truth_at class x.store w) active w.signal firing firing.routes refl fires
+  plain_take (Some w) number firing named fires =
+      built_firing b.machine (configuration_of x.config) (truth_at class x.store w) (Signal w.signal) firing fires
 
   form_of : (signal : Option Waiting) (e : Entry) → KeepsRules class x signal J e → NamesSignal signal e → Judges class x signal e None → HasBuiltForm e
   form_of signal (Post o g args) kept named h = tt

@@ -18,6 +18,8 @@ use Rattle.pssm_model.specs.declared.elements.DraftMachine.{DraftMachine}
 use Rattle.pssm_model.specs.FiringSets.{IsFiring}
 use Rattle.pssm_model.specs.Ways.{Memory, CanOpen}
 use Rattle.pssm_model.specs.Items.{Called, IsWaiting, IsCleared}
+use Rattle.pssm_model.proofs.Agreeing.{Agree-symm}
+use Rattle.pssm_model.proofs.AgreeingRoutes.{firing_agrees}
 use Rattle.pssm_config.specs.Tables.{configuration_of}
 use Rattle.pssm_plan.specs.Agenda.{Agenda, course_of}
 use Rattle.pssm_semantics.specs.declared.entry.ObjectId.{ObjectId}
@@ -51,7 +53,6 @@ use Rattle.pssm_object.proofs.Standings.{only_posts, step_of}
 use Rattle.pssm_object.proofs.UnderWay.{called_item, called_item_waits, cleared_item, cleared_item_is, step_finished, finished_step}
 use Rattle.pssm_object.proofs.Rules.{never_ended, starts_once, has_started, not_started, never_queued, no_queue_head, no_do_step, called_is_plain}
 use Rattle.pssm_object.proofs.BuiltWays.{way_is}
-use Rattle.pssm_object.proofs.Firings.{fires_from, fires_so}
 
 -- what the verdict on an entry that never comes may be
 pub never_is : (plan : Option Agenda) (never rule : Rule) (Q : Rule → Type 0) → (plan ≡ None → Q A3) → ((p : Agenda) → plan ≡ Some p → Q never)
@@ -419,21 +420,19 @@ module _ (class : Class) (b : IsBuiltClass class) {J : List Entry} {x : Standing
   -- what a signal fires where the object stands is what it fires after the journal
   pub fires_after : (w : Waiting) (firing : Firing) → FiresHere class x firing.routes w
       → IsWhatFires class (told_by J) J o (eight_of w.args) (Signal w.signal) firing
-  fires_after w firing (active, names, fires) =
+  fires_after w firing fires =
       subst (λ store. IsFiring m (configuration_after m J o) (guards_under class store (eight_of w.args)) (Signal w.signal) firing.routes) s.store_is
-      (fires_from b.machine x.config (configuration_after m J o) s.now_is (truth_at class x.store w) w.signal firing.routes active names fires)
+      (firing_agrees s.now_is (truth_at class x.store w) (Signal w.signal) firing.routes fires)
 
   pub fires_before : (w : Waiting) (firing : Firing) → IsWhatFires class (told_by J) J o (eight_of w.args) (Signal w.signal) firing
-      → IsFiring m (configuration_after m J o) (truth_at class x.store w) (Signal w.signal) firing.routes
+      → FiresHere class x firing.routes w
   fires_before w firing fires =
-      subst (λ store. IsFiring m (configuration_after m J o) (guards_under class store (eight_of w.args)) (Signal w.signal) firing.routes) (sym s.store_is) fires
+      firing_agrees (Agree-symm (configuration_of x.config) (configuration_after m J o) s.now_is) (truth_at class x.store w) (Signal w.signal) firing.routes
+      (subst (λ store. IsFiring m (configuration_after m J o) (guards_under class store (eight_of w.args)) (Signal w.signal) firing.routes) (sym s.store_is) fires)
 
   fires_other : (w : Waiting) (firing : Firing) → FiresOther class x firing.routes w
       → IsWhatFires class (told_by J) J o (eight_of w.args) (Signal w.signal) firing → ⊥
-  fires_other w firing (active, names, wrong) fires =
-      wrong
-      (fires_so b.machine x.config (configuration_after m J o) s.now_is (truth_at class x.store w) w.signal firing.routes active names
-      (fires_before w firing fires))
+  fires_other w firing wrong fires = wrong (fires_before w firing fires)
 
   -- where the signal is handed in
   Told : Firing → Stimulus → Type 0

@@ -2,6 +2,7 @@ pub mod BuiltMachines
 pub mod PlanItems
 pub mod BuiltWays
 pub mod Fired
+pub mod SomeFiring
 pub mod CourseLaws
 pub mod UnderWay
 pub mod Going
