@@ -97,9 +97,7 @@ known_initial_of m r =
 
 module _ {m : DraftMachine} (b : IsBuiltMachine m) where
   pub nested : IsPlainlyNested m
-  nested =
-      nested_from_rules b.shape b.rules (λ v x e further. b.built (elements.Vertex v) (x, e, further))
-      (λ t x e further. b.built (elements.Transition t) (x, e, further))
+  nested = nested_from_rules b.shape b.rules (λ v x e further. b.built (elements.Vertex v) (x, e, further))
 
   -- every vertex is an initial vertex or a State
   pub no_final : (v : VertexId) → HasKind m v kinds.Final → ⊥

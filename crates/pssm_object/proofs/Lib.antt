@@ -26,3 +26,4 @@ pub mod Counting
 pub mod TaskLists
 pub mod Eights
 pub mod Views
+pub mod Deferring

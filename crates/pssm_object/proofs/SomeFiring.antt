@@ -22,8 +22,8 @@ use Rattle.pssm_model.specs.Routes.{Truth, single_route, guard_of, HasTrueValue,
 use Rattle.pssm_model.specs.FiringSets.{StartsBefore, IsListed, IsFiring}
 use Rattle.pssm_model.specs.BuiltMachine.{IsBuiltMachine}
 use Rattle.pssm_model.specs.inner.Listed.{transition_number}
-use Rattle.pssm_model.proofs.ElementLaws.{mapped_at, some_at, leaves_at, lists_at, leaves_one, nothing_in_nil}
-use Rattle.pssm_model.proofs.RouteLaws.{in_one, is_one, on_single, on_single_is, single_source, single_source_is, none_in_order}
+use Rattle.pssm_model.proofs.ElementLaws.{mapped_at, some_at, leaves_at, lists_at, leaves_one, nothing_in_nil, same_transition}
+use Rattle.pssm_model.proofs.RouteLaws.{in_one, is_one, on_single, on_single_is, single_source, single_source_is, single_route_same, none_in_order}
 use Rattle.pssm_routes.specs.declared.areas.Ground.{Ground}
 use Rattle.pssm_routes.specs.inner.Grounds.{scope_of, IsGroundOf, Clash}
 use Rattle.pssm_routes.specs.inner.Starts.{IsOutranked}
@@ -128,8 +128,8 @@ module _ {m : DraftMachine} (b : IsBuiltMachine m) where
         let s = at.0.source in
         let leaves = (leaves_at m t at.0 s at.1).1 refl in
         known_as
-        (λ h. enabled_from t s lt (record { leaves = leaves; state = h.0; active = h.1; lists = h.2; value = h.3 }))
-        (λ e. let h = enabled_so t s leaves e in (h.state, h.active, h.lists, h.value))
+        (λ h. enabled_from t s lt (record { leaves = leaves; state = h.0; active = h.1.0; lists = h.1.1.0; value = h.1.1.1 }))
+        (λ e. let h = enabled_so t s leaves e in (h.state, (h.active, (h.lists, h.value))))
         (known_both (known_is_state m s)
         (known_both (known s) (known_both (known_lists t at.0 at.1) (value_of_guard m truth t at.0 at.0.guard at.1 refl))))
 
@@ -202,7 +202,7 @@ module _ {m : DraftMachine} (b : IsBuiltMachine m) where
       other_than p inside same =
           let at = chosen.above p inside in
           let le = at.2 in
-          let number : t.0 ≡ at.0.0 = (let e = sym at.1 ∙ same in ap (λ (u : TransId). u.0) (let f : t ≡ at.0 = cc in f)) in
+          let number = ap (λ (u : TransId). u.0) (single_route_same at.0 t (sym at.1 ∙ same)) in
           omega (arith, le, number)
 
       known_join : Known (CanJoin m now truth event routes q)
@@ -270,8 +270,8 @@ module _ {m : DraftMachine} (b : IsBuiltMachine m) where
         first = h.first;
       }
 
-      same_number : (u : TransId) → t.0 ≤ u.0 → (t.0 + 1 ≤ u.0 → ⊥) → u ≡ t
-      same_number u ge not = ap (λ n. let x : TransId = record { 0 = n } in x) (⊎_elim (λ lt. absurd (not lt)) (λ le. omega (arith, ge, le)) (cases_lt t.0 u.0))
+      same_number : (u : TransId) → t.0 ≤ u.0 → u.0 ≤ t.0 → u ≡ t
+      same_number u ge le = same_transition u t (omega (arith, ge, le))
 
       chosen_too : CanJoin m now truth event routes q → AreChosen t.0 (q ∷ routes)
       chosen_too joins = record {
@@ -282,8 +282,8 @@ module _ {m : DraftMachine} (b : IsBuiltMachine m) where
             (λ there. let at = chosen.above p there in (at.0, at.1, (let le = at.2 in omega arith)))
             (front_or_rest q p routes inside);
         full = λ u ge there h. ⊎_elim
-            (λ later. chosen.full u later there (joins_less (single_route u) h))
-            (λ le. h.other (subst (λ x. Contains (q ∷ routes) (single_route x)) (sym (same_number u ge (λ lt. omega (arith, lt, le)))) (in_front q routes)))
+            (λ later. chosen.full u (omega (arith, later)) there (joins_less (single_route u) h))
+            (λ le. h.other (subst (λ x. Contains (q ∷ routes) (single_route x)) (sym (same_number u ge le)) (in_front q routes)))
             (cases_lt t.0 u.0);
       }
 
@@ -294,8 +294,8 @@ module _ {m : DraftMachine} (b : IsBuiltMachine m) where
         listed = chosen.listed;
         above = λ p inside. let at = chosen.above p inside in (at.0, at.1, (let le = at.2 in omega arith));
         full = λ u ge there h. ⊎_elim
-            (λ later. chosen.full u later there h)
-            (λ le. not (subst (λ x. CanJoin m now truth event routes (single_route x)) (same_number u ge (λ lt. omega (arith, lt, le))) h))
+            (λ later. chosen.full u (omega (arith, later)) there h)
+            (λ le. not (subst (λ x. CanJoin m now truth event routes (single_route x)) (same_number u ge le) h))
             (cases_lt t.0 u.0);
       }
 
@@ -315,4 +315,4 @@ module _ {m : DraftMachine} (b : IsBuiltMachine m) where
         let full : IsFull m now truth event all.0 = λ p joins.
         let one = route_is_single (nested b) p joins.enabled.route_of_states.0 in
         all.1.full one.0 (omega arith) one.2 (subst (CanJoin m now truth event all.0) one.1 joins) in
-        (all.0, (fires_settled (single_legs b) b.shape now truth event all.0).1 (all.1.settled, full), all.1.listed)
+        (all.0, ((fires_settled (single_legs b) b.shape now truth event all.0).1 (all.1.settled, full), all.1.listed))
