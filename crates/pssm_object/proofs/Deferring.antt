@@ -34,7 +34,7 @@ module _ (class : Class) {J : List Entry} {x : Standing} (s : StandsAfter class 
 
   pub deferred_is : KeepsBackHere class x w ↔ IsDeferred class (told_by J) J x.own (stimulus_of x.own w)
   deferred_is = (
-    λ (v, active, lists, free). (
+    λ (v, (active, lists, free)). (
         v,
         (s.now_is.active v).0 active,
         lists,
@@ -42,8 +42,10 @@ module _ (class : Class) {J : List Entry} {x : Standing} (s : StandsAfter class 
       ),
     λ (v, active, lists, free). (
         v,
-        (s.now_is.active v).1 active,
-        lists,
-        λ over. free (subst (λ store. OverridesAfter store v) s.store_is (overrides_after v over)),
+        (
+          (s.now_is.active v).1 active,
+          lists,
+          λ over. free (subst (λ store. OverridesAfter store v) s.store_is (overrides_after v over)),
+        ),
       ),
   )

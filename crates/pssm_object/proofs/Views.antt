@@ -21,16 +21,17 @@ use Rattle.pssm_semantics.proofs.Configurations.{configuration-nil}
 use Rattle.pssm_object.specs.declared.object.Waiting.{Waiting}
 use Rattle.pssm_object.specs.declared.situation.Situation.{Situation}
 use Rattle.pssm_object.specs.Standing.{Standing, StandsAfter, Stands}
-use Rattle.pssm_object.specs.Following.{NamesPlaces, KeepsRule, KeepsRules, IsCandidate, IsMove, IsQuiet, HasNext, IsHandedIn, IsTold, CanCome, stimulus_for}
+use Rattle.pssm_object.specs.Following.{NamesPlaces, KeepsRule, KeepsRules, IsCandidate, IsMove, IsQuiet, HasNext, IsHandedIn, IsTold, CanCome, Defers, stimulus_for}
 use Rattle.pssm_object.specs.Tasks.{ready_tasks, Does}
 use Rattle.pssm_object.specs.inner.Situations.{standing_of, IsAtRest}
 use Rattle.pssm_object.specs.inner.Judging.{Judges}
 use Rattle.pssm_object.specs.inner.Advancing.{CanFollow, Advances}
-use Rattle.pssm_object.specs.inner.Choosing.{Chooses, DoesTask}
+use Rattle.pssm_object.specs.inner.Choosing.{Chooses, DoesTask, KeepsBackHere}
 use Rattle.pssm_object.proofs.Standings.{plan_fits}
 use Rattle.pssm_object.proofs.Judged.{judged}
 use Rattle.pssm_object.proofs.Accepted.{accepted}
 use Rattle.pssm_object.proofs.Following.{can_follow}
+use Rattle.pssm_object.proofs.Deferring.{deferred_is}
 use Rattle.pssm_object.proofs.Advancing.{following}
 use Rattle.pssm_object.proofs.Eights.{params_eight}
 use Rattle.pssm_object.proofs.Chosen.{IsGoodMove, good_move, chosen_keeps, quiet_is}
@@ -87,6 +88,13 @@ module _ (situation : Situation) (x : Standing) (view_is : standing_of situation
       quiet_seen signal J s rests waiting says handed =
           quiet_is class b x signal s rests waiting
           (seen (λ y. IsTrue rests ↔ IsAtRest class.machine y.plan) (says class.machine (plan_known (J, s)))) handed
+
+      -- it defers a signal exactly where an active State keeps it back
+      pub defers_seen : (w : Waiting) (answer : Bool) → (IsTrue answer ↔ KeepsBackHere class (standing_of situation) w) → Defers class x w answer
+      defers_seen w answer h J s =
+          let here = seen (λ y. IsTrue answer ↔ KeepsBackHere class y w) h in
+          let is = deferred_is class s w in
+          (λ yes. is.0 (here.0 yes), λ deferred. here.1 (is.1 deferred))
 
       -- what is chosen is a move that may follow, and nothing is chosen where none may
       module _ (signal : Option Waiting) (stands : Stands class x) where
