@@ -87,7 +87,7 @@ module _ {m : DraftMachine} (b : IsBuiltMachine m) where
   begins_by_firing now truth signal routes consistent h = record {
     consistent = consistent;
     start = λ e. absurd (cc);
-    one = ?;
+    agree = h.0.sound.agree;
     from_active = fired_from_active now truth signal routes h;
   }
 
@@ -99,6 +99,6 @@ module _ {m : DraftMachine} (b : IsBuiltMachine m) where
       owners = λ r s direct is. absurd (none s is);
     };
     start = λ e. none;
-    one = λ p q first. absurd first;
+    agree = λ p q first. absurd first;
     from_active = λ p s fires. absurd fires;
   }
