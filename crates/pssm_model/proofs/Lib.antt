@@ -10,6 +10,7 @@ pub mod Nesting
 pub mod Scopes
 pub mod ListsFilled
 pub mod Agreeing
+pub mod AgreeingRoutes
 pub mod NestedFrom
 pub mod ShapeFaults
 pub mod ShapeOrFault

@@ -105,8 +105,15 @@ module _ {m : DraftMachine} (shape : HasShape m) (rules : KeepsModelRules m)
     internal_end is =
         ⊎_elim
         (λ same. same_vertex x.source x.target same)
-        (λ apart. absurd (rules (places.At (elements.Transition t)) 13 (E13 (goes Internal is, (x.source, leaves, inr
-        (λ enters. apart (ap (λ (v : VertexId). v.0) (sym ((enters_at m t x x.source e).0 enters)))))))))
+        (λ apart. absurd (rules (places.At (elements.Transition t)) 13 (E13 (
+          goes Internal is,
+          (
+            x.source,
+            leaves,
+            inr
+                (λ enters. apart (ap (λ (v : VertexId). v.0) (sym ((enters_at m t x x.source e).0 enters)))),
+          ),
+        ))))
         (cases_eq x.source.0 x.target.0)
 
     -- a local one leaves a State and ends in it
