@@ -101,7 +101,7 @@ room_from low (r ∷ rs) le all listed from =
     let first = from 0 r (omega arith) t [] single in
     let below = all.0.2 in
     let after : All (StartsFrom (t.0 + 1)) rs =
-        (λ k d lt u us is. let less = listed 0 (suc k) d (omega arith) (omega (arith, lt)) t u [] us single is in omega (arith, less)) in
+    (λ k d lt u us is. let less = listed 0 (suc k) d (omega arith) (omega (arith, lt)) t u [] us single is in omega (arith, less)) in
     let later : IsListed rs = (λ i j d before within. listed (suc i) (suc j) d (omega (arith, before)) (omega (arith, within))) in
     let rest = room_from (t.0 + 1) rs (omega (arith, below)) all.1 later after in
     omega (arith, rest, first)
