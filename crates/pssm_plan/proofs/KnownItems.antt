@@ -21,7 +21,7 @@ use Rattle.pssm_model.specs.Course.Head.{Starts, Fires}
 use Rattle.pssm_model.specs.Items.{HasRunOut, Before, IsWaiting, IsCleared}
 use Rattle.pssm_model.specs.Order.{IsReady, IsAtOrBefore, HasReadyAtOrBefore, KnownConfiguration, known_course, IsNestedStep}
 use Rattle.pssm_model.specs.Routes.{single_route}
-use Rattle.pssm_plan.specs.inner.Single.{IsDirectRoute, GoesDirectly, LiesInSpan, GoesOver, IsEnteredBy, IsExitedOver, IsEnteredOver, IsCalledOver, IsOrderedOver}
+use Rattle.pssm_plan.specs.inner.Single.{IsDirectRoute, GoesDirectly, LiesInArea, GoesOver, IsEnteredBy, IsExitedOver, IsEnteredOver, IsCalledOver, IsOrderedOver}
 use Rattle.pssm_model.proofs.ElementLaws.{mapped_some}
 use Rattle.pssm_plan.proofs.Ranks.{owner_under}
 use Rattle.pssm_model.proofs.RouteLaws.{single_route_same}
@@ -154,7 +154,7 @@ module _ {m : DraftMachine} (shape : HasShape m) (course : Course) (g : GoesDire
       known_as
       (λ h. (h.0, (h.1, h.2.0, h.2.1)))
       (λ h. (h.0, h.1.0, (h.1.1, h.1.2)))
-      (known_fires_some (λ t. course.at_head.Active s × LiesInSpan m t s) (λ t. known_both (active s) (known_in_span shape t s)))
+      (known_fires_some (λ t. course.at_head.Active s × LiesInArea m t s) (λ t. known_both (active s) (known_in_span shape t s)))
 
   pub known_enter : (s : VertexId) → Known (IsCalledOver m course (items.Enter s))
   known_enter s =

@@ -14,7 +14,7 @@ use Rattle.pssm_model.specs.Forest.LiesUnder.{owned, further}
 use Rattle.pssm_model.specs.Forest.HasRegionsAbove.{region, state, machine}
 use Rattle.pssm_model.specs.Legs.{Leaves, Enters}
 use Rattle.pssm_model.specs.Shapes.{HasShape}
-use Rattle.pssm_plan.specs.inner.Single.{IsEndOf, IsSpan, LiesInSpan, IsEnteredBy}
+use Rattle.pssm_plan.specs.inner.Single.{IsEndOf, IsSpan, LiesInArea, IsEnteredBy}
 use Rattle.pssm_model.proofs.ElementLaws.{leaves_at, enters_at}
 use Rattle.pssm_model.proofs.OwnerChains.{top_lies_nowhere, counted_is_place}
 use Rattle.pssm_model.proofs.Nesting.{under_cases, shallower}
@@ -122,7 +122,7 @@ module _ {m : DraftMachine} (shape : HasShape m) where
       (λ span. (span.common, λ h. span.innermost (region_of h.0) h.2.0 h.2.1))
       (known_both (known_common t r) (known_not (known_inner t r)))
 
-  pub known_in_span : (t : TransId) (s : VertexId) → Known (LiesInSpan m t s)
+  pub known_in_span : (t : TransId) (s : VertexId) → Known (LiesInArea m t s)
   known_in_span t s =
       known_as
       (λ h. (region_of h.0, h.2.0, h.2.1))
@@ -140,5 +140,5 @@ module _ {m : DraftMachine} (shape : HasShape m) where
       by (Some x) e =
           known_as
           (λ h. (x.target, (enters_at m t x x.target e).1 refl, h))
-          (λ h. subst (λ v. (v ≡ s) ⊎ (LiesInSpan m t s × LiesInState m v s)) (sym ((enters_at m t x h.0 e).0 h.1)) h.2)
+          (λ h. subst (λ v. (v ≡ s) ⊎ (LiesInArea m t s × LiesInState m v s)) (sym ((enters_at m t x h.0 e).0 h.1)) h.2)
           (known_either (known_vertex x.target s) (known_both (known_in_span t s) (known_in_state x.target s)))

@@ -27,7 +27,7 @@ use Rattle.pssm_model.specs.Order.HasGone.{begun as gone_begun, more as gone_mor
 use Rattle.pssm_model.specs.Nested.{IsPlainlyNested}
 use Rattle.pssm_model.specs.Routes.{single_route}
 use Rattle.pssm_plan.specs.Steadiness.{KeepsInitials, BeginsWell}
-use Rattle.pssm_plan.specs.inner.Single.{IsSpan, LiesInSpan, GoesOver, IsEnteredBy, IsExitedOver, IsEnteredOver, IsCalledOver}
+use Rattle.pssm_plan.specs.inner.Single.{IsSpan, LiesInArea, GoesOver, IsEnteredBy, IsExitedOver, IsEnteredOver, IsCalledOver}
 use Rattle.pssm_model.proofs.ElementLaws.{nothing_in_nil}
 use Rattle.pssm_model.proofs.RouteLaws.{single_route_same}
 use Rattle.pssm_plan.proofs.NestedRoutes.{late_route_is}
@@ -166,7 +166,7 @@ module _ {m : DraftMachine} (shape : HasShape m) (nested : IsPlainlyNested m) (i
 
   -- all that is entered lies in the span of what fires
   pub inside_fired : (t : TransId) → FiresBy head (single_route t) → (ran : List (Item × How)) → HasGone m head now ran
-      → (u : TransId) (s : VertexId) → IsEnteredOver m (course_by head now ran) u s → LiesInSpan m t s
+      → (u : TransId) (s : VertexId) → IsEnteredOver m (course_by head now ran) u s → LiesInArea m t s
   inside_fired t is _ (gone_begun fires) u s h =
       let same = one_fires u t (begins_by head now (single_route u) h.0) is in
       let span = over_span _ (gone_begun fires) t (inl is) in

@@ -17,7 +17,7 @@ use Rattle.pssm_model.specs.Paths.{IsInitialOf}
 use Rattle.pssm_model.specs.Shapes.{HasShape, OwnsVertex}
 use Rattle.pssm_model.specs.WellFormed.{ShareRegion}
 use Rattle.pssm_plan.specs.Steadiness.{KeepsInitials}
-use Rattle.pssm_plan.specs.inner.Single.{IsEndOf, IsSpan, LiesInSpan, IsEnteredBy, EndsIn}
+use Rattle.pssm_plan.specs.inner.Single.{IsEndOf, IsSpan, LiesInArea, IsEnteredBy, EndsIn}
 use Rattle.pssm_model.proofs.ElementLaws.{mapped_some, mapped_at, some_at, kind_unique}
 use Rattle.pssm_model.proofs.ElementLaws.{leaves_one, enters_one}
 use Rattle.pssm_model.proofs.Nesting.{under_cases, region_cases, outer_of_region}
@@ -232,7 +232,7 @@ module _ (m : DraftMachine) where
       h.2
 
   pub entered_in_span : (t : TransId) (s : VertexId) (r : RegionId) → IsSpan m t r → IsEnteredBy m t s
-      → LiesInSpan m t s
+      → LiesInArea m t s
   entered_in_span t s r span h =
       ⊎_elim
       (λ same. (r, span, subst (λ x. LiesInRegion m x r) same (span.common h.0 (inr h.1))))
