@@ -124,6 +124,14 @@ module _ (m : DraftMachine) (shape : HasShape m) where
       apart q r e f under =
           ⊎_elim (λ same. absurd (cc)) (λ more. owner_outside s r f more) (under_cases m (Region q) (State s) (Region r) e under)
 
+  -- the target lies in the outermost region that its transition enters
+  pub target_in_outermost : (t : TransId) (target : VertexId) (r : RegionId) → Enters m t target → IsOutermost m t r → LiesInRegion m target r
+  target_in_outermost t target r enters out =
+      ⊎_elim
+      (λ external. external.1.common target (inr enters))
+      (λ local. subst (λ x. LiesInRegion m x r) (same_end _ local.2.0 target local.2.1 enters) local.2.2)
+      out
+
   -- a vertex around the target lies in the area of the transition where it lies in the outermost region that it enters
   module _ (t : TransId) (target s : VertexId) (enters : Enters m t target) (around : LiesInState m target s) where
     outermost_area : (r : RegionId) → IsOutermost m t r → (area : Scope) → IsArea m t area → LiesInScope m s area → LiesInRegion m s r

@@ -141,6 +141,7 @@ impl Roster {
         requires transition { t.0 < length machine.now.transitions }
         requires vertex { target.0 < length machine.now.vertices }
         requires target { Enters machine.now t target }
+        requires enters { Goes machine.now t Internal → ⊥ }
         requires span { IsOutermost machine.now t span }
         ensures calls { IsLonger self.old.calls.items self.new.calls.items }
         ensures added { OnOk result (IsExtended machine.now self.old.calls.items
@@ -167,6 +168,7 @@ impl Roster {
         ensures added { OnOk result (IsExtended machine.now self.old.calls.items
             (IsSomeEntryOf machine.now self.old.calls.items t) self.new.calls.items) }
     {
+        let _shaped = machine.regions();
         let target = machine.target(t);
         self.add_entry(machine, t, target)?;
         match outermost_of(machine, t) {

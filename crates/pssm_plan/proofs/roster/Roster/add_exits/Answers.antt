@@ -5,7 +5,7 @@ use Rattle.pssm_model.specs.declared.steps.Item.TheVariants.{Exit}
 use Rattle.pssm_plan.specs.inner.Single.{LiesInArea}
 use Rattle.pssm_config.specs.Tables.{configuration_of}
 use Rattle.pssm_plan.specs.inner.Calling.{IsExitOf}
-use Rattle.pssm_plan.proofs.Spans.{vertex_there}
+use Rattle.pssm_plan.proofs.Spans.{area_there}
 use Rattle.pssm_plan.proofs.Extending.{extended_same}
 use Rattle.pssm_plan.proofs.Growing.{AddedBelow, grown_more, below_more, or_same, vertex_id}
 use Rattle.pssm_plan.proofs.roster.Roster.add_exits.Goals as goal
@@ -25,6 +25,6 @@ returns-clause-added c =
     extended_same c.args.machine.now _ _ (AddedBelow Q c.loop-v.v) (IsExitOf c.args.machine.now (configuration_of c.args.config.now) c.args.t)
     (λ x. (
       λ h. (h.0, h.2.0, h.2.1, h.2.2),
-      λ h. (h.0, (let there = vertex_there c.args.machine.now h.0 h.3.0 h.3.2 in omega (arith, there)), (h.1, h.2, h.3)),
+      λ h. (h.0, (let there = area_there c.args.machine.now c.args.t h.0 h.3 in omega (arith, there)), (h.1, h.2, h.3)),
     ))
     c.loop-v.invariant.extended
