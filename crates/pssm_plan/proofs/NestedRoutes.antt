@@ -10,7 +10,7 @@ use Rattle.pssm_model.specs.declared.elements.VertexKind.{VertexKind}
 use Rattle.pssm_model.specs.declared.elements.VertexKind.TheVariants as kinds
 use Rattle.pssm_model.specs.declared.steps.Route.{Route}
 use Rattle.pssm_model.specs.declared.steps.Mode.{Mode}
-use Rattle.pssm_model.specs.declared.elements.TransKind.TheVariants.{Local}
+use Rattle.pssm_model.specs.declared.elements.TransKind.TheVariants.{Local, Internal}
 use Rattle.pssm_model.specs.Forest.{vertex_at, transition_at, HasKind, LiesInState}
 use Rattle.pssm_model.specs.Legs.{Leaves, Enters, Goes, On, transitions_of}
 use Rattle.pssm_model.specs.Routes.{Truth, IsTrueAt, GoesOnAt, IsReached, IsRoute, IsSource, IsStateRoute}
@@ -62,6 +62,19 @@ module _ {m : DraftMachine} (b : IsPlainlyNested m) where
       let source = (leaves_at m t x.0 v x.1).0 leaves in
       let target = (enters_at m t x.0 w x.1).0 enters in
       (subst (λ y. HasKind m y kinds.State) source is.0, subst (λ y. LiesInState m w y) source (subst (λ y. LiesInState m y x.0.source) target is.1))
+
+  -- and an internal one leaves a State
+  internal_at : (x : Transition) → x.kind ≡ Internal → GoesPlainly m x → HasKind m x.source kinds.State
+  internal_at x is h =
+      ⊎_elim
+      (λ external. absurd (let clash = external in cc))
+      (λ other. ⊎_elim (λ local. absurd (let clash = local.0 in cc)) (λ internal. internal.1) other)
+      h
+
+  pub internal_leaves : (t : TransId) (v : VertexId) → Goes m t Internal → Leaves m t v → HasKind m v kinds.State
+  internal_leaves t v goes leaves =
+      let x = mapped_some (λ (x : Transition). x.kind) (transition_at m t) Internal goes in
+      subst (λ y. HasKind m y kinds.State) ((leaves_at m t x.0 v x.1).0 leaves) (internal_at x.0 x.2 (goes_plainly t x.0 x.1))
 
   pub is_direct : (t : TransId) → t.0 < length m.transitions → IsDirectTransition m t
   is_direct t lt =
