@@ -18,10 +18,10 @@ use Rattle.pssm_model.specs.Forest.LiesUnder.{owned, further}
 use Rattle.pssm_model.specs.Legs.{Leaves, Enters}
 use Rattle.pssm_model.specs.Shapes.{HasShape, OwnsVertex}
 use Rattle.pssm_plan.specs.declared.roster.Call.{Call}
-use Rattle.pssm_model.specs.declared.elements.TransKind.TheVariants.{External, Local, Internal}
+use Rattle.pssm_model.specs.declared.elements.TransKind.TheVariants.{Internal}
 use Rattle.pssm_model.specs.Legs.{Goes, Scope, LiesInScope}
 use Rattle.pssm_model.specs.Legs.Scope.{Nowhere, Inside, Within}
-use Rattle.pssm_plan.specs.inner.Single.{IsEndOf, IsSpan, IsArea, LiesInArea, IsEnteredBy, EndsIn, LeavesOwner, IsOutermost}
+use Rattle.pssm_plan.specs.inner.Single.{IsEndOf, IsSpan, IsArea, LiesInArea, IsEnteredBy, IsOutermost}
 use Rattle.pssm_plan.specs.inner.Calling.{IsEntryOf, IsEntryAround, IsSomeEntryOf, IsBeside, IsOfLeg}
 use Rattle.pssm_plan.specs.inner.Marks.{IsMarked, IsLonger}
 use Rattle.pssm_plan.specs.inner.Sequence.{IsRoster, IsExtended}

@@ -1,6 +1,6 @@
 -- A step of a machine of States in regions has run out, or has a ready item, where the configuration at its head is
 -- known.
-use Rattle.std.proofs.Common.{List, ◌≡◌, ◌⊎◌, ◌<◌, ℕ, length, Option, Some, None, option_map, refl, ap, subst, inl, inr, ⊎_elim}
+use Rattle.std.proofs.Common.{List, ◌⊎◌, ◌<◌, ℕ, length, inl, inr, ⊎_elim}
 use Rattle.pssm_model.specs.declared.ids.VertexId.{VertexId}
 use Rattle.pssm_model.specs.declared.ids.RegionId.{RegionId}
 use Rattle.pssm_model.specs.declared.ids.TransId.{TransId}
@@ -10,9 +10,6 @@ use Rattle.pssm_model.specs.declared.steps.Mode.TheVariants.{Plain, Shallow, Dee
 use Rattle.pssm_model.specs.declared.steps.How.{How}
 use Rattle.pssm_model.specs.declared.steps.Item.{Item}
 use Rattle.pssm_model.specs.declared.steps.Item.TheVariants as items
-use Rattle.pssm_model.specs.declared.elements.Transition.{Transition}
-use Rattle.pssm_model.specs.Forest.{transition_at, LiesInRegion}
-use Rattle.pssm_model.specs.Legs.{Enters}
 use Rattle.pssm_model.specs.Shapes.{HasShape}
 use Rattle.pssm_model.specs.Configuration.{Configuration}
 use Rattle.pssm_model.specs.Course.{Head, Course, HasRun}
@@ -21,14 +18,12 @@ use Rattle.pssm_model.specs.Items.{StartOpens, IsWaiting, HasRunOut}
 use Rattle.pssm_model.specs.Order.{HasGone, IsReady, course_by}
 use Rattle.pssm_model.specs.Nested.{IsPlainlyNested}
 use Rattle.pssm_plan.specs.inner.Single.{GoesDirectly, EndsIn, IsEnteredBy, OpensBeside, OpensAfterEntry, IsCalledOver}
-use Rattle.pssm_model.proofs.ElementLaws.{enters_one}
 use Rattle.pssm_plan.proofs.Known.{Known, known_as, known_both, known_either, known_not, known_below}
 use Rattle.pssm_plan.proofs.KnownPlaces.{known_owner, known_entered, known_ends, known_beside}
 use Rattle.pssm_plan.proofs.KnownItems.{known_over_some, known_over, known_exit, known_enter, owning_there, some_ready}
 use Rattle.pssm_plan.proofs.NestedSteps.{gone_directly}
 use Rattle.pssm_plan.proofs.ReadyItems.{run_known}
 use Rattle.pssm_plan.proofs.SingleItems.{called_is, called_of}
-use Rattle.pssm_plan.proofs.Spans.{target_of}
 use Rattle.pssm_plan.proofs.StepLengths.{IsThere, called_there}
 
 -- what a start opens is known

@@ -1,5 +1,5 @@
 -- The legs of a route of one transition, in any machine.
-use Rattle.std.proofs.Common.{◌≡◌, ◌↔◌, Some, refl, sym, subst, inl, inr, ⊎_elim}
+use Rattle.std.proofs.Common.{◌≡◌, ◌↔◌, refl, sym, subst, inl, inr, ⊎_elim}
 use Rattle.pssm_model.specs.declared.ids.VertexId.{VertexId}
 use Rattle.pssm_model.specs.declared.ids.RegionId.{RegionId}
 use Rattle.pssm_model.specs.declared.ids.TransId.{TransId}
@@ -22,7 +22,7 @@ use Rattle.pssm_model.specs.Legs.LegScope.{internal, local, point, other}
 use Rattle.pssm_model.specs.Items.{IsAimedAt, LegEnds, LegOpens, PathBefore}
 use Rattle.pssm_model.specs.Items.PathBefore.{next as step_next, after as step_after}
 use Rattle.pssm_model.specs.Routes.{single_route}
-use Rattle.pssm_plan.specs.inner.Single.{IsDirectTransition, IsEndOf, IsSpan, IsArea, LiesInArea, IsEnteredBy, EndsIn, OpensBeside}
+use Rattle.pssm_plan.specs.inner.Single.{IsDirectTransition, IsEndOf, IsArea, LiesInArea, IsEnteredBy, EndsIn, OpensBeside}
 use Rattle.pssm_model.proofs.ElementLaws.{kind_unique, mapped_some, mapped_at}
 use Rattle.pssm_model.proofs.RouteLaws.{on_single, on_single_is}
 use Rattle.pssm_plan.proofs.Spans.{external_not_internal, external_not_local}

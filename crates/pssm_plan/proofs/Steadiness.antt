@@ -30,7 +30,6 @@ use Rattle.pssm_model.specs.Legs.Scope.{Nowhere, Inside, Within}
 use Rattle.pssm_model.proofs.ElementLaws.{some_at}
 use Rattle.pssm_model.proofs.RouteLaws.{single_source}
 use Rattle.pssm_model.proofs.OwnerChains.{one_owner, owner_above}
-use Rattle.pssm_model.proofs.Nesting.{under_cases, region_cases, lies_within}
 use Rattle.pssm_plan.proofs.Spans.{source_of}
 use Rattle.pssm_plan.proofs.NestedRoutes.{target_is_state}
 use Rattle.pssm_plan.proofs.NestedSteps.{gone_directly, over_in_range, ran_was_called}

@@ -5,11 +5,9 @@ use Rattle.pssm_model.specs.declared.ids.RegionId.{RegionId}
 use Rattle.pssm_model.specs.declared.ids.TransId.{TransId}
 use Rattle.pssm_model.specs.declared.elements.DraftMachine.{DraftMachine}
 use Rattle.pssm_model.specs.declared.elements.Owner.TheVariants.{Region, State}
-use Rattle.pssm_model.specs.declared.steps.Mode.TheVariants.{Plain}
 use Rattle.pssm_model.specs.declared.steps.How.{How}
 use Rattle.pssm_model.specs.declared.steps.Item.{Item}
-use Rattle.pssm_model.specs.declared.steps.Item.TheVariants as items
-use Rattle.pssm_model.specs.Forest.{owner_of, LiesUnder, LiesInRegion, HasRegionsAbove}
+use Rattle.pssm_model.specs.Forest.{owner_of, LiesUnder, HasRegionsAbove}
 use Rattle.pssm_model.specs.Legs.{Leaves, Scope, LiesInScope}
 use Rattle.pssm_model.specs.Paths.{IsInitialOf}
 use Rattle.pssm_model.specs.Shapes.{HasShape}

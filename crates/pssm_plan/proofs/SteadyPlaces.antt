@@ -184,11 +184,14 @@ module _ {m : DraftMachine} (shape : HasShape m) where
       let clash = home.1 in
       absurd (cc)
   under_state r w (further {q = State o} e (further {q = Region h} f rest)) =
-      let up = under_state h w rest in
-      (up.0, up.1, inr (⊎_elim
-      (λ same. subst (λ x. LiesUnder m (Region r) (Region x)) same (further e (owned f)))
-      (λ under. further e (further f under))
-      up.2))
+      let up = under_state h w rest in (
+        up.0,
+        up.1,
+        inr (⊎_elim
+            (λ same. subst (λ x. LiesUnder m (Region r) (Region x)) same (further e (owned f)))
+            (λ under. further e (further f under))
+            up.2),
+      )
 
   -- what lies in a region that lies in a place lies there
   pub region_in_scope : (s : VertexId) (r : RegionId) (area : Scope) → LiesInRegion m s r → IsRegionIn m r area → LiesInScope m s area

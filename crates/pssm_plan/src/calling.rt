@@ -21,7 +21,9 @@ ghost use Rattle.pssm_plan.specs.inner.Calling.{IsBeside, IsOfLeg, IsExitOf};
 ghost use Rattle.pssm_plan.specs.inner.Calling.{IsOpenedAfter, IsOpenedBy, IsTopOpening, IsSingle, IsOfRoute};
 ghost use Rattle.pssm_plan.specs.inner.Calling.{IsOfRoutes, IsLate, IsFollowing, IsMadeOf, IsRunIn};
 
-use crate::arrows::{ends_in, enters, is_internal, is_local, lies_in_area, may_hold, outermost_of, same_region};
+use crate::arrows::{
+    ends_in, enters, is_internal, is_local, lies_in_area, may_hold, outermost_of, same_region,
+};
 use crate::roster::{Roster, has_run};
 use pssm_config::Config;
 use pssm_model::{How, Item, Machine, Mode, Owner, RegionId, Route, TransId, VertexId};

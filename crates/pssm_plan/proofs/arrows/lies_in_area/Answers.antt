@@ -1,4 +1,4 @@
-use Rattle.std.proofs.Common.{◌≡◌, Some, ap, sym, subst}
+use Rattle.std.proofs.Common.{subst}
 use Rattle.pssm_model.specs.declared.elements.TransKind.{TransKind}
 use Rattle.pssm_model.specs.Legs.{Goes}
 use Rattle.pssm_plan.proofs.Spans.{external_area, local_area}
