@@ -4,6 +4,7 @@ use Rattle.std.specs.Prelude.{◌≢◌, AllPairs}
 use Rattle.std.specs.List.{AllByRecursion}
 use Rattle.std.proofs.lemmas.List.{length-map}
 use Rattle.std.proofs.lemmas.List.Elements.{recursion_from_All}
+use Rattle.pssm_model.specs.declared.steps.Route.{Route}
 use Rattle.pssm_model.specs.declared.steps.How.{How}
 use Rattle.pssm_model.specs.declared.steps.Firing.{Firing}
 use Rattle.pssm_semantics.specs.declared.entry.Entry.{Entry}
@@ -13,7 +14,7 @@ use Rattle.pssm_semantics.specs.declared.setting.ObjectDecl.{ObjectDecl}
 use Rattle.pssm_semantics.specs.declared.setting.Class.{Class}
 use Rattle.pssm_semantics.specs.declared.setting.Setting.{Setting}
 use Rattle.pssm_semantics.specs.Names.{AreApart, NamesDiffer}
-use Rattle.pssm_semantics.specs.Built.{IsBuiltFiring, IsBuiltEntry}
+use Rattle.pssm_semantics.specs.Built.{IsBuiltRoute, IsBuiltFiring, IsBuiltEntry}
 use Rattle.pssm_journal.specs.Naming.{HasStart, HaveStarts, IsSpelledEntry}
 
 -- one name, or none, is apart from all others
@@ -32,9 +33,16 @@ few_names_differ setting objects signals marks = record {
   marks = few_marks setting.classes (recursion_from_All (λ c. length c.program.marks ≤ 1) setting.classes marks);
 }
 
+-- a route of one transition starts with it
+route_starts : (route : Route) → IsBuiltRoute route → HasStart route
+route_starts route is = subst HasStart (sym is.1) (omega arith)
+
+routes_start : (routes : List Route) → AllByRecursion IsBuiltRoute routes → AllByRecursion HasStart routes
+routes_start [] all = tt
+routes_start (r ∷ rs) all = (route_starts r all.0, routes_start rs all.1)
+
 firing_starts : (firing : Firing) → IsBuiltFiring firing → HaveStarts firing
-firing_starts firing (inl none) = subst (λ rs. AllByRecursion HasStart rs) (sym none) tt
-firing_starts firing (inr one) = subst (λ rs. AllByRecursion HasStart rs) (sym one.1) (omega arith, tt)
+firing_starts firing built = routes_start firing.routes built.0
 
 -- the entries of their runs
 pub built_is_spelled : (e : Entry) → IsBuiltEntry e → IsSpelledEntry e

@@ -1,5 +1,5 @@
 -- The line of an entry that the code runs so far is not longer than a line may be.
-use Rattle.std.proofs.Common.{◌≡◌, ℕ, ℤ, pos, negsuc, suc, ◌+◌, ◌*◌, map, ◌<◌, ◌≤◌, true, leb, List, [], ◌∷◌, ◌++◌, length, Some, refl, sym, subst, arith, inl, inr}
+use Rattle.std.proofs.Common.{◌≡◌, ℕ, ℤ, pos, negsuc, suc, ◌+◌, ◌*◌, map, ◌<◌, ◌≤◌, true, leb, List, [], ◌∷◌, ◌++◌, length, Some, All, refl, sym, ap, subst, arith, inl, inr}
 use Rattle.std.specs.Prelude.{codes, FitsSigned}
 use Rattle.std.specs.Int.{w64}
 use Rattle.std.specs.List.{AllByRecursion, join_with_byte, sum_by}
@@ -10,9 +10,12 @@ use Rattle.std.proofs.lemmas.List.Concat.{length-flat_map}
 use Rattle.std.proofs.lemmas.List.Sums.{sum_by-cons}
 use Rattle.std.proofs.lemmas.Fmt.{length-decimal-le}
 use Rattle.std.proofs.lemmas.Option.{same_Some}
+use Rattle.pssm_model.specs.declared.ids.TransId.{TransId}
+use Rattle.pssm_model.specs.declared.steps.Route.{Route}
 use Rattle.pssm_model.specs.declared.steps.Firing.{Firing}
 use Rattle.pssm_model.specs.declared.steps.Mode.TheVariants.{Plain}
 use Rattle.pssm_model.specs.declared.steps.How.{How}
+use Rattle.pssm_model.specs.FiringSets.{IsListed}
 use Rattle.pssm_semantics.specs.declared.entry.ObjectId.{ObjectId}
 use Rattle.pssm_semantics.specs.declared.entry.Entry.{Entry}
 use Rattle.pssm_semantics.specs.declared.entry.Entry.TheVariants as entries
@@ -21,10 +24,10 @@ use Rattle.pssm_semantics.specs.declared.line.Line.TheVariants.{Post, Start, Tak
 use Rattle.pssm_semantics.specs.declared.line.LineOut.{LineOut}
 use Rattle.pssm_semantics.specs.declared.line.LineOut.TheVariants.{Mark, Send}
 use Rattle.pssm_semantics.specs.declared.setting.Setting.{Setting}
-use Rattle.pssm_semantics.specs.Built.{IsBuiltFiring, IsBuiltWay, HasBuiltForm, IsBuiltEntry}
+use Rattle.pssm_semantics.specs.Built.{IsBuiltRoute, IsBuiltFiring, IsBuiltWay, HasBuiltForm, IsBuiltEntry}
 use Rattle.pssm_spelling.specs.Spelling.{IsName}
-use Rattle.pssm_lines.specs.LineText.{line_text, firing_text, routes_text, how_text, args_text, call_text, out_text, outs_text}
-use Rattle.pssm_lines.specs.Grammar.{IsLine, IsSpelledFiring, IsSpelledHow, IsSpelledRoute, AreArgs, IsSpelledOut, AreSpelledOuts}
+use Rattle.pssm_lines.specs.LineText.{line_text, firing_text, route_text, routes_text, how_text, args_text, call_text, out_text, outs_text}
+use Rattle.pssm_lines.specs.Grammar.{IsLine, IsSpelledHow, AreArgs, IsSpelledOut, AreSpelledOuts}
 use Rattle.pssm_lines.specs.Faults.{IsJournalLine}
 use Rattle.pssm_journal.specs.Entries.{object_named, outs_named, object_name, entry_at, entry_named, IsEntryOf}
 use Rattle.pssm_journal.proofs.OutputCounts.{step_some}
@@ -58,13 +61,6 @@ short_nothing = short_word [] refl
 short_last : (n : ℕ) → n < 65536 → IsShort 26 (decimal n ++ [])
 short_last n small = short_append 10 16 (decimal n) [] (short_number n (omega arith)) short_nothing
 
-short_firing : (firing : Firing) → IsBuiltFiring firing → IsSpelledFiring firing → IsShort 42 (firing_text firing)
-short_firing firing (inl none) spelled = subst (λ rs. IsShort 42 (routes_text rs)) (sym none) (short_more 16 42 (codes "-") (omega arith) (short_word (codes "-") refl))
-short_firing firing (inr one) spelled =
-    let t = one.0 in
-    let here = subst (λ rs. AllByRecursion IsSpelledRoute rs) one.1 spelled in
-    subst (λ rs. IsShort 42 (routes_text rs)) (sym one.1) (short_append 16 26 (codes "t") (decimal t.0 ++ []) (short_word (codes "t") refl) (short_last t.0 here.0.1.0))
-
 short_way : (how : How) → IsBuiltWay how → IsSpelledHow how → IsShort 42 (codes " default " ++ how_text how)
 short_way how (inl none) spelled = subst (λ h. IsShort 42 (codes " default " ++ how_text h)) (sym none) (short_more 16 42 (codes " default none") (omega arith) (short_word (codes " default none") refl))
 short_way how (inr one) spelled =
@@ -89,6 +85,47 @@ sum_most P f most (x ∷ xs) each all =
     let rest = sum_most P f most xs each all.1 in
     let first = each x all.0 in
     omega (arith, rest, first, sum_by-cons f x xs)
+
+-- ---- firings
+
+-- The route starts at this number or a higher one.
+abbrev StartsFrom : ℕ → Route → Type 0
+StartsFrom low route = (t : TransId) (ts : List TransId) → route.starts ≡ t ∷ ts → low ≤ t.0
+
+-- numbers that ascend from one up to a limit are not more than there is room for
+room_from : (low : ℕ) (routes : List Route) → low ≤ 8192 → AllByRecursion IsBuiltRoute routes → IsListed routes → All (StartsFrom low) routes → low + length routes ≤ 8192
+room_from low [] le all listed from = omega (arith, le)
+room_from low (r ∷ rs) le all listed from =
+    let t = all.0.0 in
+    let single : r.starts ≡ t ∷ [] = ap (λ (route : Route). route.starts) all.0.1 in
+    let first = from 0 r (omega arith) t [] single in
+    let below = all.0.2 in
+    let after : All (StartsFrom (t.0 + 1)) rs =
+    (λ k d lt u us is. let less = listed 0 (suc k) d (omega arith) (omega (arith, lt)) t u [] us single is in omega (arith, less)) in
+    let later : IsListed rs = (λ i j d before within. listed (suc i) (suc j) d (omega (arith, before)) (omega (arith, within))) in
+    let rest = room_from (t.0 + 1) rs (omega (arith, below)) all.1 later after in
+    omega (arith, rest, first)
+
+few_routes : (firing : Firing) → IsBuiltFiring firing → length firing.routes ≤ 8192
+few_routes firing built =
+    let room = room_from 0 firing.routes (omega arith) built.0 built.1 (λ k d lt t ts is. omega arith) in
+    omega (arith, room)
+
+-- a blank, `t` and at most four digits
+short_route : (route : Route) → IsBuiltRoute route → length (route_text route) + 1 ≤ 6
+short_route route is =
+    let t = is.0 in
+    let digits = length-decimal-le 4 t.0 (omega arith) (omega (arith, is.2)) (omega (arith, is.2)) in
+    subst (λ x. length (route_text x) + 1 ≤ 6) (sym is.1) (omega (arith, digits, length-append (decimal t.0) []))
+
+short_routes : (routes : List Route) → AllByRecursion IsBuiltRoute routes → length routes ≤ 8192 → IsShort 49152 (routes_text routes)
+short_routes [] all few = short_more 16 49152 (codes "-") (omega arith) (short_word (codes "-") refl)
+short_routes (r ∷ rs) all few =
+    let most = sum_most IsBuiltRoute (λ route. length (route_text route) + 1) 6 (r ∷ rs) short_route all in
+    record { few = omega (arith, joined_length 32 route_text (r ∷ rs), most, few) }
+
+short_firing : (firing : Firing) → IsBuiltFiring firing → IsShort 49152 (firing_text firing)
+short_firing firing built = short_routes firing.routes built.0 (few_routes firing built)
 
 -- ---- arguments and outputs
 
@@ -127,9 +164,9 @@ short_outs outs are =
 
 -- a kind, an object, a letter, a number, and what follows
 short_place : (kind letter object more : List ℕ) (n : ℕ) → IsShort 16 kind → IsShort 16 letter → IsName object → n < 65536 → IsShort 24064 more
-    → IsShort 24200 (kind ++ (object ++ (letter ++ (decimal n ++ more))))
+    → IsShort 49300 (kind ++ (object ++ (letter ++ (decimal n ++ more))))
 short_place kind letter object more n kind_short letter_short name small more_short =
-    short_more 24170 24200 (kind ++ (object ++ (letter ++ (decimal n ++ more)))) (omega arith)
+    short_more 24170 49300 (kind ++ (object ++ (letter ++ (decimal n ++ more)))) (omega arith)
     (short_append 16 24154 kind (object ++ (letter ++ (decimal n ++ more))) kind_short
     (short_append 64 24090 object (letter ++ (decimal n ++ more)) (short_name object name)
     (short_append 16 24074 letter (decimal n ++ more) letter_short
@@ -147,19 +184,19 @@ IsBuiltLine (Opened object region mode how) = (mode ≡ Plain) × IsBuiltWay how
 IsBuiltLine _ = ⊥
 
 -- each such line of the grammar
-pub short_line : (l : Line) → IsBuiltLine l × IsLine l → IsShort 24200 (line_text l)
+pub short_line : (l : Line) → IsBuiltLine l × IsLine l → IsShort 49300 (line_text l)
 short_line (Post object signal args) h =
-    short_more 360 24200 (line_text (Post object signal args)) (omega arith)
+    short_more 360 49300 (line_text (Post object signal args)) (omega arith)
     (short_append 16 344 (codes "post ") (call_text object signal args) (short_word (codes "post ") refl) (short_call object signal args h.1.0 h.1.1 h.1.2))
 short_line (Start object) h =
-    short_more 80 24200 (codes "start " ++ object) (omega arith) (short_append 16 64 (codes "start ") object (short_word (codes "start ") refl) (short_name object h.1))
+    short_more 80 49300 (codes "start " ++ object) (omega arith) (short_append 16 64 (codes "start ") object (short_word (codes "start ") refl) (short_name object h.1))
 short_line (Take object number firing) h =
-    short_more 164 24200 (line_text (Take object number firing)) (omega arith)
-    (short_append 16 148 (codes "take ") (object ++ (codes " " ++ (decimal number ++ (codes " " ++ firing_text firing)))) (short_word (codes "take ") refl)
-    (short_append 64 84 object (codes " " ++ (decimal number ++ (codes " " ++ firing_text firing))) (short_name object h.1.0)
-    (short_append 16 68 (codes " ") (decimal number ++ (codes " " ++ firing_text firing)) (short_word (codes " ") refl)
-    (short_append 10 58 (decimal number) (codes " " ++ firing_text firing) (short_number number h.1.2)
-    (short_append 16 42 (codes " ") (firing_text firing) (short_word (codes " ") refl) (short_firing firing h.0 h.1.3))))))
+    short_more 49274 49300 (line_text (Take object number firing)) (omega arith)
+    (short_append 16 49258 (codes "take ") (object ++ (codes " " ++ (decimal number ++ (codes " " ++ firing_text firing)))) (short_word (codes "take ") refl)
+    (short_append 64 49194 object (codes " " ++ (decimal number ++ (codes " " ++ firing_text firing))) (short_name object h.1.0)
+    (short_append 16 49178 (codes " ") (decimal number ++ (codes " " ++ firing_text firing)) (short_word (codes " ") refl)
+    (short_append 10 49168 (decimal number) (codes " " ++ firing_text firing) (short_number number h.1.2)
+    (short_append 16 49152 (codes " ") (firing_text firing) (short_word (codes " ") refl) (short_firing firing h.0))))))
 short_line (Exit object state outs) h =
     short_place (codes "exit ") (codes " v") object (outs_text outs) state.0 (short_word (codes "exit ") refl) (short_word (codes " v") refl) h.1.0 h.1.1 (short_outs outs h.1.2)
 short_line (Effect object t outs) h =
@@ -168,8 +205,8 @@ short_line (Enter object state outs) h =
     short_place (codes "enter ") (codes " v") object (outs_text outs) state.0 (short_word (codes "enter ") refl) (short_word (codes " v") refl) h.1.0 h.1.1 (short_outs outs h.1.2)
 short_line (Opened object r mode how) h =
     let tail = codes " default " ++ how_text how in
-    subst (λ x. IsShort 24200 (line_text (Opened object r x how))) (sym h.0.0)
-    (short_more 148 24200 (codes "open " ++ (object ++ (codes " r" ++ (decimal r.0 ++ tail)))) (omega arith)
+    subst (λ x. IsShort 49300 (line_text (Opened object r x how))) (sym h.0.0)
+    (short_more 148 49300 (codes "open " ++ (object ++ (codes " r" ++ (decimal r.0 ++ tail)))) (omega arith)
     (short_append 16 132 (codes "open ") (object ++ (codes " r" ++ (decimal r.0 ++ tail))) (short_word (codes "open ") refl)
     (short_append 64 68 object (codes " r" ++ (decimal r.0 ++ tail)) (short_name object h.1.0)
     (short_append 16 52 (codes " r") (decimal r.0 ++ tail) (short_word (codes " r") refl)

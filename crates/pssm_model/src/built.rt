@@ -1,25 +1,24 @@
 //! The first element of a machine that the code does not run yet.
 ghost use Rattle.std.specs.Prelude.{◌↔◌, IsTrue, IfSome, IfNone, length};
 ghost use Rattle.pssm_model.specs.declared.elements.Element.{Element};
+ghost use Rattle.pssm_model.specs.declared.elements.VertexKind.TheVariants as kinds;
 ghost use Rattle.pssm_model.specs.declared.shape.PlaceKind.TheVariants as places;
 ghost use Rattle.pssm_model.specs.Forest.{HasKind};
 ghost use Rattle.pssm_model.specs.inner.Faultless.{place_element, transition_element};
-ghost use Rattle.pssm_model.specs.NotBuilt.{IsAtTop, IsFurtherReaction, IsToJunction, IsFurtherVertex, IsFurtherTransition, IsNotBuilt, IsFirstNotBuilt};
-ghost use Rattle.pssm_model.specs.inner.Found.{AreBuiltBelow, IsFirstNumber, IsFurtherOwner};
+ghost use Rattle.pssm_model.specs.NotBuilt.{IsFurtherVertex, IsFurtherTransition, IsNotBuilt, IsFirstNotBuilt};
+ghost use Rattle.pssm_model.specs.inner.Found.{AreBuiltBelow, IsFirstNumber};
 
-use crate::elements::{Element, Owner, TransKind, Transition, Vertex, VertexKind};
-use crate::ids::{RegionId, TransId, VertexId};
+use crate::elements::{Element, Transition, Vertex, VertexKind};
+use crate::ids::{TransId, VertexId};
 use crate::machine::Machine;
 
-/// The first element of a form that the code does not run yet, if there is one: regions, vertices and transitions, each
-/// by number (this profile's choice).
+/// The first element of a form that the code does not run yet, if there is one: a final state or any pseudostate but an
+/// initial one, a State with do steps, or a transition that leaves a State without a trigger. The vertices come before
+/// the transitions, each by number (this profile's choice).
 pub fn first_not_built(machine: &Machine) -> Option<Element>
     ensures first { IfSome result (IsFirstNotBuilt machine.now) }
     ensures none { IfNone result ((e : Element) → IsNotBuilt machine.now e → ⊥) }
 {
-    if let Some(number) = first_region(machine) {
-        return Some(Element::Region(RegionId(number)));
-    }
     if let Some(number) = first_vertex(machine) {
         return Some(Element::Vertex(VertexId(number)));
     }
@@ -27,35 +26,6 @@ pub fn first_not_built(machine: &Machine) -> Option<Element>
         return Some(Element::Transition(TransId(number)));
     }
     None
-}
-
-/// The first further top region.
-fn first_region(machine: &Machine) -> Option<u16>
-    ensures first { IfSome result (IsFirstNumber machine.now (place_element places.Regions)) }
-    ensures none { IfNone result (AreBuiltBelow machine.now (place_element places.Regions) (length machine.now.regions)) }
-{
-    let mut has_top = false;
-    for number in 0..machine.regions() {
-        let owner = machine.region_owner(RegionId(number));
-        if is_further_owner(has_top, owner) {
-            return Some(number);
-        }
-        if owner == Owner::Top {
-            has_top = true;
-        }
-    }
-    None
-}
-
-/// Whether the code does not run a region of this owner, where an earlier one is a top region or none is.
-fn is_further_owner(has_top: bool, owner: Owner) -> bool
-    ensures { IsTrue result ↔ IsFurtherOwner has_top owner }
-{
-    match owner {
-        Owner::Top => has_top,
-        Owner::Region(_) => false,
-        Owner::State(_) => false,
-    }
 }
 
 /// The first vertex of a form that the code does not run yet.
@@ -71,16 +41,14 @@ fn first_vertex(machine: &Machine) -> Option<u16>
     None
 }
 
-/// Whether the vertex is of a form that the code does not run yet: a State that defers signals or has do steps, a final
-/// state, or any pseudostate but an initial one.
+/// Whether the vertex is of a form that the code does not run yet: a State that has do steps, a final state, or any
+/// pseudostate but an initial one.
 fn is_further_vertex(vertex: &Vertex) -> bool
     ensures { IsTrue result ↔ IsFurtherVertex vertex.now }
 {
     match vertex.kind {
         VertexKind::Initial => false,
-        VertexKind::State => {
-            !vertex.defers.as_slice().is_empty() || !vertex.steps.as_slice().is_empty()
-        }
+        VertexKind::State => !vertex.steps.as_slice().is_empty(),
         _ => true,
     }
 }
@@ -98,47 +66,16 @@ fn first_transition(machine: &Machine) -> Option<u16>
     None
 }
 
-/// Whether the transition is of a form that the code does not run yet.
+/// Whether the transition is of a form that the code does not run yet: one that leaves a State without a trigger.
 fn is_further_transition(machine: &Machine, transition: &Transition) -> bool
     ensures { IsTrue result ↔ IsFurtherTransition machine.now transition.now }
 {
-    transition.kind != TransKind::External
-        || is_further_reaction(machine, transition)
-        || is_to_junction(machine, transition)
+    is_state(machine, transition.source) && transition.triggers.as_slice().is_empty()
 }
 
-/// Whether the transition leaves a State, without a trigger or from inside another State.
-fn is_further_reaction(machine: &Machine, transition: &Transition) -> bool
-    ensures { IsTrue result ↔ IsFurtherReaction machine.now transition.now }
+/// Whether the vertex is there and is a State.
+fn is_state(machine: &Machine, v: VertexId) -> bool
+    ensures { IsTrue result ↔ HasKind machine.now v kinds.State }
 {
-    has_kind(machine, transition.source, VertexKind::State)
-        && (transition.triggers.as_slice().is_empty() || !is_at_top(machine, transition.source))
-}
-
-/// Whether the transition leads from an initial vertex to a junction.
-fn is_to_junction(machine: &Machine, transition: &Transition) -> bool
-    ensures { IsTrue result ↔ IsToJunction machine.now transition.now }
-{
-    has_kind(machine, transition.source, VertexKind::Initial)
-        && has_kind(machine, transition.target, VertexKind::Junction)
-}
-
-/// Whether the vertex is there and of this kind.
-fn has_kind(machine: &Machine, v: VertexId, kind: VertexKind) -> bool
-    ensures { IsTrue result ↔ HasKind machine.now v kind }
-{
-    v.0 < machine.vertices() && machine.vertex(v).kind == kind
-}
-
-/// Whether a top region owns the vertex.
-fn is_at_top(machine: &Machine, v: VertexId) -> bool
-    ensures { IsTrue result ↔ IsAtTop machine.now v }
-{
-    if v.0 >= machine.vertices() {
-        return false;
-    }
-    match machine.vertex(v).owner {
-        Owner::Region(r) => r.0 < machine.regions() && machine.region_owner(r) == Owner::Top,
-        Owner::Top | Owner::State(_) => false,
-    }
+    v.0 < machine.vertices() && machine.vertex(v).kind == VertexKind::State
 }

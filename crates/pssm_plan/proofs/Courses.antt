@@ -37,7 +37,7 @@ use Rattle.pssm_plan.specs.Waiting.{HoldsUp, IsExact}
 use Rattle.pssm_plan.specs.Plans.{IsPlanOf}
 use Rattle.pssm_plan.specs.inner.Marks.{IsListed, IsMarked, IsSettled, ArePairwise}
 use Rattle.pssm_plan.specs.inner.Sequence.{IsSequence, IsItemOf, IsRoster}
-use Rattle.pssm_plan.proofs.Spans.{vertex_there, entered_there}
+use Rattle.pssm_plan.proofs.Spans.{area_there, entered_there}
 use Rattle.pssm_plan.proofs.Rewriting.{marked_along, listed_along, alike_back}
 use Rattle.pssm_plan.proofs.Settling.{set_or_not, exact_along, exact_same}
 use Rattle.pssm_plan.proofs.StandingItems.{one_call}
@@ -81,11 +81,16 @@ module _ {m : DraftMachine} (b : IsPlainlyNested m) (shape : HasShape m) (head :
 
   -- what it calls names parts of the machine
   pub called_there : (ran : List (Item × How)) → HasGone m head now ran → (x : Item) → IsCalledOver m (course_by head now ran) x → IsItemOf m x
-  called_there ran gone (items.Exit s) h = vertex_there m s h.1.2.0 h.1.2.2
+  called_there ran gone (items.Exit s) h = area_there m h.0 s h.1.2
   called_there ran gone (items.Effect t) h = over_there ran gone t h
   called_there ran gone (items.Enter s) h = entered_there m shape h.0 s h.1.1
   called_there ran gone (items.Opened r Plain) h =
-      ⊎_elim (λ starts. region_at head r starts) (λ after. owned_is_place m (Region r) (State after.0) after.1.1) h
+      ⊎_elim
+      (λ starts. region_at head r starts)
+      (⊎_elim
+      (λ after. owned_is_place m (Region r) (State after.0) after.1.1)
+      (λ beside. (let owner = beside.1.1.1 in owned_is_place m (Region r) (State owner.0) owner.2)))
+      h
     where
       region_at : (h : Head) (q : RegionId) → StartOpens m h (items.Opened q Plain) → q.0 < length m.regions
       region_at Starts q starts = owned_is_place m (Region q) Top starts
@@ -101,6 +106,9 @@ module _ {m : DraftMachine} (b : IsPlainlyNested m) (shape : HasShape m) (head :
     ordered_of (items.Exit s) (items.Exit q) a c h = h
     ordered_of (items.Exit s) (items.Effect t) a c h = (exit_before_effect b head now ran gone s t a c (over_there ran gone t c)).1 h
     ordered_of (items.Effect t) (items.Enter s) a c h = (a, h)
+    ordered_of (items.Effect t) (items.Opened r Plain) a c h = (a, h)
+    ordered_of (items.Effect t) (items.Opened r Shallow) a c h = absurd h
+    ordered_of (items.Effect t) (items.Opened r Deep) a c h = absurd h
     ordered_of (items.Enter s) (items.Enter q) a c h = h
     ordered_of _ _ a c h = absurd h
 
@@ -109,6 +117,9 @@ module _ {m : DraftMachine} (b : IsPlainlyNested m) (shape : HasShape m) (head :
     ordered_is (items.Exit s) (items.Exit q) a c h = h
     ordered_is (items.Exit s) (items.Effect t) a c h = (exit_before_effect b head now ran gone s t a c (over_there ran gone t c)).0 h
     ordered_is (items.Effect t) (items.Enter s) a c h = h.1
+    ordered_is (items.Effect t) (items.Opened r Plain) a c h = h.1
+    ordered_is (items.Effect t) (items.Opened r Shallow) a c h = absurd h
+    ordered_is (items.Effect t) (items.Opened r Deep) a c h = absurd h
     ordered_is (items.Enter s) (items.Enter q) a c h = h
     ordered_is _ _ a c h = absurd h
 

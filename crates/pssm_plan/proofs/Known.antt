@@ -6,6 +6,8 @@ use Rattle.pssm_model.specs.declared.ids.RegionId.{RegionId}
 use Rattle.pssm_model.specs.declared.ids.TransId.{TransId}
 use Rattle.pssm_model.specs.declared.elements.Owner.{Owner}
 use Rattle.pssm_model.specs.declared.elements.Owner.TheVariants.{Top, Region, State}
+use Rattle.pssm_model.specs.declared.elements.TransKind.{TransKind}
+use Rattle.pssm_model.specs.declared.elements.TransKind.TheVariants.{External, Local, Internal}
 use Rattle.pssm_model.specs.declared.steps.Item.{Item}
 use Rattle.pssm_model.specs.contracts.steps.ItemPartialEq.TheImpl.{eq-value as item_eq}
 use Rattle.pssm_model.proofs.ElementLaws.{same_vertex, same_transition}
@@ -93,6 +95,17 @@ known_place (Region r) (State s) = inr (λ e. cc)
 known_place (State s) Top = inr (λ e. cc)
 known_place (State s) (Region r) = inr (λ e. cc)
 known_place (State s) (State q) = known_as (λ e. ap State e) (λ e. cc) (known_vertex s q)
+
+pub known_kind : (k l : TransKind) → Known (k ≡ l)
+known_kind External External = inl refl
+known_kind External Local = inr (λ e. cc)
+known_kind External Internal = inr (λ e. cc)
+known_kind Local External = inr (λ e. cc)
+known_kind Local Local = inl refl
+known_kind Local Internal = inr (λ e. cc)
+known_kind Internal External = inr (λ e. cc)
+known_kind Internal Local = inr (λ e. cc)
+known_kind Internal Internal = inl refl
 
 -- Two items are the same, or not.
 item_same : (a b : Item) → item_eq.it a b ≡ true → a ≡ b

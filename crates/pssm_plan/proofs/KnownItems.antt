@@ -21,19 +21,22 @@ use Rattle.pssm_model.specs.Course.Head.{Starts, Fires}
 use Rattle.pssm_model.specs.Items.{HasRunOut, Before, IsWaiting, IsCleared}
 use Rattle.pssm_model.specs.Order.{IsReady, IsAtOrBefore, HasReadyAtOrBefore, KnownConfiguration, known_course, IsNestedStep}
 use Rattle.pssm_model.specs.Routes.{single_route}
-use Rattle.pssm_plan.specs.inner.Single.{IsDirectRoute, GoesDirectly, LiesInSpan, GoesOver, IsEnteredBy, IsExitedOver, IsEnteredOver, IsCalledOver, IsOrderedOver}
+use Rattle.pssm_plan.specs.inner.Single.{IsDirectRoute, GoesDirectly, LiesInArea, GoesOver, IsEnteredBy, IsExitedOver, IsEnteredOver, OpensBeside, IsOpenedOver, IsCalledOver, IsOrderedOver}
+use Rattle.pssm_model.specs.declared.steps.Mode.TheVariants.{Plain, Shallow, Deep}
+use Rattle.pssm_plan.proofs.Spans.{area_there}
 use Rattle.pssm_model.proofs.ElementLaws.{mapped_some}
 use Rattle.pssm_plan.proofs.Ranks.{owner_under}
 use Rattle.pssm_model.proofs.RouteLaws.{single_route_same}
 use Rattle.pssm_plan.proofs.SingleItems.{called_is, called_of, before_is, before_of}
 use Rattle.pssm_plan.proofs.Known.{Known, known_as, known_both, known_either, known_not, known_below, known_among, known_transition}
-use Rattle.pssm_plan.proofs.KnownPlaces.{known_in_state, known_in_span, known_entered}
+use Rattle.pssm_plan.proofs.KnownPlaces.{known_in_state, known_in_area, known_entered, known_beside}
 use Rattle.pssm_plan.proofs.NestedSteps.{gone_directly}
 use Rattle.pssm_plan.proofs.ReadyItems.{run_known, ready_at_or_before, nothing_ready}
 
--- an opening or a pick, which is in no order with the others
+-- an opening of a history or a pick, which is in no order with the others
 abbrev IsUnordered : Item → Type 0
-IsUnordered (items.Opened r mode) = Unit {0}
+IsUnordered (items.Opened r Shallow) = Unit {0}
+IsUnordered (items.Opened r Deep) = Unit {0}
 IsUnordered (items.Pick c) = Unit {0}
 IsUnordered _ = ⊥
 
@@ -146,7 +149,7 @@ module _ {m : DraftMachine} (shape : HasShape m) (course : Course) (g : GoesDire
       known_as
       (λ h. (h.0, h.1.0, h.1.1))
       (λ h. (h.0, (h.1, h.2)))
-      (known_both (known_fires t) (known_both (active s) (known_in_span shape t s)))
+      (known_both (known_fires t) (known_both (active s) (known_in_area shape t s)))
 
   -- which exits and entries it calls
   pub known_exit : (s : VertexId) → Known (IsCalledOver m course (items.Exit s))
@@ -154,7 +157,7 @@ module _ {m : DraftMachine} (shape : HasShape m) (course : Course) (g : GoesDire
       known_as
       (λ h. (h.0, (h.1, h.2.0, h.2.1)))
       (λ h. (h.0, h.1.0, (h.1.1, h.1.2)))
-      (known_fires_some (λ t. course.at_head.Active s × LiesInSpan m t s) (λ t. known_both (active s) (known_in_span shape t s)))
+      (known_fires_some (λ t. course.at_head.Active s × LiesInArea m t s) (λ t. known_both (active s) (known_in_area shape t s)))
 
   pub known_enter : (s : VertexId) → Known (IsCalledOver m course (items.Enter s))
   known_enter s =
@@ -195,7 +198,7 @@ module _ {m : DraftMachine} (shape : HasShape m) (course : Course) (g : GoesDire
       (λ h. (h.0, (h.1, h.2)))
       (known_vertex_some
       (λ s. IsExitedOver m course t s × (HasRun course (items.Exit s) → ⊥))
-      (λ s h. lying_there shape s (Region h.0.2.0) h.0.2.2)
+      (λ s h. area_there m t s h.0.2)
       (λ s. known_both (known_exited t s) (known_not (known_run (items.Exit s)))))
 
   -- an effect and an outer entry for which an entry waits
@@ -207,6 +210,16 @@ module _ {m : DraftMachine} (shape : HasShape m) (course : Course) (g : GoesDire
       (known_over_some
       (λ t. IsEnteredBy m t s × (HasRun course (items.Effect t) → ⊥))
       (λ t. known_both (known_entered shape t s) (known_not (known_run (items.Effect t)))))
+
+  -- an effect for which an opening waits
+  known_beside_effect : (r : RegionId) → Known ((t : TransId) × IsOpenedOver m course t r × (HasRun course (items.Effect t) → ⊥))
+  known_beside_effect r =
+      known_as
+      (λ h. (h.0, (h.1, h.2.0), h.2.1))
+      (λ h. (h.0, h.1.0, (h.1.1, h.2)))
+      (known_over_some
+      (λ t. OpensBeside m t r × (HasRun course (items.Effect t) → ⊥))
+      (λ t. known_both (known_beside shape t r) (known_not (known_run (items.Effect t)))))
 
   known_outer_enter : (q : VertexId)
       → Known ((s : VertexId) × LiesInState m q s × IsCalledOver m course (items.Enter s) × (HasRun course (items.Enter s) → ⊥))
@@ -257,12 +270,26 @@ module _ {m : DraftMachine} (shape : HasShape m) (course : Course) (g : GoesDire
   no_enter_before q no_effect no_outer (items.Opened r mode) h called not = h
   no_enter_before q no_effect no_outer (items.Pick c) h called not = h
 
+  no_opening_before : (r : RegionId) → ((t : TransId) × IsOpenedOver m course t r × (HasRun course (items.Effect t) → ⊥) → ⊥)
+      → (x : Item) → IsOrderedOver m course x (items.Opened r Plain) → IsCalledOver m course x → (HasRun course x → ⊥) → ⊥
+  no_opening_before r none (items.Effect t) h called not = none (t, h, not)
+  no_opening_before r none (items.Exit s) h called not = h
+  no_opening_before r none (items.Enter s) h called not = h
+  no_opening_before r none (items.Opened q mode) h called not = h
+  no_opening_before r none (items.Pick c) h called not = h
+
   nothing_before : (y x : Item) → IsUnordered y → IsOrderedOver m course x y → ⊥
-  nothing_before (items.Opened r mode) (items.Exit s) is h = h
-  nothing_before (items.Opened r mode) (items.Effect t) is h = h
-  nothing_before (items.Opened r mode) (items.Enter s) is h = h
-  nothing_before (items.Opened r mode) (items.Opened q way) is h = h
-  nothing_before (items.Opened r mode) (items.Pick c) is h = h
+  nothing_before (items.Opened r Shallow) (items.Exit s) is h = h
+  nothing_before (items.Opened r Shallow) (items.Effect t) is h = h
+  nothing_before (items.Opened r Shallow) (items.Enter s) is h = h
+  nothing_before (items.Opened r Shallow) (items.Opened q way) is h = h
+  nothing_before (items.Opened r Shallow) (items.Pick c) is h = h
+  nothing_before (items.Opened r Deep) (items.Exit s) is h = h
+  nothing_before (items.Opened r Deep) (items.Effect t) is h = h
+  nothing_before (items.Opened r Deep) (items.Enter s) is h = h
+  nothing_before (items.Opened r Deep) (items.Opened q way) is h = h
+  nothing_before (items.Opened r Deep) (items.Pick c) is h = h
+  nothing_before (items.Opened r Plain) x is h = is
   nothing_before (items.Pick c) (items.Exit s) is h = h
   nothing_before (items.Pick c) (items.Effect t) is h = h
   nothing_before (items.Pick c) (items.Enter s) is h = h
@@ -300,8 +327,18 @@ module _ {m : DraftMachine} (shape : HasShape m) (course : Course) (g : GoesDire
       (λ no_outer. inl (cleared (items.Enter q) (no_enter_before q no_effect no_outer)))
       (known_outer_enter q))
       (known_leg_effect q)
-  cleared_or_waits (items.Opened r mode) =
-      inl (cleared (items.Opened r mode) (λ x h called not. nothing_before (items.Opened r mode) x tt h))
+  cleared_or_waits (items.Opened r Plain) =
+      ⊎_elim
+      (λ on. inr (
+        items.Effect on.0,
+        waiting (items.Effect on.0) on.1.0 on.2,
+        before_of m course g (items.Effect on.0) (items.Opened r Plain) on.1,
+      ))
+      (λ none. inl (cleared (items.Opened r Plain) (no_opening_before r none)))
+      (known_beside_effect r)
+  cleared_or_waits (items.Opened r Shallow) =
+      inl (cleared (items.Opened r Shallow) (λ x h called not. nothing_before (items.Opened r Shallow) x tt h))
+  cleared_or_waits (items.Opened r Deep) = inl (cleared (items.Opened r Deep) (λ x h called not. nothing_before (items.Opened r Deep) x tt h))
   cleared_or_waits (items.Pick c) = inl (cleared (items.Pick c) (λ x h called not. nothing_before (items.Pick c) x tt h))
 
   -- a called item that has not run has a ready item at or before it

@@ -29,7 +29,10 @@ pub leg_same : (m : DraftMachine) (a b : List Call) (t : TransId) (x : Item) →
 leg_same m a b t x same h =
     ⊎_elim
     (λ e. inl e)
-    (λ entry. inr (entry.0, (entry.1.0, ⊎_elim (λ e. inl e) (λ o. inr ((same (Enter entry.0)).0 o.0, o.1)) entry.1.1)))
+    (λ more. inr (⊎_elim
+    (λ entry. inl (entry.0, (entry.1.0, ⊎_elim (λ e. inl e) (λ o. inr ((same (Enter entry.0)).0 o.0, o.1)) entry.1.1)))
+    (λ beside. inr beside)
+    more))
     h
 
 -- an element of a longer list is that of the list where it has one there

@@ -72,7 +72,8 @@ start_calls m now x = (λ h. subst (IsCalledOver m (course_by Starts now [])) (s
     back (items.Exit s) h = absurd h.1.0
     back (items.Effect t) h = absurd (no_goes t h)
     back (items.Enter s) h = absurd (no_goes h.0 h.1.0)
-    back (items.Opened r Plain) h = (r, refl, (opens_at_head Starts now m r).0 h)
+    back (items.Opened r Plain) h =
+        (r, refl, ⊎_elim (λ starts. starts) (λ beside. absurd beside.1) ((opens_at_head Starts now m r).0 h))
     back (items.Opened r Shallow) h = absurd h
     back (items.Opened r Deep) h = absurd h
     back (items.Pick c) h = absurd h
@@ -86,10 +87,12 @@ firing_calls m now routes x = (there, back x)
     leg t fires h =
         ⊎_elim
         (λ e. subst (IsCalledOver m (course_by (Fires routes) now [])) (sym e) (inl fires))
+        (⊎_elim
         (λ entry. ⊎_elim
         (λ e. subst (IsCalledOver m (course_by (Fires routes) now [])) (sym e) (t, (inl fires, entry.1.0)))
         (λ ran. absurd (none_marked (items.Enter entry.0) ran.0))
         entry.1.1)
+        (λ beside. subst (IsCalledOver m (course_by (Fires routes) now [])) (sym beside.1) (inr (inr (t, (inl fires, beside.2))))))
         h
 
     there : IsOfRoutes m now [] routes x → IsCalledOver m (course_by (Fires routes) now []) x
@@ -107,8 +110,12 @@ firing_calls m now routes x = (there, back x)
     back : (y : Item) → IsCalledOver m (course_by (Fires routes) now []) y → IsOfRoutes m now [] routes y
     back (items.Exit s) h = (single_route h.0, h.1.0, (h.0, refl, inl (s, refl, h.1.1, h.1.2)))
     back (items.Effect t) h = (single_route t, goes t h, (t, refl, inr (inl refl)))
-    back (items.Enter s) h = (single_route h.0, goes h.0 h.1.0, (h.0, refl, inr (inr (s, (h.1.1, inl refl)))))
-    back (items.Opened r Plain) h = absurd ((opens_at_head (Fires routes) now m r).0 h)
+    back (items.Enter s) h = (single_route h.0, goes h.0 h.1.0, (h.0, refl, inr (inr (inl (s, (h.1.1, inl refl))))))
+    back (items.Opened r Plain) h =
+        ⊎_elim
+        (λ starts. absurd starts)
+        (λ beside. (single_route beside.0, beside.1, (beside.0, refl, inr (inr (inr (r, refl, beside.2))))))
+        ((opens_at_head (Fires routes) now m r).0 h)
     back (items.Opened r Shallow) h = absurd h
     back (items.Opened r Deep) h = absurd h
     back (items.Pick c) h = absurd h

@@ -1,5 +1,5 @@
 -- What one more item that runs does to a step: what has run, by what it goes, and what it calls.
-use Rattle.std.proofs.Common.{◌≡◌, ◌⊎◌, ◌↔◌, ◌++◌, [], ◌∷◌, Contains, sym, ap, subst, inl, inr, ⊎_elim}
+use Rattle.std.proofs.Common.{◌≡◌, ◌⊎◌, ◌↔◌, ◌++◌, [], ◌∷◌, Contains, Some, sym, ap, subst, inl, inr, ⊎_elim}
 use Rattle.std.proofs.lemmas.List.Elements.{Contains-append_cases, Contains-append_left, Contains-append_right}
 use Rattle.pssm_model.specs.declared.ids.VertexId.{VertexId}
 use Rattle.pssm_model.specs.declared.ids.RegionId.{RegionId}
@@ -12,11 +12,13 @@ use Rattle.pssm_model.specs.declared.steps.How.{How}
 use Rattle.pssm_model.specs.declared.steps.How.TheVariants.{By, Restore}
 use Rattle.pssm_model.specs.declared.steps.Item.{Item}
 use Rattle.pssm_model.specs.declared.steps.Item.TheVariants as items
+use Rattle.pssm_model.specs.declared.elements.Owner.TheVariants.{Region, State}
+use Rattle.pssm_model.specs.Forest.{owner_of}
 use Rattle.pssm_model.specs.Configuration.{Configuration}
 use Rattle.pssm_model.specs.Items.{StartOpens}
 use Rattle.pssm_model.specs.Course.{Head, Course, FiresBy, HasGoneBy, HasRun, HasRestored}
 use Rattle.pssm_model.specs.Routes.{single_route}
-use Rattle.pssm_plan.specs.inner.Single.{IsDirectRoute, GoesDirectly, IsEnteredBy, GoesOver, IsEnteredOver, IsCalledOver, IsCalledNext}
+use Rattle.pssm_plan.specs.inner.Single.{IsDirectRoute, GoesDirectly, IsEnteredBy, OpensBeside, GoesOver, IsEnteredOver, IsOpenedOver, EndsIn, OpensNext, IsCalledOver, IsCalledNext}
 use Rattle.pssm_model.proofs.ElementLaws.{nothing_in_nil}
 use Rattle.pssm_model.proofs.RouteLaws.{in_one, is_one}
 
@@ -42,9 +44,18 @@ module _ (head : Head) (now : Configuration) where
     restores = λ mode s h. nothing_in_nil (items.Opened h.0 mode, Restore s) h.1;
   }
 
-  -- and so opens what the start opens
-  pub opens_at_head : (m : DraftMachine) (r : RegionId) → IsCalledOver m (begun head now) (items.Opened r Plain) ↔ StartOpens m head (items.Opened r Plain)
-  opens_at_head m r = (λ h. ⊎_elim (λ starts. starts) (λ at. absurd (nothing_ran (items.Enter at.0) at.1.0)) h, λ h. inl h)
+  -- and so opens what the start opens, and what such transitions open beside what they enter
+  pub opens_at_head : (m : DraftMachine) (r : RegionId) → IsCalledOver m (begun head now) (items.Opened r Plain)
+      ↔ (StartOpens m head (items.Opened r Plain) ⊎ ((t : TransId) × FiresBy head (single_route t) × OpensBeside m t r))
+  opens_at_head m r = (
+    λ h. ⊎_elim
+        (λ starts. inl starts)
+        (⊎_elim
+        (λ at. absurd (nothing_ran (items.Enter at.0) at.1.0))
+        (λ beside. inr (beside.0, begins_by (single_route beside.0) beside.1.0, beside.1.1)))
+        h,
+    λ h. ⊎_elim (λ starts. inl starts) (λ beside. inr (inr (beside.0, (inl beside.1, beside.2)))) h,
+  )
 
 module _ (course : Course) (item : Item) (how : How) where
   ran_cases : (x : Item × How) → Contains (gone_on course item how).ran x → Contains course.ran x ⊎ (x ≡ (item, how))
@@ -111,12 +122,21 @@ module _ (course : Course) (item : Item) (how : How) where
     λ h. ⊎_elim (λ was. ((over_more t).1 (inl was.0), was.1)) (λ now. ((over_more t).1 (inr now.0), now.1)) h,
   )
 
+  -- a transition that opens the region beside what it enters, and by which it goes
+  beside_more : (m : DraftMachine) (t : TransId) (r : RegionId)
+      → IsOpenedOver m (gone_on course item how) t r ↔ (IsOpenedOver m course t r ⊎ ((how ≡ By (single_route t)) × OpensBeside m t r))
+  beside_more m t r = (
+    λ h. ⊎_elim (λ was. inl (was, h.1)) (λ now. inr (now, h.1)) ((over_more t).0 h.0),
+    λ h. ⊎_elim (λ was. ((over_more t).1 (inl was.0), was.1)) (λ now. ((over_more t).1 (inr now.0), now.1)) h,
+  )
+
   -- openings
   opened_is : (m : DraftMachine) (r : RegionId) → IsCalledOver m (gone_on course item how) (items.Opened r Plain)
       → IsCalledOver m course (items.Opened r Plain) ⊎ IsCalledNext m course item how (items.Opened r Plain)
   opened_is m r h =
       ⊎_elim
       (λ starts. inl (inl starts))
+      (⊎_elim
       (λ at. (
       let s = at.0 in
       let owner = at.1.1 in
@@ -124,13 +144,29 @@ module _ (course : Course) (item : Item) (how : How) where
       let ran = (run_more (items.Enter s)).0 at.1.0 in
       ⊎_elim
       (λ old. ⊎_elim
-      (λ was. inl (inr (s, (was, owner, (over.0, old, over.2)))))
-      (λ now. inr (s, over.0, owner, inl (now, old), over.2))
+      (λ was. inl (inr (inl (s, (was, owner, (over.0, old, over.2))))))
+      (λ now. inr (inl (s, over.0, owner, inl (now, old), over.2)))
       ran)
-      (λ new. inr (s, over.0, owner, inr (ran, new.0, new.1), over.2))
+      (λ new. inr (inl (s, over.0, owner, inr (ran, new.0, new.1), over.2)))
       ((entered_more m over.0 s).0 over.1)
       ))
+      (λ beside. ⊎_elim
+      (λ was. inl (inr (inr (beside.0, was))))
+      (λ now. inr (inr (beside.0, now.0, now.1)))
+      ((beside_more m beside.0 r).0 beside.1)))
       h
+
+  opened_after : (m : DraftMachine) (r : RegionId)
+      → ((s : VertexId) × (t : TransId) × (owner_of m (Region r) ≡ Some (State s)) × OpensNext m course item how s t × (EndsIn m t r → ⊥))
+      → IsCalledOver m (gone_on course item how) (items.Opened r Plain)
+  opened_after m r next =
+      inr (inl (
+        next.0,
+        ⊎_elim
+            (λ entry. ((run_more (items.Enter next.0)).1 (inr entry.0), next.2, (next.1, (entered_more m next.1 next.0).1 (inl entry.1), next.4)))
+            (λ late. ((run_more (items.Enter next.0)).1 late.0, next.2, (next.1, (entered_more m next.1 next.0).1 (inr (late.1, late.2)), next.4)))
+            next.3,
+      ))
 
   opened_of : (m : DraftMachine) (r : RegionId)
       → IsCalledOver m course (items.Opened r Plain) ⊎ IsCalledNext m course item how (items.Opened r Plain)
@@ -139,18 +175,17 @@ module _ (course : Course) (item : Item) (how : How) where
       ⊎_elim
       (λ was. ⊎_elim
       (λ starts. inl starts)
+      (⊎_elim
       (λ at. (
       let over = at.1.2 in
-      inr (at.0, ((run_more (items.Enter at.0)).1 (inl at.1.0), at.1.1, (over.0, (entered_more m over.0 at.0).1 (inl over.1), over.2)))
+      inr (inl (at.0, ((run_more (items.Enter at.0)).1 (inl at.1.0), at.1.1, (over.0, (entered_more m over.0 at.0).1 (inl over.1), over.2))))
       ))
+      (λ beside. inr (inr (beside.0, (beside_more m beside.0 r).1 (inl beside.1)))))
       was)
-      (λ next. inr (
-        next.0,
-        ⊎_elim
-            (λ entry. ((run_more (items.Enter next.0)).1 (inr entry.0), next.2, (next.1, (entered_more m next.1 next.0).1 (inl entry.1), next.4)))
-            (λ late. ((run_more (items.Enter next.0)).1 late.0, next.2, (next.1, (entered_more m next.1 next.0).1 (inr (late.1, late.2)), next.4)))
-            next.3,
-      ))
+      (λ next. ⊎_elim
+      (λ after. opened_after m r after)
+      (λ beside. inr (inr (beside.0, (beside_more m beside.0 r).1 (inr (beside.1, beside.2)))))
+      next)
       h
 
   -- what is called

@@ -10,17 +10,18 @@ use Rattle.pssm_model.specs.declared.elements.VertexKind.{VertexKind}
 use Rattle.pssm_model.specs.declared.elements.VertexKind.TheVariants as kinds
 use Rattle.pssm_model.specs.declared.steps.Route.{Route}
 use Rattle.pssm_model.specs.declared.steps.Mode.{Mode}
-use Rattle.pssm_model.specs.Forest.{vertex_at, transition_at, HasKind}
-use Rattle.pssm_model.specs.Legs.{Leaves, Enters, On, transitions_of}
+use Rattle.pssm_model.specs.declared.elements.TransKind.TheVariants.{Local, Internal}
+use Rattle.pssm_model.specs.Forest.{vertex_at, transition_at, HasKind, LiesInState}
+use Rattle.pssm_model.specs.Legs.{Leaves, Enters, Goes, On, transitions_of}
 use Rattle.pssm_model.specs.Routes.{Truth, IsTrueAt, GoesOnAt, IsReached, IsRoute, IsSource, IsStateRoute}
 use Rattle.pssm_model.specs.Routes.IsReached.{start, on}
 use Rattle.pssm_model.specs.FiringSets.{IsLateOrigin, IsLateRoute}
 use Rattle.pssm_model.specs.Course.{Course, FiresBy, HasGoneBy, HasRestored}
-use Rattle.pssm_model.specs.Nested.{IsPlainlyNested, IsInitialOrState, EndsOnState}
+use Rattle.pssm_model.specs.Nested.{IsPlainlyNested, IsInitialOrState, GoesPlainly, EndsOnState}
 use Rattle.pssm_model.specs.Routes.{single_route}
 use Rattle.pssm_plan.specs.inner.Single.{IsDirectTransition, IsDirectRoute, GoesDirectly}
-use Rattle.pssm_model.proofs.ElementLaws.{mapped_some, all_at, kind_unique}
-use Rattle.pssm_model.proofs.ElementLaws.{nothing_in_nil, leaves_one}
+use Rattle.pssm_model.proofs.ElementLaws.{mapped_some, mapped_at, all_at, some_at, kind_unique}
+use Rattle.pssm_model.proofs.ElementLaws.{nothing_in_nil, leaves_one, leaves_at, enters_at}
 use Rattle.pssm_model.proofs.RouteLaws.{in_one, is_one, nil_from_nothing, one_in_order, none_in_order, all_of_one, same_route, on_single, on_single_is, reached_is_on, single_source, single_source_is}
 
 module _ {m : DraftMachine} (b : IsPlainlyNested m) where
@@ -33,7 +34,7 @@ module _ {m : DraftMachine} (b : IsPlainlyNested m) where
   pub no_other_kind : (v : VertexId) (k : VertexKind) → k ≢ kinds.Initial → k ≢ kinds.State → HasKind m v k → ⊥
   no_other_kind v k i s h = ⊎_elim i s (kind_cases v k h)
 
-  -- a transition is external, leaves no entry point and ends on a State
+  -- a transition leaves no entry point and ends on a State
   pub transition_ends : (t : TransId) (x : Transition) → transition_at m t ≡ Some x → EndsOnState m x
   transition_ends t x e = all_at (EndsOnState m) m.transitions t.0 x b.transitions e
 
@@ -42,13 +43,49 @@ module _ {m : DraftMachine} (b : IsPlainlyNested m) where
       let at = mapped_some (λ (x : Transition). x.target) (transition_at m t) v h in
       subst (λ w. HasKind m w kinds.State) at.2 (transition_ends t at.0 at.1).target
 
-  pub is_direct : (t : TransId) → IsDirectTransition m t
-  is_direct t = record {
-    external = λ kind h. (let at = mapped_some (λ (x : Transition). x.kind) (transition_at m t) kind h in
-        sym at.2 ∙ (transition_ends t at.0 at.1).external);
-    from_no_point = λ v l. no_other_kind v kinds.EntryPoint (λ e. cc) (λ e. cc);
-    to_state = target_is_state t;
-  }
+  pub goes_plainly : (t : TransId) (x : Transition) → transition_at m t ≡ Some x → GoesPlainly m x
+  goes_plainly t x e = (transition_ends t x e).goes
+
+  -- a local transition leaves a State, and ends in it
+  local_at : (x : Transition) → x.kind ≡ Local → GoesPlainly m x → HasKind m x.source kinds.State × LiesInState m x.target x.source
+  local_at x is h =
+      ⊎_elim
+      (λ external. absurd (let clash = external in cc))
+      (λ other. ⊎_elim (λ local. (local.1, local.2)) (λ internal. absurd (let clash = internal.0 in cc)) other)
+      h
+
+  pub local_ends : (t : TransId) (v w : VertexId) → Goes m t Local → Leaves m t v → Enters m t w
+      → HasKind m v kinds.State × LiesInState m w v
+  local_ends t v w goes leaves enters =
+      let x = mapped_some (λ (x : Transition). x.kind) (transition_at m t) Local goes in
+      let is = local_at x.0 x.2 (goes_plainly t x.0 x.1) in
+      let source = (leaves_at m t x.0 v x.1).0 leaves in
+      let target = (enters_at m t x.0 w x.1).0 enters in
+      (subst (λ y. HasKind m y kinds.State) source is.0, subst (λ y. LiesInState m w y) source (subst (λ y. LiesInState m y x.0.source) target is.1))
+
+  -- and an internal one leaves a State
+  internal_at : (x : Transition) → x.kind ≡ Internal → GoesPlainly m x → HasKind m x.source kinds.State
+  internal_at x is h =
+      ⊎_elim
+      (λ external. absurd (let clash = external in cc))
+      (λ other. ⊎_elim (λ local. absurd (let clash = local.0 in cc)) (λ internal. internal.1) other)
+      h
+
+  pub internal_leaves : (t : TransId) (v : VertexId) → Goes m t Internal → Leaves m t v → HasKind m v kinds.State
+  internal_leaves t v goes leaves =
+      let x = mapped_some (λ (x : Transition). x.kind) (transition_at m t) Internal goes in
+      subst (λ y. HasKind m y kinds.State) ((leaves_at m t x.0 v x.1).0 leaves) (internal_at x.0 x.2 (goes_plainly t x.0 x.1))
+
+  pub is_direct : (t : TransId) → t.0 < length m.transitions → IsDirectTransition m t
+  is_direct t lt =
+      let at = some_at m.transitions t.0 lt in
+      record {
+        kind = (at.0.kind, mapped_at (λ (x : Transition). x.kind) (transition_at m t) at.0 at.1);
+        from_no_point = λ v l. no_other_kind v kinds.EntryPoint (λ e. cc) (λ e. cc);
+        local_from = λ v goes leaves.
+            (local_ends t v at.0.target goes leaves ((enters_at m t at.0 at.0.target at.1).1 refl)).0;
+        to_state = target_is_state t;
+      }
 
   -- no transition goes on from a State, so a route has one transition
   pub nothing_further : (route : Route) → IsRoute m route → (t : TransId) → Contains route.rest t → ⊥
@@ -82,7 +119,7 @@ module _ {m : DraftMachine} (b : IsPlainlyNested m) where
   }
 
   pub route_is_direct : (route : Route) → IsRoute m route → IsDirectRoute m route
-  route_is_direct route h = let one = route_is_single route h in (one.0, one.1, is_direct one.0)
+  route_is_direct route h = let one = route_is_single route h in (one.0, one.1, is_direct one.0 one.2)
 
   -- a late route is one transition out of an initial vertex, with a true guard
   pub late_origin_is : (v : VertexId) → IsLateOrigin m v → HasKind m v kinds.Initial

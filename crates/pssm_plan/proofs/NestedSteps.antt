@@ -16,7 +16,7 @@ use Rattle.pssm_model.specs.Ways.{Memory, IsWay}
 use Rattle.pssm_model.specs.Order.{HasGone, course_by}
 use Rattle.pssm_model.specs.Order.HasGone.{begun as gone_begun, more as gone_more}
 use Rattle.pssm_model.specs.Nested.{IsPlainlyNested}
-use Rattle.pssm_plan.specs.inner.Single.{IsDirectRoute, GoesDirectly, LiesInSpan, GoesOver, IsExitedOver, IsCalledOver}
+use Rattle.pssm_plan.specs.inner.Single.{IsDirectRoute, GoesDirectly, LiesInArea, GoesOver, IsExitedOver, IsCalledOver}
 use Rattle.pssm_model.specs.Routes.{single_route}
 use Rattle.pssm_model.specs.declared.elements.VertexKind.TheVariants as kinds
 use Rattle.pssm_model.specs.declared.ids.TransId.{TransId}
@@ -127,7 +127,7 @@ module _ {m : DraftMachine} (b : IsPlainlyNested m) where
   -- a called exit comes before a called effect where the transition leaves a State and the exited State lies in its span
   pub exit_before_effect : (head : Head) (now : Configuration) (ran : List (Item × How)) → HasGone m head now ran → (s : VertexId) (t : TransId)
       → IsCalledOver m (course_by head now ran) (items.Exit s) → GoesOver (course_by head now ran) t → t.0 < length m.transitions
-      → IsExitedOver m (course_by head now ran) t s ↔ (((v : VertexId) × Leaves m t v × HasKind m v kinds.State) × LiesInSpan m t s)
+      → IsExitedOver m (course_by head now ran) t s ↔ (((v : VertexId) × Leaves m t v × HasKind m v kinds.State) × LiesInArea m t s)
   exit_before_effect head now ran h s t called over lt = (
     λ e. (let at = some_at m.transitions t.0 lt in
         let l : Leaves m t at.0.source = (leaves_at m t at.0 at.0.source at.1).1 refl in

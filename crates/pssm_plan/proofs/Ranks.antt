@@ -1,4 +1,4 @@
--- The ranks of items: exits from the deepest State to the outermost, then effects, then entries from the outermost State to the deepest.
+-- The ranks of items: exits from the deepest State to the outermost, then effects, then openings, and entries from the outermost State to the deepest.
 -- What comes before an item has a lower rank.
 use Rattle.std.proofs.Common.{◌≡◌, ◌+◌, ◌-◌, ◌<◌, ◌≤◌, ℕ, Some, refl, subst, ⊎_elim, arith}
 use Rattle.pssm_model.specs.declared.ids.VertexId.{VertexId}
@@ -9,11 +9,14 @@ use Rattle.pssm_model.specs.declared.elements.VertexKind.{VertexKind}
 use Rattle.pssm_model.specs.declared.elements.VertexKind.TheVariants as kinds
 use Rattle.pssm_model.specs.declared.elements.Owner.{Owner}
 use Rattle.pssm_model.specs.declared.elements.Owner.TheVariants.{Region, State}
+use Rattle.pssm_model.specs.declared.steps.Mode.TheVariants.{Plain, Shallow, Deep}
 use Rattle.pssm_model.specs.declared.steps.Item.{Item}
 use Rattle.pssm_model.specs.declared.steps.Item.TheVariants as items
 use Rattle.pssm_model.specs.Forest.{vertex_at, HasKind, owner_of, LiesUnder, LiesInState, HasRegionsAbove}
 use Rattle.pssm_model.specs.Forest.LiesUnder.{owned, further}
 use Rattle.pssm_model.specs.Shapes.{HasShape}
+use Rattle.pssm_model.specs.Legs.{Scope, LiesInScope}
+use Rattle.pssm_model.specs.Legs.Scope.{Nowhere, Inside, Within}
 use Rattle.pssm_model.specs.Course.{Course}
 use Rattle.pssm_model.specs.Items.{Called, Before}
 use Rattle.pssm_plan.specs.inner.Single.{GoesDirectly, IsCalledOver, IsOrderedOver}
@@ -27,7 +30,7 @@ abbrev pub HasRank : DraftMachine → Item → ℕ → Type 0
 HasRank m (items.Exit s) n = (d : ℕ) × HasRegionsAbove m (State s) d × (n + d ≡ 32)
 HasRank m (items.Effect t) n = n ≡ 33
 HasRank m (items.Enter s) n = (d : ℕ) × HasRegionsAbove m (State s) d × (n ≡ 34 + d)
-HasRank m (items.Opened r mode) n = n ≡ 0
+HasRank m (items.Opened r mode) n = n ≡ 34
 HasRank m (items.Pick c) n = n ≡ 0
 
 -- what lies somewhere has an owner
@@ -54,6 +57,12 @@ module _ {m : DraftMachine} (shape : HasShape m) where
       let at = mapped_some (λ (x : Vertex). x.owner) (vertex_at m v) up.0 up.1 in
       depth_of v at.0 at.1
 
+  -- and so has what lies where a transition exits and enters
+  pub depth_in_scope : (v : VertexId) (scope : Scope) → LiesInScope m v scope → (d : ℕ) × (d ≤ 32) × HasRegionsAbove m (State v) d
+  depth_in_scope v Nowhere lies = absurd lies
+  depth_in_scope v (Inside s) lies = depth_under v (Region lies.0) lies.2
+  depth_in_scope v (Within r) lies = depth_under v (Region r) lies
+
   exit_rank : (s : VertexId) → (d : ℕ) × (d ≤ 32) × HasRegionsAbove m (State s) d → (n : ℕ) × HasRank m (items.Exit s) n × (n ≤ 32)
   exit_rank s h = let le = h.1 in (32 - h.0, (h.0, h.2, omega arith), omega arith)
 
@@ -63,18 +72,18 @@ module _ {m : DraftMachine} (shape : HasShape m) where
   -- a called item has a rank
   called_rank : (course : Course) → GoesDirectly m course → (item : Item) → IsCalledOver m course item → (n : ℕ) × HasRank m item n
   called_rank course g (items.Exit s) h =
-      let span = h.1.2 in
-      let rank = exit_rank s (depth_under s (Region span.0) span.2) in
+      let area = h.1.2 in
+      let rank = exit_rank s (depth_in_scope s area.0 area.2) in
       (rank.0, rank.1)
   called_rank course g (items.Effect t) h = (33, refl)
   called_rank course g (items.Enter s) h =
       let direct = direct_over m course g h.0 h.1.0 in
-      let at = h.1.1 in
+      let at = h.1.1.1 in
       enter_rank s (⊎_elim
       (λ same. subst (λ v. (d : ℕ) × (d ≤ 32) × HasRegionsAbove m (State v) d) same (depth_of_kind at.0 kinds.State (direct.to_state at.0 at.1)))
-      (λ nested. depth_under s (Region nested.0.0) nested.0.2)
+      (λ nested. depth_in_scope s nested.0.0 nested.0.2)
       at.2)
-  called_rank course g (items.Opened r mode) h = (0, refl)
+  called_rank course g (items.Opened r mode) h = (34, refl)
   called_rank course g (items.Pick c) h = (0, refl)
 
   pub rank_of_called : (course : Course) → GoesDirectly m course → (item : Item) → Called m course item → (n : ℕ) × HasRank m item n
@@ -104,8 +113,8 @@ module _ {m : DraftMachine} (shape : HasShape m) where
   ordered_rank : (course : Course) (x y : Item) (k : ℕ) → IsOrderedOver m course x y → HasRank m y k → (n : ℕ) × HasRank m x n × (n < k)
   ordered_rank course (items.Exit s) (items.Exit q) k h rank = inner_exit_rank s q k h rank
   ordered_rank course (items.Exit s) (items.Effect t) k h rank =
-      let span = h.2 in
-      let mine = exit_rank s (depth_under s (Region span.0) span.2) in
+      let area = h.2 in
+      let mine = exit_rank s (depth_in_scope s area.0 area.2) in
       let le : mine.0 ≤ 32 = mine.2 in
       (mine.0, mine.1, omega (arith, rank))
   ordered_rank course (items.Effect t) (items.Enter s) k h rank = (33, refl, omega (arith, rank.2))
@@ -115,7 +124,9 @@ module _ {m : DraftMachine} (shape : HasShape m) where
   ordered_rank course (items.Exit s) (items.Pick c) k h rank = absurd h
   ordered_rank course (items.Effect t) (items.Exit q) k h rank = absurd h
   ordered_rank course (items.Effect t) (items.Effect u) k h rank = absurd h
-  ordered_rank course (items.Effect t) (items.Opened r mode) k h rank = absurd h
+  ordered_rank course (items.Effect t) (items.Opened r Plain) k h rank = (33, refl, omega (arith, rank))
+  ordered_rank course (items.Effect t) (items.Opened r Shallow) k h rank = absurd h
+  ordered_rank course (items.Effect t) (items.Opened r Deep) k h rank = absurd h
   ordered_rank course (items.Effect t) (items.Pick c) k h rank = absurd h
   ordered_rank course (items.Enter s) (items.Exit q) k h rank = absurd h
   ordered_rank course (items.Enter s) (items.Effect t) k h rank = absurd h

@@ -1,6 +1,6 @@
 -- A step of a machine of States in regions has run out, or has a ready item, where the configuration at its head is
 -- known.
-use Rattle.std.proofs.Common.{List, ◌≡◌, ◌⊎◌, ◌<◌, ℕ, length, Option, Some, None, option_map, refl, ap, subst, inl, inr, ⊎_elim}
+use Rattle.std.proofs.Common.{List, ◌⊎◌, ◌<◌, ℕ, length, inl, inr, ⊎_elim}
 use Rattle.pssm_model.specs.declared.ids.VertexId.{VertexId}
 use Rattle.pssm_model.specs.declared.ids.RegionId.{RegionId}
 use Rattle.pssm_model.specs.declared.ids.TransId.{TransId}
@@ -10,9 +10,6 @@ use Rattle.pssm_model.specs.declared.steps.Mode.TheVariants.{Plain, Shallow, Dee
 use Rattle.pssm_model.specs.declared.steps.How.{How}
 use Rattle.pssm_model.specs.declared.steps.Item.{Item}
 use Rattle.pssm_model.specs.declared.steps.Item.TheVariants as items
-use Rattle.pssm_model.specs.declared.elements.Transition.{Transition}
-use Rattle.pssm_model.specs.Forest.{transition_at, LiesInRegion}
-use Rattle.pssm_model.specs.Legs.{Enters}
 use Rattle.pssm_model.specs.Shapes.{HasShape}
 use Rattle.pssm_model.specs.Configuration.{Configuration}
 use Rattle.pssm_model.specs.Course.{Head, Course, HasRun}
@@ -20,33 +17,19 @@ use Rattle.pssm_model.specs.Course.Head.{Starts, Fires}
 use Rattle.pssm_model.specs.Items.{StartOpens, IsWaiting, HasRunOut}
 use Rattle.pssm_model.specs.Order.{HasGone, IsReady, course_by}
 use Rattle.pssm_model.specs.Nested.{IsPlainlyNested}
-use Rattle.pssm_plan.specs.inner.Single.{GoesDirectly, EndsIn, IsEnteredBy, OpensAfterEntry, IsCalledOver}
-use Rattle.pssm_model.proofs.ElementLaws.{enters_one}
+use Rattle.pssm_plan.specs.inner.Single.{GoesDirectly, EndsIn, IsEnteredBy, OpensBeside, OpensAfterEntry, IsCalledOver}
 use Rattle.pssm_plan.proofs.Known.{Known, known_as, known_both, known_either, known_not, known_below}
-use Rattle.pssm_plan.proofs.KnownPlaces.{known_owner, known_in_region, known_entered}
+use Rattle.pssm_plan.proofs.KnownPlaces.{known_owner, known_entered, known_ends, known_beside}
 use Rattle.pssm_plan.proofs.KnownItems.{known_over_some, known_over, known_exit, known_enter, owning_there, some_ready}
 use Rattle.pssm_plan.proofs.NestedSteps.{gone_directly}
 use Rattle.pssm_plan.proofs.ReadyItems.{run_known}
 use Rattle.pssm_plan.proofs.SingleItems.{called_is, called_of}
-use Rattle.pssm_plan.proofs.Spans.{target_of}
 use Rattle.pssm_plan.proofs.StepLengths.{IsThere, called_there}
 
 -- what a start opens is known
 start_known : (m : DraftMachine) (head : Head) (r : RegionId) → Known (StartOpens m head (items.Opened r Plain))
 start_known m Starts r = known_owner m (Region r) Top
 start_known m (Fires routes) r = inr (λ h. h)
-
--- whether a transition ends in a region
-ends_known : {m : DraftMachine} → HasShape m → (t : TransId) (r : RegionId) → Known (EndsIn m t r)
-ends_known {m} shape t r = by (transition_at m t) refl
-  where
-    by : (o : Option Transition) → transition_at m t ≡ o → Known (EndsIn m t r)
-    by None e = inr (λ h. let none = ap (option_map (λ (x : Transition). x.target)) e in let clash : Enters m t h.0 = h.1 in cc)
-    by (Some x) e =
-        known_as
-        (λ h. (x.target, target_of m t x e, h))
-        (λ h. subst (λ v. LiesInRegion m v r) (enters_one m t h.0 x.target h.1 (target_of m t x e)) h.2)
-        (known_in_region shape x.target r)
 
 -- the vertices, regions and transitions of numbers, and their items
 abbrev vertex_of : ℕ → VertexId
@@ -84,16 +67,21 @@ module _ {m : DraftMachine} (shape : HasShape m) (course : Course) (g : GoesDire
       (known_owner m (Region r) (State s))
       (known_over_some shape course g active
       (λ t. IsEnteredBy m t s × (EndsIn m t r → ⊥))
-      (λ t. known_both (known_entered shape t s) (known_not (ends_known shape t r))))))
+      (λ t. known_both (known_entered shape t s) (known_not (known_ends shape t r))))))
 
   opening_known : (r : RegionId) → Known (IsCalledOver m course (items.Opened r Plain))
   opening_known r =
       known_either
       (start_known m course.head r)
+      (known_either
       (known_as
       (λ h. (vertex_of h.0, h.2))
       (λ h. (h.0.0, owning_there shape h.0 r h.1.1, h.1))
       (known_below (λ k. OpensAfterEntry m course (vertex_of k) r) (λ k. after_entry_known (vertex_of k) r) (length m.vertices)))
+      (known_as
+      (λ h. (h.0, (h.1, h.2)))
+      (λ h. (h.0, h.1.0, h.1.1))
+      (known_over_some shape course g active (λ t. OpensBeside m t r) (λ t. known_beside shape t r))))
 
   -- some item of a kind waits, or none does
   waiting_known : (item : ℕ → Item) → ((k : ℕ) → Known (IsCalledOver m course (item k))) → (n : ℕ)

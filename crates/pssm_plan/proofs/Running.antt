@@ -56,25 +56,30 @@ module _ (m : DraftMachine) (course : Course) (calls : List Call) (how : How)
   late_to item x h =
       ⊎_elim
       (λ e. subst (IsCalledNext m course item how) (sym e) h.1)
+      (⊎_elim
       (λ entry. ⊎_elim
       (λ e. subst (IsCalledNext m course item how) (sym e) (h.0, h.1, entry.1.0))
       (λ o. subst (IsCalledNext m course item how) (sym o.1.1)
-      (entry.0, h.0, o.1.2, inr (inl ((marks entry.0).0 o.0), h.1, entry.1.0), o.1.3))
+      (inl (entry.0, h.0, o.1.2, inr (inl ((marks entry.0).0 o.0), h.1, entry.1.0), o.1.3)))
       entry.1.1)
+      (λ beside. subst (IsCalledNext m course item how) (sym beside.1) (inr (h.0, h.1, beside.2))))
       h.2
 
   late_from : (item x : Item) → ((s : VertexId) → items.Enter s ≡ item → ⊥) → IsCalledNext m course item how x → IsLate m calls how x
   late_from item (items.Exit s) none h = absurd h
   late_from item (items.Effect t) none h = (t, h, inl refl)
-  late_from item (items.Enter s) none h = (h.0, h.1, inr (s, (h.2, inl refl)))
-  late_from item (items.Opened r Plain) none h =
+  late_from item (items.Enter s) none h = (h.0, h.1, inr (inl (s, (h.2, inl refl))))
+  late_from item (items.Opened r Plain) none next =
       ⊎_elim
+      (λ h. ⊎_elim
       (λ entry. absurd (none h.0 entry.0))
       (λ late. ⊎_elim
-      (λ ran. (h.1, late.1, inr (h.0, (late.2, inr ((marks h.0).1 ran, (r, refl, h.2, h.4))))))
+      (λ ran. (h.1, late.1, inr (inl (h.0, (late.2, inr ((marks h.0).1 ran, (r, refl, h.2, h.4)))))))
       (λ e. absurd (none h.0 e))
       late.0)
-      h.3
+      h.3)
+      (λ beside. (beside.0, beside.1, inr (inr (r, refl, beside.2))))
+      next
   late_from item (items.Opened r Shallow) none h = absurd h
   late_from item (items.Opened r Deep) none h = absurd h
   late_from item (items.Pick c) none h = absurd h
@@ -85,21 +90,24 @@ module _ (m : DraftMachine) (course : Course) (calls : List Call) (how : How)
   entered_to : (s : VertexId) (x : Item) → IsFollowing m calls (items.Enter s) how x → IsCalledNext m course (items.Enter s) how x
   entered_to s x h =
       subst (IsCalledNext m course (items.Enter s) how) (sym h.3.1)
-      (s, h.0, h.3.2, inl (refl, ((effects h.0).0 h.1, h.2)), h.3.3)
+      (inl (s, h.0, h.3.2, inl (refl, ((effects h.0).0 h.1, h.2)), h.3.3))
 
   entered_from : (s : VertexId) (x : Item) → how ≡ Nothing → IsCalledNext m course (items.Enter s) how x → IsFollowing m calls (items.Enter s) how x
   entered_from s (items.Exit q) e h = absurd h
   entered_from s (items.Effect t) e h = absurd (no_way e (single_route t) h)
   entered_from s (items.Enter q) e h = absurd (no_way e (single_route h.0) h.1)
-  entered_from s (items.Opened r Plain) e h =
+  entered_from s (items.Opened r Plain) e next =
       ⊎_elim
+      (λ h. ⊎_elim
       (λ entry. (
       let same : h.0 ≡ s = (let f = entry.0 in cc) in
       let entered = subst (λ (v : VertexId). IsEnteredBy m h.1 v) same entry.1.1 in
       (h.1, (effects h.1).1 entry.1.0, entered, (r, refl, owner_moves h.0 s same h.2, h.4))
       ))
       (λ late. absurd (no_way e (single_route h.1) late.1))
-      h.3
+      h.3)
+      (λ beside. absurd (no_way e (single_route beside.0) beside.1))
+      next
     where
       owner_moves : (q p : VertexId) → q ≡ p → owner_of m (Region r) ≡ Some (State q) → owner_of m (Region r) ≡ Some (State p)
       owner_moves q p same o = subst (λ (v : VertexId). owner_of m (Region r) ≡ Some (State v)) same o

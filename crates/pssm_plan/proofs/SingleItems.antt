@@ -19,7 +19,7 @@ use Rattle.pssm_model.specs.Items.Before.{inner_exit, outer_enter, exit_effect, 
 use Rattle.pssm_model.specs.Routes.{single_route}
 use Rattle.pssm_plan.specs.inner.Single.{IsDirectTransition, GoesDirectly, IsEnteredBy, GoesOver, IsExitedOver, IsEnteredOver, OpensAfterEntry, IsCalledOver, IsOrderedOver}
 use Rattle.pssm_model.proofs.RouteLaws.{on_single, on_single_is, single_route_same}
-use Rattle.pssm_plan.proofs.SingleLegs.{same_leg, same_leg_is, no_later_leg, no_path, leg_exits_is, leg_exits_of, leg_enters_is, leg_enters_of, aimed_is, aimed_of, no_leg_end, no_leg_opening}
+use Rattle.pssm_plan.proofs.SingleLegs.{same_leg, same_leg_is, no_later_leg, no_path, leg_exits_is, leg_exits_of, leg_enters_is, leg_enters_of, aimed_is, aimed_of, no_leg_end, leg_opening_is, leg_opening_of}
 
 -- the leg of a route of one transition
 abbrev pub single_leg : TransId → Leg
@@ -95,7 +95,7 @@ module _ (m : DraftMachine) (course : Course) where
   entered_is g s (items.Opened r mode) ran h =
       ⊎_elim
       (λ opens. (let is = opening_is g s r mode ran h.0 opens in
-      subst (λ x. IsCalledOver m course (items.Opened r x)) (sym is.0) (inr (s, is.1))))
+      subst (λ x. IsCalledOver m course (items.Opened r x)) (sym is.0) (inr (inl (s, is.1)))))
       (λ restoring. absurd (g.restores restoring.0 s restoring.1))
       h.1
   entered_is g s (items.Exit q) ran h = absurd h
@@ -114,7 +114,8 @@ module _ (m : DraftMachine) (course : Course) where
       absurd (no_leg_end m at.0 at.3 at.0 item (subst (λ (l : Leg). LegEnds m l.route l.named_by item) at.1 h))
   called_is g item (opens leg is h) =
       let at = leg_is g leg is in
-      absurd (no_leg_opening m at.0 at.3 at.0 item (subst (λ (l : Leg). LegOpens m l.route l.named_by item) at.1 h))
+      let opens = leg_opening_is m at.0 at.3 at.0 item (subst (λ (l : Leg). LegOpens m l.route l.named_by item) at.1 h) in
+      subst (λ x. IsCalledOver m course x) (sym opens.1) (inr (inr (at.0, (at.2, opens.2))))
   called_is g item (restored mode s h e) = absurd (g.restores mode s h)
   called_is g item (entered s ran h) = entered_is g s item ran h
 
@@ -127,6 +128,7 @@ module _ (m : DraftMachine) (course : Course) where
   called_of g (items.Opened r Plain) h =
       ⊎_elim
       (λ at_start. start at_start)
+      (⊎_elim
       (λ at. (
       let over = at.1.2 in
       let direct = direct_over g over.0 over.1.0 in
@@ -141,6 +143,10 @@ module _ (m : DraftMachine) (course : Course) where
         ),
       )
       ))
+      (λ beside. (
+      let direct = direct_over g beside.0 beside.1.0 in
+      opens (single_leg beside.0) (leg_over beside.0 beside.1.0) (leg_opening_of m beside.0 direct r beside.1.1)
+      )))
       h
   called_of g (items.Opened r Shallow) h = absurd h
   called_of g (items.Opened r Deep) h = absurd h
@@ -179,6 +185,19 @@ module _ (m : DraftMachine) (course : Course) where
   effect_enter_is g (items.Opened r mode) y leg is a c h k = absurd a
   effect_enter_is g (items.Pick v) y leg is a c h k = absurd a
 
+  effect_opening_is : GoesDirectly m course → (x y : Item) (leg : Leg) → IsLeg course leg → IsEffect x
+      → IsCalledInLeg m course leg x → LegOpens m leg.route leg.named_by y → IsOrderedOver m course x y
+  effect_opening_is g (items.Effect u) y leg is a h k =
+      let at = leg_is g leg is in
+      let same = (effect_in_leg at.0 u).0 (subst (λ l. IsCalledInLeg m course l (items.Effect u)) at.1 h) in
+      let opens = leg_opening_is m at.0 at.3 at.0 y (subst (λ (l : Leg). LegOpens m l.route l.named_by y) at.1 k) in
+      subst (λ t. IsOrderedOver m course (items.Effect t) y) (sym same)
+      (subst (λ z. IsOrderedOver m course (items.Effect at.0) z) (sym opens.1) (at.2, opens.2))
+  effect_opening_is g (items.Exit s) y leg is a h k = absurd a
+  effect_opening_is g (items.Enter s) y leg is a h k = absurd a
+  effect_opening_is g (items.Opened r mode) y leg is a h k = absurd a
+  effect_opening_is g (items.Pick v) y leg is a h k = absurd a
+
   pub before_is : GoesDirectly m course → (x y : Item) → Before m course x y → IsOrderedOver m course x y
   before_is g _ _ (inner_exit lies) = lies
   before_is g _ _ (outer_enter lies) = lies
@@ -187,11 +206,11 @@ module _ (m : DraftMachine) (course : Course) where
       let at = leg_is g leg is in
       absurd (no_path m at.0 at.3 t u (subst (λ (l : Leg). PathBefore m l.route t u) at.1 h))
   before_is g _ _ (effect_enter {x = x} {y = y} leg is a c h k) = effect_enter_is g x y leg is a c h k
-  before_is g _ _ (effect_end {y = y} leg is a h k) =
+  before_is g _ _ (effect_end {x = x} {y = y} leg is a h k) =
       let at = leg_is g leg is in
       ⊎_elim
       (λ end. absurd (no_leg_end m at.0 at.3 at.0 y (subst (λ (l : Leg). LegEnds m l.route l.named_by y) at.1 end)))
-      (λ opens. absurd (no_leg_opening m at.0 at.3 at.0 y (subst (λ (l : Leg). LegOpens m l.route l.named_by y) at.1 opens)))
+      (λ opens. effect_opening_is g x y leg is a h opens)
       k
   before_is g _ _ (enter_end {y = y} leg is a h k) =
       let at = leg_is g leg is in
@@ -212,7 +231,10 @@ module _ (m : DraftMachine) (course : Course) where
   before_of g (items.Exit s) (items.Pick c) h = absurd h
   before_of g (items.Effect t) (items.Exit q) h = absurd h
   before_of g (items.Effect t) (items.Effect u) h = absurd h
-  before_of g (items.Effect t) (items.Opened r mode) h = absurd h
+  before_of g (items.Effect t) (items.Opened r Plain) h =
+      effect_end (single_leg t) (leg_over t h.0) tt (same_leg m t) (inr (leg_opening_of m t (direct_over g t h.0) r h.1))
+  before_of g (items.Effect t) (items.Opened r Shallow) h = absurd h
+  before_of g (items.Effect t) (items.Opened r Deep) h = absurd h
   before_of g (items.Effect t) (items.Pick c) h = absurd h
   before_of g (items.Enter s) (items.Exit q) h = absurd h
   before_of g (items.Enter s) (items.Effect t) h = absurd h

@@ -1,4 +1,4 @@
--- The region that a transition spans.
+-- Where a transition exits and enters, and the region that it spans.
 use Rattle.std.proofs.Common.{◌∙◌, ◌≡◌, ◌⊎◌, ◌↔◌, ◌<◌, List, [], ◌∷◌, length, Contains, Some, sym, subst, inl, inr, ⊎_elim, Option, None, IfSome, IfNone, ap, arith}
 use Rattle.std.proofs.lemmas.List.Elements.{Contains-append_cases}
 use Rattle.pssm_model.specs.declared.ids.VertexId.{VertexId}
@@ -13,9 +13,13 @@ use Rattle.pssm_model.specs.declared.elements.Owner.TheVariants.{Region, State}
 use Rattle.pssm_model.specs.Forest.{vertex_at, transition_at, owner_of, LiesInRegion, LiesUnder, IsScope}
 use Rattle.pssm_model.specs.Forest.LiesUnder.{owned, further}
 use Rattle.pssm_model.specs.Shapes.{HasShape}
-use Rattle.pssm_model.specs.Legs.{Leaves, Enters}
-use Rattle.pssm_plan.specs.inner.Single.{IsEndOf, IsSpan, LiesInSpan, IsEnteredBy}
-use Rattle.pssm_model.proofs.ElementLaws.{mapped_some}
+use Rattle.pssm_model.specs.declared.elements.TransKind.{TransKind}
+use Rattle.pssm_model.specs.declared.elements.TransKind.TheVariants.{External, Local, Internal}
+use Rattle.pssm_model.specs.Forest.{LiesInState}
+use Rattle.pssm_model.specs.Legs.{Leaves, Enters, Goes, Scope, LiesInScope}
+use Rattle.pssm_model.specs.Legs.Scope.{Nowhere, Inside, Within}
+use Rattle.pssm_plan.specs.inner.Single.{IsEndOf, IsSpan, IsArea, LiesInArea, IsPassedBy, IsEnteredBy, EndsIn, LeavesOwner, IsOutermost}
+use Rattle.pssm_model.proofs.ElementLaws.{mapped_some, leaves_one}
 use Rattle.pssm_model.proofs.RouteLaws.{is_one}
 use Rattle.pssm_model.proofs.Nesting.{shallower}
 use Rattle.pssm_model.proofs.OwnerChains.{counted_is_place, owned_is_place}
@@ -42,7 +46,8 @@ module _ (m : DraftMachine) where
   span_there shape t r v leaves span = region_there shape v r (span.common v (inl leaves))
 
   -- a vertex lies in the span where it lies in the one region that is the span
-  pub in_span : (t : TransId) (r : RegionId) (s v : VertexId) → Leaves m t v → IsSpan m t r → LiesInRegion m s r ↔ LiesInSpan m t s
+  pub in_span : (t : TransId) (r : RegionId) (s v : VertexId) → Leaves m t v → IsSpan m t r
+      → LiesInRegion m s r ↔ ((q : RegionId) × IsSpan m t q × LiesInRegion m s q)
   in_span t r s v leaves span = (
     λ lies. (r, span, lies),
     λ h. subst (λ q. LiesInRegion m s q) (one_scope m (IsEndOf m t) v h.0 r (inl leaves) h.1 span) h.2,
@@ -85,11 +90,70 @@ module _ (m : DraftMachine) where
   pub vertex_there : (v : VertexId) (r : RegionId) → LiesInRegion m v r → v.0 < length m.vertices
   vertex_there v r lies = let at = owned_at_all (State v) r lies in owned_is_place m (State v) at.0 at.1
 
-  pub entered_there : HasShape m → (t : TransId) (s : VertexId) → IsEnteredBy m t s → s.0 < length m.vertices
-  entered_there shape t s h =
+  pub scope_there : (v : VertexId) (scope : Scope) → LiesInScope m v scope → v.0 < length m.vertices
+  scope_there v Nowhere lies = absurd lies
+  scope_there v (Inside s) lies = vertex_there v lies.0 lies.2
+  scope_there v (Within r) lies = vertex_there v r lies
+
+  pub area_there : (t : TransId) (s : VertexId) → LiesInArea m t s → s.0 < length m.vertices
+  area_there t s h = scope_there s h.0 h.2
+
+  pub passed_there : HasShape m → (t : TransId) (s : VertexId) → IsPassedBy m t s → s.0 < length m.vertices
+  passed_there shape t s h =
       let x = mapped_some (λ (x : Transition). x.target) (transition_at m t) h.0 h.1 in
       let ends = (shape.ends t x.0 x.1).1 in
       ⊎_elim
       (λ same. subst (λ (v : VertexId). v.0 < length m.vertices) (x.2 ∙ same) ends)
-      (λ inside. vertex_there s inside.0.0 inside.0.2)
+      (λ inside. area_there t s inside.0)
       h.2
+
+  pub entered_there : HasShape m → (t : TransId) (s : VertexId) → IsEnteredBy m t s → s.0 < length m.vertices
+  entered_there shape t s h = passed_there shape t s h.1
+
+  -- a transition has one kind
+  pub one_kind : (t : TransId) (k l : TransKind) → Goes m t k → Goes m t l → k ≡ l
+  one_kind t k l h g = cc
+
+  not_both : (t : TransId) (k l : TransKind) → Goes m t k → Goes m t l → (k ≡ l → ⊥) → ⊥
+  not_both t k l h g apart = apart (one_kind t k l h g)
+
+  pub external_not_local : (t : TransId) → Goes m t External → Goes m t Local → ⊥
+  external_not_local t h g = not_both t External Local h g (λ e. cc)
+
+  pub external_not_internal : (t : TransId) → Goes m t External → Goes m t Internal → ⊥
+  external_not_internal t h g = not_both t External Internal h g (λ e. cc)
+
+  pub local_not_internal : (t : TransId) → Goes m t Local → Goes m t Internal → ⊥
+  local_not_internal t h g = not_both t Local Internal h g (λ e. cc)
+
+  -- and so what lies where it exits and enters is seen from its kind
+  pub external_area : (t : TransId) (s : VertexId) → Goes m t External → ((r : RegionId) × IsSpan m t r × LiesInRegion m s r) ↔ LiesInArea m t s
+  external_area t s goes = (λ h. (Within h.0, (goes, h.1), h.2), λ h. back h.0 h.1 h.2)
+    where
+      back : (scope : Scope) → IsArea m t scope → LiesInScope m s scope → (r : RegionId) × IsSpan m t r × LiesInRegion m s r
+      back Nowhere is lies = absurd lies
+      back (Inside v) is lies = absurd (external_not_local t goes is.0)
+      back (Within r) is lies = (r, is.1, lies)
+
+  pub local_area : (t : TransId) (s v : VertexId) → Goes m t Local → Leaves m t v → LiesInState m s v ↔ LiesInArea m t s
+  local_area t s v goes leaves = (λ h. (Inside v, (goes, leaves), h), λ h. back h.0 h.1 h.2)
+    where
+      back : (scope : Scope) → IsArea m t scope → LiesInScope m s scope → LiesInState m s v
+      back Nowhere is lies = absurd lies
+      back (Inside w) is lies = subst (λ x. LiesInState m s x) (leaves_one m t w v is.1 leaves) lies
+      back (Within r) is lies = absurd (external_not_local t is.0 goes)
+
+  pub internal_area : (t : TransId) (s : VertexId) → Goes m t Internal → LiesInArea m t s → ⊥
+  internal_area t s goes h = back h.0 h.1 h.2
+    where
+      back : (scope : Scope) → IsArea m t scope → LiesInScope m s scope → ⊥
+      back Nowhere is lies = lies
+      back (Inside w) is lies = local_not_internal t is.0 goes
+      back (Within r) is lies = external_not_internal t is.0 goes
+
+  -- a local transition enters no outermost region where it ends in none of the State that it leaves
+  pub none_of_local : (t : TransId) → Goes m t Local → (found : Option RegionId)
+      → IfNone found ((r : RegionId) → LeavesOwner m t r → EndsIn m t r → ⊥) → IfNone found ((r : RegionId) → IsOutermost m t r → ⊥)
+  none_of_local t goes None none =
+      λ r out. ⊎_elim (λ external. external_not_local t external.0 goes) (λ local. none r local.1 local.2) out
+  none_of_local t goes (Some r) none = none

@@ -24,17 +24,18 @@ use Rattle.pssm_model.specs.Nested.{IsPlainlyNested}
 use Rattle.pssm_model.specs.Routes.{single_route}
 use Rattle.pssm_config.specs.Tables.{CanEnter}
 use Rattle.pssm_plan.specs.Steadiness.{IsConsistent, KeepsInitials, BeginsWell, changed_by_item, changed_along}
-use Rattle.pssm_plan.specs.inner.Single.{IsSpan, EndsIn, GoesOver, IsEnteredBy, IsCalledOver}
+use Rattle.pssm_plan.specs.inner.Single.{IsArea, EndsIn, IsEnteredBy, IsEnteredOver, IsCalledOver}
+use Rattle.pssm_model.specs.Legs.{Leaves, Scope, LiesInScope}
+use Rattle.pssm_model.specs.Legs.Scope.{Nowhere, Inside, Within}
 use Rattle.pssm_model.proofs.ElementLaws.{some_at}
 use Rattle.pssm_model.proofs.RouteLaws.{single_source}
 use Rattle.pssm_model.proofs.OwnerChains.{one_owner, owner_above}
-use Rattle.pssm_model.proofs.Nesting.{under_cases, region_cases, lies_within}
 use Rattle.pssm_plan.proofs.Spans.{source_of}
 use Rattle.pssm_plan.proofs.NestedRoutes.{target_is_state}
 use Rattle.pssm_plan.proofs.NestedSteps.{gone_directly, over_in_range, ran_was_called}
 use Rattle.pssm_plan.proofs.SingleItems.{called_is, called_of, before_of}
-use Rattle.pssm_plan.proofs.SteadyPlaces.{no_circle, one_reached, home_of_state, home_above, outer_of, late_span_is, owned_lies, lies_around, entered_fills, entered_reached, one_span}
-use Rattle.pssm_plan.proofs.SteadyItems.{starts_at, late_is, exits_over, ready_after_exits, over_span, inside_fired, fires_or_starts}
+use Rattle.pssm_plan.proofs.SteadyPlaces.{IsRegionIn, IsEdge, same_state, one_reached, home_of_state, home_above, edge_or_outer, edge_owner_outside, home_in_scope, region_in_scope, around_in_scope, one_area, late_area, entered_fills, entered_reached}
+use Rattle.pssm_plan.proofs.SteadyItems.{starts_at, late_is, exits_over, ready_after_exits, over_area, beside_fires, beside_inside, inside_fired, fires_or_starts}
 use Rattle.pssm_plan.proofs.SteadyFilling.{one_fills}
 use Rattle.pssm_plan.proofs.SteadyChanges.{changed_along-push, no_entry_yet, active_is}
 
@@ -73,9 +74,9 @@ module _ {m : DraftMachine} (shape : HasShape m) (nested : IsPlainlyNested m) (i
   entered_is_state : (t : TransId) (s : VertexId) → IsEnteredBy m t s → HasKind m s kinds.State
   entered_is_state t s h =
       ⊎_elim
-      (λ same. subst (λ v. HasKind m v kinds.State) same (target_is_state nested t h.0 h.1))
+      (λ same. subst (λ v. HasKind m v kinds.State) same (target_is_state nested t h.1.0 h.1.1))
       (λ inside. (shape.regions inside.1.0 (State s) inside.1.1).0)
-      h.2
+      h.1.2
 
   -- two States of one region that are entered are the same
   entered_once : (ran : List (Item × How)) → HasGone m head now ran → (r : RegionId) (s v : VertexId)
@@ -83,15 +84,14 @@ module _ {m : DraftMachine} (shape : HasShape m) (nested : IsPlainlyNested m) (i
       → IsCalledOver m (course_by head now ran) (items.Enter s)
       → IsCalledOver m (course_by head now ran) (items.Enter v) → s ≡ v
   entered_once ran gone r s v e f first second =
-      let span = over_span shape nested initials head now begins ran gone first.0 first.1.0 in
-      let other = over_span shape nested initials head now begins ran gone second.0 second.1.0 in
       let above = home_above shape s r e in
       let one = one_fills shape nested initials head now begins ran gone r above.0 above.1 first.0 second.0 first.1.0 second.1.0
-      (entered_fills m first.0 s r span.0 span.1 e first.1.1) (entered_fills m second.0 v r other.0 other.1 f second.1.1) in
-      let target = second.1.1 in
+      (entered_fills shape nested initials first.0 s r (over_in_range nested head now ran gone first.0 first.1.0) e first.1.1)
+      (entered_fills shape nested initials second.0 v r (over_in_range nested head now ran gone second.0 second.1.0) f second.1.1) in
+      let target = second.1.1.1 in
       one_reached shape target.0 s v r e f
       (entered_reached m second.0 s target.0 (subst (λ x. IsEnteredBy m x s) one first.1.1) target.1)
-      (entered_reached m second.0 v target.0 target target.1)
+      (entered_reached m second.0 v target.0 second.1.1 target.1)
 
   -- the region of a State whose entry is ready has no active direct vertex
   vacant : (ran : List (Item × How)) → HasGone m head now ran → (r : RegionId) (s v : VertexId)
@@ -109,7 +109,7 @@ module _ {m : DraftMachine} (shape : HasShape m) (nested : IsPlainlyNested m) (i
       (λ starts. begins.start starts v left.0)
       (λ fires. (
       let inside = inside_fired shape nested initials head now begins fires.0 fires.1 ran gone over.0 s over.1 in
-      let lies = lies_within m v r inside.0 (owned f.0) (region_cases m (State s) r inside.0 e.0 inside.2) in
+      let lies = region_in_scope shape v r inside.0 (owned f.0) (home_in_scope m s r inside.0 e.0 inside.2) in
       left.1 (ready_after_exits shape nested initials head now begins ran gone s v ready
       (fires.0, (fires.1, left.0, (inside.0, inside.1, lies))))
       ))
@@ -150,12 +150,12 @@ module _ {m : DraftMachine} (shape : HasShape m) (nested : IsPlainlyNested m) (i
           let course = course_by head now ran in
           let g = gone_directly nested head now ran gone in
           let called = called_is m course g (items.Exit q) ready.waiting.called in
-          let span = called.1.2 in
+          let area = called.1.2 in
           ⊎_elim
           (λ entry. no_entry_yet shape nested initials head now begins ran gone q s ready.waiting entry)
           (λ left. (
           let exits : IsCalledOver m course (items.Exit s) =
-          (called.0, (called.1.0, left.0, (span.0, span.1, lies_around m s q r span.0 (owned d.0) e span.2))) in
+          (called.0, (called.1.0, left.0, (area.0, area.1, around_in_scope m s q r area.0 (owned d.0) e area.2))) in
           left.1 (ready.cleared (items.Exit s) (called_of m course g (items.Exit s) exits)
           (before_of m course g (items.Exit s) (items.Exit q) (r, e, owned d.0)))
           ))
@@ -167,82 +167,101 @@ module _ {m : DraftMachine} (shape : HasShape m) (nested : IsPlainlyNested m) (i
       (owner_of m (Region r) ≡ Some Top)
       ⊎ ((q : VertexId) × (owner_of m (Region r) ≡ Some (State q)) × (changed_along m now ran).Active q)
 
-  fired_owner : (ran : List (Item × How)) → HasGone m head now ran → (t : TransId) (r : RegionId) (p : Owner)
-      → FiresBy head (single_route t) → IsSpan m t r → owner_of m (Region r) ≡ Some p → IsOwnerActive ran r
-  fired_owner ran gone t r Top fires span e = inl e
-  fired_owner ran gone t r (Region k) fires span e = absurd (shape.regions r (Region k) e).0
-  fired_owner ran gone t r (State o) fires span e =
+  -- a region at the edge of where what fires exits and enters lies around its source, or that owns it
+  edge_active : (t : TransId) (v o : VertexId) (r : RegionId) (area : Scope) → FiresBy head (single_route t) → Leaves m t v → IsArea m t area
+      → IsEdge m r area → owner_of m (Region r) ≡ Some (State o) → now.Active o
+  edge_active t v o r Nowhere fires leaves is edge e = absurd edge
+  edge_active t v o r (Inside w) fires leaves is edge e =
+      let same : w ≡ o = same_state w o (one_owner m (Region r) (State w) (State o) edge e) in
+      subst (λ x. now.Active x) same (begins.from_active (single_route t) w fires (single_source m t w is.1))
+  edge_active t v o r (Within q) fires leaves is edge e =
+      let active = begins.from_active (single_route t) v fires (single_source m t v leaves) in
+      around_active shape now begins.consistent v o r active
+      (subst (λ x. LiesInRegion m v x) (sym edge) (is.1.common v (inl leaves))) e
+
+  fired_owner : (ran : List (Item × How)) → HasGone m head now ran → (t : TransId) (r : RegionId) (o : VertexId) (area : Scope)
+      → FiresBy head (single_route t) → IsArea m t area → IsEdge m r area → owner_of m (Region r) ≡ Some (State o) → IsOwnerActive ran r
+  fired_owner ran gone t r o area fires is edge e =
       let lt = over_in_range nested head now ran gone t (inl fires) in
       let at = some_at m.transitions t.0 lt in
-      let v = at.0.source in
-      let leaves = source_of m t at.0 at.1 in
-      let active = begins.from_active (single_route t) v fires (single_source m t v leaves) in
       inr (
         o,
         e,
         (active_is shape nested initials head now begins ran gone o).1 (inr (
-          around_active shape now begins.consistent v o r active (span.common v (inl leaves)) e,
+          edge_active t at.0.source o r area fires (source_of m t at.0 at.1) is edge e,
           λ exit. (
               let called = ran_was_called nested head now ran gone (items.Exit o) exit in
               let over = exits_over shape nested initials head now begins ran t o fires called in
               let inside = over.2 in
-              let same = one_span m t inside.0 r lt inside.1 span in
-              no_circle shape r (owned_lies m r r o e (subst (λ x. LiesInRegion m o x) same inside.2))
+              let same = one_area m t inside.0 area lt inside.1 is in
+              edge_owner_outside shape r o area e edge (subst (λ x. LiesInScope m o x) same inside.2)
               ),
         )),
       )
 
-  late_owner : (ran : List (Item × How)) → HasGone m head now ran → (t : TransId) (r : RegionId)
-      → HasGoneBy (course_by head now ran) (single_route t) → IsSpan m t r → IsOwnerActive ran r
-  late_owner ran gone t r late span =
+  late_owner : (ran : List (Item × How)) → HasGone m head now ran → (t : TransId) (r : RegionId) (area : Scope)
+      → HasGoneBy (course_by head now ran) (single_route t) → IsArea m t area → IsEdge m r area → IsOwnerActive ran r
+  late_owner ran gone t r area late is edge =
       let course = course_by head now ran in
       let by = late_is nested head now ran gone t late in
-      let same = late_span_is shape initials by.0 r by.1 t by.2.0 by.2.1 span in
+      let place = late_area shape nested initials by.0 by.1 t area by.2.0.0 by.2.0.1 is in
+      let same : r ≡ by.0 = subst (λ x. IsEdge m r x) place edge in
       let called : IsCalledOver m course (items.Opened r Plain) =
-      subst (λ x. IsCalledOver m course (items.Opened x Plain)) same by.2.2 in
+      subst (λ x. IsCalledOver m course (items.Opened x Plain)) (sym same) by.2.0.2 in
       ⊎_elim
       (λ starts. inl (starts_at m head r starts).1)
+      (⊎_elim
       (λ at. inr (at.0, at.1.1, (active_is shape nested initials head now begins ran gone at.0).1 (inl at.1.0)))
+      (λ beside. (
+      let fires = beside_fires shape nested initials head now begins ran gone beside.0 r beside.1 in
+      let wide = over_area shape nested initials head now begins ran gone beside.0 (inl fires) in
+      let at = (beside_inside shape nested initials head now begins ran gone beside.0 beside.0 r fires beside.1 wide.0 wide.1).0 in
+      fired_owner ran gone beside.0 r beside.1.1.1.0 wide.0 fires wide.1 at beside.1.1.1.2
+      )))
       called
 
-  inner_owner : (ran : List (Item × How)) → HasGone m head now ran → (t : TransId) (q : VertexId) (r k : RegionId)
+  inner_owner : (ran : List (Item × How)) → HasGone m head now ran → (t : TransId) (q o : VertexId) (r h : RegionId) (area : Scope)
       → IsReady m (course_by head now ran) (items.Enter q) → owner_of m (State q) ≡ Some (Region r)
-      → GoesOver (course_by head now ran) t
-      → EndsIn m t r → IsSpan m t k → LiesUnder m (Region r) (Region k) → IsOwnerActive ran r
-  inner_owner ran gone t q r k ready e over ends span under =
+      → owner_of m (Region r) ≡ Some (State o) → owner_of m (State o) ≡ Some (Region h) → IsEnteredOver m (course_by head now ran) t q
+      → EndsIn m t r → IsArea m t area → IsRegionIn m h area → IsOwnerActive ran r
+  inner_owner ran gone t q o r h area ready f e home over ends is inside =
       let course = course_by head now ran in
       let g = gone_directly nested head now ran gone in
-      let outer = outer_of shape r k under in
-      let lies : LiesInRegion m outer.0 k =
-      ⊎_elim (λ same. absurd (cc)) (λ more. more) (under_cases m (Region r) (State outer.0) (Region k) outer.2 under) in
-      let called : IsCalledOver m course (items.Enter outer.0) =
-      (t, (over, (ends.0, ends.1, inr ((k, span, lies), (r, outer.2, ends.2))))) in
-      let entry = ready.cleared (items.Enter outer.0) (called_of m course g (items.Enter outer.0) called)
-      (before_of m course g (items.Enter outer.0) (items.Enter q) (r, outer.2, owned e)) in
-      inr (outer.0, outer.2, (active_is shape nested initials head now begins ran gone outer.0).1 (inl entry))
+      let lies = region_in_scope shape o h area (owned home) inside in
+      let called : IsCalledOver m course (items.Enter o) =
+      (t, (over.0, (over.1.0, (ends.0, ends.1, inr ((area, is, lies), (r, e, ends.2)))))) in
+      let entry = ready.cleared (items.Enter o) (called_of m course g (items.Enter o) called)
+      (before_of m course g (items.Enter o) (items.Enter q) (r, e, owned f)) in
+      inr (o, e, (active_is shape nested initials head now begins ran gone o).1 (inl entry))
+
+  owner_of_entered : (ran : List (Item × How)) → HasGone m head now ran → (r : RegionId) (q : VertexId) (p : Owner)
+      → IsReady m (course_by head now ran) (items.Enter q) → owner_of m (State q) ≡ Some (Region r) → owner_of m (Region r) ≡ Some p
+      → IsOwnerActive ran r
+  owner_of_entered ran gone r q Top ready f e = inl e
+  owner_of_entered ran gone r q (Region k) ready f e = absurd (shape.regions r (Region k) e).0
+  owner_of_entered ran gone r q (State o) ready f e =
+      let course = course_by head now ran in
+      let called = called_is m course (gone_directly nested head now ran gone) (items.Enter q) ready.waiting.called in
+      let t = called.0 in
+      let over = called.1.0 in
+      let fills = entered_fills shape nested initials t q r (over_in_range nested head now ran gone t over) f called.1.1 in
+      let area = fills.1 in
+      let home = home_of_state shape o (inl (shape.regions r (State o) e).0) in
+      ⊎_elim
+      (λ edge. ⊎_elim
+      (λ fires. fired_owner ran gone t r o area.0 fires area.1 edge e)
+      (λ late. late_owner ran gone t r area.0 late area.1 edge)
+      over)
+      (λ outer. inner_owner ran gone t q o r home.0 area.0 ready f e home.1 called.1 fills.0 area.1 outer)
+      (edge_or_outer shape r home.0 o area.0 e home.1 area.2)
 
   owner_active : (ran : List (Item × How)) → HasGone m head now ran → (r : RegionId) (q : VertexId)
       → IsReady m (course_by head now ran) (items.Enter q) → owner_of m (State q) ≡ Some (Region r)
       → IsOwnerActive ran r
   owner_active ran gone r q ready e =
-      let course = course_by head now ran in
-      let called = called_is m course (gone_directly nested head now ran gone) (items.Enter q) ready.waiting.called in
-      let t = called.0 in
-      let over = called.1.0 in
-      let wide = over_span shape nested initials head now begins ran gone t over in
-      let fills = entered_fills m t q r wide.0 wide.1 e called.1.1 in
       let above = home_above shape q r e in
       let owner = owner_above m (Region r) above.0 above.1 in
-      ⊎_elim
-      (λ same. (
-      let span : IsSpan m t r = subst (λ x. IsSpan m t x) (sym same) fills.1.1 in
-      ⊎_elim
-      (λ fires. fired_owner ran gone t r owner.0 fires span owner.1)
-      (λ late. late_owner ran gone t r late span)
-      over
-      ))
-      (λ under. inner_owner ran gone t q r fills.1.0 ready e over fills.0 fills.1.1 under)
-      fills.1.2
+      owner_of_entered ran gone r q owner.0 ready e owner.1
 
   -- once a State is entered
   after_enter : (ran : List (Item × How)) → HasGone m head now ran → (q : VertexId)

@@ -1,16 +1,14 @@
--- One transition at most fills a region: it ends in the region, and the region is its span or lies in that.
-use Rattle.std.proofs.Common.{List, Some, ◌≡◌, ◌<◌, ℕ, zero, suc, sym, subst, inl, ⊎_elim, ◌∙◌, arith}
+-- One transition at most fills a region: it ends in the region, which lies where the transition exits and enters.
+use Rattle.std.proofs.Common.{List, Some, length, ◌≡◌, ◌<◌, ℕ, zero, suc, sym, subst, inl, inr, ⊎_elim, ◌∙◌, arith}
 use Rattle.pssm_model.specs.declared.ids.VertexId.{VertexId}
 use Rattle.pssm_model.specs.declared.ids.RegionId.{RegionId}
 use Rattle.pssm_model.specs.declared.ids.TransId.{TransId}
 use Rattle.pssm_model.specs.declared.elements.DraftMachine.{DraftMachine}
 use Rattle.pssm_model.specs.declared.elements.Owner.TheVariants.{Region, State}
-use Rattle.pssm_model.specs.declared.steps.Mode.TheVariants.{Plain}
 use Rattle.pssm_model.specs.declared.steps.How.{How}
 use Rattle.pssm_model.specs.declared.steps.Item.{Item}
-use Rattle.pssm_model.specs.declared.steps.Item.TheVariants as items
-use Rattle.pssm_model.specs.Forest.{owner_of, LiesUnder, LiesInRegion, HasRegionsAbove}
-use Rattle.pssm_model.specs.Legs.{Leaves}
+use Rattle.pssm_model.specs.Forest.{owner_of, LiesUnder, HasRegionsAbove}
+use Rattle.pssm_model.specs.Legs.{Leaves, Scope, LiesInScope}
 use Rattle.pssm_model.specs.Paths.{IsInitialOf}
 use Rattle.pssm_model.specs.Shapes.{HasShape}
 use Rattle.pssm_model.specs.Configuration.{Configuration}
@@ -19,131 +17,183 @@ use Rattle.pssm_model.specs.Order.{HasGone, course_by}
 use Rattle.pssm_model.specs.Nested.{IsPlainlyNested}
 use Rattle.pssm_model.specs.Routes.{single_route}
 use Rattle.pssm_plan.specs.Steadiness.{KeepsInitials, BeginsWell}
-use Rattle.pssm_plan.specs.inner.Single.{IsSpan, EndsIn, GoesOver, IsCalledOver}
-use Rattle.pssm_model.proofs.OwnerChains.{one_owner, under_further}
+use Rattle.pssm_plan.specs.inner.Single.{IsArea, EndsIn, GoesOver, IsEnteredOver, OpensAfterEntry}
+use Rattle.pssm_model.proofs.OwnerChains.{one_owner}
+use Rattle.pssm_model.proofs.Nesting.{outer_of_region}
 use Rattle.pssm_plan.proofs.NestedSteps.{over_in_range}
-use Rattle.pssm_plan.proofs.SteadyPlaces.{Fills, no_circle, outer_of, late_span_is, entered_fills, fills_outer, outer_above, owned_lies, one_span}
-use Rattle.pssm_plan.proofs.SteadyItems.{IsLateBy, starts_alone, starts_at, late_is, one_fires, over_span, inside_fired}
+use Rattle.pssm_plan.proofs.SteadyPlaces.{IsRegionIn, IsRegionUnder, IsEdge, Fills, same_state, outer_of, home_of_state, edge_or_outer, edge_owner_outside, edge_not_around, owned_under, one_area, late_area, entered_fills, fills_out, outer_above}
+use Rattle.pssm_plan.proofs.SteadyItems.{IsLateBy, starts_alone, starts_at, late_is, one_fires, over_area, beside_fires, beside_inside, inside_fired}
 
 module _ {m : DraftMachine} (shape : HasShape m) (nested : IsPlainlyNested m) (initials : KeepsInitials m)
     (head : Head) (now : Configuration) (begins : BeginsWell m head now) (ran : List (Item × How)) (gone : HasGone m head now ran) where
-  -- what opens besides what fires lies in the span of that
-  late_under : (t u : TransId) (q r : RegionId) (v : VertexId) → FiresBy head (single_route t) → IsSpan m t q
-      → IsLateBy m (course_by head now ran) u r v → LiesUnder m (Region r) (Region q)
-  late_under t u q r v fires span by =
+  in_range : (t : TransId) → GoesOver (course_by head now ran) t → t.0 < length m.transitions
+  in_range t over = over_in_range nested head now ran gone t over
+
+  -- what opens besides what fires lies where that exits and enters
+  late_under : (t u : TransId) (area : Scope) (r : RegionId) (v : VertexId) → FiresBy head (single_route t) → IsArea m t area
+      → IsLateBy m (course_by head now ran) u r v → IsRegionUnder m r area
+  late_under t u area r v fires is by =
       ⊎_elim
       (λ starts. absurd (starts_alone m head r (single_route t) starts fires))
+      (⊎_elim
       (λ at. (
       let inside = inside_fired shape nested initials head now begins t fires ran gone at.1.2.0 at.0 at.1.2.1 in
-      let same = one_span m t inside.0 q (over_in_range nested head now ran gone t (inl fires)) inside.1 span in
-      owned_lies m r q at.0 at.1.1 (subst (λ x. LiesInRegion m at.0 x) same inside.2)
+      let same = one_area m t inside.0 area (in_range t (inl fires)) inside.1 is in
+      owned_under m r at.0 area at.1.1 (subst (λ x. LiesInScope m at.0 x) same inside.2)
       ))
-      by.2
+      (λ beside. (beside_inside shape nested initials head now begins ran gone t beside.0 r fires beside.1 area is).1))
+      by.0.2
 
-  -- two transitions with one span
-  same_span : (t u : TransId) (r : RegionId) → GoesOver (course_by head now ran) t → GoesOver (course_by head now ran) u
-      → IsSpan m t r → IsSpan m u r → t ≡ u
-  same_span t u r first second span other =
-      ⊎_elim
-      (λ fires. ⊎_elim
-      (λ too. one_fires shape nested initials head now begins t u fires too)
-      (λ late. absurd (apart t u r fires late span other))
-      second)
-      (λ late. ⊎_elim
-      (λ fires. absurd (apart u t r fires late other span))
-      (λ too. both t u r late too span other)
-      second)
-      first
-    where
-      apart : (t u : TransId) (r : RegionId) → FiresBy head (single_route t)
-          → HasGoneBy (course_by head now ran) (single_route u)
-          → IsSpan m t r → IsSpan m u r → ⊥
-      apart t u r fires late span other =
-          let by = late_is nested head now ran gone u late in
-          let same = late_span_is shape initials by.0 r by.1 u by.2.0 by.2.1 other in
-          no_circle shape r (subst (λ x. LiesUnder m (Region x) (Region r)) same (late_under t u r by.0 by.1 fires span by.2))
-
-      both : (t u : TransId) (r : RegionId) → HasGoneBy (course_by head now ran) (single_route t)
-          → HasGoneBy (course_by head now ran) (single_route u)
-          → IsSpan m t r → IsSpan m u r → t ≡ u
-      both t u r late too span other =
-          let by = late_is nested head now ran gone t late in
-          let at = late_is nested head now ran gone u too in
-          let same = late_span_is shape initials by.0 r by.1 t by.2.0 by.2.1 span
-          ∙ sym (late_span_is shape initials at.0 r at.1 u at.2.0 at.2.1 other) in
-          let vertex : by.1 ≡ at.1 = initials.one_initial at.0 by.1 at.1 (subst (λ x. IsInitialOf m x by.1) same by.2.0) at.2.0 in
-          initials.one_out at.1 t u at.2.0.0 (subst (λ x. Leaves m t x) vertex by.2.1) at.2.1
+  -- a State that is entered does not own a region at the edge of that place
+  entered_not_edge : (t : TransId) (area : Scope) (w : TransId) (s : VertexId) (r : RegionId) → FiresBy head (single_route t) → IsArea m t area
+      → IsEnteredOver m (course_by head now ran) w s → owner_of m (Region r) ≡ Some (State s) → IsEdge m r area → ⊥
+  entered_not_edge t area w s r fires is over e edge =
+      let inside = inside_fired shape nested initials head now begins t fires ran gone w s over in
+      let same = one_area m t inside.0 area (in_range t (inl fires)) inside.1 is in
+      edge_owner_outside shape r s area e edge (subst (λ x. LiesInScope m s x) same inside.2)
 
   -- The claim for regions with fewer regions above them.
   abbrev IsFilledOnce : ℕ → Type 0
   IsFilledOnce n = (k : ℕ) (r : RegionId) → k < n → HasRegionsAbove m (Region r) k → (t u : TransId)
       → GoesOver (course_by head now ran) t → GoesOver (course_by head now ran) u → Fills m t r → Fills m u r → t ≡ u
 
-  -- a transition whose span is the region, and one whose span is around it
-  one_around : (n k : ℕ) (r q : RegionId) → k < suc n → HasRegionsAbove m (Region r) k → IsFilledOnce n
-      → (t u : TransId)
-      → GoesOver (course_by head now ran) t → GoesOver (course_by head now ran) u → IsSpan m t r
-      → EndsIn m u r → IsSpan m u q → LiesUnder m (Region r) (Region q) → t ≡ u
-  one_around n k r q lt above fewer t u first second span ends other under =
-      ⊎_elim
-      (λ fires. ⊎_elim
-      (λ too. one_fires shape nested initials head now begins t u fires too)
-      (λ late. (
-      let by = late_is nested head now ran gone u late in
-      let same = late_span_is shape initials by.0 q by.1 u by.2.0 by.2.1 other in
-      absurd (no_circle shape r (under_further under
-      (subst (λ x. LiesUnder m (Region x) (Region r)) same (late_under t u r by.0 by.1 fires span by.2))))
-      ))
-      second)
-      (λ late. (
-      let by = late_is nested head now ran gone t late in
-      let same = late_span_is shape initials by.0 r by.1 t by.2.0 by.2.1 span in
-      let outer = outer_of shape r q under in
-      let called : IsCalledOver m (course_by head now ran) (items.Opened r Plain) =
-      subst (λ x. IsCalledOver m (course_by head now ran) (items.Opened x Plain)) same by.2.2 in
-      ⊎_elim
-      (λ starts. (let top = (starts_at m head r starts).1 in let state = outer.2 in absurd (cc)))
-      (λ at. (
-      let state : State at.0 ≡ State outer.0 = one_owner m (Region r) (State at.0) (State outer.0) at.1.1 outer.2 in
-      let home : owner_of m (State at.0) ≡ Some (Region outer.1) =
-      subst (λ x. owner_of m x ≡ Some (Region outer.1)) (sym state) outer.3 in
-      let opening = at.1.2 in
-      let wide = over_span shape nested initials head now begins ran gone opening.0 opening.1.0 in
-      let less = outer_above m r outer.1 at.0 k at.1.1 home above in
-      let below : less.0 < n = omega (arith, less.1, lt) in
-      let one = fewer less.0 outer.1 below less.2 u opening.0 second opening.1.0
-      (fills_outer m u r q outer.1 at.0 at.1.1 home other under ends)
-      (entered_fills m opening.0 at.0 outer.1 wide.0 wide.1 home opening.1.1) in
-      absurd (opening.2 (subst (λ x. EndsIn m x r) one ends))
-      ))
-      called
-      ))
-      first
+  module _ (n k : ℕ) (r : RegionId) (lt : k < suc n) (above : HasRegionsAbove m (Region r) k) (fewer : IsFilledOnce n) where
+    -- two transitions that fill the region around are the same
+    same_around : (h : RegionId) (s : VertexId) (t u : TransId) → owner_of m (Region r) ≡ Some (State s) → owner_of m (State s) ≡ Some (Region h)
+        → GoesOver (course_by head now ran) t → GoesOver (course_by head now ran) u → Fills m t h → Fills m u h → t ≡ u
+    same_around h s t u e f first second a b =
+        let less = outer_above m r h s k e f above in
+        let below : less.0 < n = omega (arith, less.1, lt) in
+        fewer less.0 h below less.2 t u first second a b
+
+    -- what fills the region, and the region around, is not what entered the State that owns it and opened it
+    not_opener : (h : RegionId) (s : VertexId) (u : TransId) → owner_of m (State s) ≡ Some (Region h)
+        → GoesOver (course_by head now ran) u → EndsIn m u r → Fills m u h → OpensAfterEntry m (course_by head now ran) s r → ⊥
+    not_opener h s u f over ends fills at =
+        let w = at.2 in
+        let one = same_around h s u w.0 at.1 f over w.1.0 fills (entered_fills shape nested initials w.0 s h (in_range w.0 w.1.0) f w.1.1) in
+        w.2 (subst (λ x. EndsIn m x r) one ends)
+
+    home_of_owner : (s : VertexId) → owner_of m (Region r) ≡ Some (State s) → (h : RegionId) × (owner_of m (State s) ≡ Some (Region h))
+    home_of_owner s e = home_of_state shape s (inl (shape.regions r (State s) e).0)
+
+    -- what fires does not fill the region that a late transition leaves
+    not_opened : (t u : TransId) (v : VertexId) → FiresBy head (single_route t) → IsLateBy m (course_by head now ran) u r v → Fills m t r → ⊥
+    not_opened t u v fires by a =
+        let area = a.1 in
+        ⊎_elim
+        (λ starts. starts_alone m head r (single_route t) starts fires)
+        (⊎_elim
+        (λ at. (
+        let home = home_of_owner at.0 at.1.1 in
+        ⊎_elim
+        (λ edge. entered_not_edge t area.0 at.1.2.0 at.0 r fires area.1 at.1.2.1 at.1.1 edge)
+        (λ outer. not_opener home.0 at.0 t home.1 (inl fires) a.0
+        (fills_out m t r home.0 at.0 area.0 at.1.1 home.1 a.0 area.1 outer) at.1)
+        (edge_or_outer shape r home.0 at.0 area.0 at.1.1 home.1 area.2)
+        ))
+        (λ beside. (
+        let same = one_fires shape nested initials head now begins beside.0 t
+        (beside_fires shape nested initials head now begins ran gone beside.0 r beside.1) fires in
+        beside.1.1.2 (subst (λ x. EndsIn m x r) (sym same) a.0)
+        )))
+        by.0.2
+
+    -- what fires, and a late transition
+    fired_and_late : (t u : TransId) → FiresBy head (single_route t) → HasGoneBy (course_by head now ran) (single_route u)
+        → Fills m t r → Fills m u r → t ≡ u
+    fired_and_late t u fires late a b =
+        let by = late_is nested head now ran gone u late in
+        let place = late_area shape nested initials by.0 by.1 u b.1.0 by.2.0.0 by.2.0.1 b.1.1 in
+        let within = subst (λ x. IsRegionIn m r x) place b.1.2 in
+        ⊎_elim
+        (λ same. absurd (not_opened t u by.1 fires (subst (λ x. IsLateBy m (course_by head now ran) u x by.1) (sym same) by.2) a))
+        (λ under. (
+        let outer = outer_of shape r by.0 under in
+        let area = a.1 in
+        ⊎_elim
+        (λ edge. absurd (edge_not_around shape r by.0 area.0 edge under (late_under t u area.0 by.0 by.1 fires area.1 by.2)))
+        (λ out. same_around outer.1 outer.0 t u outer.2 outer.3 (inl fires) (inr late)
+        (fills_out m t r outer.1 outer.0 area.0 outer.2 outer.3 a.0 area.1 out)
+        (fills_out m u r outer.1 outer.0 b.1.0 outer.2 outer.3 b.0 b.1.1
+        (subst (λ x. IsRegionIn m outer.1 x) (sym place) ((outer_of_region m r outer.0 outer.1 outer.2 outer.3).innermost by.0 under))))
+        (edge_or_outer shape r outer.1 outer.0 area.0 outer.2 outer.3 area.2)
+        ))
+        within
+
+    -- a late transition that leaves the region, and one that leaves a region around it
+    late_around : (t u : TransId) (v : VertexId) (p : RegionId) (w : VertexId) → IsLateBy m (course_by head now ran) t r v
+        → GoesOver (course_by head now ran) u → IsLateBy m (course_by head now ran) u p w → LiesUnder m (Region r) (Region p)
+        → Fills m u r → ⊥
+    late_around t u v p w by over other under b =
+        let outer = outer_of shape r p under in
+        let place = late_area shape nested initials p w u b.1.0 other.0.0 other.0.1 b.1.1 in
+        let around = subst (λ x. IsRegionIn m outer.1 x) (sym place) ((outer_of_region m r outer.0 outer.1 outer.2 outer.3).innermost p under) in
+        let wide = fills_out m u r outer.1 outer.0 b.1.0 outer.2 outer.3 b.0 b.1.1 around in
+        ⊎_elim
+        (λ starts. (let top = (starts_at m head r starts).1 in let state = outer.2 in absurd (cc)))
+        (⊎_elim
+        (λ at. (
+        let same = same_state at.0 outer.0 (one_owner m (Region r) (State at.0) (State outer.0) at.1.1 outer.2) in
+        not_opener outer.1 at.0 u (subst (λ x. owner_of m (State x) ≡ Some (Region outer.1)) (sym same) outer.3) over b.0 wide at.1
+        ))
+        (λ beside. (
+        let fires = beside_fires shape nested initials head now begins ran gone beside.0 r beside.1 in
+        let area = over_area shape nested initials head now begins ran gone beside.0 (inl fires) in
+        let edge = (beside_inside shape nested initials head now begins ran gone beside.0 beside.0 r fires beside.1 area.0 area.1).0 in
+        edge_not_around shape r p area.0 edge under (late_under beside.0 u area.0 p w fires area.1 other)
+        )))
+        by.0.2
+
+    -- two late transitions
+    both_late : (t u : TransId) → HasGoneBy (course_by head now ran) (single_route t) → HasGoneBy (course_by head now ran) (single_route u)
+        → Fills m t r → Fills m u r → t ≡ u
+    both_late t u late too a b =
+        let by = late_is nested head now ran gone t late in
+        let at = late_is nested head now ran gone u too in
+        let place = late_area shape nested initials by.0 by.1 t a.1.0 by.2.0.0 by.2.0.1 a.1.1 in
+        let other = late_area shape nested initials at.0 at.1 u b.1.0 at.2.0.0 at.2.0.1 b.1.1 in
+        ⊎_elim
+        (λ here. ⊎_elim
+        (λ there. (
+        let same = sym here ∙ there in
+        let vertex : by.1 ≡ at.1 = initials.one_initial at.0 by.1 at.1 (subst (λ x. IsInitialOf m x by.1) same by.2.0.0) at.2.0.0 in
+        initials.one_out at.1 t u at.2.0.0.0 (subst (λ x. Leaves m t x) vertex by.2.0.1) at.2.0.1
+        ))
+        (λ under. absurd (late_around t u by.1 at.0 at.1
+        (subst (λ x. IsLateBy m (course_by head now ran) t x by.1) (sym here) by.2) (inr too) at.2 under b))
+        (subst (λ x. IsRegionIn m r x) other b.1.2))
+        (λ under. ⊎_elim
+        (λ there. absurd (late_around u t at.1 by.0 by.1
+        (subst (λ x. IsLateBy m (course_by head now ran) u x at.1) (sym there) at.2) (inr late) by.2 under a))
+        (λ more. (
+        let outer = outer_of shape r by.0 under in
+        let up = outer_of_region m r outer.0 outer.1 outer.2 outer.3 in
+        same_around outer.1 outer.0 t u outer.2 outer.3 (inr late) (inr too)
+        (fills_out m t r outer.1 outer.0 a.1.0 outer.2 outer.3 a.0 a.1.1
+        (subst (λ x. IsRegionIn m outer.1 x) (sym place) (up.innermost by.0 under)))
+        (fills_out m u r outer.1 outer.0 b.1.0 outer.2 outer.3 b.0 b.1.1
+        (subst (λ x. IsRegionIn m outer.1 x) (sym other) (up.innermost at.0 more)))
+        ))
+        (subst (λ x. IsRegionIn m r x) other b.1.2))
+        (subst (λ x. IsRegionIn m r x) place a.1.2)
+
+    filled_here : (t u : TransId) → GoesOver (course_by head now ran) t → GoesOver (course_by head now ran) u → Fills m t r → Fills m u r → t ≡ u
+    filled_here t u first second a b =
+        ⊎_elim
+        (λ fires. ⊎_elim
+        (λ too. one_fires shape nested initials head now begins t u fires too)
+        (λ late. fired_and_late t u fires late a b)
+        second)
+        (λ late. ⊎_elim
+        (λ fires. sym (fired_and_late u t fires late b a))
+        (λ too. both_late t u late too a b)
+        second)
+        first
 
   filled_below : (n : ℕ) → IsFilledOnce n
   filled_below zero k r lt above t u first second a b = absurd (omega arith)
-  filled_below (suc n) k r lt above t u first second a b =
-      ⊎_elim
-      (λ same. (
-      let span : IsSpan m t r = subst (λ x. IsSpan m t x) (sym same) a.1.1 in
-      ⊎_elim
-      (λ too. same_span t u r first second span (subst (λ x. IsSpan m u x) (sym too) b.1.1))
-      (λ under. one_around n k r b.1.0 lt above (filled_below n) t u first second span b.0 b.1.1 under)
-      b.1.2
-      ))
-      (λ under. ⊎_elim
-      (λ same. sym (one_around n k r a.1.0 lt above (filled_below n) u t second first
-      (subst (λ x. IsSpan m u x) (sym same) b.1.1) a.0 a.1.1 under))
-      (λ too. (
-      let outer = outer_of shape r a.1.0 under in
-      let less = outer_above m r outer.1 outer.0 k outer.2 outer.3 above in
-      let below : less.0 < n = omega (arith, less.1, lt) in
-      filled_below n less.0 outer.1 below less.2 t u first second
-      (fills_outer m t r a.1.0 outer.1 outer.0 outer.2 outer.3 a.1.1 under a.0)
-      (fills_outer m u r b.1.0 outer.1 outer.0 outer.2 outer.3 b.1.1 too b.0)
-      ))
-      b.1.2)
-      a.1.2
+  filled_below (suc n) k r lt above t u first second a b = filled_here n k r lt above (filled_below n) t u first second a b
 
   -- one transition fills a region
   pub one_fills : (r : RegionId) (k : ℕ) → HasRegionsAbove m (Region r) k → (t u : TransId)

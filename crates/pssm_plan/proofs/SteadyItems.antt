@@ -1,11 +1,11 @@
 -- What has run before an entry, and where a step enters States: every called exit has run, and all that is entered
--- lies in the span of what fires.
+-- lies where what fires exits and enters.
 use Rattle.std.proofs.Common.{List, Some, ◌≡◌, ◌⊎◌, refl, sym, subst, inl, inr, ⊎_elim, ◌∙◌}
 use Rattle.pssm_model.specs.declared.ids.VertexId.{VertexId}
 use Rattle.pssm_model.specs.declared.ids.RegionId.{RegionId}
 use Rattle.pssm_model.specs.declared.ids.TransId.{TransId}
 use Rattle.pssm_model.specs.declared.elements.DraftMachine.{DraftMachine}
-use Rattle.pssm_model.specs.declared.elements.Owner.TheVariants.{Top, Region}
+use Rattle.pssm_model.specs.declared.elements.Owner.TheVariants.{Top, Region, State}
 use Rattle.pssm_model.specs.declared.steps.Route.{Route}
 use Rattle.pssm_model.specs.declared.steps.Mode.TheVariants.{Plain, Shallow, Deep}
 use Rattle.pssm_model.specs.declared.steps.How.{How}
@@ -13,7 +13,6 @@ use Rattle.pssm_model.specs.declared.steps.How.TheVariants.{By, Restore, Nothing
 use Rattle.pssm_model.specs.declared.steps.Item.{Item}
 use Rattle.pssm_model.specs.declared.steps.Item.TheVariants as items
 use Rattle.pssm_model.specs.Forest.{owner_of}
-use Rattle.pssm_model.specs.Legs.{Leaves}
 use Rattle.pssm_model.specs.Paths.{IsInitialOf}
 use Rattle.pssm_model.specs.Shapes.{HasShape}
 use Rattle.pssm_model.specs.Routes.{Truth}
@@ -27,14 +26,15 @@ use Rattle.pssm_model.specs.Order.HasGone.{begun as gone_begun, more as gone_mor
 use Rattle.pssm_model.specs.Nested.{IsPlainlyNested}
 use Rattle.pssm_model.specs.Routes.{single_route}
 use Rattle.pssm_plan.specs.Steadiness.{KeepsInitials, BeginsWell}
-use Rattle.pssm_plan.specs.inner.Single.{IsSpan, LiesInSpan, GoesOver, IsEnteredBy, IsExitedOver, IsEnteredOver, IsCalledOver}
+use Rattle.pssm_model.specs.Legs.{Leaves, Scope}
+use Rattle.pssm_plan.specs.inner.Single.{IsArea, LiesInArea, OpensBeside, GoesOver, IsEnteredBy, IsExitedOver, IsEnteredOver, IsOpenedOver, IsCalledOver}
 use Rattle.pssm_model.proofs.ElementLaws.{nothing_in_nil}
 use Rattle.pssm_model.proofs.RouteLaws.{single_route_same}
 use Rattle.pssm_plan.proofs.NestedRoutes.{late_route_is}
-use Rattle.pssm_plan.proofs.NestedSteps.{gone_directly, over_in_range}
+use Rattle.pssm_plan.proofs.NestedSteps.{gone_directly, over_from_state, over_in_range}
 use Rattle.pssm_plan.proofs.SingleItems.{called_is, called_of, before_of}
-use Rattle.pssm_plan.proofs.MoreItems.{nothing_ran, begins_by, gone_by_more, over_more, run_more, entered_more, called_more}
-use Rattle.pssm_plan.proofs.SteadyPlaces.{has_span, late_lies, entered_in_span, lies_around}
+use Rattle.pssm_plan.proofs.MoreItems.{gone_on, nothing_ran, begins_by, gone_by_more, over_more, run_more, entered_more, called_more}
+use Rattle.pssm_plan.proofs.SteadyPlaces.{IsRegionUnder, IsEdge, has_area, late_lies, entered_in_area, beside_at_edge, under_is_in, region_in_scope, around_in_scope}
 
 -- what starts does not fire
 pub starts_alone : (m : DraftMachine) (head : Head) (r : RegionId) (route : Route)
@@ -47,23 +47,27 @@ pub starts_at : (m : DraftMachine) (head : Head) (r : RegionId) → StartOpens m
 starts_at m Starts r starts = (refl, starts)
 starts_at m (Fires routes) r starts = absurd starts
 
--- The step has opened the region of an initial vertex that the transition leaves.
+-- The transition leaves the initial vertex of a region that the step opens.
+abbrev pub IsOutOf : DraftMachine → Course → TransId → RegionId → VertexId → Type 0
+IsOutOf m course t r v = IsInitialOf m r v × Leaves m t v × IsCalledOver m course (items.Opened r Plain)
+
+-- And the step has opened it.
 abbrev pub IsLateBy : DraftMachine → Course → TransId → RegionId → VertexId → Type 0
-IsLateBy m course t r v = IsInitialOf m r v × Leaves m t v × IsCalledOver m course (items.Opened r Plain)
+IsLateBy m course t r v = IsOutOf m course t r v × HasRun course (items.Opened r Plain)
 
 module _ {m : DraftMachine} (nested : IsPlainlyNested m) where
   -- a late route is that of an opening
   pub opened_by : (course : Course) (truth : Truth) (memory : Memory) (item : Item) (how : How)
       → IsCalledOver m course item
       → IsWay m truth memory item how → (t : TransId) → how ≡ By (single_route t)
-      → (r : RegionId) × (v : VertexId) × IsLateBy m course t r v
+      → (r : RegionId) × (v : VertexId) × IsOutOf m course t r v × (items.Opened r Plain ≡ item)
   opened_by course truth memory (items.Exit s) how called way t e = let clash = way in absurd (cc)
   opened_by course truth memory (items.Effect u) how called way t e = let clash = way in absurd (cc)
   opened_by course truth memory (items.Enter s) how called way t e = let clash = way in absurd (cc)
   opened_by course truth memory (items.Opened r Plain) (By other) called way t e =
       let is = late_route_is nested truth way.0 other way.2 in
       let same : is.0 ≡ t = single_route_same is.0 t (sym is.1 ∙ same_way other (single_route t) e) in
-      (r, way.0, (way.1, subst (λ u. Leaves m u way.0) same is.2, called))
+      (r, way.0, (way.1, subst (λ u. Leaves m u way.0) same is.2, called), refl)
     where
       same_way : (p q : Route) → By p ≡ By q → p ≡ q
       same_way p q f = cc
@@ -79,12 +83,22 @@ module _ {m : DraftMachine} (nested : IsPlainlyNested m) where
   late_is head now _ (gone_begun fires) t h = absurd (nothing_in_nil (h.0, By (single_route t)) h.1)
   late_is head now _ (gone_more {ran = ran} item how before ready truth way) t h =
       let course = course_by head now ran in
-      let at = ⊎_elim {C = (r : RegionId) × (v : VertexId) × IsLateBy m course t r v}
-      (λ was. late_is head now ran before t was)
-      (λ is. opened_by course truth (RemembersSoFar m course) item how
-      (called_is m course (gone_directly nested head now ran before) item ready.waiting.called) way t is)
-      ((gone_by_more course item how (single_route t)).0 h) in
-      (at.0, at.1, (at.2.0, at.2.1, (called_more course item how m (items.Opened at.0 Plain)).1 (inl at.2.2)))
+      ⊎_elim
+      (λ was. (
+      let at = late_is head now ran before t was in
+      (at.0, at.1, (goes_on ran item how t at.0 at.1 at.2.0, (run_more course item how (items.Opened at.0 Plain)).1 (inl at.2.1)))
+      ))
+      (λ is. (
+      let at = opened_by course truth (RemembersSoFar m course) item how
+      (called_is m course (gone_directly nested head now ran before) item ready.waiting.called) way t is in
+      (at.0, at.1, (goes_on ran item how t at.0 at.1 at.2, (run_more course item how (items.Opened at.0 Plain)).1 (inr at.3)))
+      ))
+      ((gone_by_more course item how (single_route t)).0 h)
+    where
+      goes_on : (ran : List (Item × How)) (item : Item) (how : How) (t : TransId) (r : RegionId) (v : VertexId)
+          → IsOutOf m (course_by head now ran) t r v → IsOutOf m (gone_on (course_by head now ran) item how) t r v
+      goes_on ran item how t r v h =
+          (h.0, h.1, (called_more (course_by head now ran) item how m (items.Opened r Plain)).1 (inl h.2))
 
 module _ {m : DraftMachine} (shape : HasShape m) (nested : IsPlainlyNested m) (initials : KeepsInitials m)
     (head : Head) (now : Configuration) (begins : BeginsWell m head now) where
@@ -115,6 +129,28 @@ module _ {m : DraftMachine} (shape : HasShape m) (nested : IsPlainlyNested m) (i
       (before_of m course g (items.Exit q) (items.Effect t) (exits_over ran t q is called))))
       ((run_more course item how (items.Effect t)).0 h)))
 
+  -- what opens a region beside what it enters fires
+  pub beside_fires : (ran : List (Item × How)) → HasGone m head now ran → (t : TransId) (r : RegionId)
+      → IsOpenedOver m (course_by head now ran) t r → FiresBy head (single_route t)
+  beside_fires ran gone t r h =
+      let owner = h.1.1 in
+      over_from_state nested head now ran gone t owner.0 h.0 owner.1 (shape.regions r (State owner.0) owner.2).0
+
+  -- once such a region is open, the effect of what opens it has run
+  opened_after_effect : (ran : List (Item × How)) → HasGone m head now ran → (t : TransId) (r : RegionId)
+      → FiresBy head (single_route t) → OpensBeside m t r → HasRun (course_by head now ran) (items.Opened r Plain)
+      → HasRun (course_by head now ran) (items.Effect t)
+  opened_after_effect _ (gone_begun fires) t r is beside h = absurd (nothing_ran head now (items.Opened r Plain) h)
+  opened_after_effect _ (gone_more {ran = ran} item how before ready truth way) t r is beside h =
+      let course = course_by head now ran in
+      let g = gone_directly nested head now ran before in
+      (run_more course item how (items.Effect t)).1 (inl (⊎_elim
+      (λ was. opened_after_effect ran before t r is beside was)
+      (λ same. ready.cleared (items.Effect t) (called_of m course g (items.Effect t) (inl is))
+      (subst (λ x. Before m course (items.Effect t) x) same
+      (before_of m course g (items.Effect t) (items.Opened r Plain) (inl is, beside))))
+      ((run_more course item how (items.Opened r Plain)).0 h)))
+
   -- a ready entry finds every called exit run
   ready_after : (ran : List (Item × How)) → HasGone m head now ran
       → ((s q : VertexId) → HasRun (course_by head now ran) (items.Enter s) → IsCalledOver m (course_by head now ran) (items.Exit q)
@@ -134,8 +170,13 @@ module _ {m : DraftMachine} (shape : HasShape m) (nested : IsPlainlyNested m) (i
       let by = late_is nested head now ran gone over.0 late in
       ⊎_elim
       (λ starts. absurd (starts_alone m head by.0 (single_route called.0) starts called.1.0))
+      (⊎_elim
       (λ at. earlier at.0 q at.1.0 called)
-      by.2.2
+      (λ beside. (
+      let fires = beside_fires ran gone beside.0 by.0 beside.1 in
+      effect_after_exits ran gone beside.0 fires (opened_after_effect ran gone beside.0 by.0 fires beside.1.1 by.2.1) q called
+      )))
+      by.2.0.2
       ))
       over.1.0
 
@@ -158,19 +199,27 @@ module _ {m : DraftMachine} (shape : HasShape m) (nested : IsPlainlyNested m) (i
       → HasRun (course_by head now ran) (items.Exit q)
   ready_after_exits ran gone s q ready called = ready_after ran gone (entry_after_exits ran gone) s q ready called
 
-  -- each transition by which the step goes has a span
-  pub over_span : (ran : List (Item × How)) → HasGone m head now ran → (t : TransId)
+  -- each transition by which the step goes exits and enters in a place
+  pub over_area : (ran : List (Item × How)) → HasGone m head now ran → (t : TransId)
       → GoesOver (course_by head now ran) t
-      → (r : RegionId) × IsSpan m t r
-  over_span ran gone t over = has_span shape initials t (over_in_range nested head now ran gone t over)
+      → (area : Scope) × IsArea m t area
+  over_area ran gone t over = has_area shape nested initials t (over_in_range nested head now ran gone t over)
 
-  -- all that is entered lies in the span of what fires
+  -- a region that what fires opens beside what it enters lies there
+  pub beside_inside : (ran : List (Item × How)) → HasGone m head now ran → (t u : TransId) (r : RegionId)
+      → FiresBy head (single_route t) → IsOpenedOver m (course_by head now ran) u r
+      → (area : Scope) → IsArea m t area → IsEdge m r area × IsRegionUnder m r area
+  beside_inside ran gone t u r fires h area is =
+      let same = one_fires u t (beside_fires ran gone u r h) fires in
+      beside_at_edge m t r area (subst (λ x. OpensBeside m x r) same h.1) is
+
+  -- all that is entered lies where what fires exits and enters
   pub inside_fired : (t : TransId) → FiresBy head (single_route t) → (ran : List (Item × How)) → HasGone m head now ran
-      → (u : TransId) (s : VertexId) → IsEnteredOver m (course_by head now ran) u s → LiesInSpan m t s
+      → (u : TransId) (s : VertexId) → IsEnteredOver m (course_by head now ran) u s → LiesInArea m t s
   inside_fired t is _ (gone_begun fires) u s h =
       let same = one_fires u t (begins_by head now (single_route u) h.0) is in
-      let span = over_span _ (gone_begun fires) t (inl is) in
-      entered_in_span m t s span.0 span.1 (subst (λ x. IsEnteredBy m x s) same h.1)
+      let lt = over_in_range nested head now _ (gone_begun fires) t (inl is) in
+      entered_in_area shape nested initials t s lt (subst (λ x. IsEnteredBy m x s) same h.1)
   inside_fired t is _ (gone_more {ran = ran} item how before ready truth way) u s h =
       let course = course_by head now ran in
       ⊎_elim
@@ -178,13 +227,19 @@ module _ {m : DraftMachine} (shape : HasShape m) (nested : IsPlainlyNested m) (i
       (λ new. (
       let by = opened_by nested course truth (RemembersSoFar m course) item how
       (called_is m course (gone_directly nested head now ran before) item ready.waiting.called) way u new.0 in
-      let lies = late_lies shape initials by.0 by.1 u s by.2.0 by.2.1 new.1 in
+      let lies = late_lies shape nested initials by.0 by.1 u s by.2.0 by.2.1 new.1 in
       ⊎_elim
       (λ starts. absurd (starts_alone m head by.0 (single_route t) starts is))
+      (⊎_elim
       (λ at. (
       let outer = inside_fired t is ran before at.1.2.0 at.0 at.1.2.1 in
-      (outer.0, outer.1, lies_around m s at.0 by.0 outer.0 lies at.1.1 outer.2)
+      (outer.0, outer.1, around_in_scope m s at.0 by.0 outer.0 lies at.1.1 outer.2)
       ))
+      (λ beside. (
+      let area = over_area ran before t (inl is) in
+      let under = (beside_inside ran before t beside.0 by.0 is beside.1 area.0 area.1).1 in
+      (area.0, area.1, region_in_scope shape s by.0 area.0 lies (under_is_in m by.0 area.0 under))
+      )))
       by.2.2
       ))
       ((entered_more course item how m u s).0 h)
@@ -203,7 +258,9 @@ module _ {m : DraftMachine} (shape : HasShape m) (nested : IsPlainlyNested m) (i
       (called_is m course (gone_directly nested head now ran before) item ready.waiting.called) way u new in
       ⊎_elim
       (λ starts. inl (starts_at m head by.0 starts).0)
+      (⊎_elim
       (λ at. fires_or_starts ran before at.1.2.0 at.1.2.1.0)
+      (λ beside. inr (beside.0, beside_fires ran before beside.0 by.0 beside.1)))
       by.2.2
       ))
       ((over_more course item how u).0 h)

@@ -14,7 +14,7 @@ use Rattle.pssm_model.specs.declared.ids.RegionId.{RegionId}
 use Rattle.pssm_model.specs.declared.elements.DraftMachine.{DraftMachine}
 use Rattle.pssm_model.specs.declared.elements.Vertex.{Vertex}
 use Rattle.pssm_model.specs.declared.elements.VertexKind.TheVariants as kinds
-use Rattle.pssm_model.specs.declared.elements.Owner.TheVariants.{Top, Region, State}
+use Rattle.pssm_model.specs.declared.elements.Owner.TheVariants.{Top, State}
 use Rattle.pssm_model.specs.declared.steps.Mode.TheVariants.{Plain, Shallow, Deep}
 use Rattle.pssm_model.specs.declared.steps.How.{How}
 use Rattle.pssm_model.specs.declared.steps.Item.{Item}
@@ -35,7 +35,7 @@ use Rattle.pssm_model.proofs.ElementLaws.{nothing_in_nil}
 use Rattle.pssm_model.proofs.RouteLaws.{in_one, is_one}
 use Rattle.pssm_plan.proofs.SingleItems.{called_is, direct_over}
 use Rattle.pssm_plan.proofs.NestedSteps.{gone_directly, over_in_range, ran_was_called}
-use Rattle.pssm_plan.proofs.KnownItems.{lying_there}
+use Rattle.pssm_plan.proofs.Spans.{area_there}
 
 module _ (m : DraftMachine) where
   -- a number for each item: exits, entries, openings and effects
@@ -124,17 +124,22 @@ module _ {m : DraftMachine} (shape : HasShape m) where
   -- what is called is there
   pub called_there : (b : IsPlainlyNested m) (head : Head) (now : Configuration) (ran : List (Item × How)) → HasGone m head now ran
       → (x : Item) → IsCalledOver m (course_by head now ran) x → IsThere m x
-  called_there b head now ran gone (items.Exit s) h = lying_there shape s (Region h.1.2.0) h.1.2.2
+  called_there b head now ran gone (items.Exit s) h = area_there m h.0 s h.1.2
   called_there b head now ran gone (items.Effect t) h = over_in_range b head now ran gone t h
   called_there b head now ran gone (items.Enter s) h =
       let direct = direct_over m (course_by head now ran) (gone_directly b head now ran gone) h.0 h.1.0 in
-      let at = h.1.1 in
+      let at = h.1.1.1 in
       ⊎_elim
       (λ same. kind_there s (subst (λ v. HasKind m v kinds.State) same (direct.to_state at.0 at.1)))
-      (λ nested. lying_there shape s (Region nested.0.0) nested.0.2)
+      (λ nested. area_there m h.0 s nested.0)
       at.2
   called_there b head now ran gone (items.Opened r Plain) h =
-      ⊎_elim (λ starts. start_there head r starts) (λ at. slice_get_within m.regions r.0 (State at.0) at.1.1) h
+      ⊎_elim
+      (λ starts. start_there head r starts)
+      (⊎_elim
+      (λ at. slice_get_within m.regions r.0 (State at.0) at.1.1)
+      (λ beside. (let owner = beside.1.1.1 in slice_get_within m.regions r.0 (State owner.0) owner.2)))
+      h
   called_there b head now ran gone (items.Opened r Shallow) h = h
   called_there b head now ran gone (items.Opened r Deep) h = h
   called_there b head now ran gone (items.Pick c) h = h

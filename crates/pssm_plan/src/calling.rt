@@ -8,18 +8,22 @@ ghost use Rattle.pssm_model.specs.declared.steps.Route.{Route};
 ghost use Rattle.pssm_model.specs.declared.steps.How.{How};
 ghost use Rattle.pssm_model.specs.declared.elements.Owner.{Owner};
 ghost use Rattle.pssm_model.specs.Forest.{owner_of};
-ghost use Rattle.pssm_model.specs.Legs.{Enters};
-ghost use Rattle.pssm_plan.specs.inner.Single.{IsSpan, IsEnteredBy, LiesInSpan, EndsIn};
+ghost use Rattle.pssm_model.specs.Legs.{Enters, Goes};
+ghost use Rattle.pssm_model.specs.declared.elements.TransKind.TheVariants.{Internal};
+ghost use Rattle.pssm_plan.specs.inner.Single.{IsOutermost, IsEnteredBy, LiesInArea, EndsIn};
 ghost use Rattle.pssm_config.specs.Tables.{Fits, configuration_of};
 ghost use Rattle.pssm_plan.specs.declared.roster.Call.{Call};
 ghost use Rattle.pssm_plan.specs.Waiting.{IsExact};
 ghost use Rattle.pssm_plan.specs.inner.Marks.{IsLonger, IsMarked, IsListed, IsFresh, IsSettled, ArePairwise};
 ghost use Rattle.pssm_plan.specs.inner.Sequence.{IsItemOf, IsSequence, AreItemsOf, IsRoster, IsExtended};
-ghost use Rattle.pssm_plan.specs.inner.Calling.{IsOpeningOf, IsEntryOf, IsEntryAround, IsOfLeg, IsExitOf};
+ghost use Rattle.pssm_plan.specs.inner.Calling.{IsOpeningOf, IsEntryOf, IsEntryAround, IsSomeEntryOf};
+ghost use Rattle.pssm_plan.specs.inner.Calling.{IsBeside, IsOfLeg, IsExitOf};
 ghost use Rattle.pssm_plan.specs.inner.Calling.{IsOpenedAfter, IsOpenedBy, IsTopOpening, IsSingle, IsOfRoute};
 ghost use Rattle.pssm_plan.specs.inner.Calling.{IsOfRoutes, IsLate, IsFollowing, IsMadeOf, IsRunIn};
 
-use crate::arrows::{ends_in, enters, lies_in_span, may_hold, same_region, span_of};
+use crate::arrows::{
+    ends_in, enters, is_internal, is_local, lies_in_area, may_hold, outermost_of, same_region,
+};
 use crate::roster::{Roster, has_run};
 use pssm_config::Config;
 use pssm_model::{How, Item, Machine, Mode, Owner, RegionId, Route, TransId, VertexId};
@@ -33,14 +37,14 @@ fn start_of(route: &Route) -> TransId
     route.starts.as_slice()[0]
 }
 
-// Whether a vertex is active in the span of a transition.
+// Whether a vertex is active where a transition exits.
 fn is_left(machine: &Machine, config: &Config, t: TransId, s: VertexId) -> bool
     requires fits { Fits machine.now config.now }
     requires transition { t.0 < length machine.now.transitions }
     requires vertex { s.0 < length machine.now.vertices }
-    ensures { IsTrue result ↔ ((configuration_of config.now).Active s × LiesInSpan machine.now t s) }
+    ensures { IsTrue result ↔ ((configuration_of config.now).Active s × LiesInArea machine.now t s) }
 {
-    config.is_active(s) && lies_in_span(machine, t, s)
+    config.is_active(s) && lies_in_area(machine, t, s)
 }
 
 /// The most items that a plan lists; for more there is no memory.
@@ -126,7 +130,8 @@ impl Roster {
         self.reopen(machine, v, t, ran)
     }
 
-    // Lists the entries of the States in the span in which the target lies, from the inner ones to the outer ones.
+    // Lists the entries of the States in the outermost region in which the target lies, from the inner ones to the outer
+    // ones.
     fn add_owners(
         &mut self,
         machine: &Machine,
@@ -138,7 +143,8 @@ impl Roster {
         requires transition { t.0 < length machine.now.transitions }
         requires vertex { target.0 < length machine.now.vertices }
         requires target { Enters machine.now t target }
-        requires span { IsSpan machine.now t span }
+        requires enters { Goes machine.now t Internal → ⊥ }
+        requires span { IsOutermost machine.now t span }
         ensures calls { IsLonger self.old.calls.items self.new.calls.items }
         ensures added { OnOk result (IsExtended machine.now self.old.calls.items
             (IsEntryAround machine.now self.old.calls.items t target) self.new.calls.items) }
@@ -155,7 +161,55 @@ impl Roster {
         Ok(())
     }
 
-    /// Lists the effect of a transition and the entries that come of it.
+    // Lists the entries that come of a transition.
+    fn add_entries(&mut self, machine: &Machine, t: TransId) -> Result<(), NoMemory>
+        requires roster { IsRoster machine.now self.old.calls.items }
+        requires transition { t.0 < length machine.now.transitions }
+        requires enters { Goes machine.now t Internal → ⊥ }
+        ensures calls { IsLonger self.old.calls.items self.new.calls.items }
+        ensures added { OnOk result (IsExtended machine.now self.old.calls.items
+            (IsSomeEntryOf machine.now self.old.calls.items t) self.new.calls.items) }
+    {
+        let _shaped = machine.regions();
+        let target = machine.target(t);
+        self.add_entry(machine, t, target)?;
+        match outermost_of(machine, t) {
+            Some(span) => self.add_owners(machine, t, target, span),
+            None => Ok(()),
+        }
+    }
+
+    // Lists them where the transition is not internal.
+    fn add_entered_by(&mut self, machine: &Machine, t: TransId) -> Result<(), NoMemory>
+        requires roster { IsRoster machine.now self.old.calls.items }
+        requires transition { t.0 < length machine.now.transitions }
+        ensures calls { IsLonger self.old.calls.items self.new.calls.items }
+        ensures added { OnOk result (IsExtended machine.now self.old.calls.items
+            (IsSomeEntryOf machine.now self.old.calls.items t) self.new.calls.items) }
+    {
+        if is_internal(machine, t) {
+            Ok(())
+        } else {
+            self.add_entries(machine, t)
+        }
+    }
+
+    // Lists the openings of the regions that a transition opens beside what it enters.
+    fn add_beside(&mut self, machine: &Machine, t: TransId) -> Result<(), NoMemory>
+        requires roster { IsRoster machine.now self.old.calls.items }
+        requires transition { t.0 < length machine.now.transitions }
+        ensures calls { IsLonger self.old.calls.items self.new.calls.items }
+        ensures added { OnOk result (IsExtended machine.now self.old.calls.items
+            (IsBeside machine.now t) self.new.calls.items) }
+    {
+        if is_local(machine, t) {
+            self.add_openings(machine, machine.source(t), t)
+        } else {
+            Ok(())
+        }
+    }
+
+    /// Lists the effect of a transition, the entries that come of it, and what it opens beside them.
     pub fn add_leg(&mut self, machine: &Machine, t: TransId) -> Result<(), NoMemory>
         requires roster { IsRoster machine.now self.old.calls.items }
         requires transition { t.0 < length machine.now.transitions }
@@ -164,15 +218,11 @@ impl Roster {
             (IsOfLeg machine.now self.old.calls.items t) self.new.calls.items) }
     {
         self.add(machine, Item::Effect(t), true)?;
-        let target = machine.target(t);
-        self.add_entry(machine, t, target)?;
-        match span_of(machine, t) {
-            Some(span) => self.add_owners(machine, t, target, span),
-            None => Ok(()),
-        }
+        self.add_entered_by(machine, t)?;
+        self.add_beside(machine, t)
     }
 
-    /// Lists the exits of what is active in the span of a transition.
+    /// Lists the exits of what is active where a transition exits.
     pub fn add_exits(
         &mut self,
         machine: &Machine,

@@ -14,7 +14,7 @@ use Rattle.pssm_model.specs.declared.steps.Mode.TheVariants.{Plain}
 use Rattle.pssm_model.specs.Configuration.{Configuration}
 use Rattle.pssm_model.specs.Forest.{owner_of, LiesInState}
 use Rattle.pssm_model.specs.Routes.{single_route}
-use Rattle.pssm_plan.specs.inner.Single.{LiesInSpan, IsEnteredBy, EndsIn}
+use Rattle.pssm_plan.specs.inner.Single.{LiesInArea, IsEnteredBy, EndsIn, OpensBeside}
 use Rattle.pssm_plan.specs.declared.roster.Call.{Call}
 use Rattle.pssm_plan.specs.inner.Sequence.{IsSequence, IsExtended}
 use Rattle.pssm_plan.specs.inner.Marks.{IsListed, IsMarked, IsTold, IsSettled, ArePairwise}
@@ -27,17 +27,25 @@ IsOpeningOf m s t x = (r : RegionId) × (x ≡ Opened r Plain) × (owner_of m (R
 abbrev pub IsEntryOf : DraftMachine → List Call → TransId → VertexId → Item → Type 0
 IsEntryOf m calls t v x = IsEnteredBy m t v × ((x ≡ Enter v) ⊎ (IsMarked calls (Enter v) × IsOpeningOf m v t x))
 
--- an entry that comes of the transition, of a State in the span in which its target lies
+-- an entry that comes of the transition, of a State in its area in which its target lies
 abbrev pub IsEntryAround : DraftMachine → List Call → TransId → VertexId → Item → Type 0
-IsEntryAround m calls t target x = (s : VertexId) × LiesInSpan m t s × LiesInState m target s × IsEntryOf m calls t s x
+IsEntryAround m calls t target x = (s : VertexId) × LiesInArea m t s × LiesInState m target s × IsEntryOf m calls t s x
 
--- the effect of the transition, or an entry that comes of it
+-- an entry that comes of the transition
+abbrev pub IsSomeEntryOf : DraftMachine → List Call → TransId → Item → Type 0
+IsSomeEntryOf m calls t x = (v : VertexId) × IsEntryOf m calls t v x
+
+-- the opening of a region that the transition opens beside what it enters
+abbrev pub IsBeside : DraftMachine → TransId → Item → Type 0
+IsBeside m t x = (r : RegionId) × (x ≡ Opened r Plain) × OpensBeside m t r
+
+-- the effect of the transition, an entry that comes of it, or an opening beside
 abbrev pub IsOfLeg : DraftMachine → List Call → TransId → Item → Type 0
-IsOfLeg m calls t x = (x ≡ Effect t) ⊎ ((v : VertexId) × IsEntryOf m calls t v x)
+IsOfLeg m calls t x = (x ≡ Effect t) ⊎ IsSomeEntryOf m calls t x ⊎ IsBeside m t x
 
--- the exit of an active State in the span of the transition
+-- the exit of an active State in the area of the transition
 abbrev pub IsExitOf : DraftMachine → Configuration → TransId → Item → Type 0
-IsExitOf m now t x = (s : VertexId) × (x ≡ Exit s) × now.Active s × LiesInSpan m t s
+IsExitOf m now t x = (s : VertexId) × (x ≡ Exit s) × now.Active s × LiesInArea m t s
 
 -- what the transition of an effect opens in a State that it enters
 abbrev pub IsOpenedAfter : DraftMachine → VertexId → Item → Item → Type 0

@@ -6,9 +6,10 @@ use Rattle.pssm_model.specs.declared.elements.DraftMachine.{DraftMachine}
 use Rattle.pssm_model.specs.declared.elements.VertexKind.TheVariants as kinds
 use Rattle.pssm_model.specs.declared.steps.Item.{Item}
 use Rattle.pssm_model.specs.declared.steps.Item.TheVariants.{Exit, Effect, Enter, Opened, Pick}
+use Rattle.pssm_model.specs.declared.steps.Mode.TheVariants.{Plain}
 use Rattle.pssm_model.specs.Forest.{HasKind, LiesInState}
 use Rattle.pssm_model.specs.Legs.{Leaves}
-use Rattle.pssm_plan.specs.inner.Single.{LiesInSpan, IsEnteredBy}
+use Rattle.pssm_plan.specs.inner.Single.{LiesInArea, IsEnteredBy, OpensBeside}
 use Rattle.pssm_plan.specs.declared.roster.Call.{Call}
 use Rattle.pssm_plan.specs.inner.Marks.{IsListed, IsMarked, IsFresh}
 
@@ -27,8 +28,9 @@ LeavesState m t = (s : VertexId) × Leaves m t s × HasKind m s kinds.State
 -- The first of two called items comes before the second.
 abbrev pub IsSequence : DraftMachine → Item → Item → Type 0
 IsSequence m (Exit s) (Exit q) = LiesInState m s q
-IsSequence m (Exit s) (Effect t) = LeavesState m t × LiesInSpan m t s
+IsSequence m (Exit s) (Effect t) = LeavesState m t × LiesInArea m t s
 IsSequence m (Effect t) (Enter s) = IsEnteredBy m t s
+IsSequence m (Effect t) (Opened r Plain) = OpensBeside m t r
 IsSequence m (Enter s) (Enter q) = LiesInState m q s
 IsSequence m _ _ = ⊥
 

@@ -6,7 +6,7 @@ use Rattle.pssm_model.specs.declared.ids.TransId.{TransId}
 use Rattle.pssm_model.specs.declared.elements.DraftMachine.{DraftMachine}
 use Rattle.pssm_model.specs.declared.elements.Owner.TheVariants.{Region, State}
 use Rattle.pssm_model.specs.declared.elements.TransKind.{TransKind}
-use Rattle.pssm_model.specs.declared.elements.TransKind.TheVariants.{External}
+use Rattle.pssm_model.specs.declared.elements.TransKind.TheVariants.{External, Local, Internal}
 use Rattle.pssm_model.specs.declared.elements.VertexKind.TheVariants as kinds
 use Rattle.pssm_model.specs.declared.steps.Route.{Route}
 use Rattle.pssm_model.specs.declared.steps.Mode.{Mode}
@@ -16,15 +16,17 @@ use Rattle.pssm_model.specs.declared.steps.How.TheVariants.{By}
 use Rattle.pssm_model.specs.declared.steps.Item.{Item}
 use Rattle.pssm_model.specs.declared.steps.Item.TheVariants as items
 use Rattle.pssm_model.specs.Forest.{HasKind, owner_of, IsScope, LiesInRegion, LiesInState}
-use Rattle.pssm_model.specs.Legs.{Leaves, Enters, Goes}
+use Rattle.pssm_model.specs.Legs.{Leaves, Enters, Goes, Scope, LiesInScope}
+use Rattle.pssm_model.specs.Legs.Scope.{Nowhere, Inside, Within}
 use Rattle.pssm_model.specs.Course.{Course, FiresBy, HasGoneBy, HasRun, HasRestored}
 use Rattle.pssm_model.specs.Items.{StartOpens}
 use Rattle.pssm_model.specs.Routes.{single_route}
 
--- The transition is external, leaves no entry point and ends on a State.
+-- The transition is there, leaves no entry point, and a State where it is local, and ends on a State.
 pub record IsDirectTransition (m : DraftMachine) (t : TransId) : Type 0 where
-  pub external : (kind : TransKind) → Goes m t kind → kind ≡ External
+  pub kind : (kind : TransKind) × Goes m t kind
   pub from_no_point : (v : VertexId) → Leaves m t v → HasKind m v kinds.EntryPoint → ⊥
+  pub local_from : (v : VertexId) → Goes m t Local → Leaves m t v → HasKind m v kinds.State
   pub to_state : (v : VertexId) → Enters m t v → HasKind m v kinds.State
 
 -- a route of one such transition
@@ -44,17 +46,39 @@ IsEndOf m t v = Leaves m t v ⊎ Enters m t v
 abbrev pub IsSpan : DraftMachine → TransId → RegionId → Type 0
 IsSpan m t r = IsScope m (IsEndOf m t) r
 
--- The vertex lies in that region.
-abbrev pub LiesInSpan : DraftMachine → TransId → VertexId → Type 0
-LiesInSpan m t s = (r : RegionId) × IsSpan m t r × LiesInRegion m s r
+-- where the transition exits and enters: nowhere where it is internal, in the State that it leaves where it is local, and else in its span
+abbrev pub IsArea : DraftMachine → TransId → Scope → Type 0
+IsArea m t Nowhere = Goes m t Internal
+IsArea m t (Inside s) = Goes m t Local × Leaves m t s
+IsArea m t (Within r) = Goes m t External × IsSpan m t r
 
--- The transition enters the State: its target, or a State of that region in which the target lies.
+-- The vertex lies there.
+abbrev pub LiesInArea : DraftMachine → TransId → VertexId → Type 0
+LiesInArea m t s = (area : Scope) × IsArea m t area × LiesInScope m s area
+
+-- The transition leads to the State: it is its target, or a State of that area in which the target lies.
+abbrev pub IsPassedBy : DraftMachine → TransId → VertexId → Type 0
+IsPassedBy m t s = (v : VertexId) × Enters m t v × ((v ≡ s) ⊎ (LiesInArea m t s × LiesInState m v s))
+
+-- The transition enters the State: it leads to it, and is not internal.
 abbrev pub IsEnteredBy : DraftMachine → TransId → VertexId → Type 0
-IsEnteredBy m t s = (v : VertexId) × Enters m t v × ((v ≡ s) ⊎ (LiesInSpan m t s × LiesInState m v s))
+IsEnteredBy m t s = (Goes m t Internal → ⊥) × IsPassedBy m t s
 
 -- The target of the transition lies in the region.
 abbrev pub EndsIn : DraftMachine → TransId → RegionId → Type 0
 EndsIn m t r = (v : VertexId) × Enters m t v × LiesInRegion m v r
+
+-- The transition leaves the State that owns the region.
+abbrev pub LeavesOwner : DraftMachine → TransId → RegionId → Type 0
+LeavesOwner m t r = (s : VertexId) × Leaves m t s × (owner_of m (Region r) ≡ Some (State s))
+
+-- The transition is local, and the region is one of the State that it leaves in which it does not end: it opens it.
+abbrev pub OpensBeside : DraftMachine → TransId → RegionId → Type 0
+OpensBeside m t r = Goes m t Local × LeavesOwner m t r × (EndsIn m t r → ⊥)
+
+-- the outermost region in which the transition enters States: its span, or where it is local that of the State that it leaves in which it ends
+abbrev pub IsOutermost : DraftMachine → TransId → RegionId → Type 0
+IsOutermost m t r = (Goes m t External × IsSpan m t r) ⊎ (Goes m t Local × LeavesOwner m t r × EndsIn m t r)
 
 -- The step goes by the route of the transition.
 abbrev pub GoesOver : Course → TransId → Type 0
@@ -62,7 +86,7 @@ GoesOver course t = FiresBy course.head (single_route t) ⊎ HasGoneBy course (s
 
 -- The transition fires at the head and exits the State.
 abbrev pub IsExitedOver : DraftMachine → Course → TransId → VertexId → Type 0
-IsExitedOver m course t s = FiresBy course.head (single_route t) × course.at_head.Active s × LiesInSpan m t s
+IsExitedOver m course t s = FiresBy course.head (single_route t) × course.at_head.Active s × LiesInArea m t s
 
 -- The step goes by the transition, which enters the State.
 abbrev pub IsEnteredOver : DraftMachine → Course → TransId → VertexId → Type 0
@@ -74,12 +98,17 @@ OpensAfterEntry m course s r =
     HasRun course (items.Enter s) × (owner_of m (Region r) ≡ Some (State s))
     × ((t : TransId) × IsEnteredOver m course t s × (EndsIn m t r → ⊥))
 
+-- The step goes by the transition, which opens the region beside what it enters.
+abbrev pub IsOpenedOver : DraftMachine → Course → TransId → RegionId → Type 0
+IsOpenedOver m course t r = GoesOver course t × OpensBeside m t r
+
 -- the items that such a step calls
 abbrev pub IsCalledOver : DraftMachine → Course → Item → Type 0
 IsCalledOver m course (items.Exit s) = (t : TransId) × IsExitedOver m course t s
 IsCalledOver m course (items.Effect t) = GoesOver course t
 IsCalledOver m course (items.Enter s) = (t : TransId) × IsEnteredOver m course t s
-IsCalledOver m course (items.Opened r Plain) = StartOpens m course.head (items.Opened r Plain) ⊎ ((s : VertexId) × OpensAfterEntry m course s r)
+IsCalledOver m course (items.Opened r Plain) =
+    StartOpens m course.head (items.Opened r Plain) ⊎ ((s : VertexId) × OpensAfterEntry m course s r) ⊎ ((t : TransId) × IsOpenedOver m course t r)
 IsCalledOver m course _ = ⊥
 
 -- and which of them come before which
@@ -87,6 +116,7 @@ abbrev pub IsOrderedOver : DraftMachine → Course → Item → Item → Type 0
 IsOrderedOver m course (items.Exit s) (items.Exit q) = LiesInState m s q
 IsOrderedOver m course (items.Exit s) (items.Effect t) = IsExitedOver m course t s
 IsOrderedOver m course (items.Effect t) (items.Enter s) = IsEnteredOver m course t s
+IsOrderedOver m course (items.Effect t) (items.Opened r Plain) = IsOpenedOver m course t r
 IsOrderedOver m course (items.Enter s) (items.Enter q) = LiesInState m q s
 IsOrderedOver m course _ _ = ⊥
 
@@ -102,5 +132,6 @@ abbrev pub IsCalledNext : DraftMachine → Course → Item → How → Item → 
 IsCalledNext m course item how (items.Effect t) = how ≡ By (single_route t)
 IsCalledNext m course item how (items.Enter s) = (t : TransId) × (how ≡ By (single_route t)) × IsEnteredBy m t s
 IsCalledNext m course item how (items.Opened r Plain) =
-    (s : VertexId) × (t : TransId) × (owner_of m (Region r) ≡ Some (State s)) × OpensNext m course item how s t × (EndsIn m t r → ⊥)
+    ((s : VertexId) × (t : TransId) × (owner_of m (Region r) ≡ Some (State s)) × OpensNext m course item how s t × (EndsIn m t r → ⊥))
+    ⊎ ((t : TransId) × (how ≡ By (single_route t)) × OpensBeside m t r)
 IsCalledNext m course item how _ = ⊥

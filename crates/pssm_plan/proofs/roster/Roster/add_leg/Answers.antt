@@ -1,19 +1,10 @@
-use Rattle.std.proofs.Common.{refl, inl}
 use Rattle.std.proofs.lemmas.Result.{on_ok_weaker}
-use Rattle.pssm_plan.proofs.Owners.{leg_whole, leg_alone}
+use Rattle.pssm_plan.proofs.Owners.{leg_whole}
 use Rattle.pssm_plan.proofs.roster.Roster.add_leg.Goals as goal
 
-pub add_entry-requires-clause-entered : goal.add_entry-requires-clause-entered
-add_entry-requires-clause-entered c = (c.target-target.result, c.target-target.ensures.enters, inl refl)
-
-pub returns-in-Some-clause-added : goal.returns-in-Some-clause-added
-returns-in-Some-clause-added c =
-    on_ok_weaker c.add_owners.result
-    (λ added. leg_whole c.args.machine.now c.args.self.now.calls.items c.add.new.self.calls.items c.add_entry.new.self.calls.items c.args.t
-    c.target-target.result c.target-target.ensures.enters c.in_ok-add.ensures.added c.in_ok-add_entry.ensures.added _ added)
-    c.add_owners.ensures.added
-
-pub returns-in-None-clause-added : goal.returns-in-None-clause-added
-returns-in-None-clause-added c =
-    leg_alone c.args.machine.now c.args.self.now.calls.items c.add.new.self.calls.items c.add_entry.new.self.calls.items c.args.t
-    c.target-target.result c.target-target.ensures.enters c.in_ok-add.ensures.added c.in_ok-add_entry.ensures.added c.in-None.ensures.none
+pub returns-clause-added : goal.returns-clause-added
+returns-clause-added c =
+    on_ok_weaker c.add_beside.result
+    (λ added. leg_whole c.args.machine.now c.args.self.now.calls.items c.add.new.self.calls.items c.add_entered_by.new.self.calls.items _ c.args.t
+    c.in_ok-add.ensures.added c.in_ok-add_entered_by.ensures.added added)
+    c.add_beside.ensures.added
