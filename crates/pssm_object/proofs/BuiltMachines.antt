@@ -1,7 +1,6 @@
 -- A machine that the code runs: its regions, the kinds of its vertices, and what its transitions leave, list and guard.
-use Rattle.std.proofs.Common.{◌≡◌, ◌⊎◌, ◌≢◌, ◌<◌, List, [], ◌∷◌, length, Option, Some, None, option_map, IsSomeAnd, Contains, refl, sym, ap, subst, ◌∙◌, inl, inr, ⊎_elim, arith}
+use Rattle.std.proofs.Common.{◌≡◌, ◌⊎◌, ◌≢◌, ◌<◌, List, [], ◌∷◌, length, Option, Some, None, option_map, Contains, refl, sym, ap, subst, ◌∙◌, inl, inr, ⊎_elim}
 use Rattle.std.specs.Option.{option_map_or}
-use Rattle.std.proofs.lemmas.Bool.{cases_lt}
 use Rattle.std.proofs.lemmas.Option.{slice_get_within}
 use Rattle.pssm_model.specs.declared.ids.VertexId.{VertexId}
 use Rattle.pssm_model.specs.declared.ids.RegionId.{RegionId}
@@ -29,7 +28,7 @@ use Rattle.pssm_model.specs.WellFormed.Breaks.{E01_top, E03, E10, E17}
 use Rattle.pssm_model.specs.Nested.{IsPlainlyNested}
 use Rattle.pssm_model.specs.BuiltMachine.{IsBuiltMachine}
 use Rattle.pssm_model.specs.inner.Listed.{vertex_number, transition_number}
-use Rattle.pssm_model.proofs.ElementLaws.{mapped_some, mapped_at, some_at, some_and, and_some, same_region, nothing_in_nil, kind_at, kind_split}
+use Rattle.pssm_model.proofs.ElementLaws.{mapped_some, mapped_at, some_at, some_and, and_some, nothing_in_nil, kind_split}
 use Rattle.pssm_model.proofs.NestedFrom.{nested_from_rules}
 use Rattle.pssm_config.specs.Tables.{Tables, Fits, configuration_of}
 use Rattle.pssm_plan.proofs.SteadyRules.{initials_from_rules}
@@ -37,7 +36,6 @@ use Rattle.pssm_plan.specs.Steadiness.{KeepsInitials}
 use Rattle.pssm_plan.proofs.Known.{Known, known_as, known_both, known_below, known_vertex}
 use Rattle.pssm_plan.proofs.KnownPlaces.{known_owner}
 use Rattle.pssm_plan.proofs.NestedRoutes.{kind_cases, no_other_kind}
-use Rattle.pssm_plan.proofs.SteadyPlaces.{home_of_state}
 
 -- a mapped option is known to hold a value where that is known of each value
 known_mapped : {X Y : Type 0} (f : X → Y) (o : Option X) (y : Y) → ((x : X) → Known (f x ≡ y))

@@ -1,7 +1,6 @@
 -- An object defers a signal exactly where an active State keeps it back.
 use Rattle.std.proofs.Common.{◌↔◌, List, sym, subst}
 use Rattle.pssm_model.specs.declared.ids.VertexId.{VertexId}
-use Rattle.pssm_model.specs.Routes.{Truth}
 use Rattle.pssm_model.specs.FiringSets.{Overrides}
 use Rattle.pssm_model.proofs.Agreeing.{Agree-symm}
 use Rattle.pssm_model.proofs.AgreeingRoutes.{overrides_agrees}
@@ -35,17 +34,17 @@ module _ (class : Class) {J : List Entry} {x : Standing} (s : StandsAfter class 
   pub deferred_is : KeepsBackHere class x w ↔ IsDeferred class (told_by J) J x.own (stimulus_of x.own w)
   deferred_is = (
     λ (v, (active, lists, free)). (
-        v,
-        (s.now_is.active v).0 active,
-        lists,
-        λ over. free (overrides_before v (subst (λ store. OverridesAfter store v) (sym s.store_is) over)),
-      ),
+      v,
+      (s.now_is.active v).0 active,
+      lists,
+      λ over. free (overrides_before v (subst (λ store. OverridesAfter store v) (sym s.store_is) over)),
+    ),
     λ (v, active, lists, free). (
-        v,
-        (
-          (s.now_is.active v).1 active,
-          lists,
-          λ over. free (subst (λ store. OverridesAfter store v) s.store_is (overrides_after v over)),
-        ),
+      v,
+      (
+        (s.now_is.active v).1 active,
+        lists,
+        λ over. free (subst (λ store. OverridesAfter store v) s.store_is (overrides_after v over)),
       ),
+    ),
   )

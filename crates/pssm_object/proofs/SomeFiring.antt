@@ -18,7 +18,7 @@ use Rattle.pssm_model.specs.Forest.{transition_at, HasKind, LiesInState, IsOrLie
 use Rattle.pssm_model.specs.Legs.{Leaves, Scope, LiesInScope}
 use Rattle.pssm_model.specs.Legs.Scope.{Nowhere, Inside, Within}
 use Rattle.pssm_model.specs.Configuration.{Configuration}
-use Rattle.pssm_model.specs.Routes.{Truth, single_route, guard_of, HasTrueValue, IsTrueAt, IsSource, Lists, IsEnabled, Conflict}
+use Rattle.pssm_model.specs.Routes.{Truth, single_route, HasTrueValue, IsTrueAt, IsSource, Lists, IsEnabled, Conflict}
 use Rattle.pssm_model.specs.FiringSets.{StartsBefore, IsListed, IsFiring}
 use Rattle.pssm_model.specs.BuiltMachine.{IsBuiltMachine}
 use Rattle.pssm_model.specs.inner.Listed.{transition_number}

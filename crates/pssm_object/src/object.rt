@@ -158,8 +158,8 @@ impl Object {
     /// A start, a take of this signal, or an opening that may come next; none exactly where there is none.
     ///
     /// `signal` is the first signal of the pool that is not deferred, where there is one. Of several openings, and of
-    /// several transitions that the signal enables, the word picks one; which one is not promised. In the forms that
-    /// are run no dispatch of a completion and no pick ever comes. `NoMemory`: memory ran out.
+    /// several sets of routes that the signal may fire, the word settles one; which one is not promised. In the forms
+    /// that are run no dispatch of a completion and no pick ever comes. `NoMemory`: memory ran out.
     pub fn choose_move(
         &self,
         class: &Class,

@@ -1,5 +1,5 @@
 -- one State more is asked in each turn, and what is active is a State of the machine
-use Rattle.std.proofs.Common.{◌≡◌, ◌<◌, ℕ, refl, ap, subst, sym, ◌∙◌, ⊎_elim, arith}
+use Rattle.std.proofs.Common.{◌≡◌, refl, ap, subst, sym, ◌∙◌, ⊎_elim, arith}
 use Rattle.std.proofs.lemmas.Bool.{false≢true, cases_lt}
 use Rattle.pssm_model.specs.declared.ids.VertexId.{VertexId}
 use Rattle.pssm_object.specs.inner.Firing.{KeepsBack}
