@@ -1,4 +1,4 @@
--- An object defers a signal exactly where an active State keeps it back.
+-- An object defers a signal exactly where one of its active States does, as its tables tell it.
 use Rattle.std.proofs.Common.{◌↔◌, List, sym, subst}
 use Rattle.pssm_model.specs.declared.ids.VertexId.{VertexId}
 use Rattle.pssm_model.specs.FiringSets.{Overrides}
@@ -16,7 +16,7 @@ use Rattle.pssm_object.specs.declared.object.Waiting.{Waiting}
 use Rattle.pssm_object.specs.Standing.{Standing, StandsAfter}
 use Rattle.pssm_object.specs.Following.{stimulus_of}
 use Rattle.pssm_object.specs.inner.Firing.{truth_at, OverridesThere}
-use Rattle.pssm_object.specs.inner.Choosing.{KeepsBackHere}
+use Rattle.pssm_object.specs.inner.Choosing.{IsDeferredHere}
 
 module _ (class : Class) {J : List Entry} {x : Standing} (s : StandsAfter class J x) (w : Waiting) where
   -- a route that the signal enables after the journal, with the values of the variables that are given
@@ -31,7 +31,7 @@ module _ (class : Class) {J : List Entry} {x : Standing} (s : StandsAfter class 
   overrides_before v h =
       overrides_agrees (Agree-symm (configuration_of x.config) (configuration_after class.machine J x.own) s.now_is) (truth_at class x.store w) w.signal v h
 
-  pub deferred_is : KeepsBackHere class x w ↔ IsDeferred class (told_by J) J x.own (stimulus_of x.own w)
+  pub deferred_is : IsDeferredHere class x w ↔ IsDeferred class (told_by J) J x.own (stimulus_of x.own w)
   deferred_is = (
     λ (v, (active, lists, free)). (
       v,

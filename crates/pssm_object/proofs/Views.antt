@@ -26,7 +26,7 @@ use Rattle.pssm_object.specs.Tasks.{ready_tasks, Does}
 use Rattle.pssm_object.specs.inner.Situations.{standing_of, IsAtRest}
 use Rattle.pssm_object.specs.inner.Judging.{Judges}
 use Rattle.pssm_object.specs.inner.Advancing.{CanFollow, Advances}
-use Rattle.pssm_object.specs.inner.Choosing.{Chooses, DoesTask, KeepsBackHere}
+use Rattle.pssm_object.specs.inner.Choosing.{Chooses, DoesTask, IsDeferredHere}
 use Rattle.pssm_object.proofs.Standings.{plan_fits}
 use Rattle.pssm_object.proofs.Judged.{judged}
 use Rattle.pssm_object.proofs.Accepted.{accepted}
@@ -89,10 +89,10 @@ module _ (situation : Situation) (x : Standing) (view_is : standing_of situation
           quiet_is class b x signal s rests waiting
           (seen (λ y. IsTrue rests ↔ IsAtRest class.machine y.plan) (says class.machine (plan_known (J, s)))) handed
 
-      -- it defers a signal exactly where an active State keeps it back
-      pub defers_seen : (w : Waiting) (answer : Bool) → (IsTrue answer ↔ KeepsBackHere class (standing_of situation) w) → Defers class x w answer
+      -- it defers a signal exactly where an active State defers it
+      pub defers_seen : (w : Waiting) (answer : Bool) → (IsTrue answer ↔ IsDeferredHere class (standing_of situation) w) → Defers class x w answer
       defers_seen w answer h J s =
-          let here = seen (λ y. IsTrue answer ↔ KeepsBackHere class y w) h in
+          let here = seen (λ y. IsTrue answer ↔ IsDeferredHere class y w) h in
           let is = deferred_is class s w in
           (λ yes. is.0 (here.0 yes), λ deferred. here.1 (is.1 deferred))
 

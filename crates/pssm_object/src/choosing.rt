@@ -11,9 +11,9 @@ ghost use Rattle.pssm_object.specs.Tasks.{tasks_of_plan};
 ghost use Rattle.pssm_object.specs.inner.Situations.{standing_of, IsAtRest};
 ghost use Rattle.pssm_semantics.specs.Arguments.{ActArgsFit};
 ghost use Rattle.pssm_object.specs.inner.Working.{HasPlace, Makes, MakesBy};
-ghost use Rattle.pssm_object.specs.inner.Choosing.{IsReadyOpening, OpensNothing, OpensPlainly, TakesSignal, Chooses, DoesTask, LacksOpenings, KeepsBackHere};
+ghost use Rattle.pssm_object.specs.inner.Choosing.{IsReadyOpening, OpensNothing, OpensPlainly, TakesSignal, Chooses, DoesTask, LacksOpenings, IsDeferredHere};
 
-use crate::firing::{is_kept_back, pick_firing};
+use crate::firing::{is_deferred, pick_firing};
 use crate::object::Waiting;
 use crate::opening::default_way;
 use crate::situation::Situation;
@@ -34,13 +34,13 @@ impl Situation {
         }
     }
 
-    /// Whether some active State keeps the signal back.
+    /// Whether some active State defers the signal.
     pub fn defers(&self, class: &Class, waiting: &Waiting) -> bool
         requires class { IsBuiltClass class.now }
         requires fits { Fits class.now.machine self.now.config }
-        ensures { IsTrue result ↔ KeepsBackHere class.now (standing_of self.now) waiting.now }
+        ensures { IsTrue result ↔ IsDeferredHere class.now (standing_of self.now) waiting.now }
     {
-        is_kept_back(class, &self.config, waiting, self.store.as_slice())
+        is_deferred(class, &self.config, waiting, self.store.as_slice())
     }
 
     /// The start, a ready opening, or where the object rests the take of the signal; none where there is none of these.

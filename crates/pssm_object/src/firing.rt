@@ -4,7 +4,7 @@ ghost use Rattle.std.specs.Option.{option_copied};
 ghost use Rattle.pssm_model.specs.BuiltMachine.{IsBuiltMachine};
 ghost use Rattle.pssm_config.specs.Tables.{Fits};
 ghost use Rattle.pssm_semantics.specs.Deferral.{Defers};
-ghost use Rattle.pssm_object.specs.inner.Firing.{truth_at, Fires, OverridesThere, KeepsBack, IsKeptBack};
+ghost use Rattle.pssm_object.specs.inner.Firing.{truth_at, Fires, OverridesThere, StateDefers, IsDeferredThere};
 
 use crate::object::Waiting;
 use pssm_config::Config;
@@ -111,8 +111,8 @@ fn lists_deferred(machine: &Machine, state: VertexId, signal: SignalId) -> bool
     machine.vertex(state).defers.as_slice().contains(&signal)
 }
 
-// Whether the State is active there and keeps the signal back.
-fn keeps_back(
+// Whether the State is active there and defers the signal.
+fn state_defers(
     class: &Class,
     config: &Config,
     signal: &Waiting,
@@ -122,21 +122,21 @@ fn keeps_back(
     requires built { IsBuiltMachine class.now.machine }
     requires fits { Fits class.now.machine config.now }
     requires there { state.0 < length class.now.machine.vertices }
-    ensures { IsTrue result ↔ KeepsBack class.now config.now store.now signal.now state }
+    ensures { IsTrue result ↔ StateDefers class.now config.now store.now signal.now state }
 {
     config.is_active(state)
         && lists_deferred(&class.machine, state, signal.signal)
         && !is_overridden(class, config, signal, store, state)
 }
 
-/// Whether some State is active there and keeps the signal back. It takes no memory.
-pub fn is_kept_back(class: &Class, config: &Config, signal: &Waiting, store: &[i64]) -> bool
+/// Whether some State is active there and defers the signal. It takes no memory.
+pub fn is_deferred(class: &Class, config: &Config, signal: &Waiting, store: &[i64]) -> bool
     requires built { IsBuiltMachine class.now.machine }
     requires fits { Fits class.now.machine config.now }
-    ensures { IsTrue result ↔ IsKeptBack class.now config.now store.now signal.now }
+    ensures { IsTrue result ↔ IsDeferredThere class.now config.now store.now signal.now }
 {
     for number in 0..class.machine.vertices() {
-        if keeps_back(class, config, signal, store, VertexId(number)) {
+        if state_defers(class, config, signal, store, VertexId(number)) {
             return true;
         }
     }

@@ -85,7 +85,8 @@ impl Situation {
         requires class { IsBuiltClass class.now }
         requires fits { Fits class.now.machine self.now.config }
         requires plan { IfSome self.now.plan (IsPlanOf class.now.machine) }
-        ensures { IfOk result (JudgesTake class.now (standing_of self.now) (option_copied signal.entry) firing.now.routes) }
+        ensures { IfOk result (JudgesTake class.now (standing_of self.now) (option_copied signal.entry)
+            firing.now.routes) }
     {
         if let Err(rule) = self.at_rest() {
             return Ok(Some(rule));

@@ -18,7 +18,7 @@ use Rattle.pssm_semantics.specs.declared.stimulus.Task.{Task}
 use Rattle.pssm_semantics.specs.declared.stimulus.Task.TheVariants as tasks
 use Rattle.pssm_object.specs.declared.object.Waiting.{Waiting}
 use Rattle.pssm_object.specs.Standing.{Standing}
-use Rattle.pssm_object.specs.inner.Firing.{IsKeptBack, IsDefaultWay}
+use Rattle.pssm_object.specs.inner.Firing.{IsDeferredThere, IsDefaultWay}
 use Rattle.pssm_object.specs.inner.Situations.{IsAtRest}
 use Rattle.pssm_object.specs.inner.Judging.{FiresHere}
 use Rattle.pssm_object.specs.inner.Working.{outcome_for}
@@ -78,6 +78,6 @@ DoesTask class x (tasks.Effect t) e = e ≡ Effect x.own t (outcome_for class x 
 DoesTask class x (tasks.Enter s) e = e ≡ Enter x.own s (outcome_for class x (items.Enter s)).outs
 DoesTask class x (tasks.DoStep s k) e = ⊥
 
--- An active State keeps the signal back.
-abbrev pub KeepsBackHere : Class → Standing → Waiting → Type 0
-KeepsBackHere class x signal = IsKeptBack class x.config x.store signal
+-- An active State defers the signal.
+abbrev pub IsDeferredHere : Class → Standing → Waiting → Type 0
+IsDeferredHere class x signal = IsDeferredThere class x.config x.store signal

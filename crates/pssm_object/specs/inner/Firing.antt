@@ -1,4 +1,4 @@
--- What a signal fires where an object stands so, which States keep it back there, and by which ways a region opens by default.
+-- What a signal fires where an object stands so, which States defer it there, and by which ways a region opens by default.
 use Rattle.std.specs.Prelude.{◌≡◌, List}
 use Rattle.pssm_model.specs.declared.ids.VertexId.{VertexId}
 use Rattle.pssm_model.specs.declared.ids.RegionId.{RegionId}
@@ -34,13 +34,13 @@ OverridesThere class tables store signal s =
     Overrides class.machine (configuration_of tables) (truth_at class store signal) signal.signal s
 
 -- The State is active there and lists the signal as deferred, and no such route starts at it or in it.
-abbrev pub KeepsBack : Class → Tables → Store → Waiting → VertexId → Type 0
-KeepsBack class tables store signal s =
+abbrev pub StateDefers : Class → Tables → Store → Waiting → VertexId → Type 0
+StateDefers class tables store signal s =
     (configuration_of tables).Active s × Defers class.machine s signal.signal × (OverridesThere class tables store signal s → ⊥)
 
 -- Some State of the machine does so.
-abbrev pub IsKeptBack : Class → Tables → Store → Waiting → Type 0
-IsKeptBack class tables store signal = (s : VertexId) × KeepsBack class tables store signal s
+abbrev pub IsDeferredThere : Class → Tables → Store → Waiting → Type 0
+IsDeferredThere class tables store signal = (s : VertexId) × StateDefers class tables store signal s
 
 -- a way of a default opening: by the one transition out of the region's initial vertex, or by none where it has none
 abbrev pub IsDefaultWay : DraftMachine → RegionId → How → Type 0

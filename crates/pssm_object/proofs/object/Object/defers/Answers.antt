@@ -1,4 +1,4 @@
--- an active State keeps the signal back exactly where the object defers it
+-- an active State defers the signal exactly where the object defers it
 use Rattle.pssm_object.proofs.Views.{defers_seen}
 use Rattle.pssm_object.proofs.object.Object.defers.Goals as goal
 

@@ -2,22 +2,22 @@
 use Rattle.std.proofs.Common.{◌≡◌, refl, ap, subst, sym, ◌∙◌, ⊎_elim, arith}
 use Rattle.std.proofs.lemmas.Bool.{false≢true, cases_lt}
 use Rattle.pssm_model.specs.declared.ids.VertexId.{VertexId}
-use Rattle.pssm_object.specs.inner.Firing.{KeepsBack}
+use Rattle.pssm_object.specs.inner.Firing.{StateDefers}
 use Rattle.pssm_object.proofs.BuiltMachines.{active_there}
-use Rattle.pssm_object.proofs.firing.is_kept_back.Goals as goal
+use Rattle.pssm_object.proofs.firing.is_deferred.Goals as goal
 
-pub returns-then-keeps_back : goal.returns-then-keeps_back
-returns-then-keeps_back c = (λ yes. (_, c.keeps_back.ensures.0 c.if-keeps_back.true), λ is. refl)
+pub returns-then-state_defers : goal.returns-then-state_defers
+returns-then-state_defers c = (λ yes. (_, c.state_defers.ensures.0 c.if-state_defers.true), λ is. refl)
 
 pub loop-number-preserved : goal.loop-number-preserved
-loop-number-preserved c = λ s lt keeps.
-    let Keeps : VertexId → Type 0 = KeepsBack c.args.class.now c.args.config.now c.args.store.now c.args.signal.now in
+loop-number-preserved c = λ s lt defers.
+    let Defers : VertexId → Type 0 = StateDefers c.args.class.now c.args.config.now c.args.store.now c.args.signal.now in
     ⊎_elim
-    (λ before. c.loop-number.invariant s before keeps)
+    (λ before. c.loop-number.invariant s before defers)
     (λ past.
     let same : s.0 ≡ c.loop-number.number = omega (arith, lt, past) in
     false≢true
-    (sym c.if-keeps_back.false ∙ c.keeps_back.ensures.1 (subst Keeps (ap (λ n. let v : VertexId = record { 0 = n } in v) same) keeps)))
+    (sym c.if-state_defers.false ∙ c.state_defers.ensures.1 (subst Defers (ap (λ n. let v : VertexId = record { 0 = n } in v) same) defers)))
     (cases_lt s.0 c.loop-number.number)
 
 pub returns : goal.returns
