@@ -25,6 +25,7 @@ pub mod KnownItems
 pub mod StepLengths
 pub mod ReadyOrOut
 pub mod SteadyPlaces
+pub mod SteadyApart
 pub mod SteadyItems
 pub mod SteadyFilling
 pub mod SteadyChanges

@@ -103,7 +103,7 @@ module _ (m : DraftMachine) (shape : HasShape m) where
   owner_outside v r e lies = let above = above_of v r lies in circle_is_endless (further e lies) above.1
 
   -- two regions on one owner chain are the same, or one is nested in the other
-  on_one_chain : (p : Owner) (q r : RegionId) → LiesUnder m p (Region q) → LiesUnder m p (Region r) → IsWithin m q r ⊎ IsWithin m r q
+  pub on_one_chain : (p : Owner) (q r : RegionId) → LiesUnder m p (Region q) → LiesUnder m p (Region r) → IsWithin m q r ⊎ IsWithin m r q
   on_one_chain p q r (owned e) second = inl (region_cases m p q r e second)
   on_one_chain p q r (further {q = k} e rest) second =
       ⊎_elim

@@ -25,7 +25,7 @@ use Rattle.pssm_model.specs.Routes.{single_route}
 use Rattle.pssm_config.specs.Tables.{CanEnter}
 use Rattle.pssm_plan.specs.Steadiness.{IsConsistent, KeepsInitials, BeginsWell, changed_by_item, changed_along}
 use Rattle.pssm_plan.specs.inner.Single.{IsArea, EndsIn, IsEnteredBy, IsEnteredOver, IsCalledOver}
-use Rattle.pssm_model.specs.Legs.{Leaves, Scope, LiesInScope}
+use Rattle.pssm_model.specs.Legs.{Leaves, Scope}
 use Rattle.pssm_model.specs.Legs.Scope.{Nowhere, Inside, Within}
 use Rattle.pssm_model.proofs.ElementLaws.{some_at}
 use Rattle.pssm_model.proofs.RouteLaws.{single_source}
@@ -34,8 +34,9 @@ use Rattle.pssm_plan.proofs.Spans.{source_of}
 use Rattle.pssm_plan.proofs.NestedRoutes.{target_is_state}
 use Rattle.pssm_plan.proofs.NestedSteps.{gone_directly, over_in_range, ran_was_called}
 use Rattle.pssm_plan.proofs.SingleItems.{called_is, called_of, before_of}
-use Rattle.pssm_plan.proofs.SteadyPlaces.{IsRegionIn, IsEdge, same_state, one_reached, home_of_state, home_above, edge_or_outer, edge_owner_outside, home_in_scope, region_in_scope, around_in_scope, one_area, late_area, entered_fills, entered_reached}
-use Rattle.pssm_plan.proofs.SteadyItems.{starts_at, late_is, exits_over, ready_after_exits, over_area, beside_fires, beside_inside, inside_fired, fires_or_starts}
+use Rattle.pssm_plan.proofs.SteadyPlaces.{IsRegionIn, IsEdge, same_state, one_reached, home_of_state, home_above, edge_or_outer, home_in_scope, region_in_scope, around_in_scope, beside_at_edge, late_area, entered_fills, entered_reached}
+use Rattle.pssm_plan.proofs.SteadyApart.{IsFiredAround, edge_owner_stays}
+use Rattle.pssm_plan.proofs.SteadyItems.{starts_at, late_is, exited_around, ready_after_exits, over_area, beside_fires, inside_fired}
 use Rattle.pssm_plan.proofs.SteadyFilling.{one_fills}
 use Rattle.pssm_plan.proofs.SteadyChanges.{changed_along-push, no_entry_yet, active_is}
 
@@ -108,12 +109,13 @@ module _ {m : DraftMachine} (shape : HasShape m) (nested : IsPlainlyNested m) (i
       (λ left. ⊎_elim
       (λ starts. begins.start starts v left.0)
       (λ fires. (
-      let inside = inside_fired shape nested initials head now begins fires.0 fires.1 ran gone over.0 s over.1 in
+      let inside = fires.1.1 in
       let lies = region_in_scope shape v r inside.0 (owned f.0) (home_in_scope m s r inside.0 e.0 inside.2) in
-      left.1 (ready_after_exits shape nested initials head now begins ran gone s v ready
-      (fires.0, (fires.1, left.0, (inside.0, inside.1, lies))))
+      let around : IsFiredAround m head v fires.0 = (fires.1.0, (inside.0, inside.1, lies)) in
+      left.1 (ready_after_exits shape nested initials head now begins ran gone fires.0 s v fires.1 around ready
+      (fires.0, (fires.1.0.0, left.0, around.1)))
       ))
-      (fires_or_starts shape nested initials head now begins ran gone over.0 over.1.0))
+      (inside_fired shape nested initials head now ran gone over.0 s over.1))
       ((active_is shape nested initials head now begins ran gone v).0 active)
 
   -- a State whose entry is ready may become active
@@ -150,12 +152,13 @@ module _ {m : DraftMachine} (shape : HasShape m) (nested : IsPlainlyNested m) (i
           let course = course_by head now ran in
           let g = gone_directly nested head now ran gone in
           let called = called_is m course g (items.Exit q) ready.waiting.called in
-          let area = called.1.2 in
+          let at = exited_around shape nested initials head now ran gone q called in
+          let area = at.1.1 in
+          let around : IsFiredAround m head s at.0 = (at.1.0, (area.0, area.1, around_in_scope m s q r area.0 (owned d.0) e area.2)) in
           ⊎_elim
-          (λ entry. no_entry_yet shape nested initials head now begins ran gone q s ready.waiting entry)
+          (λ entry. no_entry_yet shape nested initials head now begins ran gone at.0 q s at.1 around ready.waiting entry)
           (λ left. (
-          let exits : IsCalledOver m course (items.Exit s) =
-          (called.0, (called.1.0, left.0, (area.0, area.1, around_in_scope m s q r area.0 (owned d.0) e area.2))) in
+          let exits : IsCalledOver m course (items.Exit s) = (at.0, (around.0.0, left.0, around.1)) in
           left.1 (ready.cleared (items.Exit s) (called_of m course g (items.Exit s) exits)
           (before_of m course g (items.Exit s) (items.Exit q) (r, e, owned d.0)))
           ))
@@ -191,10 +194,8 @@ module _ {m : DraftMachine} (shape : HasShape m) (nested : IsPlainlyNested m) (i
           edge_active t at.0.source o r area fires (source_of m t at.0 at.1) is edge e,
           λ exit. (
               let called = ran_was_called nested head now ran gone (items.Exit o) exit in
-              let over = exits_over shape nested initials head now begins ran t o fires called in
-              let inside = over.2 in
-              let same = one_area m t inside.0 area lt inside.1 is in
-              edge_owner_outside shape r o area e edge (subst (λ x. LiesInScope m o x) same inside.2)
+              let at = exited_around shape nested initials head now ran gone o called in
+              edge_owner_stays shape nested head now begins t at.0 r o area (fires, lt) is edge e at.1
               ),
         )),
       )
@@ -213,9 +214,9 @@ module _ {m : DraftMachine} (shape : HasShape m) (nested : IsPlainlyNested m) (i
       (⊎_elim
       (λ at. inr (at.0, at.1.1, (active_is shape nested initials head now begins ran gone at.0).1 (inl at.1.0)))
       (λ beside. (
-      let fires = beside_fires shape nested initials head now begins ran gone beside.0 r beside.1 in
-      let wide = over_area shape nested initials head now begins ran gone beside.0 (inl fires) in
-      let at = (beside_inside shape nested initials head now begins ran gone beside.0 beside.0 r fires beside.1 wide.0 wide.1).0 in
+      let fires = beside_fires shape nested initials head now ran gone beside.0 r beside.1 in
+      let wide = over_area shape nested initials head now ran gone beside.0 (inl fires) in
+      let at = (beside_at_edge m beside.0 r wide.0 beside.1.1 wide.1).0 in
       fired_owner ran gone beside.0 r beside.1.1.1.0 wide.0 fires wide.1 at beside.1.1.1.2
       )))
       called

@@ -1,6 +1,7 @@
 -- What is active as a step goes on: what has been entered, and what was active at its head and has not been exited.
 use Rattle.std.proofs.Common.{List, [], ◌∷◌, ◌++◌, ◌≡◌, ◌⊎◌, ◌↔◌, refl, sym, ap, subst, inl, inr, ⊎_elim}
 use Rattle.pssm_model.specs.declared.ids.VertexId.{VertexId}
+use Rattle.pssm_model.specs.declared.ids.TransId.{TransId}
 use Rattle.pssm_model.specs.declared.elements.DraftMachine.{DraftMachine}
 use Rattle.pssm_model.specs.declared.steps.How.{How}
 use Rattle.pssm_model.specs.declared.steps.How.TheVariants.{By, Restore, Nothing}
@@ -18,7 +19,8 @@ use Rattle.pssm_plan.specs.Steadiness.{KeepsInitials, BeginsWell, changed_by_ite
 use Rattle.pssm_plan.proofs.NestedSteps.{gone_directly}
 use Rattle.pssm_plan.proofs.SingleItems.{called_is}
 use Rattle.pssm_plan.proofs.MoreItems.{gone_on, nothing_ran, run_more}
-use Rattle.pssm_plan.proofs.SteadyItems.{entry_after_exits}
+use Rattle.pssm_plan.proofs.SteadyApart.{IsFiredAround}
+use Rattle.pssm_plan.proofs.SteadyItems.{exited_around, entry_after_exits}
 
 -- one more item at the end
 pub changed_along-push : (m : DraftMachine) (now : Configuration) (xs : List (Item × How)) (item : Item) (how : How)
@@ -75,13 +77,13 @@ module _ (m : DraftMachine) (course : Course) (before : Configuration) (how : Ho
             h,
       )
 
-  -- an exit, before which nothing has been entered
-  active_exited : (q s : VertexId) → ((v : VertexId) → HasRun course (items.Enter v) → ⊥)
+  -- an exit, before which that State has not been entered
+  active_exited : (q s : VertexId) → (HasRun course (items.Enter q) → ⊥)
       → (exited m before q).Active s ↔ IsLeftActive (gone_on course (items.Exit q) how) s
   active_exited q s none =
       let item = items.Exit q in (
         λ h. ⊎_elim
-            (λ ran. absurd (none s ran))
+            (λ ran. inl ((run_more course item how (items.Enter s)).1 (inl ran)))
             (λ left. inr (
               left.0,
               λ ran. ⊎_elim
@@ -91,7 +93,10 @@ module _ (m : DraftMachine) (course : Course) (before : Configuration) (how : Ho
             ))
             ((is s).0 h.1),
         λ h. ⊎_elim
-            (λ ran. absurd (⊎_elim (λ was. none s was) (λ clash. cc) ((run_more course item how (items.Enter s)).0 ran)))
+            (λ ran. ⊎_elim
+            (λ was. (λ same. none (subst (λ x. HasRun course (items.Enter x)) same was), (is s).1 (inl was)))
+            (λ clash. absurd (cc))
+            ((run_more course item how (items.Enter s)).0 ran))
             (λ left. (
               λ same. left.1 ((run_more course item how (items.Exit s)).1 (inr (ap items.Exit same))),
               (is s).1 (inr (left.0, λ ran. left.1 ((run_more course item how (items.Exit s)).1 (inl ran)))),
@@ -102,9 +107,9 @@ module _ (m : DraftMachine) (course : Course) (before : Configuration) (how : Ho
 -- what one more item does to what is active
 active_more : (m : DraftMachine) (course : Course) (before : Configuration) (item : Item) (how : How)
     → ((s : VertexId) → before.Active s ↔ IsLeftActive course s)
-    → ((q v : VertexId) → items.Exit q ≡ item → HasRun course (items.Enter v) → ⊥)
+    → ((q : VertexId) → items.Exit q ≡ item → HasRun course (items.Enter q) → ⊥)
     → (s : VertexId) → (changed_by_item m before item how).Active s ↔ IsLeftActive (gone_on course item how) s
-active_more m course before (items.Exit q) how is first s = active_exited m course before how is q s (λ v. first q v refl)
+active_more m course before (items.Exit q) how is first s = active_exited m course before how is q s (first q refl)
 active_more m course before (items.Enter q) how is first s = active_entered m course before how is q s
 active_more m course before (items.Effect t) how is first s =
     kept m course before how is (items.Effect t) (λ v e. cc) (λ v e. cc) s
@@ -120,11 +125,20 @@ active_more m course before (items.Pick c) how is first s =
 module _ {m : DraftMachine} (shape : HasShape m) (nested : IsPlainlyNested m) (initials : KeepsInitials m)
     (head : Head) (now : Configuration) (begins : BeginsWell m head now) where
   -- nothing has been entered where an exit waits
-  pub no_entry_yet : (ran : List (Item × How)) → HasGone m head now ran → (q v : VertexId)
+  pub no_entry_yet : (ran : List (Item × How)) → HasGone m head now ran → (t : TransId) (q v : VertexId)
+      → IsFiredAround m head q t → IsFiredAround m head v t
       → IsWaiting m (course_by head now ran) (items.Exit q) → HasRun (course_by head now ran) (items.Enter v) → ⊥
-  no_entry_yet ran gone q v waits entry =
+  no_entry_yet ran gone t q v place around waits entry =
       let called = called_is m (course_by head now ran) (gone_directly nested head now ran gone) (items.Exit q) waits.called in
-      waits.not_run (entry_after_exits shape nested initials head now begins ran gone v q entry called)
+      waits.not_run (entry_after_exits shape nested initials head now begins ran gone t v q around place entry called)
+
+  -- so a State has not been entered whose exit waits
+  not_entered : (ran : List (Item × How)) → HasGone m head now ran → (q : VertexId)
+      → IsWaiting m (course_by head now ran) (items.Exit q) → HasRun (course_by head now ran) (items.Enter q) → ⊥
+  not_entered ran gone q waits entry =
+      let called = called_is m (course_by head now ran) (gone_directly nested head now ran gone) (items.Exit q) waits.called in
+      let at = exited_around shape nested initials head now ran gone q called in
+      no_entry_yet ran gone at.0 q q at.1 at.1 waits entry
 
   -- what is active
   pub active_is : (ran : List (Item × How)) → HasGone m head now ran
@@ -138,7 +152,7 @@ module _ {m : DraftMachine} (shape : HasShape m) (nested : IsPlainlyNested m) (i
       subst (λ (c : Configuration). c.Active s ↔ IsLeftActive (gone_on course item how) s)
       (sym (changed_along-push m now ran item how))
       (active_more m course (changed_along m now ran) item how (active_is ran before)
-      (λ q v same entry. no_entry_yet ran before q v (subst (λ x. IsWaiting m course x) (sym same) ready.waiting) entry)
+      (λ q same entry. not_entered ran before q (subst (λ x. IsWaiting m course x) (sym same) ready.waiting) entry)
       s)
 
   -- a State whose exit waits is active

@@ -8,7 +8,7 @@ use Rattle.pssm_model.specs.declared.elements.Owner.TheVariants.{Region, State}
 use Rattle.pssm_model.specs.declared.steps.How.{How}
 use Rattle.pssm_model.specs.declared.steps.Item.{Item}
 use Rattle.pssm_model.specs.Forest.{owner_of, LiesUnder, HasRegionsAbove}
-use Rattle.pssm_model.specs.Legs.{Leaves, Scope, LiesInScope}
+use Rattle.pssm_model.specs.Legs.{Leaves, Scope}
 use Rattle.pssm_model.specs.Paths.{IsInitialOf}
 use Rattle.pssm_model.specs.Shapes.{HasShape}
 use Rattle.pssm_model.specs.Configuration.{Configuration}
@@ -21,36 +21,45 @@ use Rattle.pssm_plan.specs.inner.Single.{IsArea, EndsIn, GoesOver, IsEnteredOver
 use Rattle.pssm_model.proofs.OwnerChains.{one_owner}
 use Rattle.pssm_model.proofs.Nesting.{outer_of_region}
 use Rattle.pssm_plan.proofs.NestedSteps.{over_in_range}
-use Rattle.pssm_plan.proofs.SteadyPlaces.{IsRegionIn, IsRegionUnder, IsEdge, Fills, same_state, outer_of, home_of_state, edge_or_outer, edge_owner_outside, edge_not_around, owned_under, one_area, late_area, entered_fills, fills_out, outer_above}
-use Rattle.pssm_plan.proofs.SteadyItems.{IsLateBy, starts_alone, starts_at, late_is, one_fires, over_area, beside_fires, beside_inside, inside_fired}
+use Rattle.pssm_plan.proofs.SteadyPlaces.{IsRegionIn, IsEdge, Fills, same_state, outer_of, home_of_state, edge_or_outer, region_in_scope, under_is_in, beside_at_edge, late_area, entered_fills, fills_out, outer_above}
+use Rattle.pssm_plan.proofs.SteadyApart.{IsFired, one_around, edge_owner_stays, edge_stays}
+use Rattle.pssm_plan.proofs.SteadyItems.{IsLateBy, IsFiredOver, not_starting, starts_alone, starts_at, late_is, over_area, beside_fires, beside_within, inside_fired, opened_fired}
 
 module _ {m : DraftMachine} (shape : HasShape m) (nested : IsPlainlyNested m) (initials : KeepsInitials m)
     (head : Head) (now : Configuration) (begins : BeginsWell m head now) (ran : List (Item × How)) (gone : HasGone m head now ran) where
   in_range : (t : TransId) → GoesOver (course_by head now ran) t → t.0 < length m.transitions
   in_range t over = over_in_range nested head now ran gone t over
 
-  -- what opens besides what fires lies where that exits and enters
-  late_under : (t u : TransId) (area : Scope) (r : RegionId) (v : VertexId) → FiresBy head (single_route t) → IsArea m t area
-      → IsLateBy m (course_by head now ran) u r v → IsRegionUnder m r area
-  late_under t u area r v fires is by =
-      ⊎_elim
-      (λ starts. absurd (starts_alone m head r (single_route t) starts fires))
-      (⊎_elim
-      (λ at. (
-      let inside = inside_fired shape nested initials head now begins t fires ran gone at.1.2.0 at.0 at.1.2.1 in
-      let same = one_area m t inside.0 area (in_range t (inl fires)) inside.1 is in
-      owned_under m r at.0 area at.1.1 (subst (λ x. LiesInScope m at.0 x) same inside.2)
-      ))
-      (λ beside. (beside_inside shape nested initials head now begins ran gone t beside.0 r fires beside.1 area is).1))
-      by.0.2
+  -- what is opened lies where something fires, where something does
+  late_over : (t u : TransId) (r : RegionId) (v : VertexId) → FiresBy head (single_route t)
+      → IsLateBy m (course_by head now ran) u r v → (w : TransId) × IsFiredOver m head r w
+  late_over t u r v fires by =
+      not_starting head (single_route t) fires (opened_fired shape nested initials head now ran gone r by.0.2)
 
-  -- a State that is entered does not own a region at the edge of that place
+  -- a State that is entered does not own a region at the edge of where something fires
   entered_not_edge : (t : TransId) (area : Scope) (w : TransId) (s : VertexId) (r : RegionId) → FiresBy head (single_route t) → IsArea m t area
       → IsEnteredOver m (course_by head now ran) w s → owner_of m (Region r) ≡ Some (State s) → IsEdge m r area → ⊥
   entered_not_edge t area w s r fires is over e edge =
-      let inside = inside_fired shape nested initials head now begins t fires ran gone w s over in
-      let same = one_area m t inside.0 area (in_range t (inl fires)) inside.1 is in
-      edge_owner_outside shape r s area e edge (subst (λ x. LiesInScope m s x) same inside.2)
+      let around = not_starting head (single_route t) fires (inside_fired shape nested initials head now ran gone w s over) in
+      edge_owner_stays shape nested head now begins t around.0 r s area (fires, in_range t (inl fires)) is edge e around.1
+
+  -- nor does a late transition leave a region around that
+  late_not_around : (t u : TransId) (area : Scope) (r p : RegionId) (v : VertexId) → FiresBy head (single_route t) → IsArea m t area → IsEdge m r area
+      → LiesUnder m (Region r) (Region p) → IsLateBy m (course_by head now ran) u p v → ⊥
+  late_not_around t u area r p v fires is edge under by =
+      let over = late_over t u p v fires by in
+      edge_stays shape nested head now begins t over.0 r p area over.1.1.0 (fires, in_range t (inl fires)) is edge under
+      over.1.0 over.1.1.1 over.1.1.2
+
+  -- what fires and fills a region is whatever fires where that region lies
+  filled_by_fired : (t u : TransId) (r : RegionId) → FiresBy head (single_route t) → Fills m t r → IsFired m head u
+      → ((area : Scope) × IsArea m u area × IsRegionIn m r area) → t ≡ u
+  filled_by_fired t u r fires a is place =
+      let ends = a.0 in
+      let area = a.1 in
+      one_around shape nested head now begins ends.0 t u
+      ((fires, in_range t (inl fires)), (area.0, area.1, region_in_scope shape ends.0 r area.0 ends.2 area.2))
+      (is, (place.0, place.1, region_in_scope shape ends.0 r place.0 ends.2 place.2))
 
   -- The claim for regions with fewer regions above them.
   abbrev IsFilledOnce : ℕ → Type 0
@@ -93,9 +102,9 @@ module _ {m : DraftMachine} (shape : HasShape m) (nested : IsPlainlyNested m) (i
         (edge_or_outer shape r home.0 at.0 area.0 at.1.1 home.1 area.2)
         ))
         (λ beside. (
-        let same = one_fires shape nested initials head now begins beside.0 t
-        (beside_fires shape nested initials head now begins ran gone beside.0 r beside.1) fires in
-        beside.1.1.2 (subst (λ x. EndsIn m x r) (sym same) a.0)
+        let over = beside_within shape nested initials head now ran gone beside.0 r beside.1 in
+        let same = filled_by_fired t beside.0 r fires a over.0 (over.1.0, over.1.1, under_is_in m r over.1.0 over.1.2) in
+        beside.1.1.2 (subst (λ x. EndsIn m x r) same a.0)
         )))
         by.0.2
 
@@ -112,7 +121,7 @@ module _ {m : DraftMachine} (shape : HasShape m) (nested : IsPlainlyNested m) (i
         let outer = outer_of shape r by.0 under in
         let area = a.1 in
         ⊎_elim
-        (λ edge. absurd (edge_not_around shape r by.0 area.0 edge under (late_under t u area.0 by.0 by.1 fires area.1 by.2)))
+        (λ edge. absurd (late_not_around t u area.0 r by.0 by.1 fires area.1 edge under by.2))
         (λ out. same_around outer.1 outer.0 t u outer.2 outer.3 (inl fires) (inr late)
         (fills_out m t r outer.1 outer.0 area.0 outer.2 outer.3 a.0 area.1 out)
         (fills_out m u r outer.1 outer.0 b.1.0 outer.2 outer.3 b.0 b.1.1
@@ -138,10 +147,9 @@ module _ {m : DraftMachine} (shape : HasShape m) (nested : IsPlainlyNested m) (i
         not_opener outer.1 at.0 u (subst (λ x. owner_of m (State x) ≡ Some (Region outer.1)) (sym same) outer.3) over b.0 wide at.1
         ))
         (λ beside. (
-        let fires = beside_fires shape nested initials head now begins ran gone beside.0 r beside.1 in
-        let area = over_area shape nested initials head now begins ran gone beside.0 (inl fires) in
-        let edge = (beside_inside shape nested initials head now begins ran gone beside.0 beside.0 r fires beside.1 area.0 area.1).0 in
-        edge_not_around shape r p area.0 edge under (late_under beside.0 u area.0 p w fires area.1 other)
+        let fires = beside_fires shape nested initials head now ran gone beside.0 r beside.1 in
+        let area = over_area shape nested initials head now ran gone beside.0 (inl fires) in
+        late_not_around beside.0 u area.0 r p w fires area.1 (beside_at_edge m beside.0 r area.0 beside.1.1 area.1).0 under other
         )))
         by.0.2
 
@@ -182,7 +190,7 @@ module _ {m : DraftMachine} (shape : HasShape m) (nested : IsPlainlyNested m) (i
     filled_here t u first second a b =
         ⊎_elim
         (λ fires. ⊎_elim
-        (λ too. one_fires shape nested initials head now begins t u fires too)
+        (λ too. filled_by_fired t u r fires a (too, in_range u (inl too)) b.1)
         (λ late. fired_and_late t u fires late a b)
         second)
         (λ late. ⊎_elim

@@ -1,5 +1,4 @@
--- What a step does to a configuration, and when a configuration is consistent. How a step may begin is said so far for steps that fire one route at
--- most, since only States of the one top region react; later work widens that, and no definition changes with it.
+-- What a step does to a configuration, and when a configuration is consistent.
 use Rattle.std.specs.Prelude.{◌≡◌, ◌⊎◌, List, [], ◌∷◌, Some}
 use Rattle.pssm_model.specs.declared.ids.VertexId.{VertexId}
 use Rattle.pssm_model.specs.declared.ids.RegionId.{RegionId}
@@ -15,7 +14,7 @@ use Rattle.pssm_model.specs.declared.steps.Item.TheVariants as items
 use Rattle.pssm_model.specs.Forest.{HasKind, IsStateOrFinal, owner_of, LiesInRegion}
 use Rattle.pssm_model.specs.Legs.{Leaves, Enters}
 use Rattle.pssm_model.specs.Paths.{IsInitialOf}
-use Rattle.pssm_model.specs.Routes.{IsSource}
+use Rattle.pssm_model.specs.Routes.{IsSource, Conflict}
 use Rattle.pssm_model.specs.WellFormed.{ShareRegion}
 use Rattle.pssm_model.specs.Configuration.{Configuration, IsDirect}
 use Rattle.pssm_model.specs.Changes.{entered, exited, opened_none, opened_way}
@@ -40,12 +39,12 @@ pub record KeepsInitials (m : DraftMachine) : Type 0 where
       → LiesInRegion m w r
   pub shared : (t : TransId) (v w : VertexId) → Leaves m t v → Enters m t w → ShareRegion m v w
 
--- A step begins so: with a start where nothing is active, or with one route at most (so far), whose sources are active
--- (UML 2.5.1 14.2.3.9, run to completion; PSSM 1.0 8.5, the initial run-to-completion step).
+-- A step begins so: with a start where nothing is active, or with routes that fire, no two of which conflict, and whose sources are active
+-- (UML 2.5.1 14.2.3.9, run to completion and conflicting transitions; PSSM 1.0 8.5, the initial run-to-completion step).
 pub record BeginsWell (m : DraftMachine) (head : Head) (now : Configuration) : Type 0 where
   pub consistent : IsConsistent m now
   pub start : head ≡ Starts → (s : VertexId) → now.Active s → ⊥
-  pub one : (p q : Route) → FiresBy head p → FiresBy head q → p ≡ q
+  pub agree : (p q : Route) → FiresBy head p → FiresBy head q → Conflict m now.Active p q → ⊥
   pub from_active : (p : Route) (s : VertexId) → FiresBy head p → IsSource m p s → now.Active s
 
 -- the configuration once the item has run in this way: an entry, an exit and an opening change it, an effect and a
