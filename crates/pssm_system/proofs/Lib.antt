@@ -1,4 +1,5 @@
 pub mod Places
+pub mod Numbers
 pub mod Pools
 pub mod Following
 pub mod Arriving

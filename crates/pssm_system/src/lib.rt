@@ -8,6 +8,7 @@
 #![tactic(auto)]
 
 mod choosing;
+mod deferring;
 mod entries;
 mod follower;
 mod judging;
