@@ -1,11 +1,10 @@
 -- The signal with a number among those that wait.
-use Rattle.std.proofs.Common.{◌≡◌, ◌≢◌, ◌<◌, ◌≤◌, ◌+◌, ◌++◌, ◌==◌, ℕ, zero, suc, List, [], ◌∷◌, length, take, Bool, true, false, cond, Option, Some, None, slice_get, get_or, refl, sym, ap, subst, ◌∙◌, ⊎_elim, arith, add-one, eq-eqb}
-use Rattle.std.specs.List.{AllByRecursion, remove}
-use Rattle.std.proofs.Math.Seq.{take-suc}
+use Rattle.std.proofs.Common.{◌≡◌, ◌≢◌, ◌+◌, ◌==◌, ℕ, zero, suc, List, [], ◌∷◌, take, false, Some, None, slice_get, refl, sym, ap, ◌∙◌, ⊎_elim, eq-eqb}
+use Rattle.std.specs.List.{remove}
 use Rattle.std.proofs.lemmas.Bool.Decides.{eqb_tells}
-use Rattle.std.proofs.lemmas.Option.{slice_get-get_or, slice_get_within}
-use Rattle.pssm_semantics.proofs.Appending.{every_push}
+use Rattle.std.proofs.lemmas.Option.{slice_get_within}
 use Rattle.pssm_object.specs.declared.object.Waiting.{Waiting}
+use Rattle.pssm_system.proofs.Places.{all-more}
 use Rattle.pssm_system.specs.inner.Pooling.{with_number, without_number, HasNoNumber, IsPlaceOf}
 
 -- two numbers that differ
@@ -37,13 +36,7 @@ module _ (n : ℕ) where
   -- one signal more that has another number
   pub none-more : (waiting : List Waiting) (k : ℕ) (w : Waiting) → slice_get waiting k ≡ Some w → w.number ≢ n → HasNoNumber n (take k waiting)
       → HasNoNumber n (take (k + 1) waiting)
-  none-more waiting k w at apart before =
-      let lt = slice_get_within waiting k w at in
-      let here : slice_get waiting k ≡ Some (get_or waiting k w) = slice_get-get_or waiting k w lt in
-      let same : w ≡ get_or waiting k w = let both : Some w ≡ Some (get_or waiting k w) = sym at ∙ here in cc in
-      let more : take (k + 1) waiting ≡ take k waiting ++ w ∷ [] =
-      ap (λ i. take i waiting) (add-one k) ∙ take-suc waiting k w lt ∙ ap (λ y. take k waiting ++ y ∷ []) (sym same) in
-      subst (HasNoNumber n) (sym more) (every_push (λ (v : Waiting). v.number ≢ n) (take k waiting) w before apart)
+  none-more waiting k w at apart before = all-more (λ (v : Waiting). v.number ≢ n) waiting k w at apart before
 
   -- the first that has it
   first-with : (waiting : List Waiting) (k : ℕ) (w : Waiting) → slice_get waiting k ≡ Some w → w.number ≡ n → HasNoNumber n (take k waiting)

@@ -3,7 +3,7 @@ ghost use Rattle.std.specs.Prelude.{◌<◌, length};
 ghost use Rattle.std.specs.Option.{option_copied};
 ghost use Rattle.pssm_semantics.specs.Built.{IsBuiltClass, IsBuilt};
 ghost use Rattle.pssm_object.specs.Standing.{Stands as ObjectStands};
-ghost use Rattle.pssm_system.specs.inner.Pooling.{IsFirstFree};
+ghost use Rattle.pssm_system.specs.inner.Deferring.{IsFirstFree};
 
 use crate::entries::class_of;
 use crate::pool::Pool;
