@@ -73,12 +73,12 @@ left-numbered : (o : ObjectId) (number : ℕ) (firing : Firing) (waiting : List 
 left-numbered o number firing [] over = refl
 left-numbered o number firing (w ∷ rest) over =
     ⊎_elim
-    (λ same.
+    (λ (same : ((w.number == number) ≡ true) × (w.number ≡ number)).
     let takes-it : takes (Take o number firing) o w.number ≡ true = rw (eq-eqb o.0 o.0 refl) (eq-eqb number w.number (sym same.1)) in
     rw takes-it
     (left-alone o number firing (numbered_for o rest) (subst (λ n. AllByRecursion (λ v. n < v.0) (numbered_for o rest)) same.1 over.0)
     ∙ ap (numbered_for o) (sym (without-here number w rest same.1))))
-    (λ other.
+    (λ (other : ((w.number == number) ≡ false) × (w.number ≡ number → ⊥)).
     let keeps : takes (Take o number firing) o w.number ≡ false = rw (eq-eqb o.0 o.0 refl) (differ number w.number (λ e. other.1 (sym e))) in
     rw keeps
     (ap (λ ws. (w.number, stimulus_of o w) ∷ ws) (left-numbered o number firing rest over.1)
