@@ -1,5 +1,5 @@
 -- What was found for one object, as what may follow in the setting.
-use Rattle.std.proofs.Common.{◌≡◌, ◌<◌, ◌+◌, ◌↔◌, ℕ, List, length, Bool, true, false, IsTrue, MatchBool, Option, Some, None, Result, Ok, Err, IfOk, is_some, slice_get, get_or, Bor, refl, sym, ap, subst, ◌∙◌, arith}
+use Rattle.std.proofs.Common.{◌≡◌, ◌+◌, ◌↔◌, ℕ, List, length, Bool, true, false, IsTrue, MatchBool, Option, Some, None, Result, Ok, Err, IfOk, is_some, Bor, refl, ap, arith}
 use Rattle.std.specs.Option.{option_copied}
 use Rattle.std.proofs.lemmas.Bool.{false≢true}
 use Rattle.pssm_semantics.specs.declared.entry.ObjectId.{ObjectId}

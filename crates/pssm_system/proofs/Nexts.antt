@@ -66,10 +66,13 @@ module _ {setting : Setting} {J : List Entry} {pools : List Queue} {o : ObjectId
     pub of_take : (number : ℕ) (firing : Firing) (signal : Option Waiting) → if_numbered number first ≡ signal
         → HasSignal J class o (Take o number firing) signal ⊎ ((signal ≡ None) × (KeepsPool class J (Take o number firing) → ⊥))
     of_take number firing None none =
-        inr (refl, λ pool.
-        let at = no_other number firing pool in
-        let clash : None ≡ Some at.0 = sym none ∙ ap (if_numbered number) at.1 ∙ numbered-so number at.0 at.2 in
-        cc)
+        inr (
+          refl,
+          λ pool.
+              let at = no_other number firing pool in
+              let clash : None ≡ Some at.0 = sym none ∙ ap (if_numbered number) at.1 ∙ numbered-so number at.0 at.2 in
+              cc,
+        )
     of_take number firing (Some w) there = let at = numbered-is number first w there in inl (take-has number firing w at.0 at.1)
 
     -- an entry that names the first signal, if it is a take

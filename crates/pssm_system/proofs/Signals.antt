@@ -57,8 +57,7 @@ found-there o number y rest (w ∷ waiting) (h ∷ held) is over =
     let tails : numbered_for o waiting ≡ held ++ (number, y) ∷ rest = cc in
     let later = found-there o number y rest waiting held tails over.1 in
     let above : w.number < number =
-    (AllByRecursion-back (λ (v : ℕ × Stimulus). w.number < v.0) held ((number, y) ∷ rest) (subst (AllByRecursion (λ (v : ℕ × Stimulus). w.number < v.0)) tails over.0)).0 in
-    (
+    (AllByRecursion-back (λ (v : ℕ × Stimulus). w.number < v.0) held ((number, y) ∷ rest) (subst (AllByRecursion (λ (v : ℕ × Stimulus). w.number < v.0)) tails over.0)).0 in (
       later.0,
       record {
         found = with-later number w waiting (λ same. absurd (omega (arith, same, above))) ∙ later.1.found;

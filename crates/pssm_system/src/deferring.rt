@@ -23,7 +23,11 @@ impl Situation {
         ensures { IsFirstFor setting.now self.now own (option_copied result) }
     {
         let object = &self.objects[usize::from(own.0)];
-        first_free(object, class_of(setting, own), &self.pools[usize::from(own.0)])
+        first_free(
+            object,
+            class_of(setting, own),
+            &self.pools[usize::from(own.0)],
+        )
     }
 }
 

@@ -38,7 +38,10 @@ impl Situation {
         ensures { ComesWith setting.now self.now entry.now (option_copied result) }
     {
         match entry {
-            Entry::Take { object, number, .. } => if_numbered(self.first_for(setting, *object), *number),
+            Entry::Take { object, number, .. } => if_numbered(
+                self.first_for(setting, *object),
+                *number,
+            ),
             _ => None,
         }
     }
