@@ -1,5 +1,5 @@
 -- What an entry leaves of the pools and adds to them, as a journal has it and as it is kept.
-use Rattle.std.proofs.Common.{◌≡◌, ◌<◌, ◌≤◌, ◌+◌, ◌++◌, ◌==◌, ◌&&◌, ◌||◌, ℕ, zero, suc, List, [], ◌∷◌, Bool, true, false, not, cond, length, filter, drop, Some, None, slice_get, slice_index_or, Contains, refl, sym, ap, subst, ◌∙◌, ⊎_elim, arith, append-nil, append_assoc, eq-eqb}
+use Rattle.std.proofs.Common.{◌≡◌, ◌<◌, ◌≤◌, ◌+◌, ◌++◌, ◌==◌, ◌&&◌, ◌||◌, ℕ, zero, suc, List, [], ◌∷◌, Bool, true, false, not, cond, length, filter, Some, None, slice_get, slice_index_or, Contains, refl, sym, ap, subst, ◌∙◌, ⊎_elim, arith, append-nil, append_assoc, eq-eqb}
 use Rattle.std.specs.List.{AllByRecursion, list_any, enumerate_from}
 use Rattle.std.proofs.Math.ListN.{set}
 use Rattle.std.proofs.lemmas.List.{map-append}
@@ -18,12 +18,13 @@ use Rattle.pssm_semantics.proofs.Waiting.{waits_in, arrivals, pool_of-grows, poo
 use Rattle.pssm_object.specs.declared.object.Waiting.{Waiting}
 use Rattle.pssm_object.specs.Standing.{HasSignalsTaken}
 use Rattle.pssm_object.specs.Following.{stimulus_of}
-use Rattle.pssm_system.specs.inner.Pooling.{waiting_as, with_arrived, delivered, left_by, arriving, numbered_for}
+use Rattle.pssm_system.specs.inner.Pooling.{without_number, waiting_as, with_arrived, delivered, left_by, arriving, numbered_for}
 use Rattle.pssm_system.proofs.Places.{get-set_same, get-set_other}
+use Rattle.pssm_system.proofs.Numbers.{differ, without-here, without-later}
 use Rattle.pssm_system.proofs.Following.{IsNoTake}
 
 -- the numbers ascend
-abbrev Ascends : {X : Type 0} → List (ℕ × X) → Type 0
+abbrev pub Ascends : {X : Type 0} → List (ℕ × X) → Type 0
 Ascends [] = Unit {0}
 Ascends (w ∷ rest) = AllByRecursion (λ v. w.0 < v.0) rest × Ascends rest
 
@@ -52,7 +53,7 @@ filtered-ascends p [] all = tt
 filtered-ascends p (x ∷ xs) all = kept-ascends x (filter p xs) (p x) (filtered-so (λ v. x.0 < v.0) p xs all.0) (filtered-ascends p xs all.1)
 
 -- The numbers of the signals that wait for an object ascend.
-pool-ascends : (J : List Entry) (o : ObjectId) → Ascends (pool_of J o)
+pub pool-ascends : (J : List Entry) (o : ObjectId) → Ascends (pool_of J o)
 pool-ascends J o = filtered-ascends (waits_in J o) (enumerate_from 1 (signals_of J)) (numbers-ascend 1 (signals_of J))
 
 other-number : (n k : ℕ) → n < k → (n == k) ≡ false
@@ -66,15 +67,30 @@ left-alone o number firing (w ∷ rest) over =
     let keeps : takes (Take o number firing) o w.0 ≡ false = rw (eq-eqb o.0 o.0 refl) (other-number number w.0 over.0) in
     rw keeps (ap (λ ws. w ∷ ws) (left-alone o number firing rest over.1))
 
--- A take of the first signal that waits leaves the others.
-pub pool_of-take_first : (J : List Entry) (o : ObjectId) (number : ℕ) (firing : Firing) (x : Stimulus) (rest : List (ℕ × Stimulus))
-    → pool_of J o ≡ (number, x) ∷ rest → pool_of (J ++ Take o number firing ∷ []) o ≡ rest
-pool_of-take_first J o number firing x rest is =
-    let over : AllByRecursion (λ v. number < v.0) rest = (subst Ascends is (pool-ascends J o)).0 in
-    let takes-first : takes (Take o number firing) o number ≡ true = rw (eq-eqb o.0 o.0 refl) (eq-eqb number number refl) in
+-- A take leaves the signals with other numbers.
+left-numbered : (o : ObjectId) (number : ℕ) (firing : Firing) (waiting : List Waiting) → Ascends (numbered_for o waiting)
+    → filter (λ w. not (takes (Take o number firing) o w.0)) (numbered_for o waiting) ≡ numbered_for o (without_number number waiting)
+left-numbered o number firing [] over = refl
+left-numbered o number firing (w ∷ rest) over =
+    ⊎_elim
+    (λ (same : ((w.number == number) ≡ true) × (w.number ≡ number)).
+    let takes-it : takes (Take o number firing) o w.number ≡ true = rw (eq-eqb o.0 o.0 refl) (eq-eqb number w.number (sym same.1)) in
+    rw takes-it
+    (left-alone o number firing (numbered_for o rest) (subst (λ n. AllByRecursion (λ v. n < v.0) (numbered_for o rest)) same.1 over.0)
+    ∙ ap (numbered_for o) (sym (without-here number w rest same.1))))
+    (λ (other : ((w.number == number) ≡ false) × (w.number ≡ number → ⊥)).
+    let keeps : takes (Take o number firing) o w.number ≡ false = rw (eq-eqb o.0 o.0 refl) (differ number w.number (λ e. other.1 (sym e))) in
+    rw keeps
+    (ap (λ ws. (w.number, stimulus_of o w) ∷ ws) (left-numbered o number firing rest over.1)
+    ∙ ap (numbered_for o) (sym (without-later number w rest other.1))))
+    (eqb_tells w.number number)
+
+pool_of-take_own : (J : List Entry) (o : ObjectId) (number : ℕ) (firing : Firing) (waiting : List Waiting) → pool_of J o ≡ numbered_for o waiting
+    → pool_of (J ++ Take o number firing ∷ []) o ≡ numbered_for o (without_number number waiting)
+pool_of-take_own J o number firing waiting is =
     pool_of-take J o number firing o
     ∙ ap (filter (λ w. not (takes (Take o number firing) o w.0))) is
-    ∙ rw takes-first (left-alone o number firing rest over)
+    ∙ left-numbered o number firing waiting (subst (λ ws. Ascends ws) is (pool-ascends J o))
 
 -- A take of another object leaves all.
 pub pool_of-take_other : (J : List Entry) (q o : ObjectId) (number : ℕ) (firing : Firing) → (q.0 ≡ o.0 → ⊥) → pool_of (J ++ Take q number firing ∷ []) o ≡ pool_of J o
@@ -218,30 +234,24 @@ arrived J e pools told o free told-is have there waiting at =
     ∙ sym (map-append (λ (w : Waiting). (w.number, stimulus_of o w)) old (arriving o (told + 1) (signals_of_entry e)))
     ∙ ap (numbered_for o) (sym same)
 
--- the signal that came first to the object's pool, with those behind it
-pub record IsFirstOf (J : List Entry) (o : ObjectId) (w : Waiting) (rest : List Waiting) : Type 0 where
-  pub pool_is : pool_of J o ≡ (w.number, stimulus_of o w) ∷ numbered_for o rest
-
 -- the pool of an object once a take has come
-pub left : (J : List Entry) (q : ObjectId) (w : Waiting) (behind : List Waiting) (number : ℕ) (firing : Firing) (pools : List (List Waiting)) (o : ObjectId)
-    → number ≡ w.number → slice_get pools q.0 ≡ Some (w ∷ behind) → HaveWaiting J pools → (waiting : List Waiting)
+pub left : (J : List Entry) (q : ObjectId) (old : List Waiting) (number : ℕ) (firing : Firing) (pools : List (List Waiting)) (o : ObjectId)
+    → slice_get pools q.0 ≡ Some old → HaveWaiting J pools → (waiting : List Waiting)
     → slice_get (left_by (Take q number firing) pools) o.0 ≡ Some waiting → pool_of (J ++ Take q number firing ∷ []) o ≡ numbered_for o waiting
-left J q w behind number firing pools o number-is first have waiting at =
-    let old : slice_index_or pools q.0 [] ≡ w ∷ behind = get_or_from_slice_get pools q.0 (w ∷ behind) [] first in
-    let lt = slice_get_within pools q.0 (w ∷ behind) first in
+left J q old number firing pools o there have waiting at =
+    let fewer = without_number number (slice_index_or pools q.0 []) in
     ⊎_elim
     (λ same.
     let own : q ≡ o = ap (λ n. let p : ObjectId = record { 0 = n } in p) same.1 in
-    let now : slice_get (left_by (Take q number firing) pools) q.0 ≡ Some behind =
-    get-set_same pools q.0 (drop 1 (slice_index_or pools q.0 [])) lt ∙ ap (λ ws. Some (drop 1 ws)) old in
+    let now : slice_get (left_by (Take q number firing) pools) q.0 ≡ Some (without_number number old) =
+    get-set_same pools q.0 fewer (slice_get_within pools q.0 old there)
+    ∙ ap (λ ws. Some (without_number number ws)) (get_or_from_slice_get pools q.0 old [] there) in
     let here : slice_get (left_by (Take q number firing) pools) q.0 ≡ Some waiting =
     subst (λ (p : ObjectId). slice_get (left_by (Take q number firing) pools) p.0 ≡ Some waiting) (sym own) at in
-    let left-is : behind ≡ waiting = cc in
+    let left-is : without_number number old ≡ waiting = cc in
     subst (λ p. pool_of (J ++ Take q number firing ∷ []) p ≡ numbered_for p waiting) own
-    (pool_of-take_first J q number firing (stimulus_of q w) (numbered_for q behind)
-    (have q (w ∷ behind) first ∙ ap (λ n. (n, stimulus_of q w) ∷ numbered_for q behind) (sym number-is))
-    ∙ ap (numbered_for q) left-is))
+    (pool_of-take_own J q number firing old (have q old there) ∙ ap (numbered_for q) left-is))
     (λ other.
     pool_of-take_other J q o number firing other.1
-    ∙ have o waiting (sym (get-set_other pools q.0 o.0 (drop 1 (slice_index_or pools q.0 [])) (λ e. other.1 (sym e))) ∙ at))
+    ∙ have o waiting (sym (get-set_other pools q.0 o.0 fewer (λ e. other.1 (sym e))) ∙ at))
     (eqb_tells q.0 o.0)

@@ -25,13 +25,14 @@ use Rattle.pssm_object.proofs.TaskLists.{lists_tasks}
 use Rattle.pssm_system.specs.declared.situation.Situation.{Situation}
 use Rattle.pssm_system.specs.declared.choosing.Wanted.{Wanted}
 use Rattle.pssm_system.specs.declared.choosing.Wanted.TheVariants.{AnyEntry, Move}
-use Rattle.pssm_system.specs.inner.Pooling.{first_waiting}
+use Rattle.pssm_system.specs.inner.Deferring.{IsFirstFor}
 use Rattle.pssm_system.specs.inner.Keeping.{StandsSo}
 use Rattle.pssm_system.specs.inner.Choosing.{IsWanted, IsNext, HasNoNext, NoneMayCome}
 use Rattle.pssm_system.proofs.Following.{IsNoTake, own_alike, object_there}
 use Rattle.pssm_system.proofs.Judged.{IsPart, is_part, names_none}
 use Rattle.pssm_system.proofs.Named.{names_places}
-use Rattle.pssm_system.proofs.Nexts.{next_follows, follows_next}
+use Rattle.pssm_system.proofs.Signals.{IsFirst}
+use Rattle.pssm_system.proofs.Nexts.{first_in, next_follows, follows_next}
 
 -- no move is a post
 pub move-no_post : (e : Entry) → IsMove e → IsPost e → ⊥
@@ -107,41 +108,40 @@ module _ (class : Class) (b : IsBuiltClass class) {J : List Entry} {x : Standing
       let ready : IsReadyTask class.machine J o (tasks.DoStep v k) = (keeps A2, keeps A11) in
       absurd (not_ready (tasks.DoStep v k) (subst (λ q. IsReadyTask class.machine J q (tasks.DoStep v k)) c.own ready))
 
--- What was found for the first signal that waits is what may follow.
+-- What was found for the first signal that waits and is not deferred is what may follow.
 module _ {setting : Setting} (b : IsBuilt setting) {s : Situation} {J : List Entry} (stands : StandsSo setting J s) (o : ObjectId) (class : Class)
-    (x : Standing) (is : class_of setting o ≡ Some class) (at : slice_get s.objects.items o.0 ≡ Some x) where
+    (x : Standing) (is : class_of setting o ≡ Some class) (at : slice_get s.objects.items o.0 ≡ Some x) (first : Option Waiting)
+    (f : IsFirstFor setting s o first) where
   pub part : IsPart setting J s.pools.items o class x
   part = is_part b stands.objects stands.pools o class x is at
+
+  first_is : IsFirst s.pools.items o class x first
+  first_is = first_in stands o class x is at first f
 
   own_is : x.own ≡ o
   own_is = part.object.own
 
-  candidate_as : (signal : Option Waiting) (e : Entry) → IsCandidate x.own signal e → IsCandidate o signal e
-  candidate_as signal e c = subst (λ q. IsCandidate q signal e) own_is c
+  candidate_as : (e : Entry) → IsCandidate x.own first e → IsCandidate o first e
+  candidate_as e c = subst (λ q. IsCandidate q first e) own_is c
 
-  candidate_of : (signal : Option Waiting) (e : Entry) → IsCandidate o signal e → IsCandidate x.own signal e
-  candidate_of signal e c = subst (λ q. IsCandidate q signal e) (sym own_is) c
+  candidate_of : (e : Entry) → IsCandidate o first e → IsCandidate x.own first e
+  candidate_of e c = subst (λ q. IsCandidate q first e) (sym own_is) c
 
-  pub found-follows : (wanted : Wanted) (e : Entry) → IsNext class x (first_waiting s.pools.items o) wanted e → MayFollow setting J e
-  found-follows wanted e n =
-      next_follows part e (candidate_as (first_waiting s.pools.items o) e n.candidate) n.places (n.keeps J part.object.stands)
+  pub found-follows : (wanted : Wanted) (e : Entry) → IsNext class x first wanted e → MayFollow setting J e
+  found-follows wanted e n = next_follows part first_is e (candidate_as e n.candidate) n.places (n.keeps J part.object.stands)
 
-  pub none-follows : (wanted : Wanted) → HasNoNext class x (first_waiting s.pools.items o) wanted → (e : Entry) → object_of e ≡ o → IsWanted wanted e
-      → MayFollow setting J e → ⊥
+  pub none-follows : (wanted : Wanted) → HasNoNext class x first wanted → (e : Entry) → object_of e ≡ o → IsWanted wanted e → MayFollow setting J e → ⊥
   none-follows wanted none e own is_wanted may =
-      let next = follows_next part e own (wanted-no_post wanted e is_wanted) may in
-      none J e part.object.stands is_wanted (candidate_of (first_waiting s.pools.items o) e next.0) next.1
+      let next = follows_next part first_is e own (wanted-no_post wanted e is_wanted) may in
+      none J e part.object.stands is_wanted (candidate_of e next.0) next.1
 
-  pub quiet-none : objects.IsQuiet class x (first_waiting s.pools.items o) J → (e : Entry) → object_of e ≡ o → (IsPost e → ⊥) → MayFollow setting J e → ⊥
-  quiet-none quiet e own no_post may =
-      let next = follows_next part e own no_post may in
-      quiet e (candidate_of (first_waiting s.pools.items o) e next.0) next.1
+  pub quiet-none : objects.IsQuiet class x first J → (e : Entry) → object_of e ≡ o → (IsPost e → ⊥) → MayFollow setting J e → ⊥
+  quiet-none quiet e own no_post may = let next = follows_next part first_is e own no_post may in quiet e (candidate_of e next.0) next.1
 
-  pub next-some : objects.HasNext class x (first_waiting s.pools.items o) J → IsQuiet setting J → ⊥
+  pub next-some : objects.HasNext class x first J → IsQuiet setting J → ⊥
   next-some (e, c, keeps) quiet =
       quiet e c.no_post
-      (next_follows part e (candidate_as (first_waiting s.pools.items o) e c)
-      (names_places class part.built part.object.stands (first_waiting s.pools.items o) e c keeps) keeps)
+      (next_follows part first_is e (candidate_as e c) (names_places class part.built part.object.stands first e c keeps) keeps)
 
 -- a signal is handed in where one waits
 pub handed_in : (signal : Option Waiting) (waiting : Bool) → waiting ≡ is_some signal → IsHandedIn waiting signal

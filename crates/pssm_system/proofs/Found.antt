@@ -1,7 +1,6 @@
 -- What was found for one object, as what may follow in the setting.
-use Rattle.std.proofs.Common.{◌≡◌, ◌<◌, ◌+◌, ◌↔◌, ℕ, List, length, Bool, true, false, IsTrue, MatchBool, Option, Some, None, Result, Ok, Err, IfOk, is_some, slice_get, get_or, Bor, refl, sym, ap, subst, ◌∙◌, arith}
-use Rattle.std.specs.Option.{option_and_then, option_copied}
-use Rattle.std.proofs.lemmas.Option.{slice_get-get_or}
+use Rattle.std.proofs.Common.{◌≡◌, ◌+◌, ◌↔◌, ℕ, List, length, Bool, true, false, IsTrue, MatchBool, Option, Some, None, Result, Ok, Err, IfOk, is_some, Bor, refl, ap, arith}
+use Rattle.std.specs.Option.{option_copied}
 use Rattle.std.proofs.lemmas.Bool.{false≢true}
 use Rattle.pssm_semantics.specs.declared.entry.ObjectId.{ObjectId}
 use Rattle.pssm_semantics.specs.declared.entry.Entry.{Entry}
@@ -16,7 +15,7 @@ use Rattle.pssm_object.specs.Following as objects
 use Rattle.pssm_system.specs.declared.situation.Situation.{Situation}
 use Rattle.pssm_system.specs.declared.choosing.Wanted.{Wanted}
 use Rattle.pssm_system.specs.declared.choosing.Wanted.TheVariants.{AnyEntry}
-use Rattle.pssm_system.specs.inner.Pooling.{Queue, first_waiting}
+use Rattle.pssm_system.specs.inner.Deferring.{IsFirstFor}
 use Rattle.pssm_system.specs.inner.Keeping.{StandsSo}
 use Rattle.pssm_system.specs.inner.Choosing.{Finds, NoneMayCome, FindsAmong}
 use Rattle.pssm_system.proofs.Members.{IsMember}
@@ -27,53 +26,44 @@ same_number : (o p : ObjectId) → o.0 ≡ p.0 → o ≡ p
 same_number o p e = ap (λ n. let x : ObjectId = record { 0 = n } in x) e
 
 module _ {setting : Setting} (b : IsBuilt setting) (s : Situation) {K : List Entry} {o : ObjectId} {class : Class} {x : Standing}
-    (m : IsMember setting K s.objects.items o class x) where
+    (m : IsMember setting K s.objects.items o class x) (first : Option Waiting) (f : IsFirstFor setting s o first) where
   -- the entry that was found, or that there is none
-  found_one : (wanted : Wanted) (chosen : Option Entry) → Finds class x (first_waiting s.pools.items o) wanted chosen
-      → FindsAmong setting s wanted o.0 (o.0 + 1) chosen
+  found_one : (wanted : Wanted) (chosen : Option Entry) → Finds class x first wanted chosen → FindsAmong setting s wanted o.0 (o.0 + 1) chosen
   found_one wanted None finds = λ J e stands le lt is may.
-      none-follows b stands o class x m.class_is m.there wanted finds e (same_number (object_of e) o (omega arith)) is may
+      none-follows b stands o class x m.class_is m.there first f wanted finds e (same_number (object_of e) o (omega arith)) is may
   found_one wanted (Some e) finds = record {
     wanted_is = finds.wanted_is;
-    follows = λ J stands. found-follows b stands o class x m.class_is m.there wanted e finds;
+    follows = λ J stands. found-follows b stands o class x m.class_is m.there first f wanted e finds;
   }
 
-  pub found_of : {E : Type 0} (wanted : Wanted) (r : Result (Option Entry) E) (signal : Option Waiting) → signal ≡ first_waiting s.pools.items o
-      → IfOk r (Finds class x signal wanted) → IfOk r (FindsAmong setting s wanted o.0 (o.0 + 1))
-  found_of wanted (Ok chosen) signal is finds = found_one wanted chosen (subst (λ g. Finds class x g wanted chosen) is finds)
-  found_of wanted (Err none) signal is finds = tt
+  pub found_of : {E : Type 0} (wanted : Wanted) (r : Result (Option Entry) E) → IfOk r (Finds class x first wanted)
+      → IfOk r (FindsAmong setting s wanted o.0 (o.0 + 1))
+  found_of wanted (Ok chosen) finds = found_one wanted chosen finds
+  found_of wanted (Err none) finds = tt
 
   -- a quiet object has no next entry
-  pub quiet_here : (waiting : Bool) → waiting ≡ is_some (first_waiting s.pools.items o)
+  pub quiet_here : (waiting : Bool) → waiting ≡ is_some first
       → ((J : List Entry) (signal : Option Waiting) → StandsAfter class J x → objects.IsHandedIn waiting signal
       → MatchBool true (objects.IsQuiet class x signal J) (objects.HasNext class x signal J)) → NoneMayCome setting s AnyEntry o.0 (o.0 + 1)
   quiet_here waiting is says J e stands le lt no_post may =
-      let p = part b stands o class x m.class_is m.there in
-      let quiet = says J (first_waiting s.pools.items o) p.object.stands (handed_in (first_waiting s.pools.items o) waiting is) in
-      quiet-none b stands o class x m.class_is m.there quiet e (same_number (object_of e) o (omega arith)) no_post may
+      let p = part b stands o class x m.class_is m.there first f in
+      let quiet = says J first p.object.stands (handed_in first waiting is) in
+      quiet-none b stands o class x m.class_is m.there first f quiet e (same_number (object_of e) o (omega arith)) no_post may
 
   -- where an object is not quiet, the setting is not
-  pub busy_here : (waiting : Bool) → waiting ≡ is_some (first_waiting s.pools.items o)
+  pub busy_here : (waiting : Bool) → waiting ≡ is_some first
       → ((J : List Entry) (signal : Option Waiting) → StandsAfter class J x → objects.IsHandedIn waiting signal
       → MatchBool false (objects.IsQuiet class x signal J) (objects.HasNext class x signal J)) → (J : List Entry) → StandsSo setting J s
       → IsTrue false ↔ IsQuiet setting J
   busy_here waiting is says J stands =
-      let p = part b stands o class x m.class_is m.there in
-      let next = says J (first_waiting s.pools.items o) p.object.stands (handed_in (first_waiting s.pools.items o) waiting is) in
-      ((λ yes'. absurd (false≢true yes')), (λ quiet. absurd (next-some b stands o class x m.class_is m.there next quiet)))
+      let p = part b stands o class x m.class_is m.there first f in
+      let next = says J first p.object.stands (handed_in first waiting is) in
+      ((λ yes'. absurd (false≢true yes')), (λ quiet. absurd (next-some b stands o class x m.class_is m.there first f next quiet)))
 
 -- where no object has a next entry, the setting is quiet
 pub all_quiet : {setting : Setting} {s : Situation} → NoneMayCome setting s AnyEntry 0 (length s.objects.items) → (J : List Entry) → StandsSo setting J s
     → IsTrue true ↔ IsQuiet setting J
 all_quiet none J stands = ((λ always. λ e no_post may. none-of_all stands AnyEntry none e no_post may), (λ quiet. refl))
-
--- the first signal of the pool that was looked up
-pub first_of : (s : Situation) (o : ObjectId) (k : ℕ) (p : Queue) (first : Option Waiting) → k ≡ o.0 → o.0 < length s.pools.items → p ≡ get_or s.pools.items k p
-    → first ≡ slice_get p.waiting 0 → first ≡ first_waiting s.pools.items o
-first_of s o k p first at lt read is =
-    let there : slice_get s.pools.items o.0 ≡ Some p =
-    slice_get-get_or s.pools.items o.0 p lt ∙ ap Some (ap (λ n. get_or s.pools.items n p) (sym at) ∙ sym read) in
-    is ∙ sym (ap (option_and_then (λ (q : Queue). slice_get q.waiting 0)) there)
 
 -- what was found before some objects that have none was found for all
 pub found_before : {E : Type 0} (setting : Setting) (s : Situation) (wanted : Wanted) (mid to : ℕ) (r : Result (Option Entry) E)

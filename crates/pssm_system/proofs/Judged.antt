@@ -16,7 +16,6 @@ use Rattle.pssm_semantics.specs.Pool.{KnownSignals, outs_of, told_by}
 use Rattle.pssm_semantics.specs.Known.{IsOutOf, NamesKnown}
 use Rattle.pssm_semantics.specs.Rules.{KeepsPool, KeepsOwn, Holds, taken_by}
 use Rattle.pssm_semantics.specs.Verdict.{number_of}
-use Rattle.pssm_semantics.specs.Deferral.{IsDeferred}
 use Rattle.pssm_semantics.specs.Proper.{ClassFits}
 use Rattle.pssm_semantics.specs.Built.{IsBuiltClass, IsBuilt}
 use Rattle.pssm_semantics.proofs.BuiltSettings.{built_class}
@@ -24,10 +23,11 @@ use Rattle.pssm_object.specs.declared.object.Waiting.{Waiting}
 use Rattle.pssm_object.specs.Standing.{Standing}
 use Rattle.pssm_object.specs.Following.{NamesPlaces, NamesSignal, IsTold, KeepsRule, stimulus_for}
 use Rattle.pssm_system.specs.inner.Pooling.{Queue, signal_taken}
+use Rattle.pssm_system.specs.inner.Deferring.{ComesWith}
+use Rattle.pssm_system.specs.declared.situation.Situation.{Situation}
 use Rattle.pssm_system.specs.inner.Keeping.{IsObject, AreObjects, ArePools}
 use Rattle.pssm_system.specs.inner.Judging.{Says, IsVerdict}
 use Rattle.pssm_system.proofs.Following.{IsNoTake, own_of, shared, holds}
-use Rattle.pssm_system.proofs.Signals.{none_deferred}
 
 -- an entry is a take or none
 pub data TakeOrNot (e : Entry) : Type 0 where
@@ -70,6 +70,18 @@ no_signal pools (Enter o v outs) free = refl
 no_signal pools (Opened o r mode how) free = refl
 no_signal pools (Pick o v route) free = refl
 no_signal pools (DoStep o v k outs) free = refl
+
+pub comes_none : (setting : Setting) (s : Situation) (e : Entry) (signal : Option Waiting) → IsNoTake e → ComesWith setting s e signal → signal ≡ None
+comes_none setting s (Take o number firing) signal free comes = absurd free
+comes_none setting s (Post o g args) signal free comes = comes
+comes_none setting s (Start o) signal free comes = comes
+comes_none setting s (Done o v firing) signal free comes = comes
+comes_none setting s (Exit o v outs) signal free comes = comes
+comes_none setting s (Effect o v outs) signal free comes = comes
+comes_none setting s (Enter o v outs) signal free comes = comes
+comes_none setting s (Opened o r mode how) signal free comes = comes
+comes_none setting s (Pick o v route) signal free comes = comes
+comes_none setting s (DoStep o v k outs) signal free comes = comes
 
 pub taken_none : (told : KnownSignals) (e : Entry) → IsNoTake e → taken_by told e ≡ None
 taken_none told (Take o number firing) free = absurd free
@@ -155,11 +167,6 @@ is_part {setting = setting} b ao pools o class x is at = record {
 }
 
 module _ {setting : Setting} {J : List Entry} {pools : List Queue} {o : ObjectId} {class : Class} {x : Standing} (p : IsPart setting J pools o class x) where
-  -- nothing that waits for it is deferred
-  pub free_to_take : (w : Stimulus) → IsDeferred class (told_by J) J o w → ⊥
-  free_to_take w deferred =
-      none_deferred class p.built J x p.object.stands w (subst (λ q. IsDeferred class (told_by J) J q w) (sym p.object.own) deferred)
-
   -- the rules as the object shows them
   stimulus_is : (signal : Option Waiting) → stimulus_for x.own signal ≡ stimulus_for o signal
   stimulus_is signal = ap (λ q. stimulus_for q signal) p.object.own
@@ -185,7 +192,7 @@ module _ {setting : Setting} {J : List Entry} {pools : List Queue} {o : ObjectId
         let first = says J p.object.stands in
         record { broken = λ h. first.broken (shown rule h); earlier = λ other lt. asked other (first.earlier other lt) }
 
-  -- A take of another signal than the first breaks A6, if it breaks no rule before it.
+  -- A take of another signal than the first that is not deferred breaks A6, if it breaks no rule before it.
   module _ (number : ℕ) (firing : Firing) (known : NamesKnown setting class (Take o number firing))
       (other : KeepsPool class J (Take o number firing) → ⊥) where
     abbrev the_take : Entry

@@ -1,4 +1,6 @@
 pub mod Places
+pub mod Numbers
+pub mod Free
 pub mod Pools
 pub mod Following
 pub mod Arriving

@@ -1,5 +1,5 @@
 -- What is known of an object that is looked up by its number.
-use Rattle.std.proofs.Common.{◌≡◌, ◌<◌, ℕ, List, length, Some, slice_get, get_or, sym, subst}
+use Rattle.std.proofs.Common.{◌≡◌, ◌<◌, ℕ, List, length, Some, slice_get, get_or, sym, subst, ◌∙◌}
 use Rattle.std.proofs.lemmas.Option.{slice_get-get_or}
 use Rattle.pssm_semantics.specs.declared.entry.ObjectId.{ObjectId}
 use Rattle.pssm_semantics.specs.declared.entry.Entry.{Entry}
@@ -10,7 +10,7 @@ use Rattle.pssm_semantics.specs.Built.{IsBuiltClass, IsBuilt}
 use Rattle.pssm_semantics.proofs.BuiltSettings.{built_class}
 use Rattle.pssm_object.specs.Standing.{Standing, Stands}
 use Rattle.pssm_system.specs.inner.Keeping.{IsObject, AreObjects}
-use Rattle.pssm_system.proofs.Following.{object_there}
+use Rattle.pssm_system.proofs.Following.{object_there, one_class}
 
 -- an object of the setting, of this class, that stands so
 pub record IsMember (setting : Setting) (J : List Entry) (objects : List Standing) (o : ObjectId) (class : Class) (x : Standing) : Type 0 where
@@ -41,3 +41,10 @@ member {setting = setting} b {J = J} {objects = objects} are o class x k is at r
 pub stands_somewhere : {setting : Setting} {J : List Entry} {objects : List Standing} {o : ObjectId} {class : Class} {x : Standing}
     → IsMember setting J objects o class x → Stands class x
 stands_somewhere {J = J} m = (J, m.object.stands)
+
+-- an object that was looked up is the one with that number
+pub of_member : {setting : Setting} {J : List Entry} {objects : List Standing} {o : ObjectId} {class : Class} {x : Standing} → IsMember setting J objects o class x
+    → (P : Class → Standing → Type 0) → P class x → (k : Class) (y : Standing) → class_of setting o ≡ Some k → slice_get objects o.0 ≡ Some y → P k y
+of_member {setting = setting} {o = o} {class = class} {x = x} m P here k y is at =
+    let same : x ≡ y = let both : Some x ≡ Some y = sym m.there ∙ at in cc in
+    subst (λ c. P c y) (one_class setting o class k m.class_is is) (subst (P class) same here)

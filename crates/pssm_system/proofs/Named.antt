@@ -1,16 +1,11 @@
 -- An entry that may come next for an object names places of its machine.
-use Rattle.std.proofs.Common.{◌≡◌, ◌<◌, ℕ, List, [], ◌∷◌, length, Option, Some, None, IfSome, All, IsSomeAnd, sym, subst}
-use Rattle.std.proofs.lemmas.List.Elements.{All-nil, All-cons}
-use Rattle.pssm_model.specs.declared.ids.TransId.{TransId}
-use Rattle.pssm_model.specs.declared.ids.SignalId.{SignalId}
-use Rattle.pssm_model.specs.declared.ids.VertexId.{VertexId}
+use Rattle.std.proofs.Common.{◌≡◌, ◌<◌, ℕ, List, length, Option, Some, None, IfSome, All, IsSomeAnd}
 use Rattle.pssm_model.specs.declared.elements.DraftMachine.{DraftMachine}
 use Rattle.pssm_model.specs.declared.steps.Route.{Route}
 use Rattle.pssm_model.specs.declared.steps.Item.TheVariants as items
 use Rattle.pssm_model.specs.declared.steps.Mode.{Mode}
 use Rattle.pssm_model.specs.declared.steps.Mode.TheVariants.{Plain, Shallow, Deep}
 use Rattle.pssm_model.specs.declared.ids.RegionId.{RegionId}
-use Rattle.pssm_model.specs.Routes.{Truth}
 use Rattle.pssm_plan.proofs.StepLengths.{IsThere}
 use Rattle.pssm_semantics.specs.declared.entry.Entry.{Entry}
 use Rattle.pssm_semantics.specs.declared.entry.Entry.TheVariants.{Post, Start, Take, Done, Exit, Effect, Enter, Opened, Pick, DoStep}
@@ -20,23 +15,10 @@ use Rattle.pssm_semantics.specs.Built.{IsBuiltClass}
 use Rattle.pssm_object.specs.declared.object.Waiting.{Waiting}
 use Rattle.pssm_object.specs.Standing.{Standing, StandsAfter}
 use Rattle.pssm_object.specs.Following.{NamesPlaces, KeepsRules, IsCandidate}
-use Rattle.pssm_object.specs.inner.Firing.{FiresAt, truth_at}
 use Rattle.pssm_object.specs.inner.Judging.{FiresHere, Judges}
 use Rattle.pssm_object.proofs.Accepted.{accepted}
-use Rattle.pssm_object.proofs.BuiltMachines.{leaving_there}
 use Rattle.pssm_object.proofs.Following.{ready_there}
 use Rattle.pssm_object.proofs.Ready.{way_there}
-
--- the route of a transition that leaves a vertex
-route_there : (m : DraftMachine) (t : TransId) → t.0 < length m.transitions → All (λ (u : TransId). u.0 < length m.transitions) (t ∷ [])
-route_there m t lt = All-cons (λ (u : TransId). u.0 < length m.transitions) t [] lt (All-nil (λ (u : TransId). u.0 < length m.transitions))
-
-routes_there : (m : DraftMachine) (truth : Truth) (active : Option VertexId) (signal : SignalId) (routes : List Route) → FiresAt m truth active signal routes
-    → All (IsRouteOf m) routes
-routes_there m truth active signal [] h = All-nil (IsRouteOf m)
-routes_there m truth active signal (route ∷ []) (s, is, (t, same, leaves, triggered)) =
-    All-cons (IsRouteOf m) route [] (subst (IsRouteOf m) (sym same) (route_there m t (leaving_there m t s leaves))) (All-nil (IsRouteOf m))
-routes_there m truth active signal (route ∷ other ∷ rest) h = absurd h
 
 region_there : (m : DraftMachine) (r : RegionId) (mode : Mode) → IsThere m (items.Opened r mode) → r.0 < length m.regions
 region_there m r Plain h = h
@@ -47,7 +29,7 @@ module _ (class : Class) (b : IsBuiltClass class) {J : List Entry} {x : Standing
   firing_there : (signal : Option Waiting) (number : ℕ) (routes : List Route) → IsSomeAnd signal (λ w. number ≡ w.number)
       → IfSome signal (FiresHere class x routes) → All (IsRouteOf class.machine) routes
   firing_there None number routes named fires = absurd named
-  firing_there (Some w) number routes named fires = routes_there class.machine (truth_at class x.store w) fires.0 w.signal routes fires.2
+  firing_there (Some w) number routes named fires = λ i route lt. (fires.0.sound.enabled i route lt).route_of_states.0.in_range
 
   named_by : (signal : Option Waiting) (e : Entry) → IsCandidate x.own signal e → Judges class x signal e None → NamesPlaces class.machine e
   named_by signal (Post o g args) c h = tt

@@ -21,14 +21,15 @@ use Rattle.pssm_object.specs.declared.object.Waiting.{Waiting}
 use Rattle.pssm_object.specs.Standing.{Standing}
 use Rattle.pssm_object.specs.Following.{NamesPlaces, NamesSignal, IsCandidate, IsTold, KeepsRules, stimulus_of, stimulus_for}
 use Rattle.pssm_system.specs.declared.situation.Situation.{Situation}
-use Rattle.pssm_system.specs.inner.Pooling.{Queue, first_waiting, with_number, signal_taken}
+use Rattle.pssm_system.specs.inner.Pooling.{Queue}
+use Rattle.pssm_system.specs.inner.Deferring.{ComesFirst, IsFirstFree, IsFirstFor, if_numbered, ComesWith}
 use Rattle.pssm_system.specs.inner.Keeping.{StandsSo}
 use Rattle.pssm_system.specs.inner.Judging.{IsKnown, Says, IsVerdict}
 use Rattle.pssm_system.proofs.Following.{IsNoTake, own_alike, object_there, pool_kept, names_of}
-use Rattle.pssm_system.proofs.Signals.{first-told, may-take, taken-first, numbered-so, numbered-is}
-use Rattle.pssm_system.proofs.Judged.{TakeOrNot, is_take, no_take, take_or_not, no_pool, no_signal, taken_none, names_none, told_none, known_by, IsPart, is_part, free_to_take, shown, asked, same_verdict, verdict_alone}
+use Rattle.pssm_system.proofs.Signals.{IsFirst, first-told, may-take, taken-first, numbered-so, numbered-is}
+use Rattle.pssm_system.proofs.Judged.{TakeOrNot, is_take, no_take, take_or_not, no_pool, comes_none, taken_none, names_none, told_none, known_by, IsPart, is_part, shown, asked, same_verdict, verdict_alone}
 
--- the signal that comes with an entry: of a take the first that waits, with the number that the take names
+-- the signal that comes with an entry: of a take the first that waits and is not deferred, with the number that the take names
 pub record HasSignal (J : List Entry) (class : Class) (o : ObjectId) (e : Entry) (signal : Option Waiting) : Type 0 where
   pub pool : KeepsPool class J e
   pub signal_is : taken_by (told_by J) e ≡ stimulus_for o signal
@@ -36,7 +37,7 @@ pub record HasSignal (J : List Entry) (class : Class) (o : ObjectId) (e : Entry)
   pub told : IsTold J (stimulus_for o signal) e
 
 module _ {setting : Setting} {J : List Entry} {pools : List Queue} {o : ObjectId} {class : Class} {x : Standing} (p : IsPart setting J pools o class x) where
-  no_take-has : (e : Entry) (signal : Option Waiting) → IsNoTake e → signal ≡ None → HasSignal J class o e signal
+  pub no_take-has : (e : Entry) (signal : Option Waiting) → IsNoTake e → signal ≡ None → HasSignal J class o e signal
   no_take-has e signal free none = record {
     pool = no_pool class J e free;
     signal_is = taken_none (told_by J) e free ∙ sym (ap (stimulus_for o) none);
@@ -44,109 +45,103 @@ module _ {setting : Setting} {J : List Entry} {pools : List Queue} {o : ObjectId
     told = told_none J (stimulus_for o signal) e free;
   }
 
-  take-has : (number : ℕ) (firing : Firing) (w : Waiting) → first_waiting pools o ≡ Some w → number ≡ w.number → HasSignal J class o (Take o number firing) (Some w)
-  take-has number firing w first same =
-      let told : told_by J number ≡ Some (stimulus_of o w) = ap (told_by J) same ∙ first-told p.pools_are o w first in
-      record {
-        pool = subst (IsFirstWaiting class J o) (sym same) (may-take p.pools_are o class (free_to_take p) w first);
-        signal_is = told;
-        names = same;
-        told = told;
-      }
+  -- the first signal that waits and is not deferred
+  module _ {first : Option Waiting} (f : IsFirst pools o class x first) where
+    take-has : (number : ℕ) (firing : Firing) (w : Waiting) → first ≡ Some w → number ≡ w.number → HasSignal J class o (Take o number firing) (Some w)
+    take-has number firing w is same =
+        let comes : ComesFirst class x f.pool.waiting w = subst (IsFirstFree class x f.pool.waiting) is f.first_is in
+        let told : told_by J number ≡ Some (stimulus_of o w) = ap (told_by J) same ∙ first-told p.pools_are o f.pool f.there class x p.object w comes in
+        record {
+          pool = subst (IsFirstWaiting class J o) (sym same) (may-take p.pools_are o f.pool f.there class x p.object w comes);
+          signal_is = told;
+          names = same;
+          told = told;
+        }
 
-  -- an entry of the object comes with the signal that is taken for it, or is a take of another signal
-  pub has_signal : (e : Entry) → object_of e ≡ o → (signal : Option Waiting) → signal_taken pools e ≡ signal
-      → HasSignal J class o e signal ⊎ ((number : ℕ) × (firing : Firing) × (e ≡ Take o number firing) × (signal ≡ None) × (KeepsPool class J e → ⊥))
-  has_signal e own signal taken = by (take_or_not e)
-    where
-      other : (number : ℕ) (firing : Firing) → with_number number (first_waiting pools o) ≡ None → KeepsPool class J (Take o number firing) → ⊥
-      other number firing none pool =
-          let first = taken-first p.pools_are o class (free_to_take p) (subst (λ n. o.0 < n) (sym p.pools_are.count) (object_there setting o class p.class_is)) number
-          pool in
-          let clash : None ≡ Some first.0 = sym none ∙ ap (with_number number) first.1 ∙ numbered-so number first.0 first.2 in
-          cc
+    -- no other may be taken
+    no_other : (number : ℕ) (firing : Firing) → KeepsPool class J (Take o number firing) → (w : Waiting) × (first ≡ Some w) × (number ≡ w.number)
+    no_other number firing pool = taken-first p.pools_are o f.pool f.there class x p.object first f.first_is number pool
 
-      of_take : (number : ℕ) (firing : Firing) (s : Option Waiting) → with_number number (first_waiting pools o) ≡ s
-          → HasSignal J class o (Take o number firing) s ⊎ ((s ≡ None) × (KeepsPool class J (Take o number firing) → ⊥))
-      of_take number firing None none = inr (refl, other number firing none)
-      of_take number firing (Some w) there =
-          let at = numbered-is number (first_waiting pools o) w there in inl (take-has number firing w at.0 at.1)
+    -- a take comes with the first signal, or is a take of another one
+    pub of_take : (number : ℕ) (firing : Firing) (signal : Option Waiting) → if_numbered number first ≡ signal
+        → HasSignal J class o (Take o number firing) signal ⊎ ((signal ≡ None) × (KeepsPool class J (Take o number firing) → ⊥))
+    of_take number firing None none =
+        inr (
+          refl,
+          λ pool.
+              let at = no_other number firing pool in
+              let clash : None ≡ Some at.0 = sym none ∙ ap (if_numbered number) at.1 ∙ numbered-so number at.0 at.2 in
+              cc,
+        )
+    of_take number firing (Some w) there = let at = numbered-is number first w there in inl (take-has number firing w at.0 at.1)
 
-      by : TakeOrNot e → HasSignal J class o e signal
-          ⊎ ((number : ℕ) × (firing : Firing) × (e ≡ Take o number firing) × (signal ≡ None) × (KeepsPool class J e → ⊥))
-      by (no_take free) = inl (no_take-has e signal free (sym taken ∙ no_signal pools e free))
-      by (is_take q number firing is) =
-          let owner : q ≡ o = sym (ap object_of is) ∙ own in
-          let here : e ≡ Take o number firing = is ∙ ap (λ r. Take r number firing) owner in
-          let at : with_number number (first_waiting pools o) ≡ signal = sym (ap (signal_taken pools) here) ∙ taken in
-          ⊎_elim
-          (λ has. inl (subst (λ f. HasSignal J class o f signal) (sym here) has))
-          (λ none. inr (number, firing, here, none.0, λ pool. none.1 (subst (KeepsPool class J) here pool)))
-          (of_take number firing signal at)
+    -- an entry that names the first signal, if it is a take
+    names_first : (e : Entry) → object_of e ≡ o → NamesSignal first e → TakeOrNot e → IsNoTake e ⊎ HasSignal J class o e first
+    names_first e own names (no_take free) = inl free
+    names_first e own names (is_take q number firing is) =
+        let owner : q ≡ o = sym (ap object_of is) ∙ own in
+        let here : e ≡ Take o number firing = is ∙ ap (λ r. Take r number firing) owner in
+        let at = some_and (λ (w : Waiting). number ≡ w.number) first (subst (NamesSignal first) here names) in
+        inr (subst (λ g. HasSignal J class o g first) (sym here)
+        (subst (HasSignal J class o (Take o number firing)) (sym at.1) (take-has number firing at.0 at.1 at.2)))
 
-  -- an entry that names the first signal that waits, if it is a take
-  pub names_first : (e : Entry) → object_of e ≡ o → NamesSignal (first_waiting pools o) e → TakeOrNot e
-      → IsNoTake e ⊎ HasSignal J class o e (first_waiting pools o)
-  names_first e own names (no_take free) = inl free
-  names_first e own names (is_take q number firing is) =
-      let owner : q ≡ o = sym (ap object_of is) ∙ own in
-      let here : e ≡ Take o number firing = is ∙ ap (λ r. Take r number firing) owner in
-      let at = some_and (λ (w : Waiting). number ≡ w.number) (first_waiting pools o) (subst (NamesSignal (first_waiting pools o)) here names) in
-      inr (subst (λ f. HasSignal J class o f (first_waiting pools o)) (sym here)
-      (subst (HasSignal J class o (Take o number firing)) (sym at.1) (take-has number firing at.0 at.1 at.2)))
+    there : o.0 < length setting.objects
+    there = object_there setting o class p.class_is
 
-  there : o.0 < length setting.objects
-  there = object_there setting o class p.class_is
+    -- what the object may do next may follow
+    pub next_follows : (e : Entry) → IsCandidate o first e → NamesPlaces class.machine e → KeepsRules class x first J e → MayFollow setting J e
+    next_follows e c places keeps =
+        let known : NamesKnown setting class e =
+        known_by setting class e c.no_post places (known_outs setting class p.fits o there (told_by J) J e c.own (keeps A12)) in
+        ⊎_elim
+        (λ free.
+        let none = no_take-has e None free refl in
+        λ rule. asked p None e c.own known none.pool none.signal_is rule
+        (own_alike class (told_by J) (stimulus_for x.own first) (stimulus_for x.own None) J rule e free (keeps rule)))
+        (λ has. λ rule. asked p first e c.own known has.pool has.signal_is rule (keeps rule))
+        (names_first e c.own c.names (take_or_not e))
 
-  -- what the object may do next may follow
-  pub next_follows : (e : Entry) → IsCandidate o (first_waiting pools o) e → NamesPlaces class.machine e
-      → KeepsRules class x (first_waiting pools o) J e → MayFollow setting J e
-  next_follows e c places keeps =
-      let known : NamesKnown setting class e =
-      known_by setting class e c.no_post places (known_outs setting class p.fits o there (told_by J) J e c.own (keeps A12)) in
-      ⊎_elim
-      (λ free.
-      let none = no_take-has e None free refl in
-      λ rule. asked p None e c.own known none.pool none.signal_is rule
-      (own_alike class (told_by J) (stimulus_for x.own (first_waiting pools o)) (stimulus_for x.own None) J rule e free (keeps rule)))
-      (λ has. λ rule. asked p (first_waiting pools o) e c.own known has.pool has.signal_is rule (keeps rule))
-      (names_first e c.own c.names (take_or_not e))
+    -- and what may follow the object may do next
+    pub follows_next : (e : Entry) → object_of e ≡ o → (IsPost e → ⊥) → MayFollow setting J e → IsCandidate o first e × KeepsRules class x first J e
+    follows_next e own no_post may = by (take_or_not e)
+      where
+        here : class_of setting (object_of e) ≡ Some class
+        here = ap (λ q. class_of setting q) own ∙ p.class_is
 
-  -- and what may follow the object may do next
-  pub follows_next : (e : Entry) → object_of e ≡ o → (IsPost e → ⊥) → MayFollow setting J e
-      → IsCandidate o (first_waiting pools o) e × KeepsRules class x (first_waiting pools o) J e
-  follows_next e own no_post may = by (take_or_not e)
-    where
-      here : class_of setting (object_of e) ≡ Some class
-      here = ap (λ q. class_of setting q) own ∙ p.class_is
+        known : NamesKnown setting class e
+        known = names_of setting J e class here (may A1)
 
-      known : NamesKnown setting class e
-      known = names_of setting J e class here (may A1)
+        with_signal : (signal : Option Waiting) → HasSignal J class o e signal → (rule : Rule) → KeepsOwn class (told_by J) (stimulus_for x.own signal) rule J e
+        with_signal signal has rule = shown p signal e own known has.pool has.signal_is rule (may rule)
 
-      with_signal : (signal : Option Waiting) → HasSignal J class o e signal → (rule : Rule) → KeepsOwn class (told_by J) (stimulus_for x.own signal) rule J e
-      with_signal signal has rule = shown p signal e own known has.pool has.signal_is rule (may rule)
+        by : TakeOrNot e → IsCandidate o first e × KeepsRules class x first J e
+        by (no_take free) = (
+          record { own = own; no_post = no_post; names = names_none first e free },
+          λ rule. own_alike class (told_by J) (stimulus_for x.own None) (stimulus_for x.own first) J rule e free
+              (with_signal None (no_take-has e None free refl) rule),
+        )
+        by (is_take q number firing is) =
+            let owner : q ≡ o = sym (ap object_of is) ∙ own in
+            let at : e ≡ Take o number firing = is ∙ ap (λ r. Take r number firing) owner in
+            let one = no_other number firing (subst (KeepsPool class J) at (pool_kept setting J e class here (may A6))) in
+            let has : HasSignal J class o e (Some one.0) =
+            subst (λ g. HasSignal J class o g (Some one.0)) (sym at) (take-has number firing one.0 one.1 one.2) in
+            let has_first : HasSignal J class o e first = subst (HasSignal J class o e) (sym one.1) has in (
+              record { own = own; no_post = no_post; names = has_first.names },
+              with_signal first has_first,
+            )
 
-      by : TakeOrNot e → IsCandidate o (first_waiting pools o) e × KeepsRules class x (first_waiting pools o) J e
-      by (no_take free) = (
-        record { own = own; no_post = no_post; names = names_none (first_waiting pools o) e free },
-        λ rule. own_alike class (told_by J) (stimulus_for x.own None) (stimulus_for x.own (first_waiting pools o)) J rule e free
-            (with_signal None (no_take-has e None free refl) rule),
-      )
-      by (is_take q number firing is) =
-          let owner : q ≡ o = sym (ap object_of is) ∙ own in
-          let at : e ≡ Take o number firing = is ∙ ap (λ r. Take r number firing) owner in
-          let first = taken-first p.pools_are o class (free_to_take p) (subst (λ n. o.0 < n) (sym p.pools_are.count) there) number
-          (subst (KeepsPool class J) at (pool_kept setting J e class here (may A6))) in
-          let has : HasSignal J class o e (Some first.0) =
-          subst (λ f. HasSignal J class o f (Some first.0)) (sym at) (take-has number firing first.0 first.1 first.2) in
-          let has_first : HasSignal J class o e (first_waiting pools o) = subst (HasSignal J class o e) (sym first.1) has in (
-            record { own = own; no_post = no_post; names = has_first.names },
-            with_signal (first_waiting pools o) has_first,
-          )
+-- The first signal of an object of the setting is the first of its pool.
+pub first_in : {setting : Setting} {s : Situation} {J : List Entry} → StandsSo setting J s → (o : ObjectId) (class : Class) (x : Standing)
+    → class_of setting o ≡ Some class → slice_get s.objects.items o.0 ≡ Some x → (first : Option Waiting) → IsFirstFor setting s o first
+    → IsFirst s.pools.items o class x first
+first_in {setting = setting} {s = s} stands o class x is at first f =
+    let pool = some_at s.pools.items o.0 (subst (λ n. o.0 < n) (sym stands.pools.count) (object_there setting o class is)) in
+    record { pool = pool.0; there = pool.1; first_is = f class x pool.0 is at pool.1 }
 
 -- The verdict, where what the object says is known.
 module _ {setting : Setting} (b : IsBuilt setting) {J : List Entry} {s : Situation} (stands : StandsSo setting J s) (e : Entry) (known : IsKnown setting e)
-    (answer : Option Rule) (signal : Option Waiting) (taken : signal ≡ signal_taken s.pools.items e)
+    (answer : Option Rule) (signal : Option Waiting) (comes : ComesWith setting s e signal)
     (says : (class : Class) (x : Standing) → class_of setting (object_of e) ≡ Some class → slice_get s.objects.items (object_of e).0 ≡ Some x
     → Says class x signal e answer) where
   at : (x : Standing) × (slice_get s.objects.items (object_of e).0 ≡ Some x)
@@ -159,6 +154,22 @@ module _ {setting : Setting} (b : IsBuilt setting) {J : List Entry} {s : Situati
   says_here : Says known.0 at.0 signal e answer
   says_here = says known.0 at.0 known.1 at.1
 
+  -- it comes with its signal, or is a take of another signal than the first
+  has_signal : HasSignal J known.0 (object_of e) e signal
+      ⊎ ((number : ℕ) × (firing : Firing) × (e ≡ Take (object_of e) number firing) × (signal ≡ None) × (KeepsPool known.0 J e → ⊥))
+  has_signal = by (take_or_not e)
+    where
+      by : TakeOrNot e → HasSignal J known.0 (object_of e) e signal
+          ⊎ ((number : ℕ) × (firing : Firing) × (e ≡ Take (object_of e) number firing) × (signal ≡ None) × (KeepsPool known.0 J e → ⊥))
+      by (no_take free) = inl (no_take-has part e signal free (comes_none setting s e signal free comes))
+      by (is_take q number firing is) =
+          let here : e ≡ Take (object_of e) number firing = is ∙ ap (λ r. Take r number firing) (sym (ap object_of is)) in
+          let with : ComesWith setting s (Take (object_of e) number firing) signal = subst (λ g. ComesWith setting s g signal) here comes in
+          ⊎_elim
+          (λ has. inl (subst (λ g. HasSignal J known.0 (object_of e) g signal) (sym here) has))
+          (λ none. inr (number, firing, here, none.0, λ pool. none.1 (subst (KeepsPool known.0 J) here pool)))
+          (of_take part (first_in stands (object_of e) known.0 at.0 known.1 at.1 with.0 with.1) number firing signal (sym with.2))
+
   pub judged : (IsNoTake e ⊎ ((w : Waiting) × (signal ≡ Some w))) → IsVerdict setting J e answer
   judged why =
       ⊎_elim
@@ -167,7 +178,7 @@ module _ {setting : Setting} (b : IsBuilt setting) {J : List Entry} {s : Situati
       (λ free. subst IsNoTake other.2 free)
       (λ some. let clash : None ≡ Some some.0 = sym other.3 ∙ some.1 in cc)
       why))
-      (has_signal part e refl signal (sym taken))
+      has_signal
 
   pub judged_alone : (q : ObjectId) (number : ℕ) (firing : Firing) → e ≡ Take q number firing → signal ≡ None → IsVerdict setting J e (Some (unwrap_or answer A6))
   judged_alone q number firing is none =
@@ -175,7 +186,7 @@ module _ {setting : Setting} (b : IsBuilt setting) {J : List Entry} {s : Situati
       (λ has. absurd (let named = subst (NamesSignal signal) is has.names in subst (λ o. IsSomeAnd o (λ (w : Waiting). number ≡ w.number)) none named))
       (λ other.
       let here : e ≡ Take (object_of e) other.0 other.1 = other.2 in
-      subst (λ f. IsVerdict setting J f (Some (unwrap_or answer A6))) (sym here)
+      subst (λ g. IsVerdict setting J g (Some (unwrap_or answer A6))) (sym here)
       (verdict_alone part other.0 other.1 (subst (NamesKnown setting known.0) here known.2) (λ pool. other.4 (subst (KeepsPool known.0 J) (sym here) pool)) answer
-      (subst (λ f. Says known.0 at.0 None f answer) here (subst (λ o. Says known.0 at.0 o e answer) none says_here))))
-      (has_signal part e refl signal (sym taken))
+      (subst (λ g. Says known.0 at.0 None g answer) here (subst (λ o. Says known.0 at.0 o e answer) none says_here))))
+      has_signal

@@ -1,6 +1,10 @@
 -- What stands at a place of a list once one place of it has been written, and of two lists one after the other.
-use Rattle.std.proofs.Common.{◌≡◌, ◌<◌, ◌+◌, ◌++◌, ℕ, zero, suc, List, [], ◌∷◌, length, Some, None, slice_get, refl, ap, ◌∙◌, arith}
+use Rattle.std.proofs.Common.{◌≡◌, ◌<◌, ◌+◌, ◌++◌, ℕ, zero, suc, List, [], ◌∷◌, length, take, drop, Some, None, slice_get, get_or, refl, sym, ap, subst, ◌∙◌, arith, add-one}
+use Rattle.std.specs.List.{AllByRecursion}
 use Rattle.std.proofs.Math.ListN.{set}
+use Rattle.std.proofs.Math.Seq.{take-suc}
+use Rattle.std.proofs.lemmas.Option.{slice_get-get_or, slice_get_within}
+use Rattle.pssm_semantics.proofs.Appending.{every_push}
 
 pub get-set_same : {X : Type 0} (xs : List X) (k : ℕ) (y : X) → k < length xs → slice_get (set xs k y) k ≡ Some y
 get-set_same [] k y lt = absurd (omega arith)
@@ -23,3 +27,20 @@ get-front (z ∷ xs) ys (suc k) x e = get-front xs ys k x e
 pub get-back : {X : Type 0} (xs ys : List X) (k : ℕ) → slice_get (xs ++ ys) (length xs + k) ≡ slice_get ys k
 get-back [] ys k = ap (slice_get ys) (let same : 0 + k ≡ k = omega arith in same)
 get-back (z ∷ xs) ys k = ap (slice_get (z ∷ xs ++ ys)) (let same : suc (length xs) + k ≡ suc (length xs + k) = omega arith in same) ∙ get-back xs ys k
+
+-- a list is what stands before a place, what stands there, and what stands behind it
+pub split-at : {X : Type 0} (xs : List X) (k : ℕ) (x : X) → slice_get xs k ≡ Some x → xs ≡ take k xs ++ x ∷ drop (suc k) xs
+split-at [] k x at = let none : None ≡ Some x = at in absurd (cc)
+split-at (y ∷ ys) zero x at = let same : y ≡ x = cc in ap (λ z. z ∷ ys) same
+split-at (y ∷ ys) (suc k) x at = ap (λ zs. y ∷ zs) (split-at ys k x at)
+
+-- what holds before a place and there holds before the next place
+pub all-more : {X : Type 0} (P : X → Type 0) (xs : List X) (k : ℕ) (x : X) → slice_get xs k ≡ Some x → P x → AllByRecursion P (take k xs)
+    → AllByRecursion P (take (k + 1) xs)
+all-more P xs k x at here before =
+    let lt = slice_get_within xs k x at in
+    let there = slice_get-get_or xs k x lt in
+    let same : x ≡ get_or xs k x = let both : Some x ≡ Some (get_or xs k x) = sym at ∙ there in cc in
+    let more : take (k + 1) xs ≡ take k xs ++ x ∷ [] =
+    ap (λ i. take i xs) (add-one k) ∙ take-suc xs k x lt ∙ ap (λ y. take k xs ++ y ∷ []) (sym same) in
+    subst (AllByRecursion P) (sym more) (every_push P (take k xs) x before here)

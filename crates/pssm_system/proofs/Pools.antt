@@ -1,5 +1,5 @@
 -- How the pools change while room is made in them and while signals come to them.
-use Rattle.std.proofs.Common.{◌≡◌, ◌<◌, ◌≤◌, ◌+◌, ◌++◌, ℕ, suc, List, [], ◌∷◌, length, take, drop, Option, Some, None, option_map, slice_get, get_or, Result, Ok, Err, OnOk, refl, sym, ap, subst, ◌∙◌, ⊎_elim, arith, add-one}
+use Rattle.std.proofs.Common.{◌≡◌, ◌<◌, ◌≤◌, ◌+◌, ◌++◌, ℕ, suc, List, [], ◌∷◌, length, take, Option, Some, None, option_map, slice_get, get_or, Result, Ok, Err, OnOk, refl, sym, ap, subst, ◌∙◌, ⊎_elim, arith, add-one}
 use Rattle.std.specs.Option.{option_and_then}
 use Rattle.std.proofs.Math.ListN.{set}
 use Rattle.std.proofs.Math.Seq.{map-set_same, take-suc}
@@ -14,7 +14,7 @@ use Rattle.pssm_semantics.specs.declared.entry.Entry.TheVariants.{Post, Start, T
 use Rattle.pssm_semantics.specs.declared.stimulus.Stimulus.{Stimulus}
 use Rattle.pssm_semantics.proofs.Appending.{every_push}
 use Rattle.pssm_object.specs.declared.object.Waiting.{Waiting}
-use Rattle.pssm_system.specs.inner.Pooling.{Queue, waiting_in, first_waiting, with_number, signal_taken, waiting_as, with_arrived, delivered, left_by, HasRoomAt, HasRoom, HavePools, KeepsRoom}
+use Rattle.pssm_system.specs.inner.Pooling.{Queue, waiting_in, with_number, without_number, signal_taken, waiting_as, with_arrived, delivered, left_by, HasRoomAt, HasRoom, HavePools, KeepsRoom}
 use Rattle.pssm_system.proofs.Places.{get-set_same, get-set_other}
 
 -- a pool in which the same signals wait
@@ -22,7 +22,7 @@ pub waiting-same : (pools : List Queue) (k : ℕ) (d q : Queue) → q.waiting �
 waiting-same pools k d q same = map-set_same (λ (x : Queue). x.waiting) pools k q d same
 
 -- the pool at a place is the one that is read there
-pool-there : (pools : List Queue) (k j : ℕ) (d p : Queue) → k < length pools → j ≡ k → slice_get pools j ≡ Some p → p ≡ get_or pools k d
+pub pool-there : (pools : List Queue) (k j : ℕ) (d p : Queue) → k < length pools → j ≡ k → slice_get pools j ≡ Some p → p ≡ get_or pools k d
 pool-there pools k j d p lt same at =
     let one : slice_get pools k ≡ Some p = subst (λ i. slice_get pools i ≡ Some p) same at in
     let there : slice_get pools k ≡ Some (get_or pools k d) = slice_get-get_or pools k d lt in
@@ -130,29 +130,29 @@ one-comes first pools told signals number k x left rest d q next at more less wa
           ∙ h.pools_are;
     }
 
--- a pool from which the first signal has left
+-- a pool from which the signal with a number has left
 pub left-at : (pools : List Queue) (k : ℕ) (d q : Queue) (e : Entry) (o : ObjectId) (number : ℕ) (firing : Firing) → e ≡ Take o number firing → k ≡ o.0
-    → k < length pools → q.waiting ≡ drop 1 (get_or pools k d).waiting → waiting_in (set pools k q) ≡ left_by e (waiting_in pools)
+    → k < length pools → q.waiting ≡ without_number number (get_or pools k d).waiting → waiting_in (set pools k q) ≡ left_by e (waiting_in pools)
 left-at pools k d q e o number firing is at lt fewer =
     map-set (λ (x : Queue). x.waiting) pools k q
-    ∙ ap (λ ws. set (waiting_in pools) k ws) (fewer ∙ ap (drop 1) (sym (get_or-map (λ (x : Queue). x.waiting) pools k d [] lt)))
-    ∙ ap (λ j. set (waiting_in pools) j (drop 1 (get_or (waiting_in pools) j []))) at
+    ∙ ap (λ ws. set (waiting_in pools) k ws) (fewer ∙ ap (without_number number) (sym (get_or-map (λ (x : Queue). x.waiting) pools k d [] lt)))
+    ∙ ap (λ j. set (waiting_in pools) j (without_number number (get_or (waiting_in pools) j []))) at
     ∙ sym (ap (λ f. left_by f (waiting_in pools)) is)
 
--- the first signal of a pool, from what waits in all
-first-waiting : (pools : List Queue) (o : ObjectId) → first_waiting pools o ≡ option_and_then (λ ws. slice_get ws 0) (slice_get (waiting_in pools) o.0)
-first-waiting pools o = by (slice_get pools o.0) ∙ sym (ap (option_and_then (λ ws. slice_get ws 0)) (slice_get-map (λ (x : Queue). x.waiting) pools o.0))
+-- the signal with a number of a pool, from what waits in all
+numbered-in : (pools : List Queue) (o : ObjectId) (n : ℕ)
+    → option_and_then (λ p. with_number n p.waiting) (slice_get pools o.0) ≡ option_and_then (with_number n) (slice_get (waiting_in pools) o.0)
+numbered-in pools o n = by (slice_get pools o.0) ∙ sym (ap (option_and_then (with_number n)) (slice_get-map (λ (x : Queue). x.waiting) pools o.0))
   where
-    by : (found : Option Queue) → option_and_then (λ (p : Queue). slice_get p.waiting 0) found
-        ≡ option_and_then (λ ws. slice_get ws 0) (option_map (λ (p : Queue). p.waiting) found)
+    by : (found : Option Queue) → option_and_then (λ (p : Queue). with_number n p.waiting) found
+        ≡ option_and_then (with_number n) (option_map (λ (p : Queue). p.waiting) found)
     by None = refl
     by (Some p) = refl
 
 -- room in the pools changes nothing of what is taken
 pub taken-alike : (old new : List Queue) (e : Entry) → waiting_in new ≡ waiting_in old → signal_taken new e ≡ signal_taken old e
 taken-alike old new (Take o number firing) same =
-    ap (with_number number)
-    (first-waiting new o ∙ ap (λ ws. option_and_then (λ w. slice_get w 0) (slice_get ws o.0)) same ∙ sym (first-waiting old o))
+    numbered-in new o number ∙ ap (λ ws. option_and_then (with_number number) (slice_get ws o.0)) same ∙ sym (numbered-in old o number)
 taken-alike old new (Post o g args) same = refl
 taken-alike old new (Start o) same = refl
 taken-alike old new (Done o v firing) same = refl

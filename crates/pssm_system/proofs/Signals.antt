@@ -1,103 +1,131 @@
--- The first signal that waits for an object is the one that a take may have.
-use Rattle.std.proofs.Common.{◌≡◌, ◌<◌, ◌==◌, ℕ, List, [], ◌∷◌, length, Bool, true, false, cond, Option, Some, None, slice_get, refl, sym, ap, ◌∙◌, ⊎_elim, eq-eqb}
-use Rattle.std.specs.Option.{option_and_then}
+-- The first signal that waits for an object and that it does not defer is the one that a take may have.
+use Rattle.std.proofs.Common.{◌≡◌, ◌<◌, ◌++◌, ◌==◌, ℕ, List, [], ◌∷◌, Bool, true, false, cond, Option, Some, None, slice_get, refl, sym, ap, subst, ◌∙◌, ⊎_elim, arith, eq-eqb}
+use Rattle.std.specs.List.{AllByRecursion}
 use Rattle.std.proofs.lemmas.Bool.{false≢true}
 use Rattle.std.proofs.lemmas.Bool.Decides.{eqb_tells}
-use Rattle.pssm_model.proofs.ElementLaws.{some_at}
+use Rattle.std.proofs.lemmas.List.{map-append}
 use Rattle.pssm_semantics.specs.declared.entry.ObjectId.{ObjectId}
 use Rattle.pssm_semantics.specs.declared.entry.Entry.{Entry}
 use Rattle.pssm_semantics.specs.declared.stimulus.Stimulus.{Stimulus}
 use Rattle.pssm_semantics.specs.declared.setting.Class.{Class}
 use Rattle.pssm_semantics.specs.declared.setting.Setting.{Setting}
-use Rattle.pssm_semantics.specs.Pool.{told_by}
+use Rattle.pssm_semantics.specs.Pool.{pool_of, told_by}
 use Rattle.pssm_semantics.specs.Rules.{IsFirstWaiting}
 use Rattle.pssm_semantics.specs.Deferral.{IsDeferred}
-use Rattle.pssm_semantics.specs.Built.{IsBuiltClass}
+use Rattle.pssm_semantics.proofs.Appended.{AllByRecursion-back}
 use Rattle.pssm_semantics.proofs.Takes.{pool_of-waits}
 use Rattle.pssm_object.specs.declared.object.Waiting.{Waiting}
-use Rattle.pssm_object.specs.Standing.{Standing, StandsAfter}
-use Rattle.pssm_object.specs.Following.{stimulus_of}
-use Rattle.pssm_object.proofs.BuiltMachines.{nothing_deferred, state_of_active}
-use Rattle.pssm_system.specs.inner.Pooling.{Queue, first_waiting, with_number, numbered_for}
-use Rattle.pssm_system.specs.inner.Keeping.{ArePools}
-use Rattle.pssm_system.proofs.Arriving.{IsFirstOf}
+use Rattle.pssm_object.specs.Standing.{Standing}
+use Rattle.pssm_object.specs.Following.{stimulus_of, Defers}
+use Rattle.pssm_system.specs.inner.Pooling.{Queue, with_number, numbered_for}
+use Rattle.pssm_system.specs.inner.Deferring.{AreDeferred, ComesFirst, IsFirstFree, if_numbered}
+use Rattle.pssm_system.specs.inner.Keeping.{IsObject, ArePools}
+use Rattle.pssm_system.proofs.Numbers.{with-here, with-later}
+use Rattle.pssm_system.proofs.Arriving.{Ascends, pool-ascends}
 
--- No State of a machine that the code runs defers a signal.
-pub none_deferred : (class : Class) (b : IsBuiltClass class) (J : List Entry) (x : Standing) → StandsAfter class J x → (w : Stimulus)
-    → IsDeferred class (told_by J) J x.own w → ⊥
-none_deferred class b J x s w (v, active, defers, still) =
-    nothing_deferred b.machine v w.signal (state_of_active b.machine v (s.fits.states v ((s.now_is.active v).1 active))) defers
-
--- a pool from which something may be taken, or nothing
-pub record IsPoolOf (pools : List Queue) (o : ObjectId) (waiting : List Waiting) : Type 0 where
+-- the first signal that waits for an object and that it does not defer
+pub record IsFirst (pools : List Queue) (o : ObjectId) (class : Class) (x : Standing) (first : Option Waiting) : Type 0 where
   pub pool : Queue
   pub there : slice_get pools o.0 ≡ Some pool
-  pub waiting_is : pool.waiting ≡ waiting
+  pub first_is : IsFirstFree class x pool.waiting first
 
--- what waits for an object that has a pool
-pub waiting-there : (pools : List Queue) (o : ObjectId) → o.0 < length pools → (waiting : List Waiting) × IsPoolOf pools o waiting
-waiting-there pools o lt = let at = some_at pools o.0 lt in (at.0.waiting, record { pool = at.0; there = at.1; waiting_is = refl })
+-- the first element of a list that has not a property is one
+first-alike : {X : Type 0} (P : X → Type 0) (held rest before behind : List X) (y z : X) → held ++ y ∷ rest ≡ before ++ z ∷ behind → AllByRecursion P held
+    → (P y → ⊥) → AllByRecursion P before → (P z → ⊥) → y ≡ z
+first-alike P [] rest [] behind y z is all not also other = cc
+first-alike P [] rest (b ∷ before) behind y z is all not also other = let same : b ≡ y = cc in absurd (not (subst P same also.0))
+first-alike P (h ∷ held) rest [] behind y z is all not also other = let same : h ≡ z = cc in absurd (other (subst P same all.0))
+first-alike P (h ∷ held) rest (b ∷ before) behind y z is all not also other =
+    let tails : held ++ y ∷ rest ≡ before ++ z ∷ behind = cc in first-alike P held rest before behind y z tails all.1 not also.1 other
 
-first-of-pool : (pools : List Queue) (o : ObjectId) (waiting : List Waiting) → IsPoolOf pools o waiting → first_waiting pools o ≡ slice_get waiting 0
-first-of-pool pools o waiting p = ap (λ q. option_and_then (λ (y : Queue). slice_get y.waiting 0) q) p.there ∙ ap (λ ws. slice_get ws 0) p.waiting_is
+-- a signal that waits, by its number
+pub record IsNumbered (o : ObjectId) (waiting : List Waiting) (number : ℕ) (y : Stimulus) (w : Waiting) : Type 0 where
+  pub found : with_number number waiting ≡ Some w
+  pub number_is : number ≡ w.number
+  pub stimulus_is : y ≡ stimulus_of o w
 
--- a pool with its first signal, where one waits
-pub record HasFirst (pools : List Queue) (o : ObjectId) (w : Waiting) : Type 0 where
-  pub behind : List Waiting
-  pub pool : IsPoolOf pools o (w ∷ behind)
+-- a signal that stands in a pool is found there
+found-there : (o : ObjectId) (number : ℕ) (y : Stimulus) (rest : List (ℕ × Stimulus)) (waiting : List Waiting) (held : List (ℕ × Stimulus))
+    → numbered_for o waiting ≡ held ++ (number, y) ∷ rest → Ascends (numbered_for o waiting) → (w : Waiting) × IsNumbered o waiting number y w
+found-there o number y rest [] [] is over = absurd (cc)
+found-there o number y rest [] (h ∷ held) is over = absurd (cc)
+found-there o number y rest (w ∷ waiting) [] is over =
+    let one : (w.number, stimulus_of o w) ≡ (number, y) = cc in
+    let same : w.number ≡ number = ap (λ (v : ℕ × Stimulus). v.0) one in
+    (w, record { found = with-here number w waiting same; number_is = sym same; stimulus_is = sym (ap (λ (v : ℕ × Stimulus). v.1) one) })
+found-there o number y rest (w ∷ waiting) (h ∷ held) is over =
+    let tails : numbered_for o waiting ≡ held ++ (number, y) ∷ rest = cc in
+    let later = found-there o number y rest waiting held tails over.1 in
+    let above : w.number < number =
+    (AllByRecursion-back (λ (v : ℕ × Stimulus). w.number < v.0) held ((number, y) ∷ rest) (subst (AllByRecursion (λ (v : ℕ × Stimulus). w.number < v.0)) tails over.0)).0 in (
+      later.0,
+      record {
+        found = with-later number w waiting (λ same. absurd (omega (arith, same, above))) ∙ later.1.found;
+        number_is = later.1.number_is;
+        stimulus_is = later.1.stimulus_is;
+      },
+    )
 
-pub has-first : (pools : List Queue) (o : ObjectId) (w : Waiting) → first_waiting pools o ≡ Some w → HasFirst pools o w
-has-first pools o w first = by (slice_get pools o.0) refl first
-  where
-    of : (p : Queue) (ws : List Waiting) → p.waiting ≡ ws → slice_get pools o.0 ≡ Some p → slice_get ws 0 ≡ Some w → HasFirst pools o w
-    of p [] is at e = let clash : None ≡ Some w = e in absurd (cc)
-    of p (v ∷ rest) is at e =
-        let same : v ≡ w = cc in
-        record { behind = rest; pool = record { pool = p; there = at; waiting_is = is ∙ ap (λ y. y ∷ rest) same } }
+module _ {setting : Setting} {J : List Entry} {pools : List Queue} (are : ArePools setting J pools) (o : ObjectId) (p : Queue) (there : slice_get pools o.0 ≡ Some p) where
+  -- the pool of the journal is the one that is kept
+  pool-is : pool_of J o ≡ numbered_for o p.waiting
+  pool-is = are.each o p there
 
-    by : (found : Option Queue) → slice_get pools o.0 ≡ found → option_and_then (λ (p : Queue). slice_get p.waiting 0) found ≡ Some w → HasFirst pools o w
-    by None at e = let clash : None ≡ Some w = e in absurd (cc)
-    by (Some p) at e = of p p.waiting refl at e
+  -- a signal that may be taken is found by its number
+  pub numbered-there : (class : Class) (number : ℕ) → IsFirstWaiting class J o number
+      → (w : Waiting) × (with_number number p.waiting ≡ Some w) × (number ≡ w.number) × (told_by J number ≡ Some (stimulus_of o w))
+  numbered-there class number (held, rest, y, is, deferred, kept) =
+      let at = found-there o number y rest p.waiting held (sym pool-is ∙ is) (subst (λ ws. Ascends ws) pool-is (pool-ascends J o)) in
+      (at.0, at.1.found, at.1.number_is, (pool_of-waits J o held rest number y is).told ∙ ap Some at.1.stimulus_is)
 
-module _ {setting : Setting} {J : List Entry} {pools : List Queue} (ap' : ArePools setting J pools) (o : ObjectId) where
-  -- the pool of the journal begins with the first signal that waits
-  pub first-is : (w : Waiting) → first_waiting pools o ≡ Some w → (behind : List Waiting) × IsFirstOf J o w behind
-  first-is w first =
-      let h = has-first pools o w first in
-      (h.behind, record { pool_is = ap'.each o h.pool.pool h.pool.there ∙ ap (numbered_for o) h.pool.waiting_is })
+  module _ (class : Class) (x : Standing) (object : IsObject class J o x) where
+    abbrev IsHeld : ℕ × Stimulus → Type 0
+    IsHeld w = IsDeferred class (told_by J) J o w.1
 
-  -- the journal has told it
-  pub first-told : (w : Waiting) → first_waiting pools o ≡ Some w → told_by J w.number ≡ Some (stimulus_of o w)
-  first-told w first =
-      let h = first-is w first in
-      (pool_of-waits J o [] (numbered_for o h.0) w.number (stimulus_of o w) h.1.pool_is).told
+    -- what the object says of a signal is so of the journal
+    deferred-here : (w : Waiting) → Defers class x w true → IsDeferred class (told_by J) J o (stimulus_of o w)
+    deferred-here w says = subst (λ q. IsDeferred class (told_by J) J q (stimulus_of q w)) object.own ((says J object.stands).0 refl)
 
-  -- it may be taken, where nothing is deferred
-  pub may-take : (class : Class) → ((x : Stimulus) → IsDeferred class (told_by J) J o x → ⊥) → (w : Waiting) → first_waiting pools o ≡ Some w
-      → IsFirstWaiting class J o w.number
-  may-take class none w first = let h = first-is w first in ([], numbered_for o h.0, stimulus_of o w, h.1.pool_is, tt, none (stimulus_of o w))
+    free-here : (w : Waiting) → Defers class x w false → IsDeferred class (told_by J) J o (stimulus_of o w) → ⊥
+    free-here w says deferred =
+        false≢true ((says J object.stands).1 (subst (λ q. IsDeferred class (told_by J) J q (stimulus_of q w)) (sym object.own) deferred))
 
-  -- and no other
-  pub taken-first : (class : Class) → ((x : Stimulus) → IsDeferred class (told_by J) J o x → ⊥) → o.0 < length pools → (number : ℕ)
-      → IsFirstWaiting class J o number → (w : Waiting) × (first_waiting pools o ≡ Some w) × (number ≡ w.number)
-  taken-first class none lt number (h ∷ held, rest, x, is, deferred, kept) = absurd (none h.1 deferred.0)
-  taken-first class none lt number ([], rest, x, is, deferred, kept) = let at = waiting-there pools o lt in by at.0 at.1
-    where
-      by : (waiting : List Waiting) → IsPoolOf pools o waiting → (w : Waiting) × (first_waiting pools o ≡ Some w) × (number ≡ w.number)
-      by [] p =
-          let empty : (number, x) ∷ rest ≡ [] = sym is ∙ ap'.each o p.pool p.there ∙ ap (numbered_for o) p.waiting_is in
-          absurd (cc)
-      by (w ∷ ws) p =
-          let same : (number, x) ∷ rest ≡ (w.number, stimulus_of o w) ∷ numbered_for o ws =
-          sym is ∙ ap'.each o p.pool p.there ∙ ap (numbered_for o) p.waiting_is in
-          let one : (number, x) ≡ (w.number, stimulus_of o w) = cc in
-          (w, first-of-pool pools o (w ∷ ws) p, ap (λ (y : ℕ × Stimulus). y.0) one)
+    all-deferred : (waiting : List Waiting) → AreDeferred class x waiting → AllByRecursion IsHeld (numbered_for o waiting)
+    all-deferred [] all = tt
+    all-deferred (w ∷ rest) all = (deferred-here w all.0, all-deferred rest all.1)
 
--- the signal with a number
-pub numbered-so : (n : ℕ) (w : Waiting) → n ≡ w.number → with_number n (Some w) ≡ Some w
+    -- the pool of the journal up to the first signal that is not deferred
+    pool-split : (w : Waiting) (f : ComesFirst class x p.waiting w)
+        → pool_of J o ≡ numbered_for o f.held ++ (w.number, stimulus_of o w) ∷ numbered_for o f.behind
+    pool-split w f =
+        pool-is ∙ ap (numbered_for o) f.waiting_is ∙ map-append (λ (v : Waiting). (v.number, stimulus_of o v)) f.held (w ∷ f.behind)
+
+    -- the journal has told it
+    pub first-told : (w : Waiting) → ComesFirst class x p.waiting w → told_by J w.number ≡ Some (stimulus_of o w)
+    first-told w f = (pool_of-waits J o (numbered_for o f.held) (numbered_for o f.behind) w.number (stimulus_of o w) (pool-split w f)).told
+
+    -- it may be taken
+    pub may-take : (w : Waiting) → ComesFirst class x p.waiting w → IsFirstWaiting class J o w.number
+    may-take w f =
+        (numbered_for o f.held, numbered_for o f.behind, stimulus_of o w, pool-split w f, all-deferred f.held f.deferred, free-here w f.free)
+
+    -- and no other
+    pub taken-first : (first : Option Waiting) → IsFirstFree class x p.waiting first → (number : ℕ) → IsFirstWaiting class J o number
+        → (w : Waiting) × (first ≡ Some w) × (number ≡ w.number)
+    taken-first None all number (held, rest, y, is, deferred, kept) =
+        let each : AllByRecursion IsHeld (held ++ (number, y) ∷ rest) = subst (AllByRecursion IsHeld) (sym pool-is ∙ is) (all-deferred p.waiting all) in
+        absurd (kept (AllByRecursion-back IsHeld held ((number, y) ∷ rest) each).0)
+    taken-first (Some w) f number (held, rest, y, is, deferred, kept) =
+        let one : (number, y) ≡ (w.number, stimulus_of o w) =
+        first-alike IsHeld held rest (numbered_for o f.held) (numbered_for o f.behind) (number, y) (w.number, stimulus_of o w) (sym is ∙ pool-split w f) deferred
+        kept (all-deferred f.held f.deferred) (free-here w f.free) in
+        (w, refl, ap (λ (v : ℕ × Stimulus). v.0) one)
+
+-- the signal, if it has a number
+pub numbered-so : (n : ℕ) (w : Waiting) → n ≡ w.number → if_numbered n (Some w) ≡ Some w
 numbered-so n w same = rw (eq-eqb w.number n (sym same)) refl
 
-pub numbered-is : (n : ℕ) (first : Option Waiting) (w : Waiting) → with_number n first ≡ Some w → (first ≡ Some w) × (n ≡ w.number)
+pub numbered-is : (n : ℕ) (first : Option Waiting) (w : Waiting) → if_numbered n first ≡ Some w → (first ≡ Some w) × (n ≡ w.number)
 numbered-is n None w e = let clash : None ≡ Some w = e in absurd (cc)
 numbered-is n (Some v) w e = by (v.number == n) refl e
   where

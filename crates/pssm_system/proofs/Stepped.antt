@@ -1,6 +1,7 @@
 -- What is kept of the journal once one more entry has come.
-use Rattle.std.proofs.Common.{◌≡◌, ◌<◌, ◌+◌, ◌++◌, ℕ, List, [], ◌∷◌, length, Option, Some, All, slice_get, refl, sym, ap, subst, ◌∙◌, ⊎_elim, length-append}
+use Rattle.std.proofs.Common.{◌≡◌, ◌<◌, ◌+◌, ◌++◌, ℕ, List, [], ◌∷◌, length, Option, Some, All, slice_get, refl, sym, ap, subst, ◌∙◌, length-append}
 use Rattle.std.specs.List.{flat_map}
+use Rattle.std.specs.Option.{option_and_then}
 use Rattle.std.proofs.Math.ListN.{length-set}
 use Rattle.std.proofs.lemmas.List.{length-map}
 use Rattle.std.proofs.lemmas.List.Elements.{All-head, All-tail}
@@ -20,7 +21,7 @@ use Rattle.pssm_semantics.specs.Settings.{class_of}
 use Rattle.pssm_semantics.specs.Journal.{object_of, IsPost}
 use Rattle.pssm_semantics.specs.Pool.{signals_of_out, signals_of_entry, signals_of, pool_of, told_by}
 use Rattle.pssm_semantics.specs.Known.{IsOutOf, NamesKnown}
-use Rattle.pssm_semantics.specs.Rules.{KeepsOwn}
+use Rattle.pssm_semantics.specs.Rules.{KeepsPool, KeepsOwn}
 use Rattle.pssm_semantics.specs.Admissible.{MayFollow}
 use Rattle.pssm_semantics.specs.Built.{IsBuilt}
 use Rattle.pssm_semantics.proofs.BuiltSettings.{all_there}
@@ -28,15 +29,15 @@ use Rattle.pssm_semantics.proofs.Waiting.{signals_of-append}
 use Rattle.pssm_object.specs.declared.object.Waiting.{Waiting}
 use Rattle.pssm_object.specs.Standing.{Standing, HasSignalsTaken}
 use Rattle.pssm_system.specs.declared.situation.Situation.{Situation}
-use Rattle.pssm_system.specs.inner.Pooling.{Queue, waiting_in, signal_taken, delivered, left_by, HavePools, numbered_for}
+use Rattle.pssm_system.specs.inner.Pooling.{Queue, waiting_in, with_number, signal_taken, delivered, left_by, HavePools, numbered_for}
 use Rattle.pssm_system.specs.inner.Keeping.{AreObjects, ArePools, StandsSo, CanCome, IsUnchanged}
 use Rattle.pssm_system.specs.inner.Stepping.{CanStep, HaveStepped, HasPosted, Brings}
 use Rattle.pssm_system.proofs.Pools.{taken-alike}
 use Rattle.pssm_system.proofs.Following.{object_there, own_of, pool_kept, names_of}
 use Rattle.pssm_system.proofs.Arriving.{HaveWaiting, HasPool, arrived, left}
-use Rattle.pssm_system.proofs.Signals.{has-first, taken-first}
-use Rattle.pssm_system.proofs.Judged.{TakeOrNot, is_take, no_take, take_or_not, IsPart, is_part, free_to_take}
-use Rattle.pssm_system.proofs.Nexts.{HasSignal, has_signal}
+use Rattle.pssm_system.proofs.Signals.{numbered-there}
+use Rattle.pssm_system.proofs.Judged.{TakeOrNot, is_take, no_take, take_or_not, no_signal, IsPart, is_part}
+use Rattle.pssm_system.proofs.Nexts.{HasSignal, no_take-has}
 use Rattle.pssm_system.proofs.Completing.{StandsIn}
 use Rattle.pssm_object.proofs.Advancing.{other_entries}
 
@@ -114,11 +115,26 @@ module _ {setting : Setting} (b : IsBuilt setting) {J : List Entry} {s : Situati
   pub part_here : IsPart setting J s.pools.items (object_of e) (may A1).0 standing_here.0
   part_here = is_part b stands.objects stands.pools (object_of e) (may A1).0 standing_here.0 (may A1).1 standing_here.1
 
-  -- it comes with its signal
+  pub pool_here : (object_of e).0 < length s.pools.items
+  pool_here = subst (λ n. (object_of e).0 < n) (sym stands.pools.count) here_there
+
+  -- it comes with its signal: of a take the one with its number
   pub signal_here : HasSignal J (may A1).0 (object_of e) e (signal_taken s.pools.items e)
-  signal_here =
-      ⊎_elim (λ has. has) (λ other. absurd (other.4 (pool_kept setting J e (may A1).0 (may A1).1 (may A6))))
-      (has_signal part_here e refl (signal_taken s.pools.items e) refl)
+  signal_here = by (take_or_not e)
+    where
+      by : TakeOrNot e → HasSignal J (may A1).0 (object_of e) e (signal_taken s.pools.items e)
+      by (no_take free) = no_take-has part_here e (signal_taken s.pools.items e) free (no_signal s.pools.items e free)
+      by (is_take q number firing is) =
+          let here : e ≡ Take (object_of e) number firing = is ∙ ap (λ r. Take r number firing) (sym (ap object_of is)) in
+          let pool : KeepsPool (may A1).0 J (Take (object_of e) number firing) =
+          subst (KeepsPool (may A1).0 J) here (pool_kept setting J e (may A1).0 (may A1).1 (may A6)) in
+          let at = some_at s.pools.items (object_of e).0 pool_here in
+          let w = numbered-there stands.pools (object_of e) at.0 at.1 (may A1).0 number pool in
+          let taken : signal_taken s.pools.items (Take (object_of e) number firing) ≡ Some w.0 =
+          ap (option_and_then (λ (p : Queue). with_number number p.waiting)) at.1 ∙ w.1 in
+          subst (λ g. HasSignal J (may A1).0 (object_of e) g (signal_taken s.pools.items g)) (sym here)
+          (subst (HasSignal J (may A1).0 (object_of e) (Take (object_of e) number firing)) (sym taken)
+          (record { pool = pool; signal_is = w.3; names = w.2; told = w.3 }))
 
   -- so its object may go on by it
   pub can_step : CanStep setting s.objects.items (signal_taken s.pools.items e) e
@@ -150,16 +166,10 @@ module _ {setting : Setting} (b : IsBuilt setting) {J : List Entry} {s : Situati
       → pool_of (J ++ e ∷ []) q ≡ numbered_for q waiting
   pool_after (no_take free) q lt waiting at = arrived J e (waiting_in s.pools.items) s.told q free stands.told have_waiting (has_pool q lt) waiting at
   pool_after (is_take r number firing is) q lt waiting at =
-      let owner : object_of e ≡ r = ap object_of is in
-      let first = taken-first stands.pools (object_of e) (may A1).0 (free_to_take part_here) (subst (λ n. (object_of e).0 < n) (sym stands.pools.count) here_there)
-      number (pool_kept setting J (Take (object_of e) number firing) (may A1).0 (may A1).1
-      (subst (MayFollow setting J) (is ∙ ap (λ p. Take p number firing) (sym owner)) may A6)) in
-      let has = has-first s.pools.items (object_of e) first.0 first.1 in
-      let there : slice_get (waiting_in s.pools.items) r.0 ≡ Some (first.0 ∷ has.behind) =
-      subst (λ (p : ObjectId). slice_get (waiting_in s.pools.items) p.0 ≡ Some (first.0 ∷ has.behind)) owner
-      (waits-at s.pools.items (object_of e) has.pool.pool has.pool.there ∙ ap Some has.pool.waiting_is) in
+      let here : r.0 < length s.pools.items = subst (λ (p : ObjectId). p.0 < length s.pools.items) (ap object_of is) pool_here in
+      let old = some_at s.pools.items r.0 here in
       subst (λ f. pool_of (J ++ f ∷ []) q ≡ numbered_for q waiting) (sym is)
-      (left J r first.0 has.behind number firing (waiting_in s.pools.items) q first.2 there have_waiting waiting
+      (left J r old.0.waiting number firing (waiting_in s.pools.items) q (waits-at s.pools.items r old.0 old.1) have_waiting waiting
       (subst (λ f. slice_get (delivered (s.told + 1) (signals_of_entry f) (left_by f (waiting_in s.pools.items))) q.0 ≡ Some waiting) is at))
 
   pub pools_after : (new : List Queue) → waiting_in new ≡ delivered (s.told + 1) (signals_of_entry e) (left_by e (waiting_in s.pools.items))

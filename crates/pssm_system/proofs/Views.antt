@@ -28,7 +28,7 @@ use Rattle.pssm_system.specs.inner.Choosing.{IsNext, HasNoNext, Finds}
 use Rattle.pssm_system.proofs.Places.{get-set_same, get-set_other}
 use Rattle.pssm_system.proofs.Following.{one_class}
 use Rattle.pssm_system.proofs.Choices.{move-no_post, only-moves, task-next}
-use Rattle.pssm_system.proofs.Members.{IsMember}
+use Rattle.pssm_system.proofs.Members.{IsMember, of_member}
 
 -- what an object says of an entry
 pub says : {E : Type 0} (class : Class) (x : Standing) (signal : Option Waiting) (e : Entry) (r : Result (Option Rule) E)
@@ -39,13 +39,7 @@ says class x signal e (Ok None) keeps breaks = keeps
 says class x signal e (Ok (Some rule)) keeps breaks = breaks
 says class x signal e (Err none) keeps breaks = tt
 
--- an object that was looked up is the one with that number
-pub of_member : {setting : Setting} {J : List Entry} {objects : List Standing} {o : ObjectId} {class : Class} {x : Standing} → IsMember setting J objects o class x
-    → (P : Class → Standing → Type 0) → P class x → (k : Class) (y : Standing) → class_of setting o ≡ Some k → slice_get objects o.0 ≡ Some y → P k y
-of_member {setting = setting} {o = o} {class = class} {x = x} m P here k y is at =
-    let same : x ≡ y = let both : Some x ≡ Some y = sym m.there ∙ at in cc in
-    subst (λ c. P c y) (one_class setting o class k m.class_is is) (subst (P class) same here)
-
+-- what the object that was looked up says
 pub says_of_member : {E : Type 0} {setting : Setting} {J : List Entry} {objects : List Standing} {o : ObjectId} {class : Class} {x : Standing}
     → IsMember setting J objects o class x → (signal : Option Waiting) (e : Entry) → o ≡ object_of e → (r : Result (Option Rule) E) → IfOk r (Says class x signal e)
     → IfOk r (λ answer. (k : Class) (y : Standing) → class_of setting (object_of e) ≡ Some k → slice_get objects (object_of e).0 ≡ Some y → Says k y signal e answer)

@@ -1,4 +1,5 @@
 pub mod Pooling
+pub mod Deferring
 pub mod Keeping
 pub mod Choosing
 pub mod Judging

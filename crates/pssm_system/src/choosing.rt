@@ -35,7 +35,7 @@ impl Situation {
     {
         for k in 0..self.objects.as_slice().len() as u8 {
             let object = &self.objects[usize::from(k)];
-            let waiting = self.pools[usize::from(k)].first().is_some();
+            let waiting = self.first_for(setting, ObjectId(k)).is_some();
             if !object.quiet(class_of(setting, ObjectId(k)), waiting) {
                 return false;
             }
@@ -108,12 +108,12 @@ impl Situation {
     {
         let class = class_of(setting, own);
         let object = &self.objects[usize::from(own.0)];
-        let signal = self.pools[usize::from(own.0)].first();
+        let signal = self.first_for(setting, own);
         next_of(alloc, object, class, signal, wanted, word)
     }
 }
 
-// The same of an object of the class, where this signal is the first that waits.
+// The same of an object of the class, where this signal is the first that waits and is not deferred.
 fn next_of(
     alloc: Global,
     object: &Object,

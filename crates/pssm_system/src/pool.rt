@@ -1,6 +1,7 @@
 //! The pool of one object.
-ghost use Rattle.std.specs.Prelude.{◌≡◌, ◌≤◌, ◌<◌, ◌+◌, ◌++◌, ◌∷◌, [], length, drop, slice_get, OnOk};
+ghost use Rattle.std.specs.Prelude.{◌≡◌, ◌≤◌, ◌<◌, ◌+◌, ◌++◌, ◌∷◌, [], length, slice_get, Some, OnOk, IfSome, IfNone};
 ghost use Rattle.std.specs.Option.{option_copied};
+ghost use Rattle.pssm_system.specs.inner.Pooling.{with_number, without_number, IsPlaceOf, HasNoNumber};
 
 use pssm_object::Waiting;
 use std::alloc::{AllocError as NoMemory, Global};
@@ -33,11 +34,29 @@ impl Pool {
         }
     }
 
-    /// The signal that came first, if one waits.
-    pub fn first(&self) -> Option<&Waiting>
-        ensures { option_copied result ≡ slice_get self.now.waiting 0 }
+    /// How many signals wait.
+    pub fn len(&self) -> usize
+        ensures { result ≡ length self.now.waiting }
     {
-        self.signals.front()
+        self.signals.len()
+    }
+
+    /// The signal at the place.
+    pub fn at(&self, place: usize) -> &Waiting
+        requires { place < length self.now.waiting }
+        ensures { slice_get self.now.waiting place ≡ Some result.now }
+    {
+        &self.signals[place]
+    }
+
+    /// The signal with the number, if it waits.
+    pub fn numbered(&self, number: u32) -> Option<&Waiting>
+        ensures { option_copied result ≡ with_number number self.now.waiting }
+    {
+        match self.place_of(number) {
+            Some(place) => Some(self.at(place)),
+            None => None,
+        }
     }
 
     /// Makes room for so many more signals. On want of memory the same signals wait.
@@ -58,11 +77,26 @@ impl Pool {
         self.signals.push_back_reserved(signal);
     }
 
-    /// The signal that came first leaves, if one waits.
-    pub fn take(&mut self)
-        ensures waiting { self.new.waiting ≡ drop 1 self.old.waiting }
+    /// The signal with the number leaves, if it waits.
+    pub fn take(&mut self, number: u32)
+        ensures waiting { self.new.waiting ≡ without_number number self.old.waiting }
         ensures room { self.old.room ≤ self.new.room }
     {
-        let _ = self.signals.pop_front();
+        if let Some(place) = self.place_of(number) {
+            let _ = self.signals.remove(place);
+        }
+    }
+
+    // The place of the signal with the number.
+    fn place_of(&self, number: u32) -> Option<usize>
+        ensures there { IfSome result (IsPlaceOf number self.now.waiting) }
+        ensures none { IfNone result (HasNoNumber number self.now.waiting) }
+    {
+        for k in 0..self.len() {
+            if self.at(k).number == number {
+                return Some(k);
+            }
+        }
+        None
     }
 }

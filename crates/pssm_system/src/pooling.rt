@@ -8,19 +8,12 @@ use pssm_object::Waiting;
 use pssm_semantics::{Entry, ObjectId, Stimulus};
 use std::alloc::{AllocError as NoMemory, Global};
 
-/// The signal that a take takes: the first of its object's pool, if it has the number that the take names.
+/// The signal that a take takes: the one in its object's pool with the number that the take names.
 pub fn taken_signal<'a>(pools: &'a [Pool], entry: &Entry) -> Option<&'a Waiting>
     ensures { option_copied result ≡ signal_taken pools.now entry.now }
 {
     match entry {
-        Entry::Take { object, number, .. } => {
-            let first = pools.get(usize::from(object.0))?.first()?;
-            if first.number == *number {
-                Some(first)
-            } else {
-                None
-            }
-        }
+        Entry::Take { object, number, .. } => pools.get(usize::from(object.0))?.numbered(*number),
         _ => None,
     }
 }

@@ -115,14 +115,14 @@ fn step(
     object.apply(class_of(setting, own), entry, signal)
 }
 
-// The signal that a take takes leaves its pool.
+// The signal that a take takes leaves its pool, wherever it stands there.
 fn leave(pools: &mut [Pool], entry: &Entry)
     requires { (object_in entry.now).0 < length pools.old }
     ensures waiting { waiting_in pools.new ≡ left_by entry.now (waiting_in pools.old) }
     ensures room { KeepsRoom pools.old pools.new }
 {
-    if let Entry::Take { object, .. } = entry {
+    if let Entry::Take { object, number, .. } = entry {
         let pool = &mut pools[usize::from(object.0)];
-        pool.take();
+        pool.take(*number);
     }
 }

@@ -1,6 +1,6 @@
 -- Pools: the signals that wait for an object, and those that one more entry adds.
-use Rattle.std.specs.Prelude.{◌≡◌, ◌≤◌, ◌<◌, ◌+◌, ◌++◌, ◌==◌, ℕ, List, [], ◌∷◌, if◌then◌else◌, map, drop, Option, Some, None, option_and_then, slice_get, slice_set}
-use Rattle.std.specs.List.{AllByRecursion, slice_index_or}
+use Rattle.std.specs.Prelude.{◌≡◌, ◌≢◌, ◌≤◌, ◌<◌, ◌+◌, ◌++◌, ◌==◌, ℕ, List, [], ◌∷◌, if◌then◌else◌, length, map, Option, Some, None, option_and_then, slice_get, slice_set}
+use Rattle.std.specs.List.{AllByRecursion, remove, slice_index_or}
 use Rattle.pssm_semantics.specs.declared.entry.ObjectId.{ObjectId}
 use Rattle.pssm_semantics.specs.declared.entry.Entry.{Entry}
 use Rattle.pssm_semantics.specs.declared.entry.Entry.TheVariants.{Take}
@@ -17,18 +17,29 @@ pub record Queue : Type 0 where
 abbrev pub waiting_in : List Queue → List (List Waiting)
 waiting_in pools = map (λ p. p.waiting) pools
 
--- the first signal that waits for an object
-abbrev pub first_waiting : List Queue → ObjectId → Option Waiting
-first_waiting pools o = option_and_then (λ p. slice_get p.waiting 0) (slice_get pools o.0)
+-- the first of the signals that has this number
+abbrev pub with_number : ℕ → List Waiting → Option Waiting
+with_number n [] = None
+with_number n (w ∷ rest) = if w.number == n then Some w else with_number n rest
 
--- the signal, if it has this number
-abbrev pub with_number : ℕ → Option Waiting → Option Waiting
-with_number n None = None
-with_number n (Some w) = if w.number == n then Some w else None
+-- the signals without the first that has this number
+abbrev pub without_number : ℕ → List Waiting → List Waiting
+without_number n [] = []
+without_number n (w ∷ rest) = if w.number == n then rest else w ∷ without_number n rest
 
--- the signal that a take takes: the first of its object's pool, if it has the number that the take names
+-- None of the signals has this number.
+abbrev pub HasNoNumber : ℕ → List Waiting → Type 0
+HasNoNumber n waiting = AllByRecursion (λ w. w.number ≢ n) waiting
+
+-- the place of the first signal that has this number
+pub record IsPlaceOf (n : ℕ) (waiting : List Waiting) (k : ℕ) : Type 0 where
+  pub there : k < length waiting
+  pub signal : with_number n waiting ≡ slice_get waiting k
+  pub others : without_number n waiting ≡ remove waiting k
+
+-- the signal that a take takes: the one in its object's pool with the number that the take names
 abbrev pub signal_taken : List Queue → Entry → Option Waiting
-signal_taken pools (Take o number firing) = with_number number (first_waiting pools o)
+signal_taken pools (Take o number firing) = option_and_then (λ p. with_number number p.waiting) (slice_get pools o.0)
 signal_taken pools _ = None
 
 -- the signal with a number as it waits
@@ -49,9 +60,9 @@ abbrev pub delivered : ℕ → List Stimulus → List (List Waiting) → List (L
 delivered n [] pools = pools
 delivered n (x ∷ rest) pools = delivered (n + 1) rest (with_arrived pools x.object.0 (waiting_as n x))
 
--- the pools once the entry has come: a take takes the first signal of its object
+-- the pools once the entry has come: a take takes the signal of its object that it names
 abbrev pub left_by : Entry → List (List Waiting) → List (List Waiting)
-left_by (Take o number firing) pools = slice_set pools o.0 (drop 1 (slice_index_or pools o.0 []))
+left_by (Take o number firing) pools = slice_set pools o.0 (without_number number (slice_index_or pools o.0 []))
 left_by _ pools = pools
 
 -- One of the pools has room for so many.

@@ -1,4 +1,4 @@
--- the first signal has left the pool of the take's object
+-- the signal that is named has left the pool of the take's object
 use Rattle.std.proofs.Common.{◌<◌, length, ap, subst, sym, ◌∙◌}
 use Rattle.pssm_semantics.specs.Journal.{object_of}
 use Rattle.pssm_system.proofs.Pools.{left-at, room-kept}

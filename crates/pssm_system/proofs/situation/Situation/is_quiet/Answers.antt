@@ -1,13 +1,12 @@
--- an object is quiet exactly where it has no next entry under the first signal that waits
-use Rattle.std.proofs.Common.{◌<◌, ◌+◌, MatchBool, is_some, ap, sym, subst, ◌∙◌, arith}
-use Rattle.std.proofs.lemmas.Option.{slice_get_within}
+-- an object is quiet exactly where it has no next entry under the first signal that waits and is not deferred
+use Rattle.std.proofs.Common.{◌+◌, MatchBool, subst, ◌∙◌, arith}
 use Rattle.pssm_semantics.specs.declared.entry.ObjectId.{ObjectId}
 use Rattle.pssm_object.specs.Following as objects
 use Rattle.pssm_system.specs.declared.choosing.Wanted.TheVariants.{AnyEntry}
 use Rattle.std.specs.Option.{option_copied}
 use Rattle.pssm_system.proofs.Members.{member}
 use Rattle.pssm_system.proofs.Choices.{none-both}
-use Rattle.pssm_system.proofs.Found.{first_of, copied_some, quiet_here, busy_here, all_quiet}
+use Rattle.pssm_system.proofs.Found.{copied_some, quiet_here, busy_here, all_quiet}
 use Rattle.pssm_system.proofs.situation.Situation.is_quiet.Goals as goal
 
 pub quiet-requires : goal.quiet-requires
@@ -23,10 +22,8 @@ returns-then-not-quiet c =
     let o : ObjectId = record { 0 = c.loop-k.k } in
     let m = member c.requires.built stands.objects o c.class_of.result.now c.index-object.result.now c.from.result c.class_of.ensures c.from.ensures
     c.index-object.ensures in
-    let lt = slice_get_within c.args.self.now.objects.items c.loop-k.k c.index-object.result.now m.there in
-    let first = first_of c.args.self.now o c.from-in-loop-k.result c.index.result.now (option_copied c.first.result) c.from-in-loop-k.ensures
-    (subst (λ n. c.loop-k.k < n) (stands.objects.count ∙ sym stands.pools.count) lt) c.index.ensures c.first.ensures in
-    busy_here c.requires.built c.args.self.now m c.is_some-waiting.result (c.is_some-waiting.ensures ∙ copied_some c.first.result ∙ ap is_some first)
+    busy_here c.requires.built c.args.self.now m (option_copied c.first_for.result) c.first_for.ensures c.is_some-waiting.result
+    (c.is_some-waiting.ensures ∙ copied_some c.first_for.result)
     (λ J signal s handed.
     subst (λ q. MatchBool q (objects.IsQuiet c.class_of.result.now c.index-object.result.now signal J)
     (objects.HasNext c.class_of.result.now c.index-object.result.now signal J)) c.if-not-quiet.true (c.quiet.ensures J signal s handed))
@@ -37,11 +34,9 @@ loop-k-preserved c =
     let o : ObjectId = record { 0 = c.loop-k.k } in
     let m = member c.requires.built stands.objects o c.class_of.result.now c.index-object.result.now c.from.result c.class_of.ensures c.from.ensures
     c.index-object.ensures in
-    let lt = slice_get_within c.args.self.now.objects.items c.loop-k.k c.index-object.result.now m.there in
-    let first = first_of c.args.self.now o c.from-in-loop-k.result c.index.result.now (option_copied c.first.result) c.from-in-loop-k.ensures
-    (subst (λ n. c.loop-k.k < n) (stands.objects.count ∙ sym stands.pools.count) lt) c.index.ensures c.first.ensures in
     none-both c.args.setting.now c.args.self.now AnyEntry 0 c.loop-k.k (c.loop-k.k + 1) c.loop-k.invariant
-    (quiet_here c.requires.built c.args.self.now m c.is_some-waiting.result (c.is_some-waiting.ensures ∙ copied_some c.first.result ∙ ap is_some first)
+    (quiet_here c.requires.built c.args.self.now m (option_copied c.first_for.result) c.first_for.ensures c.is_some-waiting.result
+    (c.is_some-waiting.ensures ∙ copied_some c.first_for.result)
     (λ J signal s handed.
     subst (λ q. MatchBool q (objects.IsQuiet c.class_of.result.now c.index-object.result.now signal J)
     (objects.HasNext c.class_of.result.now c.index-object.result.now signal J)) c.if-not-quiet.false (c.quiet.ensures J signal s handed)))

@@ -1,0 +1,47 @@
+//! The signal that an object may take next.
+ghost use Rattle.std.specs.Prelude.{◌<◌, length};
+ghost use Rattle.std.specs.Option.{option_copied};
+ghost use Rattle.pssm_semantics.specs.Built.{IsBuiltClass, IsBuilt};
+ghost use Rattle.pssm_object.specs.Standing.{Stands as ObjectStands};
+ghost use Rattle.pssm_system.specs.inner.Deferring.{IsFirstFree};
+
+use crate::entries::class_of;
+use crate::pool::Pool;
+use crate::situation::Situation;
+use pssm_object::{Object, Waiting};
+use pssm_semantics::{Class, ObjectId, Setting};
+
+impl Situation {
+    ghost use Rattle.pssm_system.specs.inner.Keeping.{Stands};
+    ghost use Rattle.pssm_system.specs.inner.Deferring.{IsFirstFor};
+
+    /// The first signal that waits for the object and that it does not defer, if there is one.
+    pub fn first_for(&self, setting: &Setting, own: ObjectId) -> Option<&Waiting>
+        requires built { IsBuilt setting.now }
+        requires stands { Stands setting.now self.now }
+        requires there { own.0 < length self.now.objects.items }
+        ensures { IsFirstFor setting.now self.now own (option_copied result) }
+    {
+        let object = &self.objects[usize::from(own.0)];
+        first_free(
+            object,
+            class_of(setting, own),
+            &self.pools[usize::from(own.0)],
+        )
+    }
+}
+
+// The first signal of a pool that the object does not defer, if there is one.
+fn first_free<'a>(object: &Object, class: &Class, pool: &'a Pool) -> Option<&'a Waiting>
+    requires class { IsBuiltClass class.now }
+    requires stands { ObjectStands class.now object.now }
+    ensures { IsFirstFree class.now object.now pool.now.waiting (option_copied result) }
+{
+    for k in 0..pool.len() {
+        let waiting = pool.at(k);
+        if !object.defers(class, waiting) {
+            return Some(waiting);
+        }
+    }
+    None
+}
