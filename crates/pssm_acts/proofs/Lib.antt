@@ -67,3 +67,6 @@ pub mod TextFaultLaws
 pub mod CondFaults
 pub mod OneReading
 pub mod LongestLaws
+pub mod Each
+pub mod MarkNames
+pub mod Wider

@@ -31,8 +31,8 @@ use Rattle.pssm_acts.specs.Vocabularies.{CanSend as CanSendAmong}
 use Rattle.pssm_bodies.specs.Readings.{first_program}
 use Rattle.pssm_bodies.specs.Programs.{NumbersVertex, NumbersTransition, IsProgrammed}
 use Rattle.pssm_bodies.specs.Fitting.{AreNamesFor}
-use Rattle.pssm_bodies.proofs.FitLists.{all_map, map_count}
-use Rattle.pssm_bodies.proofs.FitWider.{act_wider}
+use Rattle.pssm_acts.proofs.Each.{all_map, map_count}
+use Rattle.pssm_acts.proofs.Wider.{act_wider}
 use Rattle.pssm_bodies.proofs.FitSound.{IsSound, GoesOn, same_on, empty_act, vertex_on, vertex_sound, transition_on, transition_sound, all_on, all_sound, first_sound}
 use Rattle.pssm_bodies.proofs.FitNumbers.{HasGuard, HasVertex, HasTransition, vertex_in, transition_in, all_in}
 

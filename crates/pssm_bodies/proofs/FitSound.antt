@@ -20,9 +20,9 @@ use Rattle.pssm_bodies.specs.Slots.{text_at}
 use Rattle.pssm_bodies.specs.Readings.{is_empty, first_program, number_of, with_act, with_marks}
 use Rattle.pssm_bodies.specs.Programs.{NumbersAct, AreNumbered, NumbersSteps, without, NumbersGuard, always, otherwise, when, NumbersVertex, NumbersTransition, AllNumbered}
 use Rattle.pssm_bodies.specs.Programs.{steps as numbers_steps}
-use Rattle.pssm_bodies.proofs.FitLists.{all_push, all_with, first_stays}
-use Rattle.pssm_bodies.proofs.FitWider.{act_wider}
-use Rattle.pssm_bodies.proofs.FitMarks.{AreMarks, no_marks, tokens_named, stmts_marks, behaviours_marks}
+use Rattle.pssm_acts.proofs.Each.{all_push, all_with, first_stays}
+use Rattle.pssm_acts.proofs.Wider.{act_wider}
+use Rattle.pssm_acts.proofs.MarkNames.{AreMarks, no_marks, tokens_named, stmts_marks, behaviours_marks}
 
 abbrev pub empty_act : Act
 empty_act = record { stmts = [] }

@@ -14,9 +14,6 @@ pub mod OneOutcome
 pub mod Apart
 pub mod ActLaws
 pub mod MachineLaws
-pub mod FitLists
-pub mod FitWider
-pub mod FitMarks
 pub mod FitSound
 pub mod FitNumbers
 pub mod FitLaws

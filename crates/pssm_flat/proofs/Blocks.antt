@@ -8,12 +8,13 @@ use Rattle.pssm_model.specs.declared.elements.Vertex.{Vertex}
 use Rattle.pssm_model.specs.declared.elements.Transition.{Transition}
 use Rattle.pssm_semantics.specs.declared.setting.Class.{Class}
 use Rattle.pssm_semantics.specs.declared.setting.Program.{Program}
+use Rattle.pssm_acts.proofs.Each.{all_push}
 use Rattle.pssm_flat.specs.declared.head.Head.{Head}
 use Rattle.pssm_flat.specs.declared.block.Block.{Block}
 use Rattle.pssm_flat.specs.Text.{numbered, var_line, machine_line, region_lines, vertex_lines, transition_lines}
 use Rattle.pssm_flat.specs.Flat.{Leads, IsWrittenVertex, IsWrittenTransition, LeadsVertex, LeadsTransition, first_program}
 use Rattle.pssm_flat.specs.inner.Outlines.{class_of, with_last_vertex, with_last_transition}
-use Rattle.pssm_flat.proofs.Items.{leads_push, leads_split, all_push, all_split, numbered_next}
+use Rattle.pssm_flat.proofs.Items.{leads_push, leads_split, all_split, numbered_next}
 use Rattle.pssm_flat.proofs.Programs.{GoesOnTo, same_on, on_and_on, leads_on, vertex_on, transition_on, vertices_stay, vertex_stays, transitions_stay, transition_stays}
 use Rattle.pssm_flat.proofs.Good.{block_part, IsGoodBlock}
 

@@ -7,6 +7,7 @@ use Rattle.pssm_model.specs.declared.elements.Shape.{Shape}
 use Rattle.pssm_model.specs.declared.elements.Shape.TheVariants as shapes
 use Rattle.pssm_model.specs.Shapes.{HasShape, IsShapeFault}
 use Rattle.pssm_semantics.specs.declared.setting.Class.{Class}
+use Rattle.pssm_acts.proofs.Each.{all_push}
 use Rattle.pssm_flat.specs.declared.head.Head.{Head}
 use Rattle.pssm_flat.specs.declared.block.Block.{Block}
 use Rattle.pssm_flat.specs.declared.line.Line.{Line}
@@ -18,7 +19,6 @@ use Rattle.pssm_flat.specs.declared.outline.Outline.TheVariants as stages
 use Rattle.pssm_flat.specs.inner.Places.{fault_of}
 use Rattle.pssm_flat.specs.inner.Outlines.{machine_of, class_of, is_next_class, empty_block, setting_of, opened, ended, ends_block, behind_blocks, behind_block, done_of, AreShaped, IsShaped, IsMisshapen, IsNoNext}
 use Rattle.pssm_flat.proofs.Bind.{some_is}
-use Rattle.pssm_flat.proofs.Items.{all_push}
 
 -- what is read behind blocks
 record Behind (h : Head) (done : List Class) (l : Line) : Type 0 where

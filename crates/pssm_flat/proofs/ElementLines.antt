@@ -13,13 +13,14 @@ use Rattle.pssm_semantics.specs.declared.setting.VarDecl.{VarDecl}
 use Rattle.pssm_semantics.specs.declared.setting.Names.{Names}
 use Rattle.pssm_semantics.specs.declared.setting.Class.{Class}
 use Rattle.pssm_spelling.specs.Spelling.{IsName}
+use Rattle.pssm_acts.proofs.Each.{all_push}
 use Rattle.pssm_flat.specs.declared.head.Head.{Head}
 use Rattle.pssm_flat.specs.declared.block.Block.{Block}
 use Rattle.pssm_flat.specs.Text.{numbered, var_line, machine_line, region_lines, region_line, vertex_line, vertex_lines, transition_line, transition_lines}
 use Rattle.pssm_flat.specs.Flat.{Leads, IsNewName, AreNames, IsInteger, IsLabel, IsRegionOwner, IsVertexOwner, IsWrittenVertex, IsWrittenTransition, IsNumbered, LeadsVertex, LeadsTransition, first_program}
 use Rattle.pssm_flat.specs.inner.Outlines.{itself, has_name, class_of, machine_of, with_var_name, with_var, with_region, names_region_owner, names_vertex_owner, plain_vertex, with_vertex, plain_transition, with_transition}
 use Rattle.pssm_flat.proofs.Bind.{chosen_some, some_is}
-use Rattle.pssm_flat.proofs.Items.{fit_push, leads_push, map_push, all_push, numbered_next}
+use Rattle.pssm_flat.proofs.Items.{fit_push, leads_push, map_push, numbered_next}
 use Rattle.pssm_flat.proofs.NameLaws.{none_named, map_itself}
 use Rattle.pssm_flat.proofs.LineLaws.{IsSmallOwner}
 use Rattle.pssm_flat.proofs.Programs.{GoesOnTo, on_and_on, leads_on, vertex_on, transition_on, no_lines}

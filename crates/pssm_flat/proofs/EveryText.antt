@@ -6,6 +6,7 @@ use Rattle.pssm_model.specs.Shapes.{HasShape, IsShapeFault}
 use Rattle.pssm_semantics.specs.declared.setting.Class.{Class}
 use Rattle.pssm_semantics.specs.declared.setting.Setting.{Setting}
 use Rattle.pssm_acts.specs.declared.act_fault.ActFault.{ActFault}
+use Rattle.pssm_acts.proofs.Each.{all_push}
 use Rattle.pssm_flat.specs.declared.head.Head.{Head}
 use Rattle.pssm_flat.specs.declared.block.Block.{Block}
 use Rattle.pssm_flat.specs.declared.fault.FlatFault.{FlatFault}
@@ -17,14 +18,13 @@ use Rattle.pssm_flat.specs.Flat.{IsFlat}
 use Rattle.pssm_flat.specs.Faults.{IsFlatFault}
 use Rattle.pssm_flat.specs.inner.Places.{fault_of}
 use Rattle.pssm_flat.specs.inner.Outlines.{class_of, machine_of, after_bytes, line_front, done_of, AreShaped, HasRead, IsStuckAt, StopsAt}
-use Rattle.pssm_flat.proofs.Items.{all_push}
 use Rattle.pssm_flat.proofs.Reach.{Closes, bytes_reach}
 use Rattle.pssm_flat.proofs.Stays.{after_end}
 use Rattle.pssm_flat.proofs.Stops.{good_of}
 use Rattle.pssm_flat.proofs.ActPlaces.{faulty_line}
 use Rattle.pssm_flat.proofs.FaultLaws.{stops_is_fault}
 use Rattle.pssm_flat.proofs.ReadLaws.{more_read, nothing_read, shorter, whole_flat, whole_found}
-use Rattle.pssm_flat.proofs.ShapeOrFault.{shape_or_fault}
+use Rattle.pssm_model.proofs.ShapeOrFault.{shape_or_fault}
 
 -- Bytes behind the last line cannot stand there.
 pub ended_stops : (bytes : List ℕ) (s : Setting) (rest : List ℕ) (n : ℕ) → HasRead bytes (stages.Ended s) rest n → (rest ≡ [] → ⊥) → StopsAt bytes (faults.BadLine n)

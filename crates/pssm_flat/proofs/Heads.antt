@@ -11,6 +11,7 @@ use Rattle.std.proofs.lemmas.Slice.Eq.{bytes_eq-Decides}
 use Rattle.pssm_semantics.specs.declared.setting.SignalDecl.{SignalDecl}
 use Rattle.pssm_semantics.specs.declared.setting.ObjectDecl.{ObjectDecl}
 use Rattle.pssm_spelling.specs.Spelling.{IsName}
+use Rattle.pssm_acts.proofs.Each.{all_push}
 use Rattle.pssm_flat.specs.declared.head.Head.{Head}
 use Rattle.pssm_flat.specs.declared.line.Line.{Line}
 use Rattle.pssm_flat.specs.declared.line.Line.TheVariants as lines
@@ -19,7 +20,7 @@ use Rattle.pssm_flat.specs.inner.Lines.{line_text}
 use Rattle.pssm_flat.specs.inner.Outlines.{has_name, signal_of, object_of, itself, with_signal_line, with_class_line, placed, with_object_line, with_head_line}
 use Rattle.pssm_flat.specs.Flat.{AreNames}
 use Rattle.pssm_flat.proofs.Bind.{chosen_some, some_is}
-use Rattle.pssm_flat.proofs.Items.{map_push, all_push}
+use Rattle.pssm_flat.proofs.Items.{map_push}
 use Rattle.pssm_flat.proofs.NameLaws.{names_push, map_itself, position_takes}
 use Rattle.pssm_flat.proofs.LineForms.{IsGoodLine}
 use Rattle.pssm_flat.proofs.Good.{nth_name, class_part, object_part, head_part, IsGoodHead}

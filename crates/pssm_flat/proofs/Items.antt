@@ -27,10 +27,6 @@ pub map_push : {X Y : Type 0} (f : X → Y) (xs : List X) (x : X) → map f (xs 
 map_push f [] x = refl
 map_push f (y ∷ xs) x = ap (λ t. f y ∷ t) (map_push f xs x)
 
-pub all_push : {X : Type 0} (P : X → Type 0) (xs : List X) (x : X) → AllByRecursion P xs → P x → AllByRecursion P (xs ++ x ∷ [])
-all_push P [] x all here = (here, tt)
-all_push P (y ∷ xs) x all here = (all.0, all_push P xs x all.1 here)
-
 pub all_split : {X : Type 0} (P : X → Type 0) (xs : List X) (x : X) → AllByRecursion P (xs ++ x ∷ []) → AllByRecursion P xs × P x
 all_split P [] x all = (tt, all.0)
 all_split P (y ∷ xs) x all = let more = all_split P xs x all.1 in ((all.0, more.0), more.1)
@@ -38,10 +34,6 @@ all_split P (y ∷ xs) x all = let more = all_split P xs x all.1 in ((all.0, mor
 pub all_append : {X : Type 0} (P : X → Type 0) (xs ys : List X) → AllByRecursion P xs → AllByRecursion P ys → AllByRecursion P (xs ++ ys)
 all_append P [] ys all more = more
 all_append P (x ∷ xs) ys all more = (all.0, all_append P xs ys all.1 more)
-
-pub all_with : {X : Type 0} (P Q : X → Type 0) (xs : List X) → ((x : X) → P x → Q x) → AllByRecursion P xs → AllByRecursion Q xs
-all_with P Q [] f all = tt
-all_with P Q (x ∷ xs) f all = (f x all.0, all_with P Q xs f all.1)
 
 pub numbered_push : {X : Type 0} (f : ℕ → X → List (List ℕ)) (n : ℕ) (xs : List X) (x : X) → numbered f n (xs ++ x ∷ []) ≡ numbered f n xs ++ f (n + length xs) x
 numbered_push f n [] x = let same : n ≡ n + 0 = omega arith in append-nil (f n x) ∙ ap (λ k. f k x) same

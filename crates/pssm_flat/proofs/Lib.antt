@@ -14,9 +14,7 @@ pub mod NumberLaws
 pub mod Good
 pub mod Blocks
 pub mod Closings
-pub mod Wider
 pub mod ProperLaws
-pub mod MarkNames
 pub mod SpelledLaws
 pub mod ElementLines
 pub mod PartLines
@@ -29,8 +27,6 @@ pub mod Begins
 pub mod Stays
 pub mod Turns
 pub mod ActFaults
-pub mod ShapeFaults
-pub mod ShapeOrFault
 pub mod Stops
 pub mod RightTexts
 pub mod ActPlaces

@@ -13,6 +13,7 @@ use Rattle.std.proofs.lemmas.Slice.Eq.{bytes_eq-Decides}
 use Rattle.pssm_model.specs.declared.ids.SignalId.{SignalId}
 use Rattle.pssm_semantics.specs.declared.setting.SignalDecl.{SignalDecl}
 use Rattle.pssm_spelling.specs.Spelling.{IsName}
+use Rattle.pssm_acts.proofs.Each.{all_get}
 use Rattle.pssm_flat.specs.Text.{signal_name}
 use Rattle.pssm_flat.specs.Flat.{AllBehind, IsNewName, AreNames, next_number, IsNextSignal}
 use Rattle.pssm_flat.specs.inner.Outlines.{has_name, itself, signal_of, number_from, with_signal}
@@ -75,11 +76,6 @@ position_again p xs k d lt here before =
     rw (n, lt-ltb k (length xs) lt) refl
 
 -- ---- names that differ pairwise
-
-pub all_get : {X : Type 0} (P : X → Type 0) (xs : List X) (k : ℕ) (d : X) → AllByRecursion P xs → k < length xs → P (get_or xs k d)
-all_get P [] k d all lt = absurd (omega arith)
-all_get P (x ∷ xs) zero d all lt = all.0
-all_get P (x ∷ xs) (suc k) d all lt = all_get P xs k d all.1 (omega arith)
 
 abbrev pub Unlike : List ℕ → List ℕ → Type 0
 Unlike a b = a ≢ b

@@ -31,13 +31,13 @@ use Rattle.pssm_acts.specs.Vocabularies.{CanSend as CanSendAmong}
 use Rattle.pssm_acts.proofs.FitLaws.{spelled_act_fits}
 use Rattle.pssm_acts.proofs.TokenLaws.{spelled_fits}
 use Rattle.pssm_acts.proofs.MarkLaws.{stmts_grow}
+use Rattle.pssm_acts.proofs.Each.{all_push, all_with}
 use Rattle.pssm_flat.specs.Text.{names_of}
 use Rattle.pssm_flat.specs.Flat.{Leads, AreNames as AreNewNames, IsNextSignal, AreAscending, AllBehind, IsNextAct, LeadsAct, LeadsGuard, LeadsVertex, LeadsTransition, first_program, IsNumbered, IsWrittenVertex, IsWrittenTransition, IsWrittenClass, IsFlat}
-use Rattle.pssm_flat.proofs.Items.{all_push, all_with}
 use Rattle.pssm_flat.proofs.NameLaws.{names_differ, names_are}
 use Rattle.pssm_flat.proofs.Programs.{GoesOnTo, same_on, on_and_on, act_on, steps_on, leads_on, vertex_on, transition_on, first_is_empty, some_acts, empty_act}
-use Rattle.pssm_flat.proofs.MarkNames.{AreMarks, no_marks, tokens_named, stmts_marks}
-use Rattle.pssm_flat.proofs.Wider.{act_wider}
+use Rattle.pssm_acts.proofs.MarkNames.{AreMarks, no_marks, tokens_named, stmts_marks}
+use Rattle.pssm_acts.proofs.Wider.{act_wider}
 
 -- ---- a program as it is numbered
 

@@ -3,6 +3,7 @@ use Rattle.std.proofs.Common.{◌≡◌, ℕ, suc, ◌+◌, ◌<◌, ◌≤◌, 
 use Rattle.std.specs.Prelude.{map}
 use Rattle.std.proofs.lemmas.List.{append-nil, length-append}
 use Rattle.pssm_semantics.specs.declared.setting.Setting.{Setting}
+use Rattle.pssm_acts.proofs.Each.{all_push}
 use Rattle.pssm_flat.specs.declared.block.Block.{Block}
 use Rattle.pssm_flat.specs.declared.head.Head.{Head}
 use Rattle.pssm_flat.specs.declared.outline.Outline.{Outline}
@@ -14,7 +15,6 @@ use Rattle.pssm_semantics.specs.declared.setting.Names.{Names}
 use Rattle.pssm_flat.specs.inner.Outlines.{object_of, taken, class_of, IsInner, after_bytes, after_lines, line_front, IsShaped, IsSmallHead, IsSmallBlock, IsSmall, open_size, HasRead}
 use Rattle.pssm_flat.proofs.TextLaws.{text_of_append}
 use Rattle.pssm_flat.proofs.Compare.{line_front_takes}
-use Rattle.pssm_flat.proofs.Items.{all_push}
 use Rattle.pssm_flat.proofs.Good.{var_of, head_part, done_part, block_part, lines_of, IsGoodHead, IsGoodBlock, IsGood}
 use Rattle.pssm_flat.proofs.Reach.{lines_reach, after_append}
 use Rattle.pssm_flat.proofs.PlaceLaws.{block_length}

@@ -8,9 +8,9 @@ use Rattle.pssm_semantics.specs.declared.setting.Class.{Class}
 use Rattle.pssm_semantics.specs.declared.setting.Setting.{Setting}
 use Rattle.pssm_semantics.specs.Names.{HasSpelledNames}
 use Rattle.pssm_spelling.specs.Spelling.{IsName}
+use Rattle.pssm_acts.proofs.Each.{all_with}
 use Rattle.pssm_flat.specs.Text.{names_of}
 use Rattle.pssm_flat.specs.Flat.{AreNames, IsWrittenClass, IsFlat}
-use Rattle.pssm_flat.proofs.Items.{all_with}
 use Rattle.pssm_flat.proofs.NameLaws.{names_are}
 use Rattle.pssm_flat.proofs.ProperLaws.{numbered_fits}
 

@@ -18,7 +18,7 @@ use Rattle.pssm_flat.specs.inner.Outlines.{class_of, machine_of, after_bytes, af
 use Rattle.pssm_flat.proofs.Bind.{some_is, ok_is, fine}
 use Rattle.pssm_flat.proofs.Items.{all_split}
 use Rattle.pssm_flat.proofs.Compare.{GoesOn, second, first, same, compared, line_front_again}
-use Rattle.pssm_flat.proofs.ShapeFaults.{fault_is_one}
+use Rattle.pssm_model.proofs.ShapeFaults.{fault_is_one}
 use Rattle.pssm_flat.proofs.Good.{IsGood}
 use Rattle.pssm_flat.proofs.Reach.{lines_reach, read_inner, bytes_reach}
 use Rattle.pssm_flat.proofs.Stays.{after_end, done_stay}

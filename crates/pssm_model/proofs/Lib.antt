@@ -11,3 +11,5 @@ pub mod Scopes
 pub mod ListsFilled
 pub mod Agreeing
 pub mod NestedFrom
+pub mod ShapeFaults
+pub mod ShapeOrFault

@@ -12,7 +12,5 @@ pub mod ProperClasses
 pub mod ProperSettings
 pub mod ClassLaws
 pub mod ListingLaws
-pub mod SameShapes
 pub mod SameSettings
-pub mod SomeShape
 pub mod SomeSetting

@@ -32,7 +32,7 @@ use Rattle.pssm_settings.specs.Settings.{names_of, var_of, IsLoadedClass, AreLoa
 use Rattle.pssm_settings.specs.Failures.{FailsClass, IsFirstFailure}
 use Rattle.pssm_settings.specs.Failures.FailsClass.{redefined, body, shape}
 use Rattle.pssm_settings.proofs.OnceWhole.{each_once}
-use Rattle.pssm_settings.proofs.SameShapes.{fault_is_one}
+use Rattle.pssm_model.proofs.ShapeFaults.{fault_is_one}
 
 -- ---- one class
 

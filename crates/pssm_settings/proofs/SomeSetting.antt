@@ -21,7 +21,7 @@ use Rattle.pssm_settings.specs.Failures.FailsClass.{redefined, body, shape}
 use Rattle.pssm_settings.specs.inner.Making.{class_with}
 use Rattle.pssm_settings.proofs.ListingLaws.{none_loaded, one_more_loaded, first_fails}
 use Rattle.pssm_settings.proofs.OnceWhole.{each_once}
-use Rattle.pssm_settings.proofs.SomeShape.{shape_or_fault}
+use Rattle.pssm_model.proofs.ShapeOrFault.{shape_or_fault}
 
 -- A flat draft with a machine that has the shape of one gives a class.
 loaded : (draft : Draft) (number : ℕ) (flat : FlatDraft) (machine : DraftMachine) (program : Program) (flattens : Flattens draft number flat)

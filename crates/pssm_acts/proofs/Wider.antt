@@ -1,14 +1,15 @@
 -- A behaviour fits where more may be named.
 use Rattle.std.proofs.Common.{◌≤◌, ℕ, length, Option, arith}
-use Rattle.std.proofs.lemmas.List.Elements.{All-from_recursion, recursion_from_All}
+use Rattle.std.proofs.lemmas.List.Elements.{recursion_from_All}
 use Rattle.pssm_model.specs.declared.ids.SignalId.{SignalId}
 use Rattle.pssm_semantics.specs.declared.entry.ObjectId.{ObjectId}
 use Rattle.pssm_semantics.specs.declared.tree.Act.{Act}
 use Rattle.pssm_semantics.specs.declared.tree.Stmt.{Stmt, Assign, Choose', Send, Mark, Row_of-Stmt, end_of-Stmt, more_of-Stmt, Held-Stmt-Choose-2, None', Some'}
 use Rattle.pssm_semantics.specs.Fits.{Vocabulary, StmtFits, BlockFits, OtherwiseFits, ActFits}
-use Rattle.pssm_flat.proofs.Items.{all_with}
+use Rattle.pssm_acts.proofs.Each.{all_map}
 
-module _ (vars m n : ℕ) (S T : Option ObjectId → SignalId → ℕ → Type 0) (more : m ≤ n) (sends : (to : Option ObjectId) (signal : SignalId) (count : ℕ) → S to signal count → T to signal count) where
+module _ (vars m n : ℕ) (S T : Option ObjectId → SignalId → ℕ → Type 0) (more : m ≤ n)
+    (sends : (to : Option ObjectId) (signal : SignalId) (count : ℕ) → S to signal count → T to signal count) where
   abbrev few : Vocabulary
   few = record { vars = vars; marks = m; Sends = S }
 
@@ -31,5 +32,4 @@ module _ (vars m n : ℕ) (S T : Option ObjectId → SignalId → ℕ → Type 0
     otherwise_wider (Some' shape block) fits = block_wider block fits
 
   pub act_wider : (act : Act) → ActFits few act → ActFits wide act
-  act_wider act fits =
-      (All-from_recursion (StmtFits wide) act.stmts (all_with (StmtFits few) (StmtFits wide) act.stmts stmt_wider (recursion_from_All (StmtFits few) act.stmts fits.0)), fits.1)
+  act_wider act fits = (all_map (StmtFits few) (StmtFits wide) act.stmts stmt_wider (recursion_from_All (StmtFits few) act.stmts fits.0), fits.1)
