@@ -18,7 +18,7 @@ use Rattle.pssm_xml.specs.inner.Reads.{IsGoodText, IsBefore, HasEnd, StopsAt, en
 use Rattle.pssm_xml.proofs.CutLaws.{one_byte}
 use Rattle.pssm_xml.proofs.GoodLaws.{good_text}
 use Rattle.pssm_xml.proofs.DocumentLaws.{before_bare, before_marked, before_turn, before_stop, before_end, taken_shorter, whole_by_test, doctype_by_test, malformed_by_tests}
-use Rattle.pssm_xmi.proofs.SomeFirst.{IsLeast, some_first}
+use Rattle.pssm_xml.proofs.SomeFirst.{IsLeast, some_first}
 
 -- ---- bytes that are no UTF-8
 
