@@ -1,0 +1,16 @@
+use Rattle.pssm_routes.proofs.JoiningSteps.{none_joins_shut, some_joins, none_joins}
+use Rattle.pssm_routes.proofs.joining.find_joiner.Goals as goal
+
+pub returns-in-Shut-clause-none : goal.returns-in-Shut-clause-none
+returns-in-Shut-clause-none g c = λ values tells.
+    none_joins_shut c.requires.legs c.regions-shaped.ensures.shaped values _ _ c.in-Shut.ensures.room
+
+pub returns-in-Open-clause-some : goal.returns-in-Open-clause-some
+returns-in-Open-clause-some g c = λ values tells.
+    some_joins c.requires.legs c.regions-shaped.ensures.shaped values _ _ c.in-Open.within c.in-Open.ensures.room c.find_way.new.search c.find_way.result
+    c.requires.there c.requires.source (c.find_way.ensures.found values tells)
+
+pub returns-in-Open-clause-none : goal.returns-in-Open-clause-none
+returns-in-Open-clause-none g c = λ values tells.
+    none_joins c.requires.legs c.regions-shaped.ensures.shaped values _ _ c.in-Open.within c.in-Open.ensures.room c.find_way.result
+    (c.find_way.ensures.none values tells (c.new.ensures.nothing c.args.machine.now values c.in-Open.within))

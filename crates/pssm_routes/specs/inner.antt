@@ -1,0 +1,10 @@
+pub mod Footprints
+pub mod Starts
+pub mod Ways
+pub mod Steps
+pub mod Seeking
+pub mod Sets
+pub mod Rooms
+pub mod Trails
+pub mod Onward
+pub mod Picks

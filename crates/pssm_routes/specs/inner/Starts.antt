@@ -1,0 +1,41 @@
+-- Which transitions an event starts, and the States that react to it.
+use Rattle.std.specs.Prelude.{◌≡◌, [], ◌∷◌}
+use Rattle.pssm_model.specs.declared.ids.VertexId.{VertexId}
+use Rattle.pssm_model.specs.declared.ids.TransId.{TransId}
+use Rattle.pssm_model.specs.declared.elements.DraftMachine.{DraftMachine}
+use Rattle.pssm_model.specs.declared.elements.VertexKind.TheVariants as kinds
+use Rattle.pssm_model.specs.declared.steps.Route.{Route}
+use Rattle.pssm_model.specs.declared.steps.Event.{Event}
+use Rattle.pssm_model.specs.declared.steps.Event.TheVariants.{Signal, Completion}
+use Rattle.pssm_model.specs.Forest.{HasKind, LiesInState}
+use Rattle.pssm_model.specs.Configuration.{Configuration}
+use Rattle.pssm_model.specs.Legs.{Leaves}
+use Rattle.pssm_model.specs.Routes.{Truth, IsSource, IsEnabled, Lists, HasNoTrigger}
+
+-- The signal triggers the transition, or it is the completion of the transition's source, which has no trigger.
+abbrev pub IsCausedBy : DraftMachine → Event → TransId → VertexId → Type 0
+IsCausedBy m (Signal signal) t s = Lists m t signal
+IsCausedBy m (Completion q) t s = (q ≡ s) × HasNoTrigger m t
+
+-- The event starts the transition: it leaves an active State and is caused by the event.
+pub record IsStarted (m : DraftMachine) (now : Configuration) (event : Event) (t : TransId) (s : VertexId) : Type 0 where
+  pub leaves : Leaves m t s
+  pub state : HasKind m s kinds.State
+  pub active : now.Active s
+  pub caused : IsCausedBy m event t s
+
+-- A route that the event enables starts with the transition.
+abbrev pub HasRouteBy : DraftMachine → Configuration → Truth → Event → TransId → Type 0
+HasRouteBy m now truth event t = (p : Route) × IsEnabled m now truth event p × (p.starts ≡ t ∷ [])
+
+-- A route that the event enables starts at the State.
+abbrev pub Reacts : DraftMachine → Configuration → Truth → Event → VertexId → Type 0
+Reacts m now truth event s = (p : Route) × IsEnabled m now truth event p × IsSource m p s
+
+-- A State in it reacts.
+abbrev pub IsOutranked : DraftMachine → Configuration → Truth → Event → VertexId → Type 0
+IsOutranked m now truth event s = (q : VertexId) × Reacts m now truth event q × LiesInState m q s
+
+-- The State reacts, and no State in it does.
+abbrev pub IsCandidate : DraftMachine → Configuration → Truth → Event → VertexId → Type 0
+IsCandidate m now truth event s = Reacts m now truth event s × (IsOutranked m now truth event s → ⊥)

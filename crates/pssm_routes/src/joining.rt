@@ -1,0 +1,155 @@
+//! Which routes can join others without a conflict.
+ghost use Rattle.std.specs.Prelude.{◌↔◌, ◌<◌, length, All, IsTrue, IfSome, IfNone};
+ghost use Rattle.pssm_model.specs.declared.ids.VertexId.{VertexId};
+ghost use Rattle.pssm_model.specs.declared.ids.RegionId.{RegionId};
+ghost use Rattle.pssm_model.specs.declared.elements.Owner.{Owner};
+ghost use Rattle.pssm_model.specs.declared.elements.VertexKind.TheVariants as kinds;
+ghost use Rattle.pssm_model.specs.Forest.{HasKind, LiesUnder, LiesInRegion};
+ghost use Rattle.pssm_model.specs.Legs.{Leaves};
+ghost use Rattle.pssm_model.specs.Routes.{Truth};
+ghost use Rattle.pssm_routes.specs.Telling.{CanBeAsked, Tells};
+ghost use Rattle.pssm_routes.specs.SingleLegs.{HasSingleLegs};
+ghost use Rattle.pssm_routes.specs.inner.Footprints.{IsFootprintIn};
+ghost use Rattle.pssm_routes.specs.inner.Steps.{IsJoiningStep};
+ghost use Rattle.pssm_routes.specs.inner.Sets.{HasFreeRoute, IsTouched, HoldsSource, IsCeiling};
+ghost use Rattle.pssm_routes.specs.inner.Rooms.{Touches, IsNextOut, IsRoomFor, IsRoomIn};
+
+use crate::areas::{Footprint, are_on_one_chain, covers};
+use crate::seeking::{Search, Step, find_way};
+use pssm_model::{GuardId, Machine, Owner, RegionId, TransId, TransKind, VertexId};
+
+// Whether the State is on one owner chain with the source of the footprint, or lies in its area.
+fn touches(machine: &Machine, footprint: Footprint, s: VertexId) -> bool
+    requires there { s.0 < length machine.now.vertices }
+    requires footprint { IsFootprintIn machine.now footprint }
+    ensures { IsTrue result ↔ Touches machine.now s footprint }
+{
+    covers(machine, footprint.area, s) || are_on_one_chain(machine, footprint.source, s)
+}
+
+// Whether a source is the State, lies in it or has it inside, or an area covers the State.
+fn is_touched(machine: &Machine, footprints: &[Footprint], s: VertexId) -> bool
+    requires there { s.0 < length machine.now.vertices }
+    requires footprints { All (IsFootprintIn machine.now) footprints.now }
+    ensures { IsTrue result ↔ IsTouched machine.now footprints.now s }
+{
+    for footprint in footprints {
+        if touches(machine, *footprint, s) {
+            return true;
+        }
+    }
+    false
+}
+
+// Whether a source lies in the region.
+fn holds_source(machine: &Machine, footprints: &[Footprint], region: RegionId) -> bool
+    requires there { region.0 < length machine.now.regions }
+    requires footprints { All (IsFootprintIn machine.now) footprints.now }
+    ensures { IsTrue result ↔ HoldsSource machine.now footprints.now region }
+{
+    for footprint in footprints {
+        if machine.lies_in_region(footprint.source, region) {
+            return true;
+        }
+    }
+    false
+}
+
+// The innermost region in which a region is nested, if there is one.
+fn next_out(machine: &Machine, region: RegionId) -> Option<RegionId>
+    requires there { region.0 < length machine.now.regions }
+    ensures inside { IfSome result (λ r. r.0 < length machine.now.regions) }
+    ensures some { IfSome result (IsNextOut machine.now region) }
+    ensures none { IfNone result ((r : RegionId)
+        → LiesUnder machine.now (Owner.Region region) (Owner.Region r) → ⊥) }
+{
+    let _shaped = machine.regions();
+    match machine.region_owner(region) {
+        Owner::State(owner) => Some(machine.home(owner)),
+        _ => None,
+    }
+}
+
+// The largest region around the State in which no source lies; none exactly where there is none.
+fn ceiling(machine: &Machine, footprints: &[Footprint], s: VertexId) -> Option<RegionId>
+    requires there { s.0 < length machine.now.vertices }
+    requires footprints { All (IsFootprintIn machine.now) footprints.now }
+    ensures inside { IfSome result (λ r. r.0 < length machine.now.regions) }
+    ensures some { IfSome result (IsCeiling machine.now footprints.now s) }
+    ensures none { IfNone result ((r : RegionId) → LiesInRegion machine.now s r
+        → (HoldsSource machine.now footprints.now r → ⊥) → ⊥) }
+{
+    let mut found = None;
+    let mut region = machine.home(s);
+    // More regions than stand above that one.
+    let mut left = machine.depth(s);
+    while !holds_source(machine, footprints, region) {
+        found = Some(region);
+        match next_out(machine, region) {
+            Some(next) => {
+                region = next;
+                left -= 1;
+            }
+            None => return found,
+        }
+    }
+    found
+}
+
+/// Where a route may go that clashes with none of the routes that fire.
+enum Room {
+    Shut,
+    Open(Option<RegionId>),
+}
+
+// Where a route with this start may go.
+fn room_for(machine: &Machine, footprints: &[Footprint], t: TransId) -> Room
+    requires legs { HasSingleLegs machine.now }
+    requires there { t.0 < length machine.now.transitions }
+    requires footprints { All (IsFootprintIn machine.now) footprints.now }
+    ensures inside { IsRoomIn machine.now result }
+    ensures room { IsRoomFor machine.now footprints.now t result }
+{
+    let _shaped = machine.regions();
+    let source = machine.source(t);
+    if is_touched(machine, footprints, source) {
+        return Room::Shut;
+    }
+    match machine.transition(t).kind {
+        TransKind::External => match ceiling(machine, footprints, source) {
+            Some(region) => Room::Open(Some(region)),
+            None => Room::Shut,
+        },
+        _ => Room::Open(None),
+    }
+}
+
+/// Seeks a way for a route with this start that clashes with none of the footprints; none exactly where there is no
+/// such route.
+#[tactic(auto, using(crate::proofs::JoiningSteps::state_no_junction))]
+pub fn find_joiner<T: Fn(GuardId) -> bool>(
+    machine: &Machine,
+    truth: &T,
+    footprints: &[Footprint],
+    t: TransId,
+    search: &mut Search,
+) -> Option<Step>
+    requires legs { HasSingleLegs machine.now }
+    requires there { t.0 < length machine.now.transitions }
+    requires footprints { All (IsFootprintIn machine.now) footprints.now }
+    requires askable { CanBeAsked machine.now (T.pre truth.now) }
+    requires source { (v : VertexId) → Leaves machine.now t v → HasKind machine.now v kinds.State }
+    ensures some { (values : Truth) → Tells (T.post truth.now) values
+        → IfSome result (IsJoiningStep machine.now values footprints.now search.new t) }
+    ensures none { (values : Truth) → Tells (T.post truth.now) values
+        → IfNone result (HasFreeRoute machine.now values footprints.now t → ⊥) }
+{
+    let _shaped = machine.regions();
+    match room_for(machine, footprints, t) {
+        Room::Shut => None,
+        Room::Open(within) => {
+            *search = Search::new();
+            find_way(machine, truth, within, t, search)
+        }
+    }
+}

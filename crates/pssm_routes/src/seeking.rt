@@ -1,0 +1,200 @@
+//! The search for a way over junctions: each junction is gone on from once, and no memory is taken.
+ghost use Rattle.std.specs.Prelude.{◌≡◌, ◌↔◌, ◌<◌, ◌+◌, Option, length, IsTrue, IfSome, IfNone};
+ghost use Rattle.pssm_model.specs.declared.ids.VertexId.{VertexId};
+ghost use Rattle.pssm_model.specs.declared.ids.RegionId.{RegionId};
+ghost use Rattle.pssm_model.specs.declared.ids.TransId.{TransId};
+ghost use Rattle.pssm_model.specs.declared.elements.DraftMachine.{DraftMachine};
+ghost use Rattle.pssm_model.specs.declared.elements.VertexKind.TheVariants as kinds;
+ghost use Rattle.pssm_model.specs.Forest.{HasKind};
+ghost use Rattle.pssm_model.specs.Legs.{Leaves};
+ghost use Rattle.pssm_model.specs.Routes.{Truth};
+ghost use Rattle.pssm_routes.specs.declared.seeking.Search.{Search};
+ghost use Rattle.pssm_routes.specs.Telling.{CanBeAsked, Tells};
+ghost use Rattle.pssm_routes.specs.inner.Ways.{IsAllowed, IsOpen, LeadsOut};
+ghost use Rattle.pssm_routes.specs.inner.Steps.{SeesDeadEnds, IsFound};
+ghost use Rattle.pssm_routes.specs.inner.Seeking.{ComesTo, Tries, ComesOnce, IsUnderWay};
+
+use crate::guards::is_true_at;
+use pssm_model::{GuardId, Machine, RegionId, TransId, VertexId, VertexKind};
+
+/// By which transition a search came to a junction, and the place of the step before it, if there
+/// is one.
+#[derive(Clone, Copy, PartialEq, Eq, Debug)]
+pub struct Step {
+    pub by: TransId,
+    pub before: Option<u16>,
+}
+
+/// What a search has seen: a mark for each junction, and the steps by which it came to them, in the
+/// order in which it did. A machine has at most 4,096 vertices.
+#[derive(Drop)]
+pub struct Search {
+    pub seen: [bool; 4096],
+    pub steps: [Step; 4096],
+    pub count: u16,
+}
+
+impl Search {
+    /// A search that has seen nothing.
+    pub fn new() -> Search
+        ensures count { result.count ≡ 0 }
+        ensures nothing { (m : DraftMachine) (truth : Truth) (within : Option RegionId)
+            → SeesDeadEnds m truth within result }
+    {
+        Search {
+            seen: [false; 4096],
+            steps: [Step {
+                by: TransId(0),
+                before: None,
+            }; 4096],
+            count: 0,
+        }
+    }
+
+    // Comes to the target of a step's transition. It answers whether that is no junction; a
+    // junction is marked, and the step kept, unless it was seen before.
+    fn comes_out(&mut self, machine: &Machine, step: Step) -> bool
+        requires there { step.by.0 < length machine.now.transitions }
+        requires once { ComesOnce machine.now self.now }
+        ensures comes { ComesTo machine.now self.old step self.new result }
+        ensures once { ComesOnce machine.now self.new }
+    {
+        let _shaped = machine.regions();
+        let target = machine.target(step.by);
+        if machine.vertex(target).kind != VertexKind::Junction {
+            return true;
+        }
+        if !self.seen[target.0 as usize] {
+            self.seen[target.0 as usize] = true;
+            self.steps[self.count as usize] = step;
+            self.count += 1;
+        }
+        false
+    }
+
+    // Comes to the target of a step's transition if the transition is open. It answers whether it
+    // is and its target is no junction.
+    fn try_step<T: Fn(GuardId) -> bool>(
+        &mut self,
+        machine: &Machine,
+        truth: &T,
+        within: Option<RegionId>,
+        step: Step,
+    ) -> bool
+        requires there { step.by.0 < length machine.now.transitions }
+        requires region { IfSome within (λ r. r.0 < length machine.now.regions) }
+        requires askable { CanBeAsked machine.now (T.pre truth.now) }
+        requires once { ComesOnce machine.now self.now }
+        ensures tries { (values : Truth) → Tells (T.post truth.now) values
+            → Tries machine.now values within self.old step self.new result }
+        ensures once { ComesOnce machine.now self.new }
+    {
+        is_open(machine, truth, within, step.by) && self.comes_out(machine, step)
+    }
+
+    // Goes on from the junction to which the step with this place came. It answers the last step of
+    // a way out, if it comes to the end of one.
+    fn go_on<T: Fn(GuardId) -> bool>(
+        &mut self,
+        machine: &Machine,
+        truth: &T,
+        within: Option<RegionId>,
+        place: u16,
+    ) -> Option<Step>
+        requires place { place < self.now.count }
+        requires region { IfSome within (λ r. r.0 < length machine.now.regions) }
+        requires askable { CanBeAsked machine.now (T.pre truth.now) }
+        requires once { ComesOnce machine.now self.now }
+        ensures found { (values : Truth) (start : TransId) (before : Search)
+            → Tells (T.post truth.now) values
+            → IsUnderWay machine.now values within start before self.old place
+            → IfSome result (IsFound machine.now values within self.new start) }
+        ensures none { (values : Truth) (start : TransId) (before : Search)
+            → Tells (T.post truth.now) values
+            → IsUnderWay machine.now values within start before self.old place
+            → IfNone result
+            (IsUnderWay machine.now values within start before self.new (place + 1)) }
+        ensures once { ComesOnce machine.now self.new }
+    {
+        let junction = machine.target(self.steps[place as usize].by);
+        for t in machine.outgoing(junction) {
+            let step = Step {
+                by: *t,
+                before: Some(place),
+            };
+            if self.try_step(machine, truth, within, step) {
+                return Some(step);
+            }
+        }
+        None
+    }
+}
+
+// Whether the vertex lies in the region, if one is named.
+fn is_allowed(machine: &Machine, within: Option<RegionId>, v: VertexId) -> bool
+    requires vertex { v.0 < length machine.now.vertices }
+    requires region { IfSome within (λ r. r.0 < length machine.now.regions) }
+    ensures { IsTrue result ↔ IsAllowed machine.now within v }
+{
+    match within {
+        Some(region) => machine.lies_in_region(v, region),
+        None => true,
+    }
+}
+
+// Whether the transition is true and ends where it may.
+fn is_open<T: Fn(GuardId) -> bool>(
+    machine: &Machine,
+    truth: &T,
+    within: Option<RegionId>,
+    t: TransId,
+) -> bool
+    requires there { t.0 < length machine.now.transitions }
+    requires region { IfSome within (λ r. r.0 < length machine.now.regions) }
+    requires askable { CanBeAsked machine.now (T.pre truth.now) }
+    ensures { (values : Truth) → Tells (T.post truth.now) values
+        → (IsTrue result ↔ IsOpen machine.now values within t) }
+{
+    is_allowed(machine, within, machine.target(t)) && is_true_at(machine, truth, t)
+}
+
+/// Seeks a way from the transition over junctions that the search has not seen. It answers the last
+/// transition of a way, and the place of the step before it; none exactly where there is no way.
+pub fn find_way<T: Fn(GuardId) -> bool>(
+    machine: &Machine,
+    truth: &T,
+    within: Option<RegionId>,
+    start: TransId,
+    search: &mut Search,
+) -> Option<Step>
+    requires there { start.0 < length machine.now.transitions }
+    requires region { IfSome within (λ r. r.0 < length machine.now.regions) }
+    requires askable { CanBeAsked machine.now (T.pre truth.now) }
+    requires source { (v : VertexId) → Leaves machine.now start v
+        → HasKind machine.now v kinds.Junction → ⊥ }
+    ensures found { (values : Truth) → Tells (T.post truth.now) values
+        → IfSome result (IsFound machine.now values within search.new start) }
+    ensures none { (values : Truth) → Tells (T.post truth.now) values
+        → SeesDeadEnds machine.now values within search.old
+        → IfNone result (LeadsOut machine.now values within start → ⊥) }
+    ensures dead { (values : Truth) → Tells (T.post truth.now) values
+        → SeesDeadEnds machine.now values within search.old
+        → IfNone result (SeesDeadEnds machine.now values within search.new) }
+{
+    search.count = 0;
+    let first = Step {
+        by: start,
+        before: None,
+    };
+    if search.try_step(machine, truth, within, first) {
+        return Some(first);
+    }
+    let mut place = 0;
+    while place < search.count {
+        if let Some(last) = search.go_on(machine, truth, within, place) {
+            return Some(last);
+        }
+        place += 1;
+    }
+    None
+}
