@@ -24,12 +24,12 @@ use Rattle.pssm_model.specs.BuiltMachine.{IsBuiltMachine}
 use Rattle.pssm_model.specs.inner.Listed.{transition_number}
 use Rattle.pssm_model.proofs.ElementLaws.{mapped_at, some_at, leaves_at, lists_at, leaves_one, nothing_in_nil, same_transition}
 use Rattle.pssm_model.proofs.RouteLaws.{in_one, is_one, on_single, on_single_is, single_source, single_source_is, single_route_same, none_in_order}
-use Rattle.pssm_routes.specs.declared.areas.Ground.{Ground}
-use Rattle.pssm_routes.specs.inner.Grounds.{scope_of, IsGroundOf, Clash}
+use Rattle.pssm_routes.specs.declared.areas.Footprint.{Footprint}
+use Rattle.pssm_routes.specs.inner.Footprints.{scope_of, IsFootprintOf, Clash}
 use Rattle.pssm_routes.specs.inner.Starts.{IsOutranked}
 use Rattle.pssm_routes.specs.inner.Sets.{CanJoin, IsSettled, IsFull}
 use Rattle.pssm_routes.proofs.Enabled.{is_start}
-use Rattle.pssm_routes.proofs.Conflicts.{some_ground, conflict_clashes}
+use Rattle.pssm_routes.proofs.Conflicts.{some_footprint, conflict_clashes}
 use Rattle.pssm_routes.proofs.Settling.{conflict_turns, fires_settled}
 use Rattle.pssm_plan.proofs.Known.{Known, known_as, known_both, known_either, known_not, known_below, known_among, known_number, known_vertex}
 use Rattle.pssm_plan.proofs.KnownPlaces.{known_in_region, known_in_state}
@@ -69,7 +69,7 @@ value_of_guard m truth t x (When g) e is =
     (known_true (truth g))
 
 module _ {m : DraftMachine} (b : IsBuiltMachine m) where
-  -- whether two grounds clash
+  -- whether two footprints clash
   known_in_scope : (v : VertexId) (scope : Scope) → Known (LiesInScope m v scope)
   known_in_scope v Nowhere = inr (λ h. h)
   known_in_scope v (Inside s) = known_in_state b.shape v s
@@ -78,7 +78,7 @@ module _ {m : DraftMachine} (b : IsBuiltMachine m) where
   known_or_in : (v s : VertexId) → Known (IsOrLiesIn m v s)
   known_or_in v s = known_either (known_vertex v s) (known_in_state b.shape v s)
 
-  known_clash : (a c : Ground) → Known (Clash m a c)
+  known_clash : (a c : Footprint) → Known (Clash m a c)
   known_clash a c =
       known_either (known_in_scope c.source (scope_of a.area))
       (known_either (known_in_scope a.source (scope_of c.area)) (known_either (known_or_in a.source c.source) (known_or_in c.source a.source)))
@@ -162,16 +162,16 @@ module _ {m : DraftMachine} (b : IsBuiltMachine m) where
         (known_below (IsInner s) (known_inner s) (length m.transitions))
 
     -- whether two different enabled routes conflict
-    ground_active : (p : Route) (g : Ground) → Enabled p → IsGroundOf m p g → now.Active g.source
-    ground_active p g enabled is = enabled.by_event.3 g.source (is.start, is_start p is.start is.from.starts, is.from.leaves)
+    footprint_active : (p : Route) (g : Footprint) → Enabled p → IsFootprintOf m p g → now.Active g.source
+    footprint_active p g enabled is = enabled.by_event.3 g.source (is.start, is_start p is.start is.from.starts, is.from.leaves)
 
     known_conflict : (p q : Route) → Enabled p → Enabled q → p ≢ q → Known (Conflict m now.Active p q)
     known_conflict p q first second apart =
         let legs = single_legs b in
-        let a = some_ground legs b.shape p first.route_of_states in
-        let c = some_ground legs b.shape q second.route_of_states in
-        let is = conflict_clashes legs b.shape now.Active p q a.0 c.0 first.route_of_states second.route_of_states a.1 c.1 (ground_active p a.0 first a.1)
-        (ground_active q c.0 second c.1) apart in
+        let a = some_footprint legs b.shape p first.route_of_states in
+        let c = some_footprint legs b.shape q second.route_of_states in
+        let is = conflict_clashes legs b.shape now.Active p q a.0 c.0 first.route_of_states second.route_of_states a.1 c.1 (footprint_active p a.0 first a.1)
+        (footprint_active q c.0 second c.1) apart in
         known_as is.1 is.0 (known_clash a.0 c.0)
 
     -- the routes that are chosen from a transition on

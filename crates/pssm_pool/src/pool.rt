@@ -1,5 +1,6 @@
 //! The pool of one object.
-ghost use Rattle.std.specs.Prelude.{◌≡◌, ◌≤◌, ◌<◌, ◌+◌, ◌++◌, ◌∷◌, [], length, slice_get, Some, OnOk, All, IfSome, IsNone, ◌↔◌, Bool, true};
+ghost use Rattle.std.specs.Prelude.{◌≡◌, ◌≤◌, ◌<◌, ◌+◌, ◌++◌, ◌∷◌, [], length, slice_get};
+ghost use Rattle.std.specs.Prelude.{Some, OnOk, All, IfSome, IsNone, ◌↔◌, Bool, true};
 ghost use Rattle.std.specs.List.{remove};
 ghost use Rattle.pssm_pool.specs.Telling.{CanBeAsked, Tells, IsFirstNot};
 

@@ -1,5 +1,6 @@
 //! `Pools`: the pools of all objects.
-ghost use Rattle.std.specs.Prelude.{◌≡◌, ◌≤◌, ◌<◌, ◌+◌, ◌↔◌, ℕ, [], length, replicate, All, Bool, true, IfOk, OnOk, IfSome, IsNone};
+ghost use Rattle.std.specs.Prelude.{◌≡◌, ◌≤◌, ◌<◌, ◌+◌, ◌↔◌, ℕ, [], length};
+ghost use Rattle.std.specs.Prelude.{replicate, All, Bool, true, IfOk, OnOk, IfSome, IsNone};
 ghost use Rattle.pssm_semantics.specs.declared.entry.ObjectId.{ObjectId as Object};
 ghost use Rattle.pssm_pool.specs.Waits.{waiting_for, held_in, with_arrived, without, IsSlotOf, IsSlot, StandsAt};
 ghost use Rattle.pssm_pool.specs.Telling.{CanBeAsked, Tells, IsFirstNot};

@@ -17,8 +17,8 @@ pub fn held_count(elements: &Elements, n: u32, name: &[u8]) -> usize
     }
 }
 
-// Whether the element has this name.
-pub(crate) fn is_called(elements: &Elements, n: u32, name: &[u8]) -> bool
+/// Whether the element has this name.
+pub fn is_called(elements: &Elements, n: u32, name: &[u8]) -> bool
     requires { n < length elements.now }
     ensures { option_map (λ (e : Element). bytes_eq e.name name.now) (slice_get elements.now n) ≡ Some result }
 {

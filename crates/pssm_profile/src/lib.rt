@@ -29,7 +29,7 @@ pub use asking::{
     is_missing, is_other_root, is_unread_elsewhere, is_unread_language, is_unread_several,
     is_unread_submachine, is_unread_type, is_unread_value,
 };
-pub use counting::{children_count, has_submachine, held_count, wraps_others};
+pub use counting::{children_count, has_submachine, held_count, is_called, wraps_others};
 pub use fault::XmiFault;
 pub use flaw::{Flaw, Owed, Unread};
 pub use lacking::{lacks, refers_to_nothing};
@@ -44,6 +44,6 @@ pub use saying::{
     says_no_integer, says_no_pseudostate_kind, says_no_transition_kind, says_no_truth,
 };
 pub use several::several_at;
-pub use texts::says_no_text;
+pub use texts::{choice_of, says_no_text};
 pub use values::{has_bad_value, is_typed};
 pub use variables::is_variable;

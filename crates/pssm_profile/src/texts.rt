@@ -1,10 +1,10 @@
-//! Whether a behaviour is in a language that is not read.
+//! The languages and bodies of a behaviour or an expression, and whether it is in a language that is not read.
 ghost use Rattle.std.specs.Prelude.{◌≡◌, ◌↔◌, ◌<◌, ◌+◌, ◌++◌, ℕ, List, length, map, codes, IsTrue, None, Some};
 ghost use Rattle.pssm_xml.specs.Elements.{children};
 ghost use Rattle.pssm_values.specs.Bodies.{HasSeen, behaviour_text};
 ghost use Rattle.pssm_profile.specs.Flaws.{texts};
 ghost use Rattle.pssm_profile.specs.inner.Children.{named_child};
-ghost use Rattle.pssm_profile.specs.inner.Texts.{own_text, HasSeenTo};
+ghost use Rattle.pssm_profile.specs.inner.Texts.{own_text};
 
 use crate::counting::is_called;
 use pssm_values::{BodyChoice, MeantBody};
@@ -40,10 +40,10 @@ fn with_body(choice: BodyChoice, elements: &Elements, child: u32) -> BodyChoice
     }
 }
 
-// The languages and bodies of the element.
-fn choice_of(elements: &Elements, p: u32) -> BodyChoice
+/// What the languages and bodies of the element say (UML 2.5.1, 13.4, OpaqueBehavior, and 8.6, OpaqueExpression).
+pub fn choice_of(elements: &Elements, p: u32) -> BodyChoice
     requires { p < length elements.now }
-    ensures { HasSeenTo elements.now p None result }
+    ensures { HasSeen result (texts elements.now p (codes "language")) (length (texts elements.now p (codes "body"))) }
 {
     let mut choice = BodyChoice::new();
     let mut next = elements.first_child(p);

@@ -14,7 +14,7 @@ use Rattle.pssm_model.specs.Forest.LiesUnder.{further}
 use Rattle.pssm_model.proofs.ElementLaws.{mapped_some}
 use Rattle.pssm_model.proofs.OwnerChains.{top_lies_nowhere, under_further}
 use Rattle.pssm_model.proofs.Nesting.{under_cases, shallower, within_further, lies_within}
-use Rattle.pssm_routes.specs.declared.areas.Ground.{Ground}
+use Rattle.pssm_routes.specs.declared.areas.Footprint.{Footprint}
 use Rattle.pssm_routes.specs.inner.Rooms.{IsNextOut}
 use Rattle.pssm_routes.specs.inner.Sets.{HoldsSource, IsCeiling}
 
@@ -38,7 +38,7 @@ module _ (m : DraftMachine) (shape : HasShape m) (r : RegionId) where
   none_out (Region p) e other q under = (shape.regions r (Region p) e).0
   none_out (State s) e other q under = other s refl
 
-module _ (m : DraftMachine) (grounds : List Ground) (s : VertexId) where
+module _ (m : DraftMachine) (footprints : List Footprint) (s : VertexId) where
   -- The region is the last one found free, or nested in it.
   abbrev IsPassed : Option RegionId → RegionId → Type 0
   IsPassed None q = ⊥
@@ -50,7 +50,7 @@ module _ (m : DraftMachine) (grounds : List Ground) (s : VertexId) where
     pub around : LiesInRegion m s at
     pub above : (k : ℕ) × (k < left) × HasRegionsAbove m (Region at) k
     pub there : IfSome found (λ r. r.0 < length m.regions)
-    pub free : IfSome found (λ r. LiesInRegion m s r × (HoldsSource m grounds r → ⊥) × IsWithin m r at)
+    pub free : IfSome found (λ r. LiesInRegion m s r × (HoldsSource m footprints r → ⊥) × IsWithin m r at)
     pub rest : (q : RegionId) → LiesInRegion m s q → IsPassed found q ⊎ IsWithin m at q
 
   pub climb_begins : (home : RegionId) (n : ℕ) → home.0 < length m.regions → IsHome m s home → HasRegionsAbove m (State s) n → IsClimbing None home n
@@ -76,7 +76,7 @@ module _ (m : DraftMachine) (grounds : List Ground) (s : VertexId) where
       (h.rest q lies)
 
   -- one region further out
-  pub climb_goes_on : (found : Option RegionId) (at next : RegionId) (left less : ℕ) → IsClimbing found at left → (HoldsSource m grounds at → ⊥)
+  pub climb_goes_on : (found : Option RegionId) (at next : RegionId) (left less : ℕ) → IsClimbing found at left → (HoldsSource m footprints at → ⊥)
       → next.0 < length m.regions → IsNextOut m at next → left ≡ less + 1 → IsClimbing (Some at) next less
   climb_goes_on found at next left less h free inside out count = record {
     inside = inside;
@@ -88,17 +88,17 @@ module _ (m : DraftMachine) (grounds : List Ground) (s : VertexId) where
   }
 
   -- where a source lies in a region, it lies in each region further out
-  held_further : (at q : RegionId) → HoldsSource m grounds at → IsWithin m at q → HoldsSource m grounds q
+  held_further : (at q : RegionId) → HoldsSource m footprints at → IsWithin m at q → HoldsSource m footprints q
   held_further at q (a, is, lies) within = (a, is, lies_within m a.source at q lies within)
 
-  passed_if_free : (found : Option RegionId) (at q : RegionId) (left : ℕ) → IsClimbing found at left → HoldsSource m grounds at → LiesInRegion m s q
-      → (HoldsSource m grounds q → ⊥) → IsPassed found q
+  passed_if_free : (found : Option RegionId) (at q : RegionId) (left : ℕ) → IsClimbing found at left → HoldsSource m footprints at → LiesInRegion m s q
+      → (HoldsSource m footprints q → ⊥) → IsPassed found q
   passed_if_free found at q left h held lies free =
       ⊎_elim (λ passed. passed) (λ within. absurd (free (held_further at q held within))) (h.rest q lies)
 
   -- a source ends the climb
-  pub ceiling_at_source : (found : Option RegionId) (at : RegionId) (left : ℕ) → IsClimbing found at left → HoldsSource m grounds at
-      → IfSome found (IsCeiling m grounds s)
+  pub ceiling_at_source : (found : Option RegionId) (at : RegionId) (left : ℕ) → IsClimbing found at left → HoldsSource m footprints at
+      → IfSome found (IsCeiling m footprints s)
   ceiling_at_source None at left h held = tt
   ceiling_at_source (Some r) at left h held = record {
     around = h.free.0;
@@ -106,14 +106,14 @@ module _ (m : DraftMachine) (grounds : List Ground) (s : VertexId) where
     largest = λ q lies free. passed_if_free (Some r) at q left h held lies free;
   }
 
-  pub none_at_source : (found : Option RegionId) (at : RegionId) (left : ℕ) → IsClimbing found at left → HoldsSource m grounds at
-      → IfNone found ((q : RegionId) → LiesInRegion m s q → (HoldsSource m grounds q → ⊥) → ⊥)
+  pub none_at_source : (found : Option RegionId) (at : RegionId) (left : ℕ) → IsClimbing found at left → HoldsSource m footprints at
+      → IfNone found ((q : RegionId) → LiesInRegion m s q → (HoldsSource m footprints q → ⊥) → ⊥)
   none_at_source None at left h held = λ q lies free. passed_if_free None at q left h held lies free
   none_at_source (Some r) at left h held = tt
 
   -- and so does a region that is nested in none
-  pub ceiling_at_top : (found : Option RegionId) (at : RegionId) (left : ℕ) → IsClimbing found at left → (HoldsSource m grounds at → ⊥)
-      → ((q : RegionId) → LiesUnder m (Region at) (Region q) → ⊥) → IsCeiling m grounds s at
+  pub ceiling_at_top : (found : Option RegionId) (at : RegionId) (left : ℕ) → IsClimbing found at left → (HoldsSource m footprints at → ⊥)
+      → ((q : RegionId) → LiesUnder m (Region at) (Region q) → ⊥) → IsCeiling m footprints s at
   ceiling_at_top found at left h free none = record {
     around = h.around;
     free = free;

@@ -15,7 +15,7 @@ use Rattle.pssm_model.specs.Routes.{Truth, HasStarts, IsSource, IsStateRoute, Ha
 use Rattle.pssm_model.proofs.ElementLaws.{some_at, mapped_at, leaves_one}
 use Rattle.pssm_model.proofs.RouteLaws.{in_one, is_one}
 use Rattle.pssm_routes.specs.SingleLegs.{HasSingleLegs}
-use Rattle.pssm_routes.specs.inner.Grounds.{IsFrom}
+use Rattle.pssm_routes.specs.inner.Footprints.{IsFrom}
 use Rattle.pssm_routes.specs.inner.Starts.{IsCausedBy, IsStarted}
 
 -- a transition that is there leaves a vertex

@@ -1,4 +1,4 @@
--- Where a route may go that clashes with none of the grounds, by the kind of its start.
+-- Where a route may go that clashes with none of the footprints, by the kind of its start.
 use Rattle.std.proofs.Common.{◌≡◌, List, [], ◌∷◌, Some, None, Contains, refl, sym, subst, ◌∙◌, inl, inr}
 use Rattle.pssm_model.specs.declared.ids.VertexId.{VertexId}
 use Rattle.pssm_model.specs.declared.ids.RegionId.{RegionId}
@@ -16,9 +16,9 @@ use Rattle.pssm_model.proofs.ElementLaws.{leaves_one, mapped_at}
 use Rattle.pssm_model.proofs.Nesting.{lies_within}
 use Rattle.pssm_routes.specs.declared.areas.Area.{Area}
 use Rattle.pssm_routes.specs.declared.areas.Area.TheVariants.{Within}
-use Rattle.pssm_routes.specs.declared.areas.Ground.{Ground}
+use Rattle.pssm_routes.specs.declared.areas.Footprint.{Footprint}
 use Rattle.pssm_routes.specs.SingleLegs.{HasSingleLegs}
-use Rattle.pssm_routes.specs.inner.Grounds.{scope_of, IsGroundOf, Clash, ClashesWithSome}
+use Rattle.pssm_routes.specs.inner.Footprints.{scope_of, IsFootprintOf, Clash, ClashesWithSome}
 use Rattle.pssm_routes.specs.inner.Rooms.{Touches, IsShut, IsOpenRoom}
 use Rattle.pssm_routes.specs.inner.Sets.{IsTouched, HoldsSource, IsCeiling}
 use Rattle.pssm_routes.proofs.Conflicts.{area_of_internal, area_of_local, area_of_external}
@@ -33,8 +33,8 @@ goes_at m t x e = mapped_at (λ (y : Transition). y.kind) (transition_at m t) x 
 pub goes_by : (m : DraftMachine) (t : TransId) (x : Transition) (kind : TransKind) → transition_at m t ≡ Some x → x.kind ≡ kind → Goes m t kind
 goes_by m t x kind e is = subst (Goes m t) is (goes_at m t x e)
 
-module _ (m : DraftMachine) (a b : Ground) where
-  -- a ground clashes with one whose source it touches, and else only where its own source lies in the area of that
+module _ (m : DraftMachine) (a b : Footprint) where
+  -- a footprint clashes with one whose source it touches, and else only where its own source lies in the area of that
   touching_clashes : Touches m b.source a → Clash m a b
   touching_clashes (inl covers) = inl covers
   touching_clashes (inr chain) = inr (inr chain)
@@ -44,72 +44,72 @@ module _ (m : DraftMachine) (a b : Ground) where
   clash_untouched none (inr (inl lies)) = lies
   clash_untouched none (inr (inr chain)) = absurd (none (inr chain))
 
-module _ {m : DraftMachine} (legs : HasSingleLegs m) (shape : HasShape m) (grounds : List Ground) (t : TransId) (s : VertexId) (leaves : Leaves m t s) where
-  source_is : (q : Route) (b : Ground) → q.starts ≡ t ∷ [] → IsGroundOf m q b → b.source ≡ s
-  source_is q b starts ground =
-      let same = one_start ground.start t (sym ground.from.starts ∙ starts) in
-      leaves_one m t b.source s (subst (λ u. Leaves m u b.source) same ground.from.leaves) leaves
+module _ {m : DraftMachine} (legs : HasSingleLegs m) (shape : HasShape m) (footprints : List Footprint) (t : TransId) (s : VertexId) (leaves : Leaves m t s) where
+  source_is : (q : Route) (b : Footprint) → q.starts ≡ t ∷ [] → IsFootprintOf m q b → b.source ≡ s
+  source_is q b starts footprint =
+      let same = one_start footprint.start t (sym footprint.from.starts ∙ starts) in
+      leaves_one m t b.source s (subst (λ u. Leaves m u b.source) same footprint.from.leaves) leaves
 
   -- where the source is touched there is no room
-  pub touched_is_shut : IsTouched m grounds s → IsShut m grounds t
-  touched_is_shut (a, is, touches) q b route starts ground free =
-      free (a, is, touching_clashes m a b (subst (λ v. Touches m v a) (sym (source_is q b starts ground)) touches))
+  pub touched_is_shut : IsTouched m footprints s → IsShut m footprints t
+  touched_is_shut (a, is, touches) q b route starts footprint free =
+      free (a, is, touching_clashes m a b (subst (λ v. Touches m v a) (sym (source_is q b starts footprint)) touches))
 
-  module _ (untouched : IsTouched m grounds s → ⊥) where
+  module _ (untouched : IsTouched m footprints s → ⊥) where
     -- elsewhere a route clashes only where a source lies in its area
-    in_area : (q : Route) (b : Ground) (area : Area) → q.starts ≡ t ∷ [] → IsGroundOf m q b → b.area ≡ area → ClashesWithSome m grounds b
-        → (a : Ground) × Contains grounds a × LiesInScope m a.source (scope_of area)
-    in_area q b area starts ground same (a, is, clash) =
+    in_area : (q : Route) (b : Footprint) (area : Area) → q.starts ≡ t ∷ [] → IsFootprintOf m q b → b.area ≡ area → ClashesWithSome m footprints b
+        → (a : Footprint) × Contains footprints a × LiesInScope m a.source (scope_of area)
+    in_area q b area starts footprint same (a, is, clash) =
         let none : Touches m b.source a → ⊥ = λ touches.
-        untouched (a, is, subst (λ v. Touches m v a) (source_is q b starts ground) touches) in
+        untouched (a, is, subst (λ v. Touches m v a) (source_is q b starts footprint) touches) in
         (a, is, subst (λ x. LiesInScope m a.source (scope_of x)) same (clash_untouched m a b none clash))
 
-    internal_clear : Goes m t Internal → (q : Route) (b : Ground) → IsStateRoute m q → q.starts ≡ t ∷ [] → IsGroundOf m q b
-        → ClashesWithSome m grounds b → ⊥
-    internal_clear goes q b route starts ground clashes =
-        (in_area q b _ starts ground (area_of_internal legs shape q b t route ground starts goes) clashes).2
+    internal_clear : Goes m t Internal → (q : Route) (b : Footprint) → IsStateRoute m q → q.starts ≡ t ∷ [] → IsFootprintOf m q b
+        → ClashesWithSome m footprints b → ⊥
+    internal_clear goes q b route starts footprint clashes =
+        (in_area q b _ starts footprint (area_of_internal legs shape q b t route footprint starts goes) clashes).2
 
-    local_clear : Goes m t Local → (q : Route) (b : Ground) → IsStateRoute m q → q.starts ≡ t ∷ [] → IsGroundOf m q b
-        → ClashesWithSome m grounds b → ⊥
-    local_clear goes q b route starts ground clashes =
-        let held = in_area q b _ starts ground (area_of_local legs shape q b t route ground starts goes) clashes in
-        untouched (held.0, held.1, inr (inl (inr (subst (LiesInState m held.0.source) (source_is q b starts ground) held.2))))
+    local_clear : Goes m t Local → (q : Route) (b : Footprint) → IsStateRoute m q → q.starts ≡ t ∷ [] → IsFootprintOf m q b
+        → ClashesWithSome m footprints b → ⊥
+    local_clear goes q b route starts footprint clashes =
+        let held = in_area q b _ starts footprint (area_of_local legs shape q b t route footprint starts goes) clashes in
+        untouched (held.0, held.1, inr (inl (inr (subst (LiesInState m held.0.source) (source_is q b starts footprint) held.2))))
 
     -- so a route that is not external may go everywhere
-    pub open_unless_external : (kind : TransKind) → Goes m t kind → (kind ≡ External → ⊥) → IsOpenRoom m grounds t None
+    pub open_unless_external : (kind : TransKind) → Goes m t kind → (kind ≡ External → ⊥) → IsOpenRoom m footprints t None
     open_unless_external Internal goes other = record {
-      ends = λ q b route starts ground free u v on enters. tt;
-      clear = λ q b route starts ground ends. internal_clear goes q b route starts ground;
+      ends = λ q b route starts footprint free u v on enters. tt;
+      clear = λ q b route starts footprint ends. internal_clear goes q b route starts footprint;
     }
     open_unless_external Local goes other = record {
-      ends = λ q b route starts ground free u v on enters. tt;
-      clear = λ q b route starts ground ends. local_clear goes q b route starts ground;
+      ends = λ q b route starts footprint free u v on enters. tt;
+      clear = λ q b route starts footprint ends. local_clear goes q b route starts footprint;
     }
     open_unless_external External goes other = absurd (other refl)
 
     module _ (goes : Goes m t External) where
       -- a region that is the area of a route that clashes with none
-      free_area : (b : Ground) (r : RegionId) → b.area ≡ Within r → (ClashesWithSome m grounds b → ⊥) → HoldsSource m grounds r → ⊥
+      free_area : (b : Footprint) (r : RegionId) → b.area ≡ Within r → (ClashesWithSome m footprints b → ⊥) → HoldsSource m footprints r → ⊥
       free_area b r same free (a, is, lies) =
           free (a, is, inr (inl (subst (λ x. LiesInScope m a.source (scope_of x)) (sym same) lies)))
 
       -- an external one may go nowhere where each region around its source holds a source
-      pub shut_without_ceiling : ((r : RegionId) → LiesInRegion m s r → (HoldsSource m grounds r → ⊥) → ⊥) → IsShut m grounds t
-      shut_without_ceiling none q b route starts ground free =
-          let (r, same, lies, ends, innermost) = area_of_external legs shape q b t route ground starts goes in
-          none r (subst (λ v. LiesInRegion m v r) (source_is q b starts ground) lies) (free_area b r same free)
+      pub shut_without_ceiling : ((r : RegionId) → LiesInRegion m s r → (HoldsSource m footprints r → ⊥) → ⊥) → IsShut m footprints t
+      shut_without_ceiling none q b route starts footprint free =
+          let (r, same, lies, ends, innermost) = area_of_external legs shape q b t route footprint starts goes in
+          none r (subst (λ v. LiesInRegion m v r) (source_is q b starts footprint) lies) (free_area b r same free)
 
       -- and else within the largest that holds none
-      pub open_below_ceiling : (top : RegionId) → IsCeiling m grounds s top → IsOpenRoom m grounds t (Some top)
+      pub open_below_ceiling : (top : RegionId) → IsCeiling m footprints s top → IsOpenRoom m footprints t (Some top)
       open_below_ceiling top is = record {
-        ends = λ q b route starts ground free u v on enters.
-            (let area = area_of_external legs shape q b t route ground starts goes in
-            let around = subst (λ x. LiesInRegion m x area.0) (source_is q b starts ground) area.2 in
+        ends = λ q b route starts footprint free u v on enters.
+            (let area = area_of_external legs shape q b t route footprint starts goes in
+            let around = subst (λ x. LiesInRegion m x area.0) (source_is q b starts footprint) area.2 in
             let within = is.largest area.0 around (free_area b area.0 area.1 free) in
             lies_within m v area.0 top (area.3 u v on enters) within);
-        clear = λ q b route starts ground ends clashes.
-            (let area = area_of_external legs shape q b t route ground starts goes in
-            let held = in_area q b _ starts ground area.1 clashes in
-            let around = subst (λ x. LiesInRegion m x top) (sym (source_is q b starts ground)) is.around in
+        clear = λ q b route starts footprint ends clashes.
+            (let area = area_of_external legs shape q b t route footprint starts goes in
+            let held = in_area q b _ starts footprint area.1 clashes in
+            let around = subst (λ x. LiesInRegion m x top) (sym (source_is q b starts footprint)) is.around in
             is.free (held.0, held.1, lies_within m held.0.source area.0 top held.2 (area.4 top around ends)));
       }

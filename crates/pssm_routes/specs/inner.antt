@@ -1,4 +1,4 @@
-pub mod Grounds
+pub mod Footprints
 pub mod Starts
 pub mod Ways
 pub mod Steps
@@ -6,3 +6,5 @@ pub mod Seeking
 pub mod Sets
 pub mod Rooms
 pub mod Trails
+pub mod Onward
+pub mod Picks

@@ -5,7 +5,7 @@ ghost use Rattle.pssm_model.specs.Legs.{IsOfLeg, LegScope, LiesInScope};
 ghost use Rattle.pssm_model.specs.Routes.{IsRoute, IsStateRoute};
 ghost use Rattle.pssm_model.specs.WellFormed.{ShareRegion};
 ghost use Rattle.pssm_routes.specs.SingleLegs.{HasSingleLegs};
-ghost use Rattle.pssm_routes.specs.inner.Grounds.{scope_of, IsFrom, IsGroundOf, IsAreaIn, IsGroundIn, Clash};
+ghost use Rattle.pssm_routes.specs.inner.Footprints.{scope_of, IsFrom, IsFootprintOf, IsAreaIn, IsFootprintIn, Clash};
 
 use pssm_model::{Machine, RegionId, Route, TransId, TransKind, VertexId};
 
@@ -19,7 +19,7 @@ pub enum Area {
 
 /// From where a route starts, and where it exits.
 #[derive(Clone, Copy, PartialEq, Eq, Debug)]
-pub struct Ground {
+pub struct Footprint {
     pub source: VertexId,
     pub area: Area,
 }
@@ -75,16 +75,16 @@ fn area_of(machine: &Machine, route: &Route, start: TransId, source: VertexId) -
 }
 
 /// From where a route of States starts, and where it exits.
-pub fn ground_of(machine: &Machine, route: &Route) -> Ground
+pub fn footprint_of(machine: &Machine, route: &Route) -> Footprint
     requires legs { HasSingleLegs machine.now }
     requires route { IsStateRoute machine.now route.now }
-    ensures ground { IsGroundOf machine.now route.now result }
-    ensures there { IsGroundIn machine.now result }
+    ensures footprint { IsFootprintOf machine.now route.now result }
+    ensures there { IsFootprintIn machine.now result }
 {
     let start = route.starts.as_slice()[0];
     let source = machine.source(start);
     let area = area_of(machine, route, start, source);
-    Ground { source, area }
+    Footprint { source, area }
 }
 
 /// Whether a vertex lies in the area.
@@ -110,9 +110,9 @@ pub fn are_on_one_chain(machine: &Machine, v: VertexId, w: VertexId) -> bool
 }
 
 /// Whether one of two routes exits the source of the other, or their sources are one or lie in one another.
-pub fn clash(machine: &Machine, a: Ground, b: Ground) -> bool
-    requires first { IsGroundIn machine.now a }
-    requires second { IsGroundIn machine.now b }
+pub fn clash(machine: &Machine, a: Footprint, b: Footprint) -> bool
+    requires first { IsFootprintIn machine.now a }
+    requires second { IsFootprintIn machine.now b }
     ensures { IsTrue result ↔ Clash machine.now a b }
 {
     covers(machine, a.area, b.source)

@@ -11,13 +11,29 @@ use pssm_model::{Guard, GuardId, Machine, TransId};
 fn has_true_value<T: Fn(GuardId) -> bool>(machine: &Machine, truth: &T, t: TransId) -> bool
     requires there { t.0 < length machine.now.transitions }
     requires askable { CanBeAsked machine.now (T.pre truth.now) }
-    ensures { (values : Truth) → Tells (T.post truth.now) values → (IsTrue result ↔ HasTrueValue machine.now values t) }
+    ensures { (values : Truth) → Tells (T.post truth.now) values
+        → (IsTrue result ↔ HasTrueValue machine.now values t) }
 {
     match machine.transition(t).guard {
         Guard::Always => true,
         Guard::Otherwise => false,
         Guard::When(guard) => truth(guard),
     }
+}
+
+// Whether it is another transition, and has a true guard.
+fn is_another_true<T: Fn(GuardId) -> bool>(
+    machine: &Machine,
+    truth: &T,
+    t: TransId,
+    u: TransId,
+) -> bool
+    requires there { u.0 < length machine.now.transitions }
+    requires askable { CanBeAsked machine.now (T.pre truth.now) }
+    ensures { (values : Truth) → Tells (T.post truth.now) values
+        → (IsTrue result ↔ ((u ≢ t) × HasTrueValue machine.now values u)) }
+{
+    u != t && has_true_value(machine, truth, u)
 }
 
 // Whether another transition out of its source has a true guard.
@@ -29,7 +45,7 @@ fn another_is_true<T: Fn(GuardId) -> bool>(machine: &Machine, truth: &T, t: Tran
         × HasTrueValue machine.now values u)) }
 {
     for u in machine.outgoing(machine.source(t)) {
-        if *u != t && has_true_value(machine, truth, *u) {
+        if is_another_true(machine, truth, t, *u) {
             return true;
         }
     }
@@ -41,7 +57,8 @@ fn another_is_true<T: Fn(GuardId) -> bool>(machine: &Machine, truth: &T, t: Tran
 pub fn is_true_at<T: Fn(GuardId) -> bool>(machine: &Machine, truth: &T, t: TransId) -> bool
     requires there { t.0 < length machine.now.transitions }
     requires askable { CanBeAsked machine.now (T.pre truth.now) }
-    ensures { (values : Truth) → Tells (T.post truth.now) values → (IsTrue result ↔ IsTrueAt machine.now values t) }
+    ensures { (values : Truth) → Tells (T.post truth.now) values
+        → (IsTrue result ↔ IsTrueAt machine.now values t) }
 {
     match machine.transition(t).guard {
         Guard::Otherwise => !another_is_true(machine, truth, t),

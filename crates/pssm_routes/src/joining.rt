@@ -9,32 +9,32 @@ ghost use Rattle.pssm_model.specs.Legs.{Leaves};
 ghost use Rattle.pssm_model.specs.Routes.{Truth};
 ghost use Rattle.pssm_routes.specs.Telling.{CanBeAsked, Tells};
 ghost use Rattle.pssm_routes.specs.SingleLegs.{HasSingleLegs};
-ghost use Rattle.pssm_routes.specs.inner.Grounds.{IsGroundIn};
+ghost use Rattle.pssm_routes.specs.inner.Footprints.{IsFootprintIn};
 ghost use Rattle.pssm_routes.specs.inner.Steps.{IsJoiningStep};
 ghost use Rattle.pssm_routes.specs.inner.Sets.{HasFreeRoute, IsTouched, HoldsSource, IsCeiling};
 ghost use Rattle.pssm_routes.specs.inner.Rooms.{Touches, IsNextOut, IsRoomFor, IsRoomIn};
 
-use crate::areas::{Ground, are_on_one_chain, covers};
+use crate::areas::{Footprint, are_on_one_chain, covers};
 use crate::seeking::{Search, Step, find_way};
 use pssm_model::{GuardId, Machine, Owner, RegionId, TransId, TransKind, VertexId};
 
-// Whether the State is on one owner chain with the source of the ground, or lies in its area.
-fn touches(machine: &Machine, ground: Ground, s: VertexId) -> bool
+// Whether the State is on one owner chain with the source of the footprint, or lies in its area.
+fn touches(machine: &Machine, footprint: Footprint, s: VertexId) -> bool
     requires there { s.0 < length machine.now.vertices }
-    requires ground { IsGroundIn machine.now ground }
-    ensures { IsTrue result ↔ Touches machine.now s ground }
+    requires footprint { IsFootprintIn machine.now footprint }
+    ensures { IsTrue result ↔ Touches machine.now s footprint }
 {
-    covers(machine, ground.area, s) || are_on_one_chain(machine, ground.source, s)
+    covers(machine, footprint.area, s) || are_on_one_chain(machine, footprint.source, s)
 }
 
 // Whether a source is the State, lies in it or has it inside, or an area covers the State.
-fn is_touched(machine: &Machine, grounds: &[Ground], s: VertexId) -> bool
+fn is_touched(machine: &Machine, footprints: &[Footprint], s: VertexId) -> bool
     requires there { s.0 < length machine.now.vertices }
-    requires grounds { All (IsGroundIn machine.now) grounds.now }
-    ensures { IsTrue result ↔ IsTouched machine.now grounds.now s }
+    requires footprints { All (IsFootprintIn machine.now) footprints.now }
+    ensures { IsTrue result ↔ IsTouched machine.now footprints.now s }
 {
-    for ground in grounds {
-        if touches(machine, *ground, s) {
+    for footprint in footprints {
+        if touches(machine, *footprint, s) {
             return true;
         }
     }
@@ -42,13 +42,13 @@ fn is_touched(machine: &Machine, grounds: &[Ground], s: VertexId) -> bool
 }
 
 // Whether a source lies in the region.
-fn holds_source(machine: &Machine, grounds: &[Ground], region: RegionId) -> bool
+fn holds_source(machine: &Machine, footprints: &[Footprint], region: RegionId) -> bool
     requires there { region.0 < length machine.now.regions }
-    requires grounds { All (IsGroundIn machine.now) grounds.now }
-    ensures { IsTrue result ↔ HoldsSource machine.now grounds.now region }
+    requires footprints { All (IsFootprintIn machine.now) footprints.now }
+    ensures { IsTrue result ↔ HoldsSource machine.now footprints.now region }
 {
-    for ground in grounds {
-        if machine.lies_in_region(ground.source, region) {
+    for footprint in footprints {
+        if machine.lies_in_region(footprint.source, region) {
             return true;
         }
     }
@@ -71,19 +71,19 @@ fn next_out(machine: &Machine, region: RegionId) -> Option<RegionId>
 }
 
 // The largest region around the State in which no source lies; none exactly where there is none.
-fn ceiling(machine: &Machine, grounds: &[Ground], s: VertexId) -> Option<RegionId>
+fn ceiling(machine: &Machine, footprints: &[Footprint], s: VertexId) -> Option<RegionId>
     requires there { s.0 < length machine.now.vertices }
-    requires grounds { All (IsGroundIn machine.now) grounds.now }
+    requires footprints { All (IsFootprintIn machine.now) footprints.now }
     ensures inside { IfSome result (λ r. r.0 < length machine.now.regions) }
-    ensures some { IfSome result (IsCeiling machine.now grounds.now s) }
+    ensures some { IfSome result (IsCeiling machine.now footprints.now s) }
     ensures none { IfNone result ((r : RegionId) → LiesInRegion machine.now s r
-        → (HoldsSource machine.now grounds.now r → ⊥) → ⊥) }
+        → (HoldsSource machine.now footprints.now r → ⊥) → ⊥) }
 {
     let mut found = None;
     let mut region = machine.home(s);
     // More regions than stand above that one.
     let mut left = machine.depth(s);
-    while !holds_source(machine, grounds, region) {
+    while !holds_source(machine, footprints, region) {
         found = Some(region);
         match next_out(machine, region) {
             Some(next) => {
@@ -103,20 +103,20 @@ enum Room {
 }
 
 // Where a route with this start may go.
-fn room_for(machine: &Machine, grounds: &[Ground], t: TransId) -> Room
+fn room_for(machine: &Machine, footprints: &[Footprint], t: TransId) -> Room
     requires legs { HasSingleLegs machine.now }
     requires there { t.0 < length machine.now.transitions }
-    requires grounds { All (IsGroundIn machine.now) grounds.now }
+    requires footprints { All (IsFootprintIn machine.now) footprints.now }
     ensures inside { IsRoomIn machine.now result }
-    ensures room { IsRoomFor machine.now grounds.now t result }
+    ensures room { IsRoomFor machine.now footprints.now t result }
 {
     let _shaped = machine.regions();
     let source = machine.source(t);
-    if is_touched(machine, grounds, source) {
+    if is_touched(machine, footprints, source) {
         return Room::Shut;
     }
     match machine.transition(t).kind {
-        TransKind::External => match ceiling(machine, grounds, source) {
+        TransKind::External => match ceiling(machine, footprints, source) {
             Some(region) => Room::Open(Some(region)),
             None => Room::Shut,
         },
@@ -124,28 +124,28 @@ fn room_for(machine: &Machine, grounds: &[Ground], t: TransId) -> Room
     }
 }
 
-/// Seeks a way for a route with this start that clashes with none of the grounds; none exactly where there is no such
-/// route.
+/// Seeks a way for a route with this start that clashes with none of the footprints; none exactly where there is no
+/// such route.
 #[tactic(auto, using(crate::proofs::JoiningSteps::state_no_junction))]
 pub fn find_joiner<T: Fn(GuardId) -> bool>(
     machine: &Machine,
     truth: &T,
-    grounds: &[Ground],
+    footprints: &[Footprint],
     t: TransId,
     search: &mut Search,
 ) -> Option<Step>
     requires legs { HasSingleLegs machine.now }
     requires there { t.0 < length machine.now.transitions }
-    requires grounds { All (IsGroundIn machine.now) grounds.now }
+    requires footprints { All (IsFootprintIn machine.now) footprints.now }
     requires askable { CanBeAsked machine.now (T.pre truth.now) }
     requires source { (v : VertexId) → Leaves machine.now t v → HasKind machine.now v kinds.State }
     ensures some { (values : Truth) → Tells (T.post truth.now) values
-        → IfSome result (IsJoiningStep machine.now values grounds.now search.new t) }
+        → IfSome result (IsJoiningStep machine.now values footprints.now search.new t) }
     ensures none { (values : Truth) → Tells (T.post truth.now) values
-        → IfNone result (HasFreeRoute machine.now values grounds.now t → ⊥) }
+        → IfNone result (HasFreeRoute machine.now values footprints.now t → ⊥) }
 {
     let _shaped = machine.regions();
-    match room_for(machine, grounds, t) {
+    match room_for(machine, footprints, t) {
         Room::Shut => None,
         Room::Open(within) => {
             *search = Search::new();

@@ -1,15 +1,23 @@
 //! What fires, as a word settles it (UML 2.5.1, 14.2.3.9, transition selection).
-ghost use Rattle.std.specs.Prelude.{◌≡◌, ◌↔◌, ◌<◌, ◌≤◌, length, All, Contains, IsTrue, IfOk, OnOk};
+ghost use Rattle.std.specs.Prelude.{◌≡◌, ◌↔◌, ◌<◌, ◌≤◌, length, All, Contains, IsTrue, IfOk, OnOk, IfSome, IfNone};
+ghost use Rattle.std.specs.List.Sorted.{IsPermutation};
 ghost use Rattle.pssm_model.specs.declared.ids.TransId.{TransId};
-ghost use Rattle.pssm_model.specs.Routes.{Truth};
-ghost use Rattle.pssm_model.specs.FiringSets.{IsFiring};
+ghost use Rattle.pssm_model.specs.declared.ids.VertexId.{VertexId};
+ghost use Rattle.pssm_model.specs.Routes.{Truth, IsStateRoute};
+ghost use Rattle.pssm_model.specs.FiringSets.{IsFiringSet, IsListed, IsFiring};
 ghost use Rattle.pssm_config.specs.Tables.{Fits, configuration_of};
 ghost use Rattle.pssm_routes.specs.Telling.{CanBeAsked, Tells};
 ghost use Rattle.pssm_routes.specs.SingleLegs.{HasSingleLegs};
+ghost use Rattle.pssm_routes.specs.inner.Footprints.{IsFootprintIn};
+ghost use Rattle.pssm_routes.specs.inner.Starts.{IsStarted, IsOutranked, IsCandidate};
+ghost use Rattle.pssm_routes.specs.inner.Sets.{HasJoiner};
+ghost use Rattle.pssm_routes.specs.inner.Picks.{first_number, StartApart, IsFreeRoute, IsFreeFrom};
+ghost use Rattle.pssm_routes.specs.inner.Picks.{IsSpent, IsChosen, IsAdded, IsGrown};
 
-use crate::areas::{Ground, ground_of};
+use crate::areas::{Footprint, footprint_of};
 use crate::joining::find_joiner;
 use crate::reacting::candidates;
+use crate::route::check_route;
 use crate::seeking::Search;
 use crate::starting::is_started;
 use crate::tracing::route_of_trail;
@@ -17,31 +25,99 @@ use pssm_config::Config;
 use pssm_model::{Event, Firing, GuardId, Machine, Route, Row, TransId, VertexId};
 use std::alloc::{AllocError as NoMemory, Global};
 
-/// The routes that have been chosen to fire together, and their grounds.
+// A route with this start that the event enables and that clashes with none of the footprints, if there is one. What
+// the search has found is checked, since only the values of the guards say that it is enabled.
+fn free_route<T: Fn(GuardId) -> bool>(
+    alloc: Global,
+    machine: &Machine,
+    config: &Config,
+    truth: &T,
+    event: Event,
+    footprints: &[Footprint],
+    t: TransId,
+    search: &mut Search,
+) -> Result<Option<Route>, NoMemory>
+    requires legs { HasSingleLegs machine.now }
+    requires fits { Fits machine.now config.now }
+    requires askable { CanBeAsked machine.now (T.pre truth.now) }
+    requires footprints { All (IsFootprintIn machine.now) footprints.now }
+    requires there { t.0 < length machine.now.transitions }
+    ensures route { IfOk result (λ found. IfSome found (IsStateRoute machine.now)) }
+    ensures some { (values : Truth) → Tells (T.post truth.now) values
+        → IfOk result (λ found. IfSome found
+        (λ q. (s : VertexId) × IsStarted machine.now (configuration_of config.now) event t s
+        × IsFreeRoute machine.now (configuration_of config.now) values event footprints.now t q)) }
+    ensures none { (values : Truth) → Tells (T.post truth.now) values
+        → IfOk result (λ found. IfNone found
+        ((s : VertexId) → IsStarted machine.now (configuration_of config.now) event t s
+        → HasJoiner machine.now (configuration_of config.now) values event footprints.now t → ⊥)) }
+{
+    if !is_started(machine, config, event, t) {
+        return Ok(None);
+    }
+    let Some(last) = find_joiner(machine, truth, footprints, t, search) else {
+        return Ok(None);
+    };
+    let route = route_of_trail(alloc, search, t, last)?;
+    if !check_route(machine, config, truth, event, &route) {
+        return Ok(None);
+    }
+    Ok(Some(route))
+}
+
+// A route from this State that the event enables and that clashes with none of the footprints, if there is one.
+fn free_route_from<T: Fn(GuardId) -> bool>(
+    alloc: Global,
+    machine: &Machine,
+    config: &Config,
+    truth: &T,
+    event: Event,
+    footprints: &[Footprint],
+    source: VertexId,
+    search: &mut Search,
+) -> Result<Option<Route>, NoMemory>
+    requires legs { HasSingleLegs machine.now }
+    requires fits { Fits machine.now config.now }
+    requires askable { CanBeAsked machine.now (T.pre truth.now) }
+    requires footprints { All (IsFootprintIn machine.now) footprints.now }
+    requires there { source.0 < length machine.now.vertices }
+    ensures route { IfOk result (λ found. IfSome found (IsStateRoute machine.now)) }
+    ensures some { (values : Truth) → Tells (T.post truth.now) values
+        → IfOk result (λ found. IfSome found
+        (IsFreeFrom machine.now (configuration_of config.now) values event footprints.now source)) }
+    ensures none { (values : Truth) → Tells (T.post truth.now) values
+        → IfOk result (λ found. IfNone found
+        (IsSpent machine.now (configuration_of config.now) values event footprints.now source)) }
+{
+    for t in machine.outgoing(source) {
+        if let Some(route) = free_route(
+            alloc, machine, config, truth, event, footprints, *t, search,
+        )? {
+            return Ok(Some(route));
+        }
+    }
+    Ok(None)
+}
+
+/// The routes that have been chosen to fire together, and their footprints.
 #[derive(Drop)]
 struct Chosen {
     routes: Vec<Route>,
-    grounds: Vec<Ground>,
+    footprints: Vec<Footprint>,
 }
 
 impl Chosen {
-    // Adds a route with this start, if there is one that clashes with none of those that were chosen. It answers
-    // whether it did.
-    fn add_by<T: Fn(GuardId) -> bool>(
-        &mut self,
-        alloc: Global,
-        machine: &Machine,
-        truth: &T,
-        t: TransId,
-        search: &mut Search,
-    ) -> Result<bool, NoMemory> {
-        let Some(last) = find_joiner(machine, truth, self.grounds.as_slice(), t, search) else {
-            return Ok(false);
-        };
-        let route = route_of_trail(alloc, search, t, last)?;
-        self.grounds.push(ground_of(machine, &route))?;
+    // Adds the route and its footprint.
+    fn add(&mut self, machine: &Machine, route: Route) -> Result<(), NoMemory>
+        requires legs { HasSingleLegs machine.now }
+        requires route { IsStateRoute machine.now route }
+        ensures { OnOk result (IsAdded machine.now route self.old.routes.items self.old.footprints.items
+            self.new.routes.items
+            self.new.footprints.items) }
+    {
+        self.footprints.push(footprint_of(machine, &route))?;
         self.routes.push(route)?;
-        Ok(true)
+        Ok(())
     }
 
     // Adds a route that starts at the State, if there is one that clashes with none of those that were chosen.
@@ -54,15 +130,34 @@ impl Chosen {
         event: Event,
         source: VertexId,
         search: &mut Search,
-    ) -> Result<(), NoMemory> {
-        for t in machine.outgoing(source) {
-            if is_started(machine, config, event, *t)
-                && self.add_by(alloc, machine, truth, *t, search)?
-            {
-                return Ok(());
-            }
+    ) -> Result<(), NoMemory>
+        requires legs { HasSingleLegs machine.now }
+        requires fits { Fits machine.now config.now }
+        requires askable { CanBeAsked machine.now (T.pre truth.now) }
+        requires footprints { All (IsFootprintIn machine.now) self.old.footprints.items }
+        requires there { source.0 < length machine.now.vertices }
+        ensures footprints { OnOk result (All (IsFootprintIn machine.now) self.new.footprints.items) }
+        ensures grown { (values : Truth) → Tells (T.post truth.now) values
+            → (IsOutranked machine.now (configuration_of config.now) values event source → ⊥)
+            → IsChosen machine.now (configuration_of config.now) values event self.old.routes.items
+            self.old.footprints.items
+            → OnOk result (IsGrown machine.now (configuration_of config.now) values event (λ s. s ≡ source)
+            self.old.footprints.items self.new.routes.items self.new.footprints.items) }
+    {
+        let found = free_route_from(
+            alloc,
+            machine,
+            config,
+            truth,
+            event,
+            self.footprints.as_slice(),
+            source,
+            search,
+        )?;
+        match found {
+            Some(route) => self.add(machine, route),
+            None => Ok(()),
         }
-        Ok(())
     }
 
     // Adds what can be added from each of the States in turn.
@@ -74,7 +169,21 @@ impl Chosen {
         truth: &T,
         event: Event,
         states: &[VertexId],
-    ) -> Result<(), NoMemory> {
+    ) -> Result<(), NoMemory>
+        requires legs { HasSingleLegs machine.now }
+        requires fits { Fits machine.now config.now }
+        requires askable { CanBeAsked machine.now (T.pre truth.now) }
+        requires footprints { All (IsFootprintIn machine.now) self.old.footprints.items }
+        requires there { All (λ s. s.0 < length machine.now.vertices) states.now }
+        ensures footprints { OnOk result (All (IsFootprintIn machine.now) self.new.footprints.items) }
+        ensures grown { (values : Truth) → Tells (T.post truth.now) values
+            → ((s : VertexId) → Contains states.now s
+            → IsOutranked machine.now (configuration_of config.now) values event s → ⊥)
+            → IsChosen machine.now (configuration_of config.now) values event self.old.routes.items
+            self.old.footprints.items
+            → OnOk result (IsGrown machine.now (configuration_of config.now) values event (Contains states.now)
+            self.old.footprints.items self.new.routes.items self.new.footprints.items) }
+    {
         let mut search = Search::new();
         for s in states {
             self.add_from(alloc, machine, config, truth, event, *s, &mut search)?;
@@ -84,11 +193,22 @@ impl Chosen {
 }
 
 // The number of the first start of a route.
-fn first_start(route: &Route) -> u16 {
+fn first_start(route: &Route) -> u16
+    ensures { result ≡ first_number route.now.starts }
+{
     match route.starts.as_slice() {
         [start, ..] => start.0,
         [] => 0,
     }
+}
+
+// Puts the routes in ascending number of their first starts.
+fn put_in_order(routes: &mut Vec<Route>) -> Result<(), NoMemory>
+    ensures moved { OnOk result (IsPermutation routes.old.items routes.new.items) }
+    ensures listed { StartApart routes.old.items → OnOk result (IsListed routes.new.items) }
+{
+    routes.sort_by_key(|route| first_start(route))?;
+    Ok(())
 }
 
 // The place in a list of this length at which the word begins.
@@ -99,6 +219,41 @@ fn place_of(word: u64, count: usize) -> usize
         return 0;
     }
     (word % count as u64) as usize
+}
+
+// Routes that fire together, of those that start at these States: from the place on that the word names, and then from
+// the first on.
+fn choose<T: Fn(GuardId) -> bool>(
+    alloc: Global,
+    machine: &Machine,
+    config: &Config,
+    truth: &T,
+    event: Event,
+    states: &[VertexId],
+    word: u64,
+) -> Result<Vec<Route>, NoMemory>
+    requires legs { HasSingleLegs machine.now }
+    requires fits { Fits machine.now config.now }
+    requires askable { CanBeAsked machine.now (T.pre truth.now) }
+    requires there { All (λ s. s.0 < length machine.now.vertices) states.now }
+    ensures { (values : Truth) → Tells (T.post truth.now) values
+        → ((s : VertexId) → Contains states.now s
+        ↔ IsCandidate machine.now (configuration_of config.now) values event s)
+        → IfOk result (λ routes. IsFiringSet machine.now (configuration_of config.now) values event routes.items
+        × StartApart routes.items) }
+{
+    let (later, first) = states.split_at(place_of(word, states.len()));
+    let mut chosen = Chosen {
+        routes: Vec::new(alloc),
+        footprints: Vec::new(alloc),
+    };
+    chosen.add_from_each(alloc, machine, config, truth, event, first)?;
+    chosen.add_from_each(alloc, machine, config, truth, event, later)?;
+    let Chosen {
+        routes,
+        footprints: _,
+    } = chosen;
+    Ok(routes)
 }
 
 /// Routes that the event fires together. From all sets that it may fire the word settles one: of the States that react,
@@ -120,18 +275,16 @@ pub fn pick_firing_set<T: Fn(GuardId) -> bool>(
         → IfOk result (λ firing. IsFiring machine.now (configuration_of config.now) values event firing.routes) }
 {
     let states = candidates(alloc, machine, config, truth, event)?;
-    let (later, first) = states.as_slice().split_at(place_of(word, states.len()));
-    let mut chosen = Chosen {
-        routes: Vec::new(alloc),
-        grounds: Vec::new(alloc),
-    };
-    chosen.add_from_each(alloc, machine, config, truth, event, first)?;
-    chosen.add_from_each(alloc, machine, config, truth, event, later)?;
-    let Chosen {
-        mut routes,
-        grounds: _,
-    } = chosen;
-    routes.sort_by_key(|route| first_start(route))?;
+    let mut routes = choose(
+        alloc,
+        machine,
+        config,
+        truth,
+        event,
+        states.as_slice(),
+        word,
+    )?;
+    put_in_order(&mut routes)?;
     Ok(Firing {
         routes: Row::from_vec(routes),
     })

@@ -1,22 +1,59 @@
-//! The States that react to an event, and those in which none reacts (UML 2.5.1, 14.2.3.9, firing priorities).
-ghost use Rattle.std.specs.Prelude.{◌≡◌, ◌↔◌, ◌<◌, ◌⊎◌, false, true, None, length, slice_index_or, All, Contains, IsTrue, IfOk};
+//! The States that react to an event, and those in which none reacts (UML 2.5.1, 14.2.3.9, firing
+//! priorities).
+ghost use Rattle.std.specs.Prelude.{◌≡◌, ◌↔◌, ◌<◌, ◌⊎◌, false, true, None, length, slice_index_or};
+ghost use Rattle.std.specs.Prelude.{All, Contains, IsTrue, IfOk, IfSome, IfNone};
 ghost use Rattle.pssm_model.specs.declared.ids.VertexId.{VertexId};
-ghost use Rattle.pssm_model.specs.Forest.{LiesInState};
+ghost use Rattle.pssm_model.specs.Forest.{LiesInState, IsOrLiesIn};
+ghost use Rattle.pssm_model.specs.Legs.{Leaves};
 ghost use Rattle.pssm_model.specs.Routes.{Truth};
 ghost use Rattle.pssm_model.specs.FiringSets.{Overrides};
 ghost use Rattle.pssm_config.specs.Tables.{Fits, configuration_of};
 ghost use Rattle.pssm_routes.specs.Telling.{CanBeAsked, Tells};
 ghost use Rattle.pssm_routes.specs.SingleLegs.{HasSingleLegs};
-ghost use Rattle.pssm_routes.specs.inner.Starts.{Reacts, IsCandidate};
+ghost use Rattle.pssm_routes.specs.inner.Starts.{IsStarted, Reacts, IsCandidate};
+ghost use Rattle.pssm_routes.specs.inner.Ways.{LeadsOut};
 ghost use Rattle.pssm_routes.specs.inner.Steps.{SeesDeadEnds};
 
 use crate::seeking::{Search, find_way};
 use crate::starting::is_started;
 use pssm_config::Config;
-use pssm_model::{Event, GuardId, Machine, Owner, SignalId, VertexId};
+use pssm_model::{Event, GuardId, Machine, Owner, SignalId, TransId, VertexId};
 use std::alloc::{AllocError as NoMemory, Global};
 
-// Whether a route that the event enables starts at the vertex. The search goes on from what it has seen before.
+// Whether the event starts the transition, and a way leads out from it over junctions that the
+// search has not seen.
+fn leads<T: Fn(GuardId) -> bool>(
+    machine: &Machine,
+    config: &Config,
+    truth: &T,
+    event: Event,
+    t: TransId,
+    search: &mut Search,
+) -> bool
+    requires legs { HasSingleLegs machine.now }
+    requires fits { Fits machine.now config.now }
+    requires askable { CanBeAsked machine.now (T.pre truth.now) }
+    requires there { t.0 < length machine.now.transitions }
+    ensures reacts { (values : Truth) → Tells (T.post truth.now) values → result ≡ true
+        → (s : VertexId) → Leaves machine.now t s
+        → Reacts machine.now (configuration_of config.now) values event s }
+    ensures none { (values : Truth) → Tells (T.post truth.now) values
+        → SeesDeadEnds machine.now values None search.old
+        → result ≡ false
+        → (s : VertexId) → IsStarted machine.now (configuration_of config.now) event t s
+        → LeadsOut machine.now values None t → ⊥ }
+    ensures dead { (values : Truth) → Tells (T.post truth.now) values
+        → SeesDeadEnds machine.now values None search.old
+        → result ≡ false → SeesDeadEnds machine.now values None search.new }
+{
+    if !is_started(machine, config, event, t) {
+        return false;
+    }
+    find_way(machine, truth, None, t, search).is_some()
+}
+
+// Whether a route that the event enables starts at the vertex. The search goes on from what it has
+// seen before.
 fn reacts<T: Fn(GuardId) -> bool>(
     machine: &Machine,
     config: &Config,
@@ -29,23 +66,61 @@ fn reacts<T: Fn(GuardId) -> bool>(
     requires fits { Fits machine.now config.now }
     requires askable { CanBeAsked machine.now (T.pre truth.now) }
     requires there { source.0 < length machine.now.vertices }
-    ensures reacts { (values : Truth) → Tells (T.post truth.now) values → SeesDeadEnds machine.now values None search.old
+    ensures reacts { (values : Truth) → Tells (T.post truth.now) values
+        → SeesDeadEnds machine.now values None search.old
         → (IsTrue result ↔ Reacts machine.now (configuration_of config.now) values event source) }
-    ensures dead { (values : Truth) → Tells (T.post truth.now) values → SeesDeadEnds machine.now values None search.old
+    ensures dead { (values : Truth) → Tells (T.post truth.now) values
+        → SeesDeadEnds machine.now values None search.old
         → result ≡ false → SeesDeadEnds machine.now values None search.new }
 {
     for t in machine.outgoing(source) {
-        if is_started(machine, config, event, *t)
-            && find_way(machine, truth, None, *t, search).is_some()
-        {
+        if leads(machine, config, truth, event, *t, search) {
             return true;
         }
     }
     false
 }
 
-/// Whether a route that the signal enables starts at the State or in it, and so keeps the State from deferring the
-/// signal (UML 2.5.1, 14.2.3.4, deferred events). It takes no memory.
+// Whether the vertex is the State or lies in it.
+fn is_or_lies_in(machine: &Machine, v: VertexId, state: VertexId) -> bool
+    requires vertex { v.0 < length machine.now.vertices }
+    requires state { state.0 < length machine.now.vertices }
+    ensures { IsTrue result ↔ IsOrLiesIn machine.now v state }
+{
+    v == state || machine.lies_in_state(v, state)
+}
+
+// Whether the vertex is the State or lies in it, and reacts to the event.
+fn reacts_within<T: Fn(GuardId) -> bool>(
+    machine: &Machine,
+    config: &Config,
+    truth: &T,
+    event: Event,
+    state: VertexId,
+    source: VertexId,
+    search: &mut Search,
+) -> bool
+    requires legs { HasSingleLegs machine.now }
+    requires fits { Fits machine.now config.now }
+    requires askable { CanBeAsked machine.now (T.pre truth.now) }
+    requires state { state.0 < length machine.now.vertices }
+    requires there { source.0 < length machine.now.vertices }
+    ensures reacts { (values : Truth) → Tells (T.post truth.now) values
+        → SeesDeadEnds machine.now values None search.old
+        → (IsTrue result ↔ (IsOrLiesIn machine.now source state
+        × Reacts machine.now (configuration_of config.now) values event source)) }
+    ensures dead { (values : Truth) → Tells (T.post truth.now) values
+        → SeesDeadEnds machine.now values None search.old
+        → result ≡ false → SeesDeadEnds machine.now values None search.new }
+{
+    if !is_or_lies_in(machine, source, state) {
+        return false;
+    }
+    reacts(machine, config, truth, event, source, search)
+}
+
+/// Whether a route that the signal enables starts at the State or in it, and so keeps the State
+/// from deferring the signal (UML 2.5.1, 14.2.3.4, deferred events). It takes no memory.
 pub fn overrides<T: Fn(GuardId) -> bool>(
     machine: &Machine,
     config: &Config,
@@ -60,26 +135,46 @@ pub fn overrides<T: Fn(GuardId) -> bool>(
     ensures { (values : Truth) → Tells (T.post truth.now) values
         → (IsTrue result ↔ Overrides machine.now (configuration_of config.now) values signal state) }
 {
+    let event = Event::Signal(signal);
     let mut search = Search::new();
     for number in 0..machine.vertices() {
         let source = VertexId(number);
-        if (source == state || machine.lies_in_state(source, state))
-            && reacts(
-                machine,
-                config,
-                truth,
-                Event::Signal(signal),
-                source,
-                &mut search,
-            )
-        {
+        if reacts_within(machine, config, truth, event, state, source, &mut search) {
             return true;
         }
     }
     false
 }
 
-// The States that react to the event, ascending.
+// Whether a route that the event enables starts at the vertex. Where one does, the search is made
+// anew.
+fn reacts_afresh<T: Fn(GuardId) -> bool>(
+    machine: &Machine,
+    config: &Config,
+    truth: &T,
+    event: Event,
+    source: VertexId,
+    search: &mut Search,
+) -> bool
+    requires legs { HasSingleLegs machine.now }
+    requires fits { Fits machine.now config.now }
+    requires askable { CanBeAsked machine.now (T.pre truth.now) }
+    requires there { source.0 < length machine.now.vertices }
+    ensures reacts { (values : Truth) → Tells (T.post truth.now) values
+        → SeesDeadEnds machine.now values None search.old
+        → (IsTrue result ↔ Reacts machine.now (configuration_of config.now) values event source) }
+    ensures dead { (values : Truth) → Tells (T.post truth.now) values
+        → SeesDeadEnds machine.now values None search.old
+        → SeesDeadEnds machine.now values None search.new }
+{
+    if reacts(machine, config, truth, event, source, search) {
+        *search = Search::new();
+        return true;
+    }
+    false
+}
+
+// The States that react to the event.
 fn reacting_states<T: Fn(GuardId) -> bool>(
     alloc: Global,
     machine: &Machine,
@@ -91,19 +186,55 @@ fn reacting_states<T: Fn(GuardId) -> bool>(
     requires fits { Fits machine.now config.now }
     requires askable { CanBeAsked machine.now (T.pre truth.now) }
     ensures states { (values : Truth) → Tells (T.post truth.now) values
-        → IfOk result (λ found. (s : VertexId) → Contains found.items s ↔ Reacts machine.now (configuration_of config.now) values event s) }
+        → IfOk result (λ found. (s : VertexId) → Contains found.items s
+        ↔ Reacts machine.now (configuration_of config.now) values event s) }
     ensures there { IfOk result (λ found. All (λ s. s.0 < length machine.now.vertices) found.items) }
 {
     let mut found = Vec::new(alloc);
     let mut search = Search::new();
     for number in 0..machine.vertices() {
         let source = VertexId(number);
-        if reacts(machine, config, truth, event, source, &mut search) {
+        if reacts_afresh(machine, config, truth, event, source, &mut search) {
             found.push(source)?;
-            search = Search::new();
         }
     }
     Ok(found)
+}
+
+// The innermost State in which the vertex lies, if there is one.
+fn state_around(machine: &Machine, v: VertexId) -> Option<VertexId>
+    requires { v.0 < length machine.now.vertices }
+    ensures there { IfSome result (λ s. s.0 < length machine.now.vertices) }
+    ensures around { IfSome result (LiesInState machine.now v) }
+    ensures innermost { IfSome result (λ s. (q : VertexId)
+        → LiesInState machine.now v q → IsOrLiesIn machine.now s q) }
+    ensures none { IfNone result ((s : VertexId) → LiesInState machine.now v s → ⊥) }
+{
+    let _has_shape = machine.regions();
+    match machine.region_owner(machine.home(v)) {
+        Owner::State(s) => Some(s),
+        _ => None,
+    }
+}
+
+// Marks the States in which the vertex lies.
+fn mark_around(marks: &mut Vec<bool>, machine: &Machine, v: VertexId)
+    requires there { v.0 < length machine.now.vertices }
+    requires width { length marks.old.items ≡ length machine.now.vertices }
+    ensures width { length marks.new.items ≡ length marks.old.items }
+    ensures marks { (s : VertexId) → (slice_index_or marks.new.items s.0 false ≡ true)
+        ↔ ((slice_index_or marks.old.items s.0 false ≡ true) ⊎ LiesInState machine.now v s) }
+{
+    let mut at = v;
+    let mut left = machine.depth(v);
+    while left > 0 {
+        let Some(s) = state_around(machine, at) else {
+            return;
+        };
+        marks[s.0 as usize] = true;
+        at = s;
+        left -= 1;
+    }
 }
 
 // Marks by vertex: the States in which one of these lies.
@@ -115,7 +246,8 @@ fn states_around(
     requires { All (λ s. s.0 < length machine.now.vertices) inner.now }
     ensures width { IfOk result (λ marks. length marks.items ≡ length machine.now.vertices) }
     ensures marks { IfOk result (λ marks. (s : VertexId)
-        → (slice_index_or marks.items s.0 false ≡ true) ↔ ((q : VertexId) × Contains inner.now q × LiesInState machine.now q s)) }
+        → (slice_index_or marks.items s.0 false ≡ true)
+        ↔ ((q : VertexId) × Contains inner.now q × LiesInState machine.now q s)) }
 {
     let mut marks = vec![in alloc; false; machine.vertices() as usize]?;
     for s in inner {
@@ -124,22 +256,22 @@ fn states_around(
     Ok(marks)
 }
 
-// Marks the States in which the vertex lies.
-fn mark_around(marks: &mut Vec<bool>, machine: &Machine, v: VertexId)
-    requires there { v.0 < length machine.now.vertices }
-    requires width { length marks.old.items ≡ length machine.now.vertices }
-    ensures width { length marks.new.items ≡ length marks.old.items }
-    ensures marks { (s : VertexId) → (slice_index_or marks.new.items s.0 false ≡ true)
-        ↔ ((slice_index_or marks.old.items s.0 false ≡ true) ⊎ LiesInState machine.now v s) }
+// Those of the States that are not marked.
+fn unmarked(alloc: Global, states: &[VertexId], marks: &[bool]) -> Result<Vec<VertexId>, NoMemory>
+    requires { All (λ s. s.0 < length marks.now) states.now }
+    ensures { IfOk result (λ found. (s : VertexId) → Contains found.items s
+        ↔ (Contains states.now s × (slice_index_or marks.now s.0 false ≡ true → ⊥))) }
 {
-    let mut region = machine.home(v);
-    while let Owner::State(s) = machine.region_owner(region) {
-        marks[s.0 as usize] = true;
-        region = machine.home(s);
+    let mut found = Vec::new(alloc);
+    for s in states {
+        if !marks[s.0 as usize] {
+            found.push(*s)?;
+        }
     }
+    Ok(found)
 }
 
-/// The States that react to the event and in which none does, ascending.
+/// The States that react to the event and in which none does.
 pub fn candidates<T: Fn(GuardId) -> bool>(
     alloc: Global,
     machine: &Machine,
@@ -150,16 +282,12 @@ pub fn candidates<T: Fn(GuardId) -> bool>(
     requires legs { HasSingleLegs machine.now }
     requires fits { Fits machine.now config.now }
     requires askable { CanBeAsked machine.now (T.pre truth.now) }
-    ensures { (values : Truth) → Tells (T.post truth.now) values
-        → IfOk result (λ found. (s : VertexId) → Contains found.items s ↔ IsCandidate machine.now (configuration_of config.now) values event s) }
+    ensures there { IfOk result (λ found. All (λ s. s.0 < length machine.now.vertices) found.items) }
+    ensures states { (values : Truth) → Tells (T.post truth.now) values
+        → IfOk result (λ found. (s : VertexId) → Contains found.items s
+        ↔ IsCandidate machine.now (configuration_of config.now) values event s) }
 {
     let reacting = reacting_states(alloc, machine, config, truth, event)?;
     let outranked = states_around(alloc, machine, reacting.as_slice())?;
-    let mut found = Vec::new(alloc);
-    for s in reacting.as_slice() {
-        if !outranked[s.0 as usize] {
-            found.push(*s)?;
-        }
-    }
-    Ok(found)
+    unmarked(alloc, reacting.as_slice(), outranked.as_slice())
 }

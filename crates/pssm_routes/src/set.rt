@@ -1,25 +1,25 @@
 //! Whether routes are what fires: a largest set of enabled ones that do not conflict (UML 2.5.1, 14.2.3.9).
-ghost use Rattle.std.specs.Prelude.{◌↔◌, ◌<◌, length, All, Contains, IsTrue, IfOk};
+ghost use Rattle.std.specs.Prelude.{◌≢◌, ◌↔◌, ◌<◌, [], length, All, Contains, IsTrue, IfOk};
 ghost use Rattle.pssm_model.specs.declared.ids.VertexId.{VertexId};
 ghost use Rattle.pssm_model.specs.declared.ids.TransId.{TransId};
 ghost use Rattle.pssm_model.specs.declared.steps.Route.{Route};
 ghost use Rattle.pssm_model.specs.Routes.{Truth, IsEnabled, IsStateRoute};
-ghost use Rattle.pssm_model.specs.FiringSets.{IsFiring, IsListed};
+ghost use Rattle.pssm_model.specs.FiringSets.{StartsBefore, IsListed, IsFiring};
 ghost use Rattle.pssm_config.specs.Tables.{Fits, configuration_of};
 ghost use Rattle.pssm_routes.specs.Telling.{CanBeAsked, Tells};
 ghost use Rattle.pssm_routes.specs.SingleLegs.{HasSingleLegs};
-ghost use Rattle.pssm_routes.specs.inner.Grounds.{AreGrounds, IsGroundIn, Clash};
+ghost use Rattle.pssm_routes.specs.inner.Footprints.{AreFootprints, IsFootprintIn, ClashesWithSome};
 ghost use Rattle.pssm_routes.specs.inner.Starts.{IsStarted};
-ghost use Rattle.pssm_routes.specs.inner.Sets.{HasJoiner};
+ghost use Rattle.pssm_routes.specs.inner.Sets.{AreApart, HasJoiner, HasJoinerFrom, AreComplete};
 
-use crate::areas::{Ground, clash, ground_of};
+use crate::areas::{Footprint, clash, footprint_of};
 use crate::joining::find_joiner;
 use crate::reacting::candidates;
 use crate::route::check_route;
 use crate::seeking::Search;
 use crate::starting::is_started;
 use pssm_config::Config;
-use pssm_model::{Event, Firing, GuardId, Machine, Route, VertexId};
+use pssm_model::{Event, Firing, GuardId, Machine, Route, TransId, VertexId};
 use std::alloc::{AllocError as NoMemory, Global};
 
 // Whether the event enables all of the routes.
@@ -33,8 +33,9 @@ fn are_enabled<T: Fn(GuardId) -> bool>(
     requires legs { HasSingleLegs machine.now }
     requires fits { Fits machine.now config.now }
     requires askable { CanBeAsked machine.now (T.pre truth.now) }
-    ensures { (values : Truth) → Tells (T.post truth.now) values
+    ensures enabled { (values : Truth) → Tells (T.post truth.now) values
         → (IsTrue result ↔ All (IsEnabled machine.now (configuration_of config.now) values event) routes.now) }
+    ensures routes { IsTrue result → All (IsStateRoute machine.now) routes.now }
 {
     for route in routes {
         if !check_route(machine, config, truth, event, route) {
@@ -46,6 +47,7 @@ fn are_enabled<T: Fn(GuardId) -> bool>(
 
 // Whether the first starts of the routes ascend.
 fn are_listed(routes: &[Route]) -> bool
+    requires { All (λ p. p.starts ≢ []) routes.now }
     ensures { IsTrue result ↔ IsListed routes.now }
 {
     for i in 1..routes.len() {
@@ -57,121 +59,182 @@ fn are_listed(routes: &[Route]) -> bool
 }
 
 // Whether the first start of the first route has a lower number than that of the second.
-fn starts_before(first: &Route, second: &Route) -> bool {
+fn starts_before(first: &Route, second: &Route) -> bool
+    ensures { IsTrue result ↔ StartsBefore first.now second.now }
+{
     match (first.starts.as_slice(), second.starts.as_slice()) {
         ([t, ..], [u, ..]) => t.0 < u.0,
         _ => true,
     }
 }
 
-// The grounds of the routes, one after another.
-fn grounds_of(alloc: Global, machine: &Machine, routes: &[Route]) -> Result<Vec<Ground>, NoMemory>
+// The footprints of the routes, one after another.
+fn footprints_of(
+    alloc: Global,
+    machine: &Machine,
+    routes: &[Route],
+) -> Result<Vec<Footprint>, NoMemory>
     requires legs { HasSingleLegs machine.now }
     requires routes { All (IsStateRoute machine.now) routes.now }
-    ensures grounds { IfOk result (λ grounds. AreGrounds machine.now routes.now grounds.items) }
-    ensures there { IfOk result (λ grounds. All (IsGroundIn machine.now) grounds.items) }
+    ensures footprints { IfOk result (λ footprints. AreFootprints machine.now routes.now footprints.items) }
+    ensures there { IfOk result (λ footprints. All (IsFootprintIn machine.now) footprints.items) }
 {
-    let mut grounds = Vec::new(alloc);
+    let mut footprints = Vec::new(alloc);
     for route in routes {
-        grounds.push(ground_of(machine, route))?;
+        footprints.push(footprint_of(machine, route))?;
     }
-    Ok(grounds)
+    Ok(footprints)
 }
 
-// Whether the ground clashes with one of the others.
-fn clashes_with(machine: &Machine, ground: Ground, others: &[Ground]) -> bool
-    requires ground { IsGroundIn machine.now ground }
-    requires others { All (IsGroundIn machine.now) others.now }
-    ensures { IsTrue result ↔ ((other : Ground) × Contains others.now other × Clash machine.now ground other) }
+// Whether the footprint clashes with one of the others.
+fn clashes_with(machine: &Machine, footprint: Footprint, others: &[Footprint]) -> bool
+    requires footprint { IsFootprintIn machine.now footprint }
+    requires others { All (IsFootprintIn machine.now) others.now }
+    ensures { IsTrue result ↔ ClashesWithSome machine.now others.now footprint }
 {
     for other in others {
-        if clash(machine, ground, *other) {
+        if clash(machine, *other, footprint) {
             return true;
         }
     }
     false
 }
 
-// Whether two of the grounds clash.
-fn clash_together(machine: &Machine, grounds: &[Ground]) -> bool
-    requires { All (IsGroundIn machine.now) grounds.now }
+// Whether no two of the footprints clash.
+fn are_apart(machine: &Machine, footprints: &[Footprint]) -> bool
+    requires { All (IsFootprintIn machine.now) footprints.now }
+    ensures { IsTrue result ↔ AreApart machine.now footprints.now }
 {
-    let mut rest = grounds;
+    let mut rest = footprints;
     while let Some((first, more)) = rest.split_first() {
         if clashes_with(machine, *first, more) {
-            return true;
+            return false;
         }
         rest = more;
     }
-    false
+    true
 }
 
-// Whether the sources of all the grounds are among the States.
-fn start_among(grounds: &[Ground], states: &[VertexId]) -> bool
-    ensures { IsTrue result ↔ All (λ ground. Contains states.now ground.source) grounds.now }
+// Whether the State is one of these.
+fn is_among(states: &[VertexId], s: VertexId) -> bool
+    ensures { IsTrue result ↔ Contains states.now s }
 {
-    for ground in grounds {
-        if !states.contains(&ground.source) {
+    states.contains(&s)
+}
+
+// Whether the sources of all the footprints are among the States.
+fn start_among(footprints: &[Footprint], states: &[VertexId]) -> bool
+    ensures { IsTrue result ↔ All (λ footprint. Contains states.now footprint.source) footprints.now }
+{
+    for footprint in footprints {
+        if !is_among(states, footprint.source) {
             return false;
         }
     }
     true
 }
 
-// Whether a route that starts at the State could join those of the grounds.
+// Whether a route with this start could join those of the footprints.
+fn joins_by<T: Fn(GuardId) -> bool>(
+    machine: &Machine,
+    config: &Config,
+    truth: &T,
+    event: Event,
+    footprints: &[Footprint],
+    t: TransId,
+    search: &mut Search,
+) -> bool
+    requires legs { HasSingleLegs machine.now }
+    requires fits { Fits machine.now config.now }
+    requires footprints { All (IsFootprintIn machine.now) footprints.now }
+    requires askable { CanBeAsked machine.now (T.pre truth.now) }
+    requires there { t.0 < length machine.now.transitions }
+    ensures { (values : Truth) → Tells (T.post truth.now) values
+        → (IsTrue result ↔ ((s : VertexId) × IsStarted machine.now (configuration_of config.now) event t s
+        × HasJoiner machine.now (configuration_of config.now) values event footprints.now t)) }
+{
+    if !is_started(machine, config, event, t) {
+        return false;
+    }
+    find_joiner(machine, truth, footprints, t, search).is_some()
+}
+
+// Whether a route that starts at the State could join those of the footprints.
 fn joins_from<T: Fn(GuardId) -> bool>(
     machine: &Machine,
     config: &Config,
     truth: &T,
     event: Event,
-    grounds: &[Ground],
+    footprints: &[Footprint],
     source: VertexId,
     search: &mut Search,
 ) -> bool
     requires legs { HasSingleLegs machine.now }
     requires fits { Fits machine.now config.now }
-    requires grounds { All (IsGroundIn machine.now) grounds.now }
+    requires footprints { All (IsFootprintIn machine.now) footprints.now }
     requires askable { CanBeAsked machine.now (T.pre truth.now) }
     requires there { source.0 < length machine.now.vertices }
     ensures { (values : Truth) → Tells (T.post truth.now) values
         → (IsTrue result ↔ ((t : TransId) × IsStarted machine.now (configuration_of config.now) event t source
-        × HasJoiner machine.now (configuration_of config.now) values event grounds.now t)) }
+        × HasJoiner machine.now (configuration_of config.now) values event footprints.now t)) }
 {
     for t in machine.outgoing(source) {
-        if is_started(machine, config, event, *t)
-            && find_joiner(machine, truth, grounds, *t, search).is_some()
-        {
+        if joins_by(machine, config, truth, event, footprints, *t, search) {
             return true;
         }
     }
     false
 }
 
-// Whether a route that starts at one of the States could join those of the grounds.
+// Whether a route that starts at one of the States could join those of the footprints.
 fn joins_from_some<T: Fn(GuardId) -> bool>(
     machine: &Machine,
     config: &Config,
     truth: &T,
     event: Event,
-    grounds: &[Ground],
+    footprints: &[Footprint],
     states: &[VertexId],
 ) -> bool
     requires legs { HasSingleLegs machine.now }
     requires fits { Fits machine.now config.now }
-    requires grounds { All (IsGroundIn machine.now) grounds.now }
+    requires footprints { All (IsFootprintIn machine.now) footprints.now }
     requires askable { CanBeAsked machine.now (T.pre truth.now) }
     requires there { All (λ s. s.0 < length machine.now.vertices) states.now }
     ensures { (values : Truth) → Tells (T.post truth.now) values
-        → (IsTrue result ↔ ((s : VertexId) × (t : TransId) × Contains states.now s × IsStarted machine.now (configuration_of config.now) event t s
-        × HasJoiner machine.now (configuration_of config.now) values event grounds.now t)) }
+        → (IsTrue result
+        ↔ HasJoinerFrom machine.now (configuration_of config.now) values event states.now footprints.now) }
 {
     let mut search = Search::new();
     for s in states {
-        if joins_from(machine, config, truth, event, grounds, *s, &mut search) {
+        if joins_from(machine, config, truth, event, footprints, *s, &mut search) {
             return true;
         }
     }
     false
+}
+
+// Whether the sources of the footprints are among the States, no two of them clash, and no route that starts at one of
+// the States could join theirs.
+fn are_complete<T: Fn(GuardId) -> bool>(
+    machine: &Machine,
+    config: &Config,
+    truth: &T,
+    event: Event,
+    footprints: &[Footprint],
+    states: &[VertexId],
+) -> bool
+    requires legs { HasSingleLegs machine.now }
+    requires fits { Fits machine.now config.now }
+    requires footprints { All (IsFootprintIn machine.now) footprints.now }
+    requires askable { CanBeAsked machine.now (T.pre truth.now) }
+    requires there { All (λ s. s.0 < length machine.now.vertices) states.now }
+    ensures { (values : Truth) → Tells (T.post truth.now) values
+        → (IsTrue result
+        ↔ AreComplete machine.now (configuration_of config.now) values event states.now footprints.now) }
+{
+    start_among(footprints, states)
+        && are_apart(machine, footprints)
+        && !joins_from_some(machine, config, truth, event, footprints, states)
 }
 
 /// Whether these routes are what the event fires: enabled routes no two of which conflict, none of which conflicts with
@@ -191,24 +254,24 @@ pub fn is_firing_set<T: Fn(GuardId) -> bool>(
     requires fits { Fits machine.now config.now }
     requires askable { CanBeAsked machine.now (T.pre truth.now) }
     ensures { (values : Truth) → Tells (T.post truth.now) values
-        → IfOk result (λ is. IsTrue is ↔ IsFiring machine.now (configuration_of config.now) values event firing.now.routes) }
+        → IfOk result (λ is. IsTrue is
+        ↔ IsFiring machine.now (configuration_of config.now) values event firing.now.routes) }
 {
     let routes = firing.routes.as_slice();
-    if !are_enabled(machine, config, truth, event, routes) || !are_listed(routes) {
+    if !are_enabled(machine, config, truth, event, routes) {
         return Ok(false);
     }
-    let grounds = grounds_of(alloc, machine, routes)?;
+    if !are_listed(routes) {
+        return Ok(false);
+    }
+    let footprints = footprints_of(alloc, machine, routes)?;
     let states = candidates(alloc, machine, config, truth, event)?;
-    Ok(
-        start_among(grounds.as_slice(), states.as_slice())
-            && !clash_together(machine, grounds.as_slice())
-            && !joins_from_some(
-                machine,
-                config,
-                truth,
-                event,
-                grounds.as_slice(),
-                states.as_slice(),
-            ),
-    )
+    Ok(are_complete(
+        machine,
+        config,
+        truth,
+        event,
+        footprints.as_slice(),
+        states.as_slice(),
+    ))
 }

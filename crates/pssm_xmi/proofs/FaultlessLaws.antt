@@ -16,7 +16,7 @@ use Rattle.pssm_unmet.specs.Unmet.HasUnmet.{unknown, event}
 use Rattle.pssm_unmet.proofs.ReferenceLaws.{stand_in, among_stands}
 use Rattle.pssm_limits.specs.Limits.{PassesLimit}
 use Rattle.pssm_limits.specs.Limits.PassesLimit.{elements, variables}
-use Rattle.pssm_xmi.specs.Faultless.{StandBehind, HasNoUnmet, HasNoLimitPassed, IsFaultless}
+use Rattle.pssm_xmi.specs.Faultless.{StandBehind, MeansAll, HasNoLimitPassed, IsFaultless}
 use Rattle.pssm_xmi.specs.Faults.{HasNoSecondFault}
 use Rattle.pssm_xmi.specs.Faults.HasSecondFault.{reference, many}
 use Rattle.pssm_xmi.proofs.Tests.{by_test}
@@ -51,7 +51,7 @@ module _ (one_role : OneRole) (file : ModelFile) (are : AreRolesOf file.doc file
     no_limit : HasNoLimitPassed file
     no_limit n passes = let at = begins file.doc n (past_there n passes) in none _ (many passes at.1)
 
-    no_unmet : HasNoUnmet file
+    no_unmet : MeansAll file
     no_unmet target at id is =
         let less = follows is.n _ is.asked in
         let within = among_stands (length file.doc) (references file.doc is.n is.name) (at, id) is.among (stand_in file.doc is.n is.name less) in

@@ -23,7 +23,5 @@ pub mod FirstLaws
 pub mod FaultlessLaws
 pub mod DefaultLaws
 pub mod FittingLaws
-pub mod SomeFirst
-pub mod SomeText
 pub mod SomeRoles
 pub mod SomeAnswer

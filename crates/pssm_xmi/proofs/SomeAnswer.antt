@@ -11,8 +11,8 @@ use Rattle.pssm_numbering.specs.Numbering.{ModelFile, file_of}
 use Rattle.pssm_drafting.specs.Drafts.{draft_of}
 use Rattle.pssm_xmi.specs.Faults.{HasSecondFault, HasNoSecondFault, byte_of, rank_of, IsFileOf, IsXmiFault, ReadsDraft}
 use Rattle.pssm_xmi.proofs.Behind.{stand_behind}
-use Rattle.pssm_xmi.proofs.SomeFirst.{IsLeast, some_first}
-use Rattle.pssm_xmi.proofs.SomeText.{some_text}
+use Rattle.pssm_xml.proofs.SomeFirst.{IsLeast, some_first}
+use Rattle.pssm_xml.proofs.SomeText.{some_text}
 use Rattle.pssm_xmi.proofs.SomeRoles.{some_roles, flaw_begins}
 
 -- ---- the first flaw

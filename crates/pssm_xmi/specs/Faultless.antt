@@ -14,8 +14,8 @@ abbrev pub StandBehind : List Element → Type 0
 StandBehind doc = (n p : ℕ) → IsParent doc p n → p < n
 
 -- Every reference that is followed means what it may mean.
-abbrev pub HasNoUnmet : ModelFile → Type 0
-HasNoUnmet file = (target : Target) (at : ℕ) (id : List ℕ) → IsUnmet file target at id → ⊥
+abbrev pub MeansAll : ModelFile → Type 0
+MeansAll file = (target : Target) (at : ℕ) (id : List ℕ) → IsUnmet file target at id → ⊥
 
 -- No machine and no class passes a limit.
 abbrev pub HasNoLimitPassed : ModelFile → Type 0
@@ -26,5 +26,5 @@ pub record IsFaultless (file : ModelFile) : Type 0 where
   pub ordered : StandBehind file.doc
   pub roles : AreRolesOf file.doc file.roles
   pub profile : HasNoProfileFault file.doc
-  pub references : HasNoUnmet file
+  pub references : MeansAll file
   pub limits : HasNoLimitPassed file

@@ -14,3 +14,5 @@ pub mod GoodLaws
 pub mod ReadLaws
 pub mod DocumentLaws
 pub mod LinkLaws
+pub mod SomeFirst
+pub mod SomeText

@@ -25,4 +25,4 @@ mod values;
 pub use document::elements_of;
 pub use elements::Elements;
 pub use fault::TextFault;
-pub use laws::one_tree;
+pub use laws::{one_tree, some_tree};

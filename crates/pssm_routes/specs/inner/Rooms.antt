@@ -9,14 +9,14 @@ use Rattle.pssm_model.specs.declared.steps.Route.{Route}
 use Rattle.pssm_model.specs.Forest.{LiesUnder, IsOrLiesIn, IsWithin}
 use Rattle.pssm_model.specs.Legs.{Enters, On, LiesInScope}
 use Rattle.pssm_model.specs.Routes.{IsStateRoute}
-use Rattle.pssm_routes.specs.declared.areas.Ground.{Ground}
+use Rattle.pssm_routes.specs.declared.areas.Footprint.{Footprint}
 use Rattle.pssm_routes.specs.declared.joining.Room.{Room}
 use Rattle.pssm_routes.specs.declared.joining.Room.TheVariants.{Shut, Open}
-use Rattle.pssm_routes.specs.inner.Grounds.{scope_of, IsGroundOf, ClashesWithSome}
+use Rattle.pssm_routes.specs.inner.Footprints.{scope_of, IsFootprintOf, ClashesWithSome}
 use Rattle.pssm_routes.specs.inner.Ways.{IsAllowed}
 
--- The State, or one that it lies in or that lies in it, is the source of the ground, or its area covers the State.
-abbrev pub Touches : DraftMachine → VertexId → Ground → Type 0
+-- The State, or one that it lies in or that lies in it, is the source of the footprint, or its area covers the State.
+abbrev pub Touches : DraftMachine → VertexId → Footprint → Type 0
 Touches m s a = LiesInScope m s (scope_of a.area) ⊎ IsOrLiesIn m a.source s ⊎ IsOrLiesIn m s a.source
 
 -- the innermost region in which the region is nested
@@ -24,26 +24,26 @@ pub record IsNextOut (m : DraftMachine) (r next : RegionId) : Type 0 where
   pub nested : LiesUnder m (Region r) (Region next)
   pub innermost : (q : RegionId) → LiesUnder m (Region r) (Region q) → IsWithin m next q
 
--- Each route with this start clashes with one of the grounds.
-abbrev pub IsShut : DraftMachine → List Ground → TransId → Type 0
-IsShut m grounds t =
-    (q : Route) (b : Ground) → IsStateRoute m q → q.starts ≡ t ∷ [] → IsGroundOf m q b → (ClashesWithSome m grounds b → ⊥) → ⊥
+-- Each route with this start clashes with one of the footprints.
+abbrev pub IsShut : DraftMachine → List Footprint → TransId → Type 0
+IsShut m footprints t =
+    (q : Route) (b : Footprint) → IsStateRoute m q → q.starts ≡ t ∷ [] → IsFootprintOf m q b → (ClashesWithSome m footprints b → ⊥) → ⊥
 
 -- All transitions of the route end where they may.
 abbrev pub EndsWithin : DraftMachine → Option RegionId → Route → Type 0
 EndsWithin m within q = (u : TransId) (v : VertexId) → On q u → Enters m u v → IsAllowed m within v
 
--- The routes with this start that clash with none of the grounds are those that end in the region, if one is named.
-pub record IsOpenRoom (m : DraftMachine) (grounds : List Ground) (t : TransId) (within : Option RegionId) : Type 0 where
-  pub ends : (q : Route) (b : Ground) → IsStateRoute m q → q.starts ≡ t ∷ [] → IsGroundOf m q b → (ClashesWithSome m grounds b → ⊥)
+-- The routes with this start that clash with none of the footprints are those that end in the region, if one is named.
+pub record IsOpenRoom (m : DraftMachine) (footprints : List Footprint) (t : TransId) (within : Option RegionId) : Type 0 where
+  pub ends : (q : Route) (b : Footprint) → IsStateRoute m q → q.starts ≡ t ∷ [] → IsFootprintOf m q b → (ClashesWithSome m footprints b → ⊥)
       → EndsWithin m within q
-  pub clear : (q : Route) (b : Ground) → IsStateRoute m q → q.starts ≡ t ∷ [] → IsGroundOf m q b → EndsWithin m within q
-      → ClashesWithSome m grounds b → ⊥
+  pub clear : (q : Route) (b : Footprint) → IsStateRoute m q → q.starts ≡ t ∷ [] → IsFootprintOf m q b → EndsWithin m within q
+      → ClashesWithSome m footprints b → ⊥
 
 -- where a route with this start may go
-abbrev pub IsRoomFor : DraftMachine → List Ground → TransId → Room → Type 0
-IsRoomFor m grounds t Shut = IsShut m grounds t
-IsRoomFor m grounds t (Open within) = IsOpenRoom m grounds t within
+abbrev pub IsRoomFor : DraftMachine → List Footprint → TransId → Room → Type 0
+IsRoomFor m footprints t Shut = IsShut m footprints t
+IsRoomFor m footprints t (Open within) = IsOpenRoom m footprints t within
 
 -- A region that a room names is one of the machine.
 abbrev pub IsRoomIn : DraftMachine → Room → Type 0

@@ -9,9 +9,9 @@ use Rattle.pssm_model.specs.declared.steps.Route.{Route}
 use Rattle.pssm_model.specs.Routes.{Truth, IsAscending, IsStateRoute, IsTrueAt}
 use Rattle.pssm_routes.specs.declared.seeking.Step.{Step}
 use Rattle.pssm_routes.specs.declared.seeking.Search.{Search}
-use Rattle.pssm_routes.specs.declared.areas.Ground.{Ground}
+use Rattle.pssm_routes.specs.declared.areas.Footprint.{Footprint}
 use Rattle.pssm_routes.specs.inner.Ways.{LeadsOut, IsWayOut}
-use Rattle.pssm_routes.specs.inner.Grounds.{IsGroundOf, ClashesWithSome}
+use Rattle.pssm_routes.specs.inner.Footprints.{IsFootprintOf, ClashesWithSome}
 
 -- The steps before say that this path leads to the step.
 pub data IsTrail (steps : List Step) : Step → List TransId → Type 0 where
@@ -38,9 +38,9 @@ pub record IsRouteOver (start : TransId) (path : List TransId) (q : Route) : Typ
   pub rest : (u : TransId) → Contains q.rest u ↔ (Contains path u × (u ≢ start))
   pub ascending : IsAscending q.rest
 
--- Each route over the path that the search has found is one of States with true guards and clashes with none of the grounds.
-abbrev pub IsJoiningStep : DraftMachine → Truth → List Ground → Search → TransId → Step → Type 0
-IsJoiningStep m truth grounds search t last =
+-- Each route over the path that the search has found is one of States with true guards and clashes with none of the footprints.
+abbrev pub IsJoiningStep : DraftMachine → Truth → List Footprint → Search → TransId → Step → Type 0
+IsJoiningStep m truth footprints search t last =
     (path : List TransId) × IsTrail search.steps last path
     × ((q : Route) → IsRouteOver t path q
-    → IsStateRoute m q × ((u : TransId) → On q u → IsTrueAt m truth u) × ((b : Ground) → IsGroundOf m q b → ClashesWithSome m grounds b → ⊥))
+    → IsStateRoute m q × ((u : TransId) → On q u → IsTrueAt m truth u) × ((b : Footprint) → IsFootprintOf m q b → ClashesWithSome m footprints b → ⊥))

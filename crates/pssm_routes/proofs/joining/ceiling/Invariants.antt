@@ -3,7 +3,7 @@ use Rattle.pssm_routes.proofs.joining.ceiling.Given as goal
 
 -- how far the climb has come
 abbrev pub invariant-loop-found : goal.invariant-loop-found
-invariant-loop-found l = IsClimbing l.machine l.grounds l.fn.s l.found l.region l.left
+invariant-loop-found l = IsClimbing l.machine l.footprints l.fn.s l.found l.region l.left
 
 -- fewer regions are left above each next one
 abbrev pub decreases-loop-found : goal.decreases-loop-found

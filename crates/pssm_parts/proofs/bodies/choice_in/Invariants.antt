@@ -1,9 +1,0 @@
-use Rattle.pssm_profile.specs.inner.Texts.{HasSeenTo, IsBehind}
-use Rattle.pssm_parts.proofs.bodies.choice_in.Given as goal
-
--- The languages and bodies before the next child are seen.
-abbrev pub invariant-loop-turn : goal.invariant-loop-turn
-invariant-loop-turn l = record {
-  behind : IsBehind l.elements l.p l.turn l.next;
-  seen : HasSeenTo l.elements l.p l.next l.choice;
-}

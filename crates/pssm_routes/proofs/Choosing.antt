@@ -1,0 +1,114 @@
+-- The elements of a list of which something holds, as they are chosen one after another.
+use Rattle.std.proofs.Common.{◌≡◌, ◌↔◌, ◌<◌, ◌≤◌, ◌+◌, ◌++◌, ℕ, List, [], ◌∷◌, ◌⊎◌, Bool, true, false, Result, Vec, Global, IfOk, All, Contains, length, take, get_or, sym, subst, ⊎_elim}
+use Rattle.std.proofs.lemmas.List.{take_more, take_all}
+use Rattle.std.proofs.lemmas.Result.{IfOk-weaker}
+use Rattle.std.proofs.lemmas.List.Elements.{All-contains, Contains-append_left, Contains-push, Contains-push_cases}
+use Rattle.pssm_model.specs.declared.ids.VertexId.{VertexId}
+use Rattle.pssm_model.specs.declared.elements.DraftMachine.{DraftMachine}
+use Rattle.pssm_model.specs.declared.steps.Event.{Event}
+use Rattle.pssm_model.specs.Configuration.{Configuration}
+use Rattle.pssm_model.specs.Forest.{LiesInState}
+use Rattle.pssm_model.specs.Routes.{Truth}
+use Rattle.pssm_model.proofs.ElementLaws.{nothing_in_nil}
+use Rattle.pssm_routes.proofs.Ascending.{all_from_contains}
+use Rattle.pssm_routes.specs.inner.Starts.{Reacts, IsCandidate}
+
+-- the vertex is marked
+abbrev pub IsMarked : List Bool → VertexId → Type 0
+IsMarked marks s = get_or marks s.0 false ≡ true
+
+-- the first few elements of a list, and one more
+module _ {X : Type 0} (xs : List X) (n : ℕ) (d : X) (lt : n < length xs) where
+  pub seen_more : (x : X) → Contains (take n xs) x → Contains (take (n + 1) xs) x
+  seen_more x h = subst (λ l. Contains l x) (sym (take_more xs n d lt)) (Contains-append_left (take n xs) (get_or xs n d ∷ []) x h)
+
+  pub seen_last : Contains (take (n + 1) xs) (get_or xs n d)
+  seen_last = subst (λ l. Contains l (get_or xs n d)) (sym (take_more xs n d lt)) (Contains-push (take n xs) (get_or xs n d))
+
+  pub seen_cases : (x : X) → Contains (take (n + 1) xs) x → Contains (take n xs) x ⊎ (get_or xs n d ≡ x)
+  seen_cases x h = Contains-push_cases (take n xs) (get_or xs n d) x (subst (λ l. Contains l x) (take_more xs n d lt) h)
+
+module _ {X : Type 0} (P : X → Type 0) (xs : List X) where
+  -- exactly those of the elements so far are chosen of which it holds
+  abbrev pub AreChosen : ℕ → List X → Type 0
+  AreChosen n chosen = (x : X) → Contains chosen x ↔ (Contains (take n xs) x × P x)
+
+  pub chosen_none : (chosen : List X) → chosen ≡ [] → AreChosen 0 chosen
+  chosen_none chosen e x = (λ h. absurd (nothing_in_nil x (subst (λ l. Contains l x) e h)), λ h. absurd (nothing_in_nil x h.0))
+
+  chosen_push : (n : ℕ) (d : X) (chosen : List X) → n < length xs → AreChosen n chosen → P (get_or xs n d)
+      → AreChosen (n + 1) (chosen ++ get_or xs n d ∷ [])
+  chosen_push n d chosen lt h p x = (
+    λ inside. ⊎_elim
+        (λ was. (seen_more xs n d lt x ((h x).0 was).0, ((h x).0 was).1))
+        (λ same. (subst (Contains (take (n + 1) xs)) same (seen_last xs n d lt), subst P same p))
+        (Contains-push_cases chosen (get_or xs n d) x inside),
+    λ is. ⊎_elim
+        (λ was. Contains-append_left chosen (get_or xs n d ∷ []) x ((h x).1 (was, is.1)))
+        (λ same. subst (Contains (chosen ++ get_or xs n d ∷ [])) same (Contains-push chosen (get_or xs n d)))
+        (seen_cases xs n d lt x is.0),
+  )
+
+  pub chosen_more : (n : ℕ) (d : X) (chosen more : List X) → more ≡ chosen ++ get_or xs n d ∷ [] → n < length xs → AreChosen n chosen
+      → P (get_or xs n d) → AreChosen (n + 1) more
+  chosen_more n d chosen more e lt h p = subst (AreChosen (n + 1)) (sym e) (chosen_push n d chosen lt h p)
+
+  chosen_skip : (n : ℕ) (d : X) (chosen : List X) → n < length xs → AreChosen n chosen → (P (get_or xs n d) → ⊥) → AreChosen (n + 1) chosen
+  chosen_skip n d chosen lt h not x = (
+    λ inside. (seen_more xs n d lt x ((h x).0 inside).0, ((h x).0 inside).1),
+    λ is. ⊎_elim
+        (λ was. (h x).1 (was, is.1))
+        (λ same. absurd (not (subst P (sym same) is.1)))
+        (seen_cases xs n d lt x is.0),
+  )
+
+  pub chosen_same : (n : ℕ) (d : X) (chosen more : List X) → more ≡ chosen → n < length xs → AreChosen n chosen → (P (get_or xs n d) → ⊥)
+      → AreChosen (n + 1) more
+  chosen_same n d chosen more e lt h not = subst (AreChosen (n + 1)) (sym e) (chosen_skip n d chosen lt h not)
+
+  pub chosen_all : (n : ℕ) (chosen : List X) → length xs ≤ n → AreChosen n chosen → (x : X) → Contains chosen x ↔ (Contains xs x × P x)
+  chosen_all n chosen le h = subst (λ l. (x : X) → Contains chosen x ↔ (Contains l x × P x)) (take_all n xs le) h
+
+-- what holds of each of the States holds of those that are chosen
+pub chosen_hold : (P Q : VertexId → Type 0) (reacting states : List VertexId) → states ≡ reacting → All P reacting → {E : Type 0}
+    → (result : Result (Vec VertexId Global) E)
+    → IfOk result (λ found. (s : VertexId) → Contains found.items s ↔ (Contains states s × Q s)) → IfOk result (λ found. All P found.items)
+chosen_hold P Q reacting states e all result chosen =
+    IfOk-weaker result _ _
+    (λ found is. all_from_contains P found.items (λ s has. All-contains P states s (subst (All P) (sym e) all) ((is s).0 has).0)) chosen
+
+-- the States that react and in which none does
+pub candidates_are : (m : DraftMachine) (now : Configuration) (truth : Truth) (event : Event) (reacting chosen : List VertexId) (marks : List Bool)
+    → ((s : VertexId) → Contains reacting s ↔ Reacts m now truth event s)
+    → ((s : VertexId) → IsMarked marks s ↔ ((q : VertexId) × Contains reacting q × LiesInState m q s))
+    → ((s : VertexId) → Contains chosen s ↔ (Contains reacting s × (IsMarked marks s → ⊥)))
+    → (s : VertexId) → Contains chosen s ↔ IsCandidate m now truth event s
+candidates_are m now truth event reacting chosen marks reacts around chosen_are s = (
+  λ has.
+      let is = (chosen_are s).0 has in
+      ((reacts s).0 is.0, λ outranked. is.1 ((around s).1 (outranked.0, (reacts outranked.0).1 outranked.1, outranked.2))),
+  λ is. (chosen_are s).1 (
+    (reacts s).1 is.0,
+    λ marked.
+        let some = (around s).0 marked in
+        is.1 (some.0, (reacts some.0).0 some.1, some.2),
+  ),
+)
+
+-- and so it is of what is chosen at last, where the lists were lent on the way
+module _ (m : DraftMachine) (now : Configuration) (truth : Truth) (event : Event) (reacting inner states : List VertexId) (outranked marks : List Bool)
+    (same_inner : inner ≡ reacting) (same_states : states ≡ reacting) (same_marks : marks ≡ outranked)
+    (reacts : (s : VertexId) → Contains reacting s ↔ Reacts m now truth event s)
+    (around : (s : VertexId) → IsMarked outranked s ↔ ((q : VertexId) × Contains inner q × LiesInState m q s)) where
+  pub candidates_chosen : (chosen : List VertexId) → ((s : VertexId) → Contains chosen s ↔ (Contains states s × (IsMarked marks s → ⊥)))
+      → (s : VertexId) → Contains chosen s ↔ IsCandidate m now truth event s
+  candidates_chosen chosen is =
+      candidates_are m now truth event reacting chosen outranked reacts
+      (subst (λ l. (s : VertexId) → IsMarked outranked s ↔ ((q : VertexId) × Contains l q × LiesInState m q s)) same_inner around)
+      (subst (λ l. (s : VertexId) → Contains chosen s ↔ (Contains reacting s × (IsMarked l s → ⊥))) same_marks
+      (subst (λ l. (s : VertexId) → Contains chosen s ↔ (Contains l s × (IsMarked marks s → ⊥))) same_states is))
+
+  pub candidates_found : {E : Type 0} (result : Result (Vec VertexId Global) E)
+      → IfOk result (λ found. (s : VertexId) → Contains found.items s ↔ (Contains states s × (IsMarked marks s → ⊥)))
+      → IfOk result (λ found. (s : VertexId) → Contains found.items s ↔ IsCandidate m now truth event s)
+  candidates_found result chosen = IfOk-weaker result _ _ (λ found is. candidates_chosen found.items is) chosen

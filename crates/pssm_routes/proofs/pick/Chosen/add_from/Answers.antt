@@ -1,0 +1,33 @@
+-- a free route is added, and where there is none the State is spent
+use Rattle.std.proofs.Common.{IfSome, IfNone, subst}
+use Rattle.pssm_config.specs.Tables.{configuration_of}
+use Rattle.pssm_routes.specs.inner.Picks.{IsFreeFrom, IsSpent}
+use Rattle.pssm_routes.proofs.FootprintLists.{on_ok}
+use Rattle.pssm_routes.proofs.Picking.{grown_free, grown_none}
+use Rattle.pssm_routes.proofs.pick.Chosen.add_from.Goals as goal
+
+pub returns-in-Some-clause-grown : goal.returns-in-Some-clause-grown
+returns-in-Some-clause-grown g c values tells first chosen =
+    let m = c.args.machine.now in
+    let now = configuration_of c.args.config.now in
+    let event = c.args.event in
+    let source = c.args.source in
+    let was = c.args.self.now in
+    let route = c.in-Some.route in
+    let found = subst (λ o. IfSome o (IsFreeFrom m now values event c.as_slice.result.now source)) c.in-Some.is (c.in_ok-found.ensures.some values tells) in
+    let free = subst (λ gs. IsFreeFrom m now values event gs source route) c.as_slice.ensures.value found in
+    on_ok c.add.result
+    (λ added. grown_free c.requires.legs c.requires.fits.shape now values event was.routes.items c.add.new.self.routes.items was.footprints.items
+    c.add.new.self.footprints.items source route chosen first free added)
+    c.add.ensures
+
+pub returns-in-None-clause-grown : goal.returns-in-None-clause-grown
+returns-in-None-clause-grown g c values tells first chosen =
+    let m = c.args.machine.now in
+    let now = configuration_of c.args.config.now in
+    let event = c.args.event in
+    let source = c.args.source in
+    let was = c.args.self.now in
+    let none = subst (λ o. IfNone o (IsSpent m now values event c.as_slice.result.now source)) c.in-None.is (c.in_ok-found.ensures.none values tells) in
+    grown_none c.requires.legs c.requires.fits.shape now values event was.routes.items was.footprints.items source chosen
+    (subst (λ gs. IsSpent m now values event gs source) c.as_slice.ensures.value none)

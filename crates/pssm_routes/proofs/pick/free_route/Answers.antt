@@ -1,0 +1,31 @@
+-- what the search finds is enabled
+use Rattle.pssm_config.specs.Tables.{configuration_of}
+use Rattle.pssm_routes.proofs.Enabled.{enabled_of}
+use Rattle.pssm_routes.proofs.Scanning.{refuted}
+use Rattle.pssm_routes.proofs.pick.free_route.Goals as goal
+
+pub returns-then-not-check_route-clause-none : goal.returns-then-not-check_route-clause-none
+returns-then-not-check_route-clause-none g c values tells s begins joiner =
+    let now = configuration_of c.args.config.now in
+    let started = c.is_started.ensures.0 c.if-not-is_started.false in
+    let step = c.in-Some.ensures.some values tells in
+    let over = c.in_ok-route.ensures step.0 step.1 in
+    let is = step.2 c.in_ok-route.route over in
+    refuted c.check_route.result c.if-not-check_route.true (c.check_route.ensures.enabled values tells)
+    (enabled_of c.requires.legs now values c.args.event c.in_ok-route.route c.args.t started.0 is.0 over.starts started.1 is.1)
+
+pub returns-clause-some : goal.returns-clause-some
+returns-clause-some g c values tells =
+    let now = configuration_of c.args.config.now in
+    let started = c.is_started.ensures.0 c.if-not-is_started.false in
+    let step = c.in-Some.ensures.some values tells in
+    let over = c.in_ok-route.ensures step.0 step.1 in
+    let is = step.2 c.in_ok-route.route over in (
+      started.0,
+      started.1,
+      record {
+        enabled = enabled_of c.requires.legs now values c.args.event c.in_ok-route.route c.args.t started.0 is.0 over.starts started.1 is.1;
+        starts = over.starts;
+        free = is.2;
+      },
+    )

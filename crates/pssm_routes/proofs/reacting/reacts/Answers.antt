@@ -1,0 +1,31 @@
+-- Each turn looks at one transition more.
+use Rattle.std.proofs.Common.{sym}
+use Rattle.std.proofs.lemmas.Bool.{true≢false}
+use Rattle.pssm_model.specs.declared.ids.TransId.{TransId}
+use Rattle.pssm_config.specs.Tables.{configuration_of}
+use Rattle.pssm_routes.proofs.Fruitless.{fruitless_start, fruitless_more, fruitless_end}
+use Rattle.pssm_routes.proofs.reacting.reacts.Goals as goal
+
+pub loop-t-init : goal.loop-t-init
+loop-t-init g c values tells dead =
+    fruitless_start c.args.machine.now (configuration_of c.args.config.now) values c.args.event c.args.source c.args.search.now dead
+
+pub loop-t-preserved : goal.loop-t-preserved
+loop-t-preserved g c values tells dead =
+    let d : TransId = record { 0 = 0 } in
+    let before = c.loop-t.invariant values tells dead in
+    fruitless_more c.args.machine.now (configuration_of c.args.config.now) values c.args.event c.args.source c.outgoing-t-items.result.now
+    c.loop-t.t-index d c.loop-t.search c.leads.new.search c.loop-t-test.true before
+    (c.leads.ensures.dead values tells before.dead c.if-leads.false)
+    (c.leads.ensures.none values tells before.dead c.if-leads.false c.args.source)
+
+pub returns-clause-reacts : goal.returns-clause-reacts
+returns-clause-reacts g c values tells dead = (
+  λ e. absurd (true≢false (sym e)),
+  λ reacts. absurd (fruitless_end c.args.machine.now (configuration_of c.args.config.now) values c.args.event c.requires.legs c.requires.fits.shape
+      c.args.source c.outgoing-t-items.result.now c.loop-t.t-index c.loop-t.search c.outgoing-t-items.ensures.items c.loop-t-test.false
+      (c.loop-t.invariant values tells dead) reacts),
+)
+
+pub returns-clause-dead : goal.returns-clause-dead
+returns-clause-dead g c values tells dead e = (c.loop-t.invariant values tells dead).dead
