@@ -77,15 +77,17 @@ fn finds(
     Ok(found == element)
 }
 
-/// A join, a fork and a local transition: in well-formed machines a region comes before them.
+/// A join and a fork, each the first of two, also before a transition without a trigger; and such a transition out of a
+/// State, behind one that has a trigger. A local transition with a trigger is built.
 #[test]
 fn forms_that_are_not_built(rt: HostRuntime) -> Result<(), Fail> {
     let alloc = rt.alloc();
     let fourth = Some(Element::Vertex(VertexId(3)));
     assert!(rt; finds(alloc, b"0s0s0i0j0j", b"01!20.", fourth)?);
-    assert!(rt; finds(alloc, b"0s0s0i0k0k", b"01!20.", fourth)?);
+    assert!(rt; finds(alloc, b"0s0s0i0k0k", b"01.20.", fourth)?);
     let third = Some(Element::Transition(TransId(2)));
-    assert!(rt; finds(alloc, b"0s0s0i", b"01!20.00l00l", third)?);
+    assert!(rt; finds(alloc, b"0s0s0i", b"01!20.01.00.", third)?);
+    assert!(rt; finds(alloc, b"0s0s0i", b"01!20.00l00l", None)?);
     assert!(rt; finds(alloc, b"0s0s0i", b"01!20.", None)?);
     Ok(())
 }
