@@ -14,6 +14,6 @@ IsGuardOf m g = (t : TransId) × (guard_of m t ≡ Some (When g))
 abbrev pub CanBeAsked : DraftMachine → (GuardId → Type 0) → Type 0
 CanBeAsked m MayAsk = (g : GuardId) → IsGuardOf m g → MayAsk g
 
--- Whatever is answered for a guard is its value (UML 2.5.1 14.2.3.8, guards).
-abbrev pub Tells : (GuardId → Bool → Type 0) → Truth → Type 0
-Tells Answers truth = (g : GuardId) (answer : Bool) → Answers g answer → answer ≡ truth g
+-- Whatever is answered for a guard of the machine is its value (UML 2.5.1 14.2.3.8, guards).
+abbrev pub Tells : DraftMachine → (GuardId → Bool → Type 0) → Truth → Type 0
+Tells m Answers truth = (g : GuardId) (answer : Bool) → IsGuardOf m g → Answers g answer → answer ≡ truth g

@@ -11,7 +11,7 @@ use pssm_model::{Guard, GuardId, Machine, TransId};
 fn has_true_value<T: Fn(GuardId) -> bool>(machine: &Machine, truth: &T, t: TransId) -> bool
     requires there { t.0 < length machine.now.transitions }
     requires askable { CanBeAsked machine.now (T.pre truth.now) }
-    ensures { (values : Truth) → Tells (T.post truth.now) values
+    ensures { (values : Truth) → Tells machine.now (T.post truth.now) values
         → (IsTrue result ↔ HasTrueValue machine.now values t) }
 {
     match machine.transition(t).guard {
@@ -30,7 +30,7 @@ fn is_another_true<T: Fn(GuardId) -> bool>(
 ) -> bool
     requires there { u.0 < length machine.now.transitions }
     requires askable { CanBeAsked machine.now (T.pre truth.now) }
-    ensures { (values : Truth) → Tells (T.post truth.now) values
+    ensures { (values : Truth) → Tells machine.now (T.post truth.now) values
         → (IsTrue result ↔ ((u ≢ t) × HasTrueValue machine.now values u)) }
 {
     u != t && has_true_value(machine, truth, u)
@@ -40,7 +40,7 @@ fn is_another_true<T: Fn(GuardId) -> bool>(
 fn another_is_true<T: Fn(GuardId) -> bool>(machine: &Machine, truth: &T, t: TransId) -> bool
     requires there { t.0 < length machine.now.transitions }
     requires askable { CanBeAsked machine.now (T.pre truth.now) }
-    ensures { (values : Truth) → Tells (T.post truth.now) values
+    ensures { (values : Truth) → Tells machine.now (T.post truth.now) values
         → (IsTrue result ↔ ((u : TransId) × (v : VertexId) × (u ≢ t) × Leaves machine.now t v × Leaves machine.now u v
         × HasTrueValue machine.now values u)) }
 {
@@ -57,7 +57,7 @@ fn another_is_true<T: Fn(GuardId) -> bool>(machine: &Machine, truth: &T, t: Tran
 pub fn is_true_at<T: Fn(GuardId) -> bool>(machine: &Machine, truth: &T, t: TransId) -> bool
     requires there { t.0 < length machine.now.transitions }
     requires askable { CanBeAsked machine.now (T.pre truth.now) }
-    ensures { (values : Truth) → Tells (T.post truth.now) values
+    ensures { (values : Truth) → Tells machine.now (T.post truth.now) values
         → (IsTrue result ↔ IsTrueAt machine.now values t) }
 {
     match machine.transition(t).guard {

@@ -139,9 +139,9 @@ pub fn find_joiner<T: Fn(GuardId) -> bool>(
     requires footprints { All (IsFootprintIn machine.now) footprints.now }
     requires askable { CanBeAsked machine.now (T.pre truth.now) }
     requires source { (v : VertexId) → Leaves machine.now t v → HasKind machine.now v kinds.State }
-    ensures some { (values : Truth) → Tells (T.post truth.now) values
+    ensures some { (values : Truth) → Tells machine.now (T.post truth.now) values
         → IfSome result (IsJoiningStep machine.now values footprints.now search.new t) }
-    ensures none { (values : Truth) → Tells (T.post truth.now) values
+    ensures none { (values : Truth) → Tells machine.now (T.post truth.now) values
         → IfNone result (HasFreeRoute machine.now values footprints.now t → ⊥) }
 {
     let _shaped = machine.regions();

@@ -43,11 +43,11 @@ fn free_route<T: Fn(GuardId) -> bool>(
     requires footprints { All (IsFootprintIn machine.now) footprints.now }
     requires there { t.0 < length machine.now.transitions }
     ensures route { IfOk result (λ found. IfSome found (IsStateRoute machine.now)) }
-    ensures some { (values : Truth) → Tells (T.post truth.now) values
+    ensures some { (values : Truth) → Tells machine.now (T.post truth.now) values
         → IfOk result (λ found. IfSome found
         (λ q. (s : VertexId) × IsStarted machine.now (configuration_of config.now) event t s
         × IsFreeRoute machine.now (configuration_of config.now) values event footprints.now t q)) }
-    ensures none { (values : Truth) → Tells (T.post truth.now) values
+    ensures none { (values : Truth) → Tells machine.now (T.post truth.now) values
         → IfOk result (λ found. IfNone found
         ((s : VertexId) → IsStarted machine.now (configuration_of config.now) event t s
         → HasJoiner machine.now (configuration_of config.now) values event footprints.now t → ⊥)) }
@@ -82,10 +82,10 @@ fn free_route_from<T: Fn(GuardId) -> bool>(
     requires footprints { All (IsFootprintIn machine.now) footprints.now }
     requires there { source.0 < length machine.now.vertices }
     ensures route { IfOk result (λ found. IfSome found (IsStateRoute machine.now)) }
-    ensures some { (values : Truth) → Tells (T.post truth.now) values
+    ensures some { (values : Truth) → Tells machine.now (T.post truth.now) values
         → IfOk result (λ found. IfSome found
         (IsFreeFrom machine.now (configuration_of config.now) values event footprints.now source)) }
-    ensures none { (values : Truth) → Tells (T.post truth.now) values
+    ensures none { (values : Truth) → Tells machine.now (T.post truth.now) values
         → IfOk result (λ found. IfNone found
         (IsSpent machine.now (configuration_of config.now) values event footprints.now source)) }
 {
@@ -137,7 +137,7 @@ impl Chosen {
         requires footprints { All (IsFootprintIn machine.now) self.old.footprints.items }
         requires there { source.0 < length machine.now.vertices }
         ensures footprints { OnOk result (All (IsFootprintIn machine.now) self.new.footprints.items) }
-        ensures grown { (values : Truth) → Tells (T.post truth.now) values
+        ensures grown { (values : Truth) → Tells machine.now (T.post truth.now) values
             → (IsOutranked machine.now (configuration_of config.now) values event source → ⊥)
             → IsChosen machine.now (configuration_of config.now) values event self.old.routes.items
             self.old.footprints.items
@@ -176,7 +176,7 @@ impl Chosen {
         requires footprints { All (IsFootprintIn machine.now) self.old.footprints.items }
         requires there { All (λ s. s.0 < length machine.now.vertices) states.now }
         ensures footprints { OnOk result (All (IsFootprintIn machine.now) self.new.footprints.items) }
-        ensures grown { (values : Truth) → Tells (T.post truth.now) values
+        ensures grown { (values : Truth) → Tells machine.now (T.post truth.now) values
             → ((s : VertexId) → Contains states.now s
             → IsOutranked machine.now (configuration_of config.now) values event s → ⊥)
             → IsChosen machine.now (configuration_of config.now) values event self.old.routes.items
@@ -236,7 +236,7 @@ fn choose<T: Fn(GuardId) -> bool>(
     requires fits { Fits machine.now config.now }
     requires askable { CanBeAsked machine.now (T.pre truth.now) }
     requires there { All (λ s. s.0 < length machine.now.vertices) states.now }
-    ensures { (values : Truth) → Tells (T.post truth.now) values
+    ensures { (values : Truth) → Tells machine.now (T.post truth.now) values
         → ((s : VertexId) → Contains states.now s
         ↔ IsCandidate machine.now (configuration_of config.now) values event s)
         → IfOk result (λ routes. IsFiringSet machine.now (configuration_of config.now) values event routes.items
@@ -271,7 +271,7 @@ pub fn pick_firing_set<T: Fn(GuardId) -> bool>(
     requires legs { HasSingleLegs machine.now }
     requires fits { Fits machine.now config.now }
     requires askable { CanBeAsked machine.now (T.pre truth.now) }
-    ensures { (values : Truth) → Tells (T.post truth.now) values
+    ensures { (values : Truth) → Tells machine.now (T.post truth.now) values
         → IfOk result (λ firing. IsFiring machine.now (configuration_of config.now) values event firing.routes) }
 {
     let states = candidates(alloc, machine, config, truth, event)?;

@@ -34,15 +34,15 @@ fn leads<T: Fn(GuardId) -> bool>(
     requires fits { Fits machine.now config.now }
     requires askable { CanBeAsked machine.now (T.pre truth.now) }
     requires there { t.0 < length machine.now.transitions }
-    ensures reacts { (values : Truth) → Tells (T.post truth.now) values → result ≡ true
+    ensures reacts { (values : Truth) → Tells machine.now (T.post truth.now) values → result ≡ true
         → (s : VertexId) → Leaves machine.now t s
         → Reacts machine.now (configuration_of config.now) values event s }
-    ensures none { (values : Truth) → Tells (T.post truth.now) values
+    ensures none { (values : Truth) → Tells machine.now (T.post truth.now) values
         → SeesDeadEnds machine.now values None search.old
         → result ≡ false
         → (s : VertexId) → IsStarted machine.now (configuration_of config.now) event t s
         → LeadsOut machine.now values None t → ⊥ }
-    ensures dead { (values : Truth) → Tells (T.post truth.now) values
+    ensures dead { (values : Truth) → Tells machine.now (T.post truth.now) values
         → SeesDeadEnds machine.now values None search.old
         → result ≡ false → SeesDeadEnds machine.now values None search.new }
 {
@@ -66,10 +66,10 @@ fn reacts<T: Fn(GuardId) -> bool>(
     requires fits { Fits machine.now config.now }
     requires askable { CanBeAsked machine.now (T.pre truth.now) }
     requires there { source.0 < length machine.now.vertices }
-    ensures reacts { (values : Truth) → Tells (T.post truth.now) values
+    ensures reacts { (values : Truth) → Tells machine.now (T.post truth.now) values
         → SeesDeadEnds machine.now values None search.old
         → (IsTrue result ↔ Reacts machine.now (configuration_of config.now) values event source) }
-    ensures dead { (values : Truth) → Tells (T.post truth.now) values
+    ensures dead { (values : Truth) → Tells machine.now (T.post truth.now) values
         → SeesDeadEnds machine.now values None search.old
         → result ≡ false → SeesDeadEnds machine.now values None search.new }
 {
@@ -105,11 +105,11 @@ fn reacts_within<T: Fn(GuardId) -> bool>(
     requires askable { CanBeAsked machine.now (T.pre truth.now) }
     requires state { state.0 < length machine.now.vertices }
     requires there { source.0 < length machine.now.vertices }
-    ensures reacts { (values : Truth) → Tells (T.post truth.now) values
+    ensures reacts { (values : Truth) → Tells machine.now (T.post truth.now) values
         → SeesDeadEnds machine.now values None search.old
         → (IsTrue result ↔ (IsOrLiesIn machine.now source state
         × Reacts machine.now (configuration_of config.now) values event source)) }
-    ensures dead { (values : Truth) → Tells (T.post truth.now) values
+    ensures dead { (values : Truth) → Tells machine.now (T.post truth.now) values
         → SeesDeadEnds machine.now values None search.old
         → result ≡ false → SeesDeadEnds machine.now values None search.new }
 {
@@ -132,7 +132,7 @@ pub fn overrides<T: Fn(GuardId) -> bool>(
     requires fits { Fits machine.now config.now }
     requires askable { CanBeAsked machine.now (T.pre truth.now) }
     requires there { state.0 < length machine.now.vertices }
-    ensures { (values : Truth) → Tells (T.post truth.now) values
+    ensures { (values : Truth) → Tells machine.now (T.post truth.now) values
         → (IsTrue result ↔ Overrides machine.now (configuration_of config.now) values signal state) }
 {
     let event = Event::Signal(signal);
@@ -160,10 +160,10 @@ fn reacts_afresh<T: Fn(GuardId) -> bool>(
     requires fits { Fits machine.now config.now }
     requires askable { CanBeAsked machine.now (T.pre truth.now) }
     requires there { source.0 < length machine.now.vertices }
-    ensures reacts { (values : Truth) → Tells (T.post truth.now) values
+    ensures reacts { (values : Truth) → Tells machine.now (T.post truth.now) values
         → SeesDeadEnds machine.now values None search.old
         → (IsTrue result ↔ Reacts machine.now (configuration_of config.now) values event source) }
-    ensures dead { (values : Truth) → Tells (T.post truth.now) values
+    ensures dead { (values : Truth) → Tells machine.now (T.post truth.now) values
         → SeesDeadEnds machine.now values None search.old
         → SeesDeadEnds machine.now values None search.new }
 {
@@ -185,7 +185,7 @@ fn reacting_states<T: Fn(GuardId) -> bool>(
     requires legs { HasSingleLegs machine.now }
     requires fits { Fits machine.now config.now }
     requires askable { CanBeAsked machine.now (T.pre truth.now) }
-    ensures states { (values : Truth) → Tells (T.post truth.now) values
+    ensures states { (values : Truth) → Tells machine.now (T.post truth.now) values
         → IfOk result (λ found. (s : VertexId) → Contains found.items s
         ↔ Reacts machine.now (configuration_of config.now) values event s) }
     ensures there { IfOk result (λ found. All (λ s. s.0 < length machine.now.vertices) found.items) }
@@ -283,7 +283,7 @@ pub fn candidates<T: Fn(GuardId) -> bool>(
     requires fits { Fits machine.now config.now }
     requires askable { CanBeAsked machine.now (T.pre truth.now) }
     ensures there { IfOk result (λ found. All (λ s. s.0 < length machine.now.vertices) found.items) }
-    ensures states { (values : Truth) → Tells (T.post truth.now) values
+    ensures states { (values : Truth) → Tells machine.now (T.post truth.now) values
         → IfOk result (λ found. (s : VertexId) → Contains found.items s
         ↔ IsCandidate machine.now (configuration_of config.now) values event s) }
 {

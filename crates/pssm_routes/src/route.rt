@@ -168,7 +168,7 @@ fn makes_route(machine: &Machine, start: TransId, rest: &[TransId]) -> bool
 fn are_true<T: Fn(GuardId) -> bool>(machine: &Machine, truth: &T, transitions: &[TransId]) -> bool
     requires there { All (λ t. t.0 < length machine.now.transitions) transitions.now }
     requires askable { CanBeAsked machine.now (T.pre truth.now) }
-    ensures { (values : Truth) → Tells (T.post truth.now) values
+    ensures { (values : Truth) → Tells machine.now (T.post truth.now) values
         → (IsTrue result ↔ ((t : TransId) → Contains transitions.now t → IsTrueAt machine.now values t)) }
 {
     for t in transitions {
@@ -211,7 +211,7 @@ fn are_all_true<T: Fn(GuardId) -> bool>(
     requires start { start.0 < length machine.now.transitions }
     requires there { All (λ t. t.0 < length machine.now.transitions) rest.now }
     requires askable { CanBeAsked machine.now (T.pre truth.now) }
-    ensures { (values : Truth) → Tells (T.post truth.now) values
+    ensures { (values : Truth) → Tells machine.now (T.post truth.now) values
         → (IsTrue result ↔ (IsTrueAt machine.now values start
         × ((t : TransId) → Contains rest.now t → IsTrueAt machine.now values t))) }
 {
@@ -230,7 +230,7 @@ fn is_enabled_from<T: Fn(GuardId) -> bool>(
     requires legs { HasSingleLegs machine.now }
     requires fits { Fits machine.now config.now }
     requires askable { CanBeAsked machine.now (T.pre truth.now) }
-    ensures enabled { (values : Truth) → Tells (T.post truth.now) values
+    ensures enabled { (values : Truth) → Tells machine.now (T.post truth.now) values
         → (IsTrue result ↔ IsEnabled machine.now (configuration_of config.now) values event
         (record { starts = start ∷ []; rest = rest.now })) }
     ensures route { IsTrue result → IsStateRoute machine.now (record { starts = start ∷ []; rest = rest.now }) }
@@ -251,7 +251,7 @@ pub fn check_route<T: Fn(GuardId) -> bool>(
     requires legs { HasSingleLegs machine.now }
     requires fits { Fits machine.now config.now }
     requires askable { CanBeAsked machine.now (T.pre truth.now) }
-    ensures enabled { (values : Truth) → Tells (T.post truth.now) values
+    ensures enabled { (values : Truth) → Tells machine.now (T.post truth.now) values
         → (IsTrue result ↔ IsEnabled machine.now (configuration_of config.now) values event route.now) }
     ensures route { IsTrue result → IsStateRoute machine.now route.now }
 {

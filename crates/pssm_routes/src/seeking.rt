@@ -85,7 +85,7 @@ impl Search {
         requires region { IfSome within (λ r. r.0 < length machine.now.regions) }
         requires askable { CanBeAsked machine.now (T.pre truth.now) }
         requires once { ComesOnce machine.now self.now }
-        ensures tries { (values : Truth) → Tells (T.post truth.now) values
+        ensures tries { (values : Truth) → Tells machine.now (T.post truth.now) values
             → Tries machine.now values within self.old step self.new result }
         ensures once { ComesOnce machine.now self.new }
     {
@@ -106,11 +106,11 @@ impl Search {
         requires askable { CanBeAsked machine.now (T.pre truth.now) }
         requires once { ComesOnce machine.now self.now }
         ensures found { (values : Truth) (start : TransId) (before : Search)
-            → Tells (T.post truth.now) values
+            → Tells machine.now (T.post truth.now) values
             → IsUnderWay machine.now values within start before self.old place
             → IfSome result (IsFound machine.now values within self.new start) }
         ensures none { (values : Truth) (start : TransId) (before : Search)
-            → Tells (T.post truth.now) values
+            → Tells machine.now (T.post truth.now) values
             → IsUnderWay machine.now values within start before self.old place
             → IfNone result
             (IsUnderWay machine.now values within start before self.new (place + 1)) }
@@ -152,7 +152,7 @@ fn is_open<T: Fn(GuardId) -> bool>(
     requires there { t.0 < length machine.now.transitions }
     requires region { IfSome within (λ r. r.0 < length machine.now.regions) }
     requires askable { CanBeAsked machine.now (T.pre truth.now) }
-    ensures { (values : Truth) → Tells (T.post truth.now) values
+    ensures { (values : Truth) → Tells machine.now (T.post truth.now) values
         → (IsTrue result ↔ IsOpen machine.now values within t) }
 {
     is_allowed(machine, within, machine.target(t)) && is_true_at(machine, truth, t)
@@ -172,12 +172,12 @@ pub fn find_way<T: Fn(GuardId) -> bool>(
     requires askable { CanBeAsked machine.now (T.pre truth.now) }
     requires source { (v : VertexId) → Leaves machine.now start v
         → HasKind machine.now v kinds.Junction → ⊥ }
-    ensures found { (values : Truth) → Tells (T.post truth.now) values
+    ensures found { (values : Truth) → Tells machine.now (T.post truth.now) values
         → IfSome result (IsFound machine.now values within search.new start) }
-    ensures none { (values : Truth) → Tells (T.post truth.now) values
+    ensures none { (values : Truth) → Tells machine.now (T.post truth.now) values
         → SeesDeadEnds machine.now values within search.old
         → IfNone result (LeadsOut machine.now values within start → ⊥) }
-    ensures dead { (values : Truth) → Tells (T.post truth.now) values
+    ensures dead { (values : Truth) → Tells machine.now (T.post truth.now) values
         → SeesDeadEnds machine.now values within search.old
         → IfNone result (SeesDeadEnds machine.now values within search.new) }
 {

@@ -33,7 +33,7 @@ fn are_enabled<T: Fn(GuardId) -> bool>(
     requires legs { HasSingleLegs machine.now }
     requires fits { Fits machine.now config.now }
     requires askable { CanBeAsked machine.now (T.pre truth.now) }
-    ensures enabled { (values : Truth) → Tells (T.post truth.now) values
+    ensures enabled { (values : Truth) → Tells machine.now (T.post truth.now) values
         → (IsTrue result ↔ All (IsEnabled machine.now (configuration_of config.now) values event) routes.now) }
     ensures routes { IsTrue result → All (IsStateRoute machine.now) routes.now }
 {
@@ -149,7 +149,7 @@ fn joins_by<T: Fn(GuardId) -> bool>(
     requires footprints { All (IsFootprintIn machine.now) footprints.now }
     requires askable { CanBeAsked machine.now (T.pre truth.now) }
     requires there { t.0 < length machine.now.transitions }
-    ensures { (values : Truth) → Tells (T.post truth.now) values
+    ensures { (values : Truth) → Tells machine.now (T.post truth.now) values
         → (IsTrue result ↔ ((s : VertexId) × IsStarted machine.now (configuration_of config.now) event t s
         × HasJoiner machine.now (configuration_of config.now) values event footprints.now t)) }
 {
@@ -174,7 +174,7 @@ fn joins_from<T: Fn(GuardId) -> bool>(
     requires footprints { All (IsFootprintIn machine.now) footprints.now }
     requires askable { CanBeAsked machine.now (T.pre truth.now) }
     requires there { source.0 < length machine.now.vertices }
-    ensures { (values : Truth) → Tells (T.post truth.now) values
+    ensures { (values : Truth) → Tells machine.now (T.post truth.now) values
         → (IsTrue result ↔ ((t : TransId) × IsStarted machine.now (configuration_of config.now) event t source
         × HasJoiner machine.now (configuration_of config.now) values event footprints.now t)) }
 {
@@ -200,7 +200,7 @@ fn joins_from_some<T: Fn(GuardId) -> bool>(
     requires footprints { All (IsFootprintIn machine.now) footprints.now }
     requires askable { CanBeAsked machine.now (T.pre truth.now) }
     requires there { All (λ s. s.0 < length machine.now.vertices) states.now }
-    ensures { (values : Truth) → Tells (T.post truth.now) values
+    ensures { (values : Truth) → Tells machine.now (T.post truth.now) values
         → (IsTrue result
         ↔ HasJoinerFrom machine.now (configuration_of config.now) values event states.now footprints.now) }
 {
@@ -228,7 +228,7 @@ fn are_complete<T: Fn(GuardId) -> bool>(
     requires footprints { All (IsFootprintIn machine.now) footprints.now }
     requires askable { CanBeAsked machine.now (T.pre truth.now) }
     requires there { All (λ s. s.0 < length machine.now.vertices) states.now }
-    ensures { (values : Truth) → Tells (T.post truth.now) values
+    ensures { (values : Truth) → Tells machine.now (T.post truth.now) values
         → (IsTrue result
         ↔ AreComplete machine.now (configuration_of config.now) values event states.now footprints.now) }
 {
@@ -253,7 +253,7 @@ pub fn is_firing_set<T: Fn(GuardId) -> bool>(
     requires legs { HasSingleLegs machine.now }
     requires fits { Fits machine.now config.now }
     requires askable { CanBeAsked machine.now (T.pre truth.now) }
-    ensures { (values : Truth) → Tells (T.post truth.now) values
+    ensures { (values : Truth) → Tells machine.now (T.post truth.now) values
         → IfOk result (λ is. IsTrue is
         ↔ IsFiring machine.now (configuration_of config.now) values event firing.now.routes) }
 {

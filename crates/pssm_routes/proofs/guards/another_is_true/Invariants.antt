@@ -6,4 +6,4 @@ use Rattle.pssm_routes.proofs.guards.another_is_true.Given as goal
 
 -- none of those before is another one with a true guard
 abbrev pub invariant-loop-u : goal.invariant-loop-u
-invariant-loop-u g l = (values : Truth) → Tells (goal.T-post g l.truth) values → Below (IsNoTrueOther l.machine values l.t) l.u-items l.u-index
+invariant-loop-u g l = (values : Truth) → Tells l.machine (goal.T-post g l.truth) values → Below (IsNoTrueOther l.machine values l.t) l.u-items l.u-index

@@ -10,7 +10,7 @@ use Rattle.pssm_routes.proofs.pick.free_route_from.Given as goal
 -- no route with one of the starts so far could join
 abbrev pub invariant-loop-t : goal.invariant-loop-t
 invariant-loop-t g l =
-    (values : Truth) → Tells (goal.T-post g l.truth) values
+    (values : Truth) → Tells l.machine (goal.T-post g l.truth) values
     → HoldsOfFirst
     (λ (t : TransId). IsStarted l.machine (configuration_of l.config) l.event t l.fn.source
     → HasJoiner l.machine (configuration_of l.config) values l.event l.footprints t → ⊥) l.t-items l.t-index

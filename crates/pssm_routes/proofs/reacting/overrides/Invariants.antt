@@ -7,5 +7,5 @@ use Rattle.pssm_routes.proofs.reacting.overrides.Given as goal
 
 abbrev pub invariant-loop-number : goal.invariant-loop-number
 invariant-loop-number g l =
-    (values : Truth) → Tells (goal.T-post g l.truth) values
+    (values : Truth) → Tells l.machine (goal.T-post g l.truth) values
     → IsBarren l.machine (configuration_of l.config) values l.event l.state l.number l.search

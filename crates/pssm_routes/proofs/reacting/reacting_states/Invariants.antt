@@ -10,5 +10,5 @@ use Rattle.pssm_routes.proofs.reacting.reacting_states.Given as goal
 abbrev pub invariant-loop-number : goal.invariant-loop-number
 invariant-loop-number g l =
     All (λ (s : VertexId). s.0 < length l.machine.vertices) l.found.items
-    × ((values : Truth) → Tells (goal.T-post g l.truth) values
+    × ((values : Truth) → Tells l.machine (goal.T-post g l.truth) values
     → AreReacting l.machine (configuration_of l.config) values l.event l.found.items l.number l.search)

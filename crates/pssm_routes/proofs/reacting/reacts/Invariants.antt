@@ -9,5 +9,5 @@ use Rattle.pssm_routes.proofs.reacting.reacts.Given as goal
 
 abbrev pub invariant-loop-t : goal.invariant-loop-t
 invariant-loop-t g l =
-    (values : Truth) → Tells (goal.T-post g l.truth) values → SeesDeadEnds l.machine values None l.fn.search
+    (values : Truth) → Tells l.machine (goal.T-post g l.truth) values → SeesDeadEnds l.machine values None l.fn.search
     → IsFruitless l.machine (configuration_of l.config) values l.event l.fn.source (take l.t-index l.t-items) l.search

@@ -8,7 +8,7 @@ use Rattle.pssm_routes.proofs.seeking.find_way.Given as goal
 abbrev pub invariant-loop-place : goal.invariant-loop-place
 invariant-loop-place g l =
     ComesOnce l.machine l.search
-    × ((truth : Truth) → Tells (goal.T-post g l.truth) truth → IsUnderWay l.machine truth l.within l.fn.start l.fn.search l.search l.place)
+    × ((truth : Truth) → Tells l.machine (goal.T-post g l.truth) truth → IsUnderWay l.machine truth l.within l.fn.start l.fn.search l.search l.place)
 
 abbrev pub decreases-loop-place : goal.decreases-loop-place
 decreases-loop-place g l = 4096 - l.place

@@ -8,5 +8,5 @@ use Rattle.pssm_routes.proofs.set.are_enabled.Given as goal
 abbrev pub invariant-loop-route : goal.invariant-loop-route
 invariant-loop-route g l =
     HoldsOfFirst (IsStateRoute l.machine) l.routes l.route-index
-    × ((values : Truth) → Tells (goal.T-post g l.truth) values
+    × ((values : Truth) → Tells l.machine (goal.T-post g l.truth) values
     → HoldsOfFirst (IsEnabled l.machine (configuration_of l.config) values l.event) l.routes l.route-index)

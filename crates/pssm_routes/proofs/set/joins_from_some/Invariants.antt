@@ -11,7 +11,7 @@ use Rattle.pssm_routes.proofs.set.joins_from_some.Given as goal
 -- no route that starts at one of the States so far could join
 abbrev pub invariant-loop-s : goal.invariant-loop-s
 invariant-loop-s g l =
-    (values : Truth) → Tells (goal.T-post g l.truth) values
+    (values : Truth) → Tells l.machine (goal.T-post g l.truth) values
     → HoldsOfFirst
     (λ (s : VertexId). (t : TransId) → IsStarted l.machine (configuration_of l.config) l.event t s
     → HasJoiner l.machine (configuration_of l.config) values l.event l.footprints t → ⊥) l.states l.s-index

@@ -12,7 +12,7 @@ use Rattle.pssm_routes.proofs.pick.Chosen.add_from_each.Given as goal
 abbrev pub invariant-loop-s : goal.invariant-loop-s
 invariant-loop-s g l =
     All (IsFootprintIn l.machine) l.self.footprints.items
-    × ((values : Truth) → Tells (goal.T-post g l.truth) values
+    × ((values : Truth) → Tells l.machine (goal.T-post g l.truth) values
     → ((s : VertexId) → Contains l.states s → IsOutranked l.machine (configuration_of l.config) values l.event s → ⊥)
     → IsChosen l.machine (configuration_of l.config) values l.event l.fn.self.routes.items l.fn.self.footprints.items
     → IsGrown l.machine (configuration_of l.config) values l.event (Contains (take l.s-index l.states)) l.fn.self.footprints.items l.self.routes.items
