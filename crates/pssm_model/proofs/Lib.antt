@@ -14,3 +14,8 @@ pub mod AgreeingRoutes
 pub mod NestedFrom
 pub mod ShapeFaults
 pub mod ShapeOrFault
+pub mod RegionChains
+pub mod StateRoutes
+pub mod OneLeg
+pub mod CommonRegions
+pub mod LegScopes
