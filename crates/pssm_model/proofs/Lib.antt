@@ -19,3 +19,4 @@ pub mod StateRoutes
 pub mod OneLeg
 pub mod CommonRegions
 pub mod LegScopes
+pub mod OverJunctions

@@ -12,6 +12,7 @@ pub mod Making
 pub mod Running
 pub mod ReadyCalls
 pub mod SingleLegs
+pub mod RouteLegs
 pub mod SingleItems
 pub mod MoreItems
 pub mod NestedRoutes

@@ -3,3 +3,4 @@ pub mod Sequence
 pub mod Calling
 pub mod Views
 pub mod Single
+pub mod OverRoutes
