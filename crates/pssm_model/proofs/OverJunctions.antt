@@ -72,7 +72,7 @@ module _ {m : DraftMachine} (b : IsNestedOverJunctions m) where
     target_is t v e = ⊎_elim (λ s. inl s) (⊎_elim (λ i. absurd (b.rules _ 3 (E03 (i, inr (t, e))))) (λ j. inr j)) (target_kind t v e)
 
     pub target_is_state : (t : TransId) (v : VertexId) → Enters m t v → (HasKind m v kinds.Junction → ⊥) → HasKind m v kinds.State
-    target_is_state t v e no = ⊎_elim (λ s. s) (λ j. absurd (no j)) (target_is t v e)
+    target_is_state t v e ends = ⊎_elim (λ s. s) (λ j. absurd (ends j)) (target_is t v e)
 
     -- a local or an internal one leaves a State
     other_than_state : (v : VertexId) (k : VertexKind) → k ≢ kinds.State → HasKind m v k → HasKind m v kinds.State → ⊥
@@ -87,14 +87,14 @@ module _ {m : DraftMachine} (b : IsNestedOverJunctions m) where
 
     pub internal_leaves : (t : TransId) (v : VertexId) → Goes m t Internal → Leaves m t v → HasKind m v kinds.State
     internal_leaves t v goes l =
-        ⊎_elim (λ s. s) (λ no. absurd (b.rules _ 13 (E13 (goes, (v, l, inl no))))) (state_or_not t v l)
+        ⊎_elim (λ s. s) (λ other. absurd (b.rules _ 13 (E13 (goes, (v, l, inl other))))) (state_or_not t v l)
 
     pub local_leaves : (t : TransId) (v : VertexId) → Goes m t Local → Leaves m t v → HasKind m v kinds.State
     local_leaves t v goes l =
         ⊎_elim
         (λ s. s)
-        (λ no. absurd (b.rules _ 14 (E14 (goes, inl (λ s. ⊎_elim
-        (λ h. no (subst (λ x. HasKind m x kinds.State) (leaves_one m t s v h.0 l) h.1))
+        (λ other. absurd (b.rules _ 14 (E14 (goes, inl (λ s. ⊎_elim
+        (λ h. other (subst (λ x. HasKind m x kinds.State) (leaves_one m t s v h.0 l) h.1))
         (λ h. no_other_kind h.0 kinds.EntryPoint (λ e. cc) (λ e. cc) (λ e. cc) h.2))))))
         (state_or_not t v l)
 

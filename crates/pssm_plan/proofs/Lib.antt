@@ -13,6 +13,8 @@ pub mod Running
 pub mod ReadyCalls
 pub mod SingleLegs
 pub mod RouteLegs
+pub mod RoutePaths
+pub mod RouteItems
 pub mod SingleItems
 pub mod MoreItems
 pub mod NestedRoutes

@@ -4,3 +4,5 @@ pub mod Calling
 pub mod Views
 pub mod Single
 pub mod OverRoutes
+pub mod RouteSequence
+pub mod RouteCalling
