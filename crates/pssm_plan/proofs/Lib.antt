@@ -15,6 +15,8 @@ pub mod SingleLegs
 pub mod RouteLegs
 pub mod RoutePaths
 pub mod RouteItems
+pub mod RouteMore
+pub mod RouteSteps
 pub mod SingleItems
 pub mod MoreItems
 pub mod NestedRoutes
