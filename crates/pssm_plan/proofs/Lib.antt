@@ -17,6 +17,9 @@ pub mod RoutePaths
 pub mod RouteItems
 pub mod RouteMore
 pub mod RouteSteps
+pub mod RouteRanks
+pub mod RouteReady
+pub mod RouteCourses
 pub mod SingleItems
 pub mod MoreItems
 pub mod NestedRoutes

@@ -4,6 +4,7 @@ use Rattle.pssm_model.specs.declared.ids.VertexId.{VertexId}
 use Rattle.pssm_model.specs.declared.ids.RegionId.{RegionId}
 use Rattle.pssm_model.specs.declared.ids.TransId.{TransId}
 use Rattle.pssm_model.specs.declared.elements.DraftMachine.{DraftMachine}
+use Rattle.pssm_model.specs.declared.elements.VertexKind.TheVariants as kinds
 use Rattle.pssm_model.specs.declared.elements.Owner.TheVariants.{Region, State}
 use Rattle.pssm_model.specs.declared.steps.Route.{Route}
 use Rattle.pssm_model.specs.declared.steps.Mode.{Mode}
@@ -11,7 +12,7 @@ use Rattle.pssm_model.specs.declared.steps.Mode.TheVariants.{Plain, Shallow, Dee
 use Rattle.pssm_model.specs.declared.steps.Item.{Item}
 use Rattle.pssm_model.specs.declared.steps.Item.TheVariants as items
 use Rattle.pssm_model.specs.Shapes.{HasShape}
-use Rattle.pssm_model.specs.Forest.{owner_of}
+use Rattle.pssm_model.specs.Forest.{owner_of, HasKind}
 use Rattle.pssm_model.specs.Legs.{On, SameLeg, LaterLeg}
 use Rattle.pssm_model.specs.Course.{Head, Course, Leg, IsLeg, HasRun}
 use Rattle.pssm_model.specs.Course.Head.{Starts, Fires}
@@ -20,11 +21,11 @@ use Rattle.pssm_model.specs.Items.Called.{start, run, ends, opens, restored, ent
 use Rattle.pssm_model.specs.Items.Before.{inner_exit, outer_enter, exit_effect, path, effect_enter, effect_end, enter_end, later}
 use Rattle.pssm_model.specs.Routes.{IsRoute}
 use Rattle.pssm_model.specs.Nested.{IsNestedOverJunctions}
-use Rattle.pssm_plan.specs.inner.OverRoutes.{IsEnteredBy, GoesBy, GoesByRoutes, IsExitedOver, OpensAfterEntry, IsCalledOver, IsOrderedOver}
+use Rattle.pssm_plan.specs.inner.OverRoutes.{EndsOn, IsEnteredBy, GoesBy, GoesByRoutes, IsExitedOver, OpensAfterEntry, IsCalledOver, IsOrderedOver}
 use Rattle.pssm_model.proofs.StateRoutes.{start_of}
 use Rattle.pssm_model.proofs.OverJunctions.{single_legs}
 use Rattle.pssm_model.proofs.OneLeg.{leg_ends_on, on_start, one_leg, no_later_leg}
-use Rattle.pssm_plan.proofs.RouteLegs.{leg_exits_is, leg_exits_of, leg_enters_is, leg_enters_of, aimed_is, aimed_of, no_leg_end, leg_opening_is, leg_opening_of}
+use Rattle.pssm_plan.proofs.RouteLegs.{ends_on_state, leg_exits_is, leg_exits_of, leg_enters_is, leg_enters_of, aimed_is, aimed_of, no_leg_end, leg_opening_is, leg_opening_of}
 use Rattle.pssm_plan.proofs.RoutePaths.{path_begins_on}
 
 module _ {m : DraftMachine} (nested : IsNestedOverJunctions m) (shape : HasShape m) (course : Course) (g : GoesByRoutes m course) where
@@ -48,6 +49,10 @@ module _ {m : DraftMachine} (nested : IsNestedOverJunctions m) (shape : HasShape
   in_leg p by t u first second =
       let start = start_by p by in
       one_leg (single_legs nested) shape p (route_by p by) start.0 start.1 t u first second
+
+  -- it ends on a State
+  pub entered_is_state : (p : Route) → GoesBy course p → (v : VertexId) → EndsOn m p v → HasKind m v kinds.State
+  entered_is_state p by v h = let start = start_by p by in ends_on_state nested shape p (route_by p by) start.0 start.1 v h
 
   -- what its leg calls, by whichever transition it is named
   exit_is : (p : Route) → GoesBy course p → (a : TransId) (s : VertexId) → IsCalledInLeg m course (record { route = p; named_by = a }) (items.Exit s)

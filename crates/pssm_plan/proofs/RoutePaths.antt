@@ -23,6 +23,20 @@ use Rattle.pssm_model.proofs.ElementLaws.{enters_one}
 use Rattle.pssm_model.proofs.RouteLaws.{reached_is_on}
 use Rattle.pssm_model.proofs.OneLeg.{on_start, is_start, of_rest, passes_junction}
 
+-- junctions that lead on from one to another
+module _ (m : DraftMachine) where
+  is_pseudostate : (v : VertexId) → HasKind m v kinds.Junction → IsPseudostate m v
+  is_pseudostate v k = (kinds.Junction, k, tt)
+
+  pub step_leads : (v w : VertexId) (u : TransId) → HasKind m v kinds.Junction → HasKind m w kinds.Junction → Leaves m u v → Enters m u w → LeadsOn m v w
+  step_leads v w u k j l e = leads_next (is_pseudostate v k) (is_pseudostate w j) (inl (u, l, e))
+
+  pub then_leads : (v w x : VertexId) → (v ≡ w) ⊎ LeadsOn m v w → LeadsOn m w x → LeadsOn m v x
+  then_leads v w x before h = ⊎_elim (λ same. subst (λ y. LeadsOn m y x) (sym same) h) (λ more. leads_after more h) before
+
+  leads_then : (v w x : VertexId) → LeadsOn m v w → (w ≡ x) ⊎ LeadsOn m w x → LeadsOn m v x
+  leads_then v w x h behind = ⊎_elim (λ same. subst (LeadsOn m v) same h) (λ more. leads_after h more) behind
+
 module _ (m : DraftMachine) (p : Route) where
   -- what stands on a path is of the route
   pub path_begins_on : (t u : TransId) → PathBefore m p t u → On p t
@@ -74,18 +88,6 @@ module _ (m : DraftMachine) (p : Route) where
     leaves : Leaves m u last
     leads : (first ≡ last) ⊎ LeadsOn m first last
 
-  is_pseudostate : (v : VertexId) → HasKind m v kinds.Junction → IsPseudostate m v
-  is_pseudostate v k = (kinds.Junction, k, tt)
-
-  step_leads : (v w : VertexId) (u : TransId) → HasKind m v kinds.Junction → HasKind m w kinds.Junction → Leaves m u v → Enters m u w → LeadsOn m v w
-  step_leads v w u k j l e = leads_next (is_pseudostate v k) (is_pseudostate w j) (inl (u, l, e))
-
-  then_leads : (v w x : VertexId) → (v ≡ w) ⊎ LeadsOn m v w → LeadsOn m w x → LeadsOn m v x
-  then_leads v w x before h = ⊎_elim (λ same. subst (λ y. LeadsOn m y x) (sym same) h) (λ more. leads_after more h) before
-
-  leads_then : (v w x : VertexId) → LeadsOn m v w → (w ≡ x) ⊎ LeadsOn m w x → LeadsOn m v x
-  leads_then v w x h behind = ⊎_elim (λ same. subst (LeadsOn m v) same h) (λ more. leads_after h more) behind
-
   leads_along : (t u : TransId) → PathBefore m p t u → LeadsAlong t u
   leads_along t u (next is further v k e l) = record {
     first = v;
@@ -99,7 +101,7 @@ module _ (m : DraftMachine) (p : Route) where
   leads_along t u (after {u = w} before behind) =
       let a = leads_along t w before in
       let c = leads_along w u behind in
-      let step = step_leads a.last c.first w a.last_kind c.first_kind a.leaves c.enters in
+      let step = step_leads m a.last c.first w a.last_kind c.first_kind a.leaves c.enters in
       record {
         first = a.first;
         last = c.last;
@@ -107,15 +109,15 @@ module _ (m : DraftMachine) (p : Route) where
         last_kind = c.last_kind;
         enters = a.enters;
         leaves = c.leaves;
-        leads = inr (then_leads a.first a.last c.last a.leads (leads_then a.last c.first c.last step c.leads));
+        leads = inr (then_leads m a.first a.last c.last a.leads (leads_then m a.last c.first c.last step c.leads));
       }
 
   -- no transition comes before itself
   pub no_round_path : HasSingleLegs m → (t : TransId) → PathBefore m p t t → ⊥
   no_round_path b t h =
       let round = leads_along t t h in
-      let step = step_leads round.last round.first t round.last_kind round.first_kind round.leaves round.enters in
-      b.rules (places.At (elements.Vertex round.first)) 19 (E19 (then_leads round.first round.last round.first round.leads step))
+      let step = step_leads m round.last round.first t round.last_kind round.first_kind round.leaves round.enters in
+      b.rules (places.At (elements.Vertex round.first)) 19 (E19 (then_leads m round.first round.last round.first round.leads step))
 
 module _ {m : DraftMachine} (b : HasSingleLegs m) (shape : HasShape m) (p : Route) (route : IsRoute m p) (t : TransId) (starts : p.starts ≡ t ∷ [])
     where
