@@ -1,5 +1,5 @@
 -- What a step over junctions calls names parts of the machine.
-use Rattle.std.proofs.Common.{◌≡◌, ◌<◌, length, Some, subst, ◌∙◌, ⊎_elim}
+use Rattle.std.proofs.Common.{◌<◌, length, subst, ◌∙◌, ⊎_elim}
 use Rattle.std.proofs.lemmas.List.Elements.{All-contains}
 use Rattle.pssm_model.specs.declared.ids.VertexId.{VertexId}
 use Rattle.pssm_model.specs.declared.ids.RegionId.{RegionId}

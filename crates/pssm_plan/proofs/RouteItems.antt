@@ -1,5 +1,5 @@
 -- What a step calls that goes by routes over junctions, and in which order: it is what plain words say.
-use Rattle.std.proofs.Common.{◌≡◌, ◌⊎◌, [], ◌∷◌, refl, sym, subst, Some, inl, inr, ⊎_elim}
+use Rattle.std.proofs.Common.{◌≡◌, [], ◌∷◌, refl, sym, subst, Some, inl, inr, ⊎_elim}
 use Rattle.pssm_model.specs.declared.ids.VertexId.{VertexId}
 use Rattle.pssm_model.specs.declared.ids.RegionId.{RegionId}
 use Rattle.pssm_model.specs.declared.ids.TransId.{TransId}
@@ -16,7 +16,7 @@ use Rattle.pssm_model.specs.Forest.{owner_of, HasKind}
 use Rattle.pssm_model.specs.Legs.{On, SameLeg, LaterLeg}
 use Rattle.pssm_model.specs.Course.{Head, Course, Leg, IsLeg, HasRun}
 use Rattle.pssm_model.specs.Course.Head.{Starts, Fires}
-use Rattle.pssm_model.specs.Items.{CanExit, LegEnds, LegOpens, IsCalledInLeg, OpensByEntering, EnterOpens, StartOpens, Called, IsExit, IsEffect, IsEnter, PathBefore, Before}
+use Rattle.pssm_model.specs.Items.{CanExit, LegEnds, LegOpens, IsCalledInLeg, OpensByEntering, EnterOpens, StartOpens, Called, IsExit, IsEffect, IsEnter, Before}
 use Rattle.pssm_model.specs.Items.Called.{start, run, ends, opens, restored, entered}
 use Rattle.pssm_model.specs.Items.Before.{inner_exit, outer_enter, exit_effect, path, effect_enter, effect_end, enter_end, later}
 use Rattle.pssm_model.specs.Routes.{IsRoute}

@@ -1,5 +1,5 @@
 -- The one leg of a route over junctions: where it exits and enters, what it aims at and opens.
-use Rattle.std.proofs.Common.{◌≡◌, ◌≢◌, ◌⊎◌, [], ◌∷◌, refl, sym, subst, inl, inr, ⊎_elim}
+use Rattle.std.proofs.Common.{◌≡◌, ◌≢◌, [], ◌∷◌, refl, sym, subst, inl, inr, ⊎_elim}
 use Rattle.pssm_model.specs.declared.ids.VertexId.{VertexId}
 use Rattle.pssm_model.specs.declared.ids.RegionId.{RegionId}
 use Rattle.pssm_model.specs.declared.ids.TransId.{TransId}
@@ -14,8 +14,8 @@ use Rattle.pssm_model.specs.declared.steps.Mode.TheVariants.{Plain, Shallow, Dee
 use Rattle.pssm_model.specs.declared.steps.Item.{Item}
 use Rattle.pssm_model.specs.declared.steps.Item.TheVariants as items
 use Rattle.pssm_model.specs.Shapes.{HasShape}
-use Rattle.pssm_model.specs.Forest.{transition_at, HasKind, IsScope}
-use Rattle.pssm_model.specs.Legs.{Leaves, Enters, Goes, On, SameLeg, IsLastVertex, IsLocalFrom, IsInternal, IsOfLeg, Scope, LiesInScope, LegScope, WouldExit, LegExits, LegEnters}
+use Rattle.pssm_model.specs.Forest.{transition_at, HasKind}
+use Rattle.pssm_model.specs.Legs.{Leaves, Goes, On, IsLastVertex, IsLocalFrom, IsInternal, IsOfLeg, Scope, LiesInScope, LegScope, LegExits, LegEnters}
 use Rattle.pssm_model.specs.Legs.SameLeg.{itself}
 use Rattle.pssm_model.specs.Legs.Scope.{Nowhere, Inside, Within}
 use Rattle.pssm_model.specs.Legs.LegScope.{internal, local, point, other}
@@ -26,7 +26,7 @@ use Rattle.pssm_model.specs.Nested.{IsNestedOverJunctions}
 use Rattle.pssm_plan.specs.inner.OverRoutes.{GoesAs, IsEndOf, IsArea, LiesInArea, EndsOn, IsEnteredBy, EndsIn, OpensBeside}
 use Rattle.pssm_model.proofs.ElementLaws.{mapped_at, kind_unique}
 use Rattle.pssm_model.proofs.StateRoutes.{is_start, source_is_left}
-use Rattle.pssm_model.proofs.OverJunctions.{single_legs, no_other_kind, target_is_state, internal_leaves, local_leaves}
+use Rattle.pssm_model.proofs.OverJunctions.{single_legs, target_is_state, internal_leaves, local_leaves}
 use Rattle.pssm_model.proofs.CommonRegions.{scope_same}
 use Rattle.pssm_model.proofs.OneLeg.{leg_begins_on, leg_ends_on, on_start, on_there, source_of, one_leg, no_later_leg, no_point, no_some_point, internal_is_start, local_is_start, local_from_start, alone}
 

@@ -21,7 +21,7 @@ use Rattle.pssm_model.specs.SingleLegs.{HasSingleLegs}
 use Rattle.pssm_plan.specs.inner.OverRoutes.{EndsOn}
 use Rattle.pssm_model.proofs.ElementLaws.{enters_one}
 use Rattle.pssm_model.proofs.RouteLaws.{reached_is_on}
-use Rattle.pssm_model.proofs.OneLeg.{on_start, is_start, of_rest, passes_junction}
+use Rattle.pssm_model.proofs.OneLeg.{is_start, of_rest, passes_junction}
 
 -- junctions that lead on from one to another
 module _ (m : DraftMachine) where

@@ -1,6 +1,6 @@
 -- Every called item of a step over junctions has a rank, and what comes before it a lower one: exits from within, then effects along the paths, and
 -- then entries from without.
-use Rattle.std.proofs.Common.{◌≡◌, ◌⊎◌, ◌<◌, ◌≤◌, ◌+◌, ◌-◌, ◌++◌, ℕ, List, [], ◌∷◌, length, Bool, true, false, Some, Contains, refl, sym, subst, inl, inr, ⊎_elim, arith, eqb}
+use Rattle.std.proofs.Common.{◌≡◌, ◌⊎◌, ◌<◌, ◌≤◌, ◌+◌, ◌-◌, ◌++◌, ℕ, List, [], ◌∷◌, length, Bool, true, false, Contains, refl, sym, subst, inl, inr, ⊎_elim, arith, eqb}
 use Rattle.std.specs.List.{list_any, IsDistinct}
 use Rattle.std.proofs.lemmas.Option.{slice_get_within}
 use Rattle.std.proofs.lemmas.Cmp.{nat_eq_equiv}
@@ -23,7 +23,7 @@ use Rattle.pssm_model.specs.declared.steps.Mode.TheVariants.{Plain, Shallow, Dee
 use Rattle.pssm_model.specs.declared.steps.Item.{Item}
 use Rattle.pssm_model.specs.declared.steps.Item.TheVariants as items
 use Rattle.pssm_model.specs.Shapes.{HasShape}
-use Rattle.pssm_model.specs.Forest.{vertex_at, owner_of, HasKind, LiesInState, HasRegionsAbove}
+use Rattle.pssm_model.specs.Forest.{vertex_at, HasKind, LiesInState, HasRegionsAbove}
 use Rattle.pssm_model.specs.Legs.{Leaves, Enters}
 use Rattle.pssm_model.specs.Paths.{LeadsOn}
 use Rattle.pssm_model.specs.WellFormed.Breaks.{E19}

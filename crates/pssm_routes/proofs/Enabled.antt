@@ -1,18 +1,15 @@
 -- An enabled route is a route of States whose start the event starts, and whose guards are true.
-use Rattle.std.proofs.Common.{◌≡◌, ◌<◌, [], ◌∷◌, length, Contains, sym, subst, inl, inr, ⊎_elim}
-use Rattle.std.proofs.lemmas.List.Elements.{Contains-append_left, All-contains}
+use Rattle.std.proofs.Common.{◌≡◌, [], ◌∷◌, sym, subst}
 use Rattle.pssm_model.specs.declared.ids.VertexId.{VertexId}
 use Rattle.pssm_model.specs.declared.ids.TransId.{TransId}
 use Rattle.pssm_model.specs.declared.elements.DraftMachine.{DraftMachine}
-use Rattle.pssm_model.specs.declared.elements.Transition.{Transition}
 use Rattle.pssm_model.specs.declared.steps.Route.{Route}
 use Rattle.pssm_model.specs.declared.steps.Event.{Event}
 use Rattle.pssm_model.specs.declared.steps.Event.TheVariants.{Signal, Completion}
-use Rattle.pssm_model.specs.Forest.{transition_at}
 use Rattle.pssm_model.specs.Configuration.{Configuration}
-use Rattle.pssm_model.specs.Legs.{Leaves, On, transitions_of}
-use Rattle.pssm_model.specs.Routes.{Truth, HasStarts, IsSource, IsStateRoute, HasNoTrigger, IsTrueAt, IsEnabledBy, IsEnabled}
-use Rattle.pssm_model.proofs.ElementLaws.{some_at, mapped_at, leaves_one}
+use Rattle.pssm_model.specs.Legs.{On}
+use Rattle.pssm_model.specs.Routes.{Truth, IsSource, IsStateRoute, HasNoTrigger, IsTrueAt, IsEnabledBy, IsEnabled}
+use Rattle.pssm_model.proofs.ElementLaws.{leaves_one}
 use Rattle.pssm_model.proofs.StateRoutes.{is_start, start_is, source_is_left}
 use Rattle.pssm_model.specs.SingleLegs.{HasSingleLegs, IsFrom}
 use Rattle.pssm_routes.specs.inner.Starts.{IsCausedBy, IsStarted}
