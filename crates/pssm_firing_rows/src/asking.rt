@@ -1,7 +1,7 @@
 //! The calls that are tried, with the guards that are true.
 ghost use Rattle.std.specs.Prelude.{◌<◌, length};
 ghost use Rattle.pssm_config.specs.Tables.{Fits};
-ghost use Rattle.pssm_routes.specs.SingleLegs.{HasSingleLegs};
+ghost use Rattle.pssm_model.specs.SingleLegs.{HasSingleLegs};
 
 use crate::listing::Listing;
 use crate::marks::Marks;

@@ -1,6 +1,6 @@
 //! Asks the calls all that is to be asked of a subject, and compares their answers with what the definitions say.
 ghost use Rattle.pssm_config.specs.Tables.{Fits};
-ghost use Rattle.pssm_routes.specs.SingleLegs.{HasSingleLegs};
+ghost use Rattle.pssm_model.specs.SingleLegs.{HasSingleLegs};
 
 use crate::asking::{Subject, firing_of, route_of, turned, with_route};
 use crate::listing::Listing;

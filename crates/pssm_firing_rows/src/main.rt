@@ -18,7 +18,7 @@
 
 ghost use Rattle.std.specs.Prelude.{IfOk, IfSome};
 ghost use Rattle.pssm_config.specs.Tables.{Fits};
-ghost use Rattle.pssm_routes.specs.SingleLegs.{HasSingleLegs};
+ghost use Rattle.pssm_model.specs.SingleLegs.{HasSingleLegs};
 
 mod asking;
 mod comparing;

@@ -14,3 +14,9 @@ pub mod AgreeingRoutes
 pub mod NestedFrom
 pub mod ShapeFaults
 pub mod ShapeOrFault
+pub mod RegionChains
+pub mod StateRoutes
+pub mod OneLeg
+pub mod CommonRegions
+pub mod LegScopes
+pub mod OverJunctions

@@ -12,6 +12,7 @@ pub mod Items
 pub mod Ways
 pub mod WellFormed
 pub mod Nested
+pub mod SingleLegs
 pub mod Order
 pub mod BuiltMachine
 pub mod NotBuilt

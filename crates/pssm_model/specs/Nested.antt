@@ -8,6 +8,7 @@ use Rattle.pssm_model.specs.declared.elements.VertexKind.TheVariants as kinds
 use Rattle.pssm_model.specs.declared.elements.Transition.{Transition}
 use Rattle.pssm_model.specs.declared.elements.TransKind.TheVariants.{External, Local, Internal}
 use Rattle.pssm_model.specs.Forest.{HasKind, LiesInState}
+use Rattle.pssm_model.specs.WellFormed.{KeepsModelRules}
 
 -- an initial vertex or a State
 abbrev pub IsInitialOrState : Vertex → Type 0
@@ -29,3 +30,20 @@ pub record EndsOnState (m : DraftMachine) (x : Transition) : Type 0 where
 pub record IsPlainlyNested (m : DraftMachine) : Type 0 where
   pub vertices : AllByRecursion IsInitialOrState m.vertices
   pub transitions : AllByRecursion (EndsOnState m) m.transitions
+
+-- What follows is the wider premise that is to take the place of `IsPlainlyNested`.
+
+-- an initial vertex, a State or a junction
+abbrev pub IsInitialStateOrJunction : Vertex → Type 0
+IsInitialStateOrJunction x = IsInitialOrState x ⊎ (x.kind ≡ kinds.Junction)
+
+-- Where the transition leaves an initial vertex, it ends on a State; so what a step takes late is one transition.
+abbrev pub StartsOnState : DraftMachine → Transition → Type 0
+StartsOnState m x = HasKind m x.source kinds.Initial → HasKind m x.target kinds.State
+
+-- A machine of such vertices and transitions that keeps the rules of models. So each of its routes is one leg, from a State over junctions to a State,
+-- or one transition from an initial vertex to a State; only a first transition of a route is local or internal; and no junctions lie on a cycle.
+pub record IsNestedOverJunctions (m : DraftMachine) : Type 0 where
+  pub rules : KeepsModelRules m
+  pub vertices : AllByRecursion IsInitialStateOrJunction m.vertices
+  pub transitions : AllByRecursion (StartsOnState m) m.transitions

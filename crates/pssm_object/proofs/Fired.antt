@@ -21,7 +21,7 @@ use Rattle.pssm_model.specs.FiringSets.{IsFiring}
 use Rattle.pssm_model.specs.Course.Head.{Starts, Fires}
 use Rattle.pssm_model.specs.BuiltMachine.{IsBuiltMachine}
 use Rattle.pssm_model.proofs.ElementLaws.{mapped_some}
-use Rattle.pssm_routes.specs.SingleLegs.{HasSingleLegs}
+use Rattle.pssm_model.specs.SingleLegs.{HasSingleLegs}
 use Rattle.pssm_plan.specs.Steadiness.{IsConsistent, BeginsWell}
 use Rattle.pssm_plan.proofs.NestedRoutes.{route_is_single}
 use Rattle.pssm_semantics.specs.Built.{IsBuiltRoute, IsBuiltFiring}

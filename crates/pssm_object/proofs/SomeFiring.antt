@@ -28,7 +28,7 @@ use Rattle.pssm_routes.specs.declared.areas.Footprint.{Footprint}
 use Rattle.pssm_routes.specs.inner.Footprints.{scope_of, IsFootprintOf, Clash}
 use Rattle.pssm_routes.specs.inner.Starts.{IsOutranked}
 use Rattle.pssm_routes.specs.inner.Sets.{CanJoin, IsSettled, IsFull}
-use Rattle.pssm_routes.proofs.Enabled.{is_start}
+use Rattle.pssm_model.proofs.StateRoutes.{is_start}
 use Rattle.pssm_routes.proofs.Conflicts.{some_footprint, conflict_clashes}
 use Rattle.pssm_routes.proofs.Settling.{conflict_turns, fires_settled}
 use Rattle.pssm_plan.proofs.Known.{Known, known_as, known_both, known_either, known_not, known_below, known_among, known_number, known_vertex}

@@ -12,6 +12,14 @@ pub mod Making
 pub mod Running
 pub mod ReadyCalls
 pub mod SingleLegs
+pub mod RouteLegs
+pub mod RoutePaths
+pub mod RouteItems
+pub mod RouteMore
+pub mod RouteSteps
+pub mod RouteRanks
+pub mod RouteReady
+pub mod RouteCourses
 pub mod SingleItems
 pub mod MoreItems
 pub mod NestedRoutes

@@ -16,7 +16,7 @@ use Rattle.pssm_model.specs.Legs.{Leaves}
 use Rattle.pssm_model.specs.Routes.{Truth}
 use Rattle.pssm_model.specs.FiringSets.{Overrides}
 use Rattle.pssm_model.proofs.ElementLaws.{mapped_some, nothing_in_nil, same_vertex}
-use Rattle.pssm_routes.specs.SingleLegs.{HasSingleLegs}
+use Rattle.pssm_model.specs.SingleLegs.{HasSingleLegs}
 use Rattle.pssm_routes.specs.declared.seeking.Search.{Search}
 use Rattle.pssm_routes.specs.inner.Starts.{IsStarted, Reacts}
 use Rattle.pssm_routes.specs.inner.Ways.{LeadsOut}

@@ -12,12 +12,13 @@ use Rattle.pssm_model.specs.Routes.{Truth, IsEnabled, IsSource, Conflict}
 use Rattle.pssm_model.proofs.RouteLaws.{in_one}
 use Rattle.pssm_model.proofs.ElementLaws.{nothing_in_nil}
 use Rattle.pssm_routes.specs.declared.areas.Footprint.{Footprint}
-use Rattle.pssm_routes.specs.SingleLegs.{HasSingleLegs}
+use Rattle.pssm_model.specs.SingleLegs.{HasSingleLegs}
 use Rattle.pssm_routes.specs.inner.Footprints.{IsFootprintOf, AreFootprints, Clash, ClashesWithSome}
 use Rattle.pssm_routes.specs.inner.Starts.{IsStarted, IsOutranked, IsCandidate}
 use Rattle.pssm_routes.specs.inner.Sets.{CanJoin, IsSettled, HasJoiner}
 use Rattle.pssm_routes.proofs.Members.{in_front, in_rest, front_or_rest}
-use Rattle.pssm_routes.proofs.Enabled.{state_route_from, enabled_start}
+use Rattle.pssm_model.proofs.StateRoutes.{state_route_from}
+use Rattle.pssm_routes.proofs.Enabled.{enabled_start}
 use Rattle.pssm_routes.proofs.Conflicts.{some_footprint, one_footprint, conflict_clashes}
 use Rattle.pssm_routes.proofs.Settling.{one_source, conflict_turns}
 

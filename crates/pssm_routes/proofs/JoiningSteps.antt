@@ -14,7 +14,7 @@ use Rattle.pssm_model.proofs.ElementLaws.{kind_unique, some_at, mapped_at}
 use Rattle.pssm_routes.specs.declared.areas.Footprint.{Footprint}
 use Rattle.pssm_routes.specs.declared.seeking.Search.{Search}
 use Rattle.pssm_routes.specs.declared.seeking.Step.{Step}
-use Rattle.pssm_routes.specs.SingleLegs.{HasSingleLegs}
+use Rattle.pssm_model.specs.SingleLegs.{HasSingleLegs}
 use Rattle.pssm_routes.specs.inner.Steps.{IsFound, IsJoiningStep}
 use Rattle.pssm_routes.specs.inner.Ways.{LeadsOut}
 use Rattle.pssm_routes.specs.inner.Sets.{HasFreeRoute}

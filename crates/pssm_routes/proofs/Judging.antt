@@ -11,13 +11,13 @@ use Rattle.pssm_model.specs.Routes.{Truth, IsStateRoute, IsEnabled}
 use Rattle.pssm_model.specs.FiringSets.{StartsBefore, IsListed, IsFiring}
 use Rattle.pssm_model.proofs.ElementLaws.{nothing_in_nil}
 use Rattle.pssm_routes.specs.declared.areas.Footprint.{Footprint}
-use Rattle.pssm_routes.specs.SingleLegs.{HasSingleLegs}
+use Rattle.pssm_model.specs.SingleLegs.{HasSingleLegs}
 use Rattle.pssm_routes.specs.inner.Footprints.{IsFootprintOf, AreFootprints, Clash}
 use Rattle.pssm_routes.specs.inner.Starts.{IsOutranked, IsCandidate}
 use Rattle.pssm_routes.specs.inner.Sets.{IsSettled, IsFull, HasJoinerFrom, AreApart, AreComplete}
 use Rattle.pssm_routes.proofs.Members.{all_of_members, in_front, in_rest, front_or_rest}
 use Rattle.pssm_routes.proofs.Settling.{fires_settled, one_source}
-use Rattle.pssm_routes.proofs.Enabled.{state_route_from}
+use Rattle.pssm_model.proofs.StateRoutes.{state_route_from}
 use Rattle.pssm_routes.proofs.Joiners.{clash_turns, footprint_source, footprint_in, route_in, enabled_conflict, joiner_can_join, joins_by}
 
 -- the first of a list in order starts before each later one

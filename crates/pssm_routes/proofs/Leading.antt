@@ -28,10 +28,10 @@ use Rattle.pssm_model.specs.Paths.LeadsOn.{next, after}
 use Rattle.pssm_model.specs.Routes.{Truth, IsStateRoute, IsTrueAt}
 use Rattle.pssm_model.specs.WellFormed.Breaks.{E19}
 use Rattle.pssm_model.proofs.ElementLaws.{some_at, mapped_some, mapped_at, same_vertex, kind_unique, nothing_in_nil}
-use Rattle.pssm_routes.specs.SingleLegs.{HasSingleLegs}
+use Rattle.pssm_model.specs.SingleLegs.{HasSingleLegs}
 use Rattle.pssm_routes.specs.inner.Ways.{IsAllowed, IsOpen, LeadsOut}
 use Rattle.pssm_routes.specs.inner.Ways.LeadsOut.{ends, on}
-use Rattle.pssm_routes.proofs.Enabled.{start_is_on}
+use Rattle.pssm_model.proofs.StateRoutes.{start_is_on}
 
 pub junction_split : (k : VertexKind) → (k ≡ kinds.Junction) ⊎ (k ≢ kinds.Junction)
 junction_split kinds.Junction = inl refl

@@ -17,7 +17,7 @@ use Rattle.pssm_model.specs.Routes.{IsAscending, IsReached, IsRoute, GoesOnAt, H
 use Rattle.pssm_model.specs.Routes.IsReached.{start as begins, on as goes}
 use Rattle.pssm_model.proofs.ElementLaws.{some_at, mapped_at, mapped_some, kind_unique, leaves_one}
 use Rattle.pssm_model.proofs.RouteLaws.{in_one, is_one, one_in_order, reached_is_on}
-use Rattle.pssm_routes.specs.SingleLegs.{HasSingleLegs}
+use Rattle.pssm_model.specs.SingleLegs.{HasSingleLegs}
 use Rattle.pssm_routes.specs.inner.Onward.{onward_at, IsOnward, HasStray, IsMet, LeadsToAll}
 use Rattle.pssm_routes.specs.inner.Onward.IsMet.{first, further}
 

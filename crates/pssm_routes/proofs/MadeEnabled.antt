@@ -14,10 +14,11 @@ use Rattle.pssm_model.specs.Legs.{Leaves}
 use Rattle.pssm_model.specs.Routes.{Truth, IsAscending, IsTrueAt, IsRoute, IsStateRoute, IsEnabled}
 use Rattle.pssm_model.proofs.ElementLaws.{mapped_some, leaves_one}
 use Rattle.pssm_model.proofs.RouteLaws.{is_one, same_route}
-use Rattle.pssm_routes.specs.SingleLegs.{HasSingleLegs}
+use Rattle.pssm_model.specs.SingleLegs.{HasSingleLegs}
 use Rattle.pssm_routes.specs.inner.Onward.{IsStartedRoute}
 use Rattle.pssm_routes.specs.inner.Starts.{IsStarted}
-use Rattle.pssm_routes.proofs.Enabled.{state_route_from, enabled_start, enabled_of}
+use Rattle.pssm_model.proofs.StateRoutes.{state_route_from}
+use Rattle.pssm_routes.proofs.Enabled.{enabled_start, enabled_of}
 use Rattle.pssm_routes.proofs.Made.{made, on_made, on_start, on_rest}
 
 -- a started transition is one of the machine, and leaves States alone

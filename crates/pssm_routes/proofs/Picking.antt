@@ -20,7 +20,7 @@ use Rattle.pssm_model.specs.FiringSets.{IsFiringSet, IsListed}
 use Rattle.pssm_model.proofs.ElementLaws.{leaves_one, same_transition}
 use Rattle.pssm_model.proofs.RouteLaws.{none_in_order}
 use Rattle.pssm_routes.specs.declared.areas.Footprint.{Footprint}
-use Rattle.pssm_routes.specs.SingleLegs.{HasSingleLegs}
+use Rattle.pssm_model.specs.SingleLegs.{HasSingleLegs}
 use Rattle.pssm_routes.specs.inner.Footprints.{IsFootprintOf, Clash}
 use Rattle.pssm_routes.specs.inner.Starts.{IsStarted, IsOutranked, IsCandidate}
 use Rattle.pssm_routes.specs.inner.Picks.{first_number, StartApart, IsFreeRoute, IsFreeFrom, IsSpent, IsChosen, IsAdded, IsGrown}

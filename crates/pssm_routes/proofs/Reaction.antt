@@ -10,13 +10,14 @@ use Rattle.pssm_model.specs.Legs.{Leaves}
 use Rattle.pssm_model.specs.Routes.{Truth}
 use Rattle.pssm_model.proofs.ElementLaws.{leaves_one}
 use Rattle.pssm_model.proofs.RouteLaws.{in_one, is_one}
-use Rattle.pssm_routes.specs.SingleLegs.{HasSingleLegs}
+use Rattle.pssm_model.specs.SingleLegs.{HasSingleLegs}
 use Rattle.pssm_routes.specs.declared.seeking.Step.{Step}
 use Rattle.pssm_routes.specs.declared.seeking.Search.{Search}
 use Rattle.pssm_routes.specs.inner.Starts.{IsStarted, HasRouteBy, Reacts}
 use Rattle.pssm_routes.specs.inner.Ways.{LeadsOut, IsWayOut}
 use Rattle.pssm_routes.specs.inner.Steps.{IsFound}
-use Rattle.pssm_routes.proofs.Enabled.{state_route_from, enabled_start, enabled_of}
+use Rattle.pssm_model.proofs.StateRoutes.{state_route_from}
+use Rattle.pssm_routes.proofs.Enabled.{enabled_start, enabled_of}
 use Rattle.pssm_routes.proofs.Leading.{route_leads}
 use Rattle.pssm_routes.proofs.Routed.{way_routed, way_true}
 use Rattle.pssm_routes.proofs.Ascending.{some_route_over}

@@ -17,7 +17,7 @@ use Rattle.pssm_model.proofs.Nesting.{lies_within}
 use Rattle.pssm_routes.specs.declared.areas.Area.{Area}
 use Rattle.pssm_routes.specs.declared.areas.Area.TheVariants.{Within}
 use Rattle.pssm_routes.specs.declared.areas.Footprint.{Footprint}
-use Rattle.pssm_routes.specs.SingleLegs.{HasSingleLegs}
+use Rattle.pssm_model.specs.SingleLegs.{HasSingleLegs}
 use Rattle.pssm_routes.specs.inner.Footprints.{scope_of, IsFootprintOf, Clash, ClashesWithSome}
 use Rattle.pssm_routes.specs.inner.Rooms.{Touches, IsShut, IsOpenRoom}
 use Rattle.pssm_routes.specs.inner.Sets.{IsTouched, HoldsSource, IsCeiling}

@@ -18,12 +18,12 @@ use Rattle.pssm_model.specs.Routes.{Truth, IsReached, IsStateRoute, IsTrueAt, En
 use Rattle.pssm_model.specs.Routes.IsReached.{start as reached_first, on as reached_after}
 use Rattle.pssm_model.proofs.ElementLaws.{mapped_some, mapped_at, leaves_one, kind_unique}
 use Rattle.pssm_model.proofs.RouteLaws.{in_one, is_one, one_in_order}
-use Rattle.pssm_routes.specs.SingleLegs.{HasSingleLegs}
+use Rattle.pssm_model.specs.SingleLegs.{HasSingleLegs}
 use Rattle.pssm_routes.specs.inner.Ways.{IsAllowed, IsOpen, LeadsOut, IsWay, IsWayOut}
 use Rattle.pssm_routes.specs.inner.Ways.LeadsOut.{ends, on}
 use Rattle.pssm_routes.specs.inner.Ways.IsWay.{begins, goes_on}
 use Rattle.pssm_routes.specs.inner.Steps.{IsRouteOver}
-use Rattle.pssm_routes.proofs.Enabled.{is_start, start_is, source_is_left}
+use Rattle.pssm_model.proofs.StateRoutes.{is_start, start_is, source_is_left}
 
 -- a transition that is true is there
 true_has_guard : (m : DraftMachine) (truth : Truth) (t : TransId) → IsTrueAt m truth t → (g : Guard) × (guard_of m t ≡ Some g)

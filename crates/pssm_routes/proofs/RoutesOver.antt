@@ -15,7 +15,7 @@ use Rattle.pssm_model.proofs.RouteLaws.{none_in_order, one_in_order, in_one, is_
 use Rattle.pssm_routes.specs.declared.seeking.Search.{Search}
 use Rattle.pssm_routes.specs.declared.seeking.Step.{Step}
 use Rattle.pssm_routes.specs.declared.areas.Footprint.{Footprint}
-use Rattle.pssm_routes.specs.SingleLegs.{HasSingleLegs}
+use Rattle.pssm_model.specs.SingleLegs.{HasSingleLegs}
 use Rattle.pssm_routes.specs.inner.Starts.{IsStarted}
 use Rattle.pssm_routes.specs.inner.Steps.{IsRouteOver, IsJoiningStep}
 use Rattle.pssm_routes.specs.inner.Sets.{HasJoiner, HasFreeRoute}

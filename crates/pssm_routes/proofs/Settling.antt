@@ -16,11 +16,11 @@ use Rattle.pssm_model.proofs.ElementLaws.{leaves_one}
 use Rattle.pssm_model.proofs.RouteLaws.{is_one}
 use Rattle.pssm_model.proofs.OwnerChains.{under_further, circle_is_endless}
 use Rattle.pssm_model.specs.Forest.LiesUnder.{owned}
-use Rattle.pssm_routes.specs.SingleLegs.{HasSingleLegs}
+use Rattle.pssm_model.specs.SingleLegs.{HasSingleLegs}
 use Rattle.pssm_routes.specs.inner.Starts.{IsOutranked}
 use Rattle.pssm_routes.specs.inner.Sets.{CanJoin, IsSettled, IsFull}
 use Rattle.pssm_routes.proofs.Members.{all_of_members, in_front, in_rest, front_or_rest, is_there_or_not}
-use Rattle.pssm_routes.proofs.Enabled.{state_route_from}
+use Rattle.pssm_model.proofs.StateRoutes.{state_route_from}
 
 -- a conflict is one of both
 pub conflict_turns : (m : DraftMachine) (Active : VertexId → Type 0) (p q : Route) → Conflict m Active p q → Conflict m Active q p

@@ -4,8 +4,8 @@ ghost use Rattle.pssm_model.specs.Forest.{IsOrLiesIn, IsScope};
 ghost use Rattle.pssm_model.specs.Legs.{IsOfLeg, LegScope, LiesInScope};
 ghost use Rattle.pssm_model.specs.Routes.{IsRoute, IsStateRoute};
 ghost use Rattle.pssm_model.specs.WellFormed.{ShareRegion};
-ghost use Rattle.pssm_routes.specs.SingleLegs.{HasSingleLegs};
-ghost use Rattle.pssm_routes.specs.inner.Footprints.{scope_of, IsFrom, IsFootprintOf, IsAreaIn, IsFootprintIn, Clash};
+ghost use Rattle.pssm_model.specs.SingleLegs.{HasSingleLegs, IsFrom};
+ghost use Rattle.pssm_routes.specs.inner.Footprints.{scope_of, IsFootprintOf, IsAreaIn, IsFootprintIn, Clash};
 
 use pssm_model::{Machine, RegionId, Route, TransId, TransKind, VertexId};
 

@@ -8,7 +8,7 @@ ghost use Rattle.pssm_model.specs.Forest.{HasKind, LiesUnder, LiesInRegion};
 ghost use Rattle.pssm_model.specs.Legs.{Leaves};
 ghost use Rattle.pssm_model.specs.Routes.{Truth};
 ghost use Rattle.pssm_routes.specs.Telling.{CanBeAsked, Tells};
-ghost use Rattle.pssm_routes.specs.SingleLegs.{HasSingleLegs};
+ghost use Rattle.pssm_model.specs.SingleLegs.{HasSingleLegs};
 ghost use Rattle.pssm_routes.specs.inner.Footprints.{IsFootprintIn};
 ghost use Rattle.pssm_routes.specs.inner.Steps.{IsJoiningStep};
 ghost use Rattle.pssm_routes.specs.inner.Sets.{HasFreeRoute, IsTouched, HoldsSource, IsCeiling};

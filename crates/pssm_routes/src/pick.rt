@@ -7,7 +7,7 @@ ghost use Rattle.pssm_model.specs.Routes.{Truth, IsStateRoute};
 ghost use Rattle.pssm_model.specs.FiringSets.{IsFiringSet, IsListed, IsFiring};
 ghost use Rattle.pssm_config.specs.Tables.{Fits, configuration_of};
 ghost use Rattle.pssm_routes.specs.Telling.{CanBeAsked, Tells};
-ghost use Rattle.pssm_routes.specs.SingleLegs.{HasSingleLegs};
+ghost use Rattle.pssm_model.specs.SingleLegs.{HasSingleLegs};
 ghost use Rattle.pssm_routes.specs.inner.Footprints.{IsFootprintIn};
 ghost use Rattle.pssm_routes.specs.inner.Starts.{IsStarted, IsOutranked, IsCandidate};
 ghost use Rattle.pssm_routes.specs.inner.Sets.{HasJoiner};

@@ -9,7 +9,7 @@ ghost use Rattle.pssm_model.specs.Routes.{Truth};
 ghost use Rattle.pssm_model.specs.FiringSets.{Overrides};
 ghost use Rattle.pssm_config.specs.Tables.{Fits, configuration_of};
 ghost use Rattle.pssm_routes.specs.Telling.{CanBeAsked, Tells};
-ghost use Rattle.pssm_routes.specs.SingleLegs.{HasSingleLegs};
+ghost use Rattle.pssm_model.specs.SingleLegs.{HasSingleLegs};
 ghost use Rattle.pssm_routes.specs.inner.Starts.{IsStarted, Reacts, IsCandidate};
 ghost use Rattle.pssm_routes.specs.inner.Ways.{LeadsOut};
 ghost use Rattle.pssm_routes.specs.inner.Steps.{SeesDeadEnds};

@@ -10,7 +10,7 @@ ghost use Rattle.pssm_model.specs.Legs.{Leaves};
 ghost use Rattle.pssm_model.specs.Routes.{Truth, IsAscending, IsTrueAt, IsRoute, IsStateRoute, IsEnabled};
 ghost use Rattle.pssm_config.specs.Tables.{Fits, configuration_of};
 ghost use Rattle.pssm_routes.specs.Telling.{CanBeAsked, Tells};
-ghost use Rattle.pssm_routes.specs.SingleLegs.{HasSingleLegs};
+ghost use Rattle.pssm_model.specs.SingleLegs.{HasSingleLegs};
 ghost use Rattle.pssm_routes.specs.inner.Onward.{onward_at, IsOnward, HasStray, IsPut, IsRefused, IsMarked};
 ghost use Rattle.pssm_routes.specs.inner.Onward.{IsMet, HasMarkedSource, AreAllMarked, HasStop, LeadsToAll};
 ghost use Rattle.pssm_routes.specs.inner.Onward.{IsStartedRoute};

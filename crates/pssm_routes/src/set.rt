@@ -7,7 +7,7 @@ ghost use Rattle.pssm_model.specs.Routes.{Truth, IsEnabled, IsStateRoute};
 ghost use Rattle.pssm_model.specs.FiringSets.{StartsBefore, IsListed, IsFiring};
 ghost use Rattle.pssm_config.specs.Tables.{Fits, configuration_of};
 ghost use Rattle.pssm_routes.specs.Telling.{CanBeAsked, Tells};
-ghost use Rattle.pssm_routes.specs.SingleLegs.{HasSingleLegs};
+ghost use Rattle.pssm_model.specs.SingleLegs.{HasSingleLegs};
 ghost use Rattle.pssm_routes.specs.inner.Footprints.{AreFootprints, IsFootprintIn, ClashesWithSome};
 ghost use Rattle.pssm_routes.specs.inner.Starts.{IsStarted};
 ghost use Rattle.pssm_routes.specs.inner.Sets.{AreApart, HasJoiner, HasJoinerFrom, AreComplete};

@@ -1,22 +1,15 @@
 -- From where a route starts and where it exits, which is all that conflicts and priorities ask of it.
-use Rattle.std.specs.Prelude.{◌≡◌, ◌⊎◌, ◌<◌, List, [], ◌∷◌, length, Contains}
-use Rattle.pssm_model.specs.declared.ids.VertexId.{VertexId}
+use Rattle.std.specs.Prelude.{◌⊎◌, ◌<◌, List, [], ◌∷◌, length, Contains}
 use Rattle.pssm_model.specs.declared.ids.TransId.{TransId}
 use Rattle.pssm_model.specs.declared.elements.DraftMachine.{DraftMachine}
-use Rattle.pssm_model.specs.declared.elements.VertexKind.TheVariants as kinds
 use Rattle.pssm_model.specs.declared.steps.Route.{Route}
-use Rattle.pssm_model.specs.Forest.{HasKind, IsOrLiesIn}
-use Rattle.pssm_model.specs.Legs.{Leaves, Scope, LegScope, LiesInScope}
+use Rattle.pssm_model.specs.SingleLegs.{IsFrom}
+use Rattle.pssm_model.specs.Forest.{IsOrLiesIn}
+use Rattle.pssm_model.specs.Legs.{Scope, LegScope, LiesInScope}
 use Rattle.pssm_model.specs.Legs.Scope.{Nowhere as nowhere, Inside as inside, Within as within}
 use Rattle.pssm_routes.specs.declared.areas.Area.{Area}
 use Rattle.pssm_routes.specs.declared.areas.Area.TheVariants.{Nowhere, Inside, Within}
 use Rattle.pssm_routes.specs.declared.areas.Footprint.{Footprint}
-
--- The route starts with one transition, which leaves this State.
-pub record IsFrom (m : DraftMachine) (p : Route) (t : TransId) (s : VertexId) : Type 0 where
-  pub starts : p.starts ≡ t ∷ []
-  pub leaves : Leaves m t s
-  pub state : HasKind m s kinds.State
 
 -- the scope that an area names
 abbrev pub scope_of : Area → Scope

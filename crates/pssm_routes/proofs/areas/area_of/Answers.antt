@@ -3,7 +3,7 @@ use Rattle.pssm_model.specs.declared.elements.Transition.{Transition}
 use Rattle.pssm_model.specs.Legs.{Goes}
 use Rattle.pssm_model.specs.declared.elements.TransKind.TheVariants.{External, Local, Internal}
 use Rattle.pssm_model.proofs.ElementLaws.{mapped_at}
-use Rattle.pssm_routes.proofs.LegScopes.{scope_of_internal, scope_of_local, scope_of_external}
+use Rattle.pssm_model.proofs.LegScopes.{scope_of_internal, scope_of_local, scope_of_external}
 use Rattle.pssm_routes.proofs.areas.area_of.Goals as goal
 
 pub returns-in-Internal-clause-area : goal.returns-in-Internal-clause-area

@@ -2,8 +2,8 @@ use Rattle.std.proofs.Common.{◌≡◌, ◌<◌, ◌+◌, length, refl, ap, sub
 use Rattle.std.proofs.lemmas.List.{get_or_default}
 use Rattle.pssm_model.specs.declared.ids.RegionId.{RegionId}
 use Rattle.pssm_model.specs.Forest.{IsScope}
-use Rattle.pssm_routes.proofs.OneLeg.{on_start}
-use Rattle.pssm_routes.proofs.CommonRegions.{IsMet, target_shares, next_shares, next_stays, next_grows, leg_scope}
+use Rattle.pssm_model.proofs.OneLeg.{on_start}
+use Rattle.pssm_model.proofs.CommonRegions.{IsMet, target_shares, next_shares, next_stays, next_grows, leg_scope}
 use Rattle.pssm_routes.proofs.areas.common_region.Goals as goal
 use Rattle.pssm_routes.proofs.areas.common_region.Goals.{then-not-lies_in_region, else-not-lies_in_region}
 

@@ -20,8 +20,8 @@ use Rattle.pssm_model.specs.Routes.IsReached.{start, on}
 use Rattle.pssm_model.specs.WellFormed.Breaks.{E13}
 use Rattle.pssm_model.proofs.ElementLaws.{mapped_at, some_at, kind_unique, leaves_one, enters_one}
 use Rattle.pssm_model.proofs.RouteLaws.{in_one, is_one, reached_is_on}
-use Rattle.pssm_routes.specs.SingleLegs.{HasSingleLegs}
-use Rattle.pssm_routes.proofs.RegionChains.{vertex_there}
+use Rattle.pssm_model.specs.SingleLegs.{HasSingleLegs}
+use Rattle.pssm_model.proofs.RegionChains.{vertex_there}
 
 module _ (m : DraftMachine) (p : Route) where
   -- the transitions of a leg are of its route

@@ -23,9 +23,9 @@ use Rattle.pssm_model.proofs.ElementLaws.{leaves_one, enters_one}
 use Rattle.pssm_model.proofs.RouteLaws.{reached_is_on}
 use Rattle.pssm_model.proofs.OwnerChains.{circle_is_endless, under_further}
 use Rattle.pssm_model.proofs.Nesting.{region_cases, shallower, lies_within}
-use Rattle.pssm_routes.specs.SingleLegs.{HasSingleLegs}
-use Rattle.pssm_routes.proofs.RegionChains.{on_one_chain, lies_or_not, IsTopmost, topmost, shares_topmost, topmost_of_other, vertex_there, counted, some_region, under_top, under_state}
-use Rattle.pssm_routes.proofs.OneLeg.{on_start, is_start, start_or_rest, of_rest, source_of, target_of, of_leg_cases, source_of_leg, target_of_leg}
+use Rattle.pssm_model.specs.SingleLegs.{HasSingleLegs}
+use Rattle.pssm_model.proofs.RegionChains.{on_one_chain, lies_or_not, IsTopmost, topmost, shares_topmost, topmost_of_other, vertex_there, counted, some_region, under_top, under_state}
+use Rattle.pssm_model.proofs.OneLeg.{on_start, is_start, start_or_rest, of_rest, source_of, target_of, of_leg_cases, source_of_leg, target_of_leg}
 
 -- the innermost region of the same vertices is the same
 pub scope_same : (m : DraftMachine) (P Q : VertexId → Type 0) (r : RegionId) → ((v : VertexId) → Q v → P v) → ((v : VertexId) → P v → Q v)

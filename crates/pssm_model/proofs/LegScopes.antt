@@ -19,10 +19,10 @@ use Rattle.pssm_model.specs.Routes.{IsRoute}
 use Rattle.pssm_model.proofs.ElementLaws.{mapped_at, leaves_one}
 use Rattle.pssm_model.proofs.Nesting.{lies_within}
 use Rattle.pssm_model.proofs.Scopes.{one_scope}
-use Rattle.pssm_routes.specs.SingleLegs.{HasSingleLegs}
-use Rattle.pssm_routes.proofs.RegionChains.{on_one_chain, under_state}
-use Rattle.pssm_routes.proofs.OneLeg.{on_start, on_there, no_later_leg, no_point, no_some_point, internal_is_start, local_is_start, local_from_start, alone, of_leg_same, source_of_leg}
-use Rattle.pssm_routes.proofs.CommonRegions.{scope_same, some_leg_scope}
+use Rattle.pssm_model.specs.SingleLegs.{HasSingleLegs}
+use Rattle.pssm_model.proofs.RegionChains.{on_one_chain, under_state}
+use Rattle.pssm_model.proofs.OneLeg.{on_start, on_there, no_later_leg, no_point, no_some_point, internal_is_start, local_is_start, local_from_start, alone, of_leg_same, source_of_leg}
+use Rattle.pssm_model.proofs.CommonRegions.{scope_same, some_leg_scope}
 
 module _ {m : DraftMachine} (b : HasSingleLegs m) (shape : HasShape m) (p : Route) (route : IsRoute m p) (t : TransId) (starts : p.starts ≡ t ∷ [])
     (s : VertexId) (l : Leaves m t s) (state : HasKind m s kinds.State) where
