@@ -12,11 +12,11 @@ use Rattle.pssm_model.specs.Shapes.{HasShape}
 use Rattle.pssm_model.specs.Forest.{vertex_at, transition_at, HasKind}
 use Rattle.pssm_model.specs.Legs.{Leaves, Enters, Goes, IsCut}
 use Rattle.pssm_model.specs.WellFormed.Breaks.{E03, E13, E14}
-use Rattle.pssm_model.specs.Nested.{IsInitialStateOrJunction, StartsOnState, IsNestedOverJunctions}
+use Rattle.pssm_model.specs.Nested.{IsInitialStateOrJunction, StartsOnState, IsPlainlyNested}
 use Rattle.pssm_model.specs.SingleLegs.{HasSingleLegs}
 use Rattle.pssm_model.proofs.ElementLaws.{mapped_some, mapped_at, all_at, some_at, kind_unique, leaves_one, leaves_at, enters_at}
 
-module _ {m : DraftMachine} (b : IsNestedOverJunctions m) where
+module _ {m : DraftMachine} (b : IsPlainlyNested m) where
   pub kind_cases : (v : VertexId) (k : VertexKind) → HasKind m v k → ((k ≡ kinds.Initial) ⊎ (k ≡ kinds.State)) ⊎ (k ≡ kinds.Junction)
   kind_cases v k h =
       let at = mapped_some (λ (x : Vertex). x.kind) (vertex_at m v) k h in

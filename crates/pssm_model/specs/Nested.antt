@@ -1,37 +1,17 @@
--- The premise of what the order of a step is built for: every vertex is an initial vertex or a State, in any nesting of regions, and every transition
--- ends on a State. Later work widens this premise; no definition changes with it.
+-- The premise of what the laws of a step are proved for: every vertex is an initial vertex, a State or a junction, in any nesting of regions, and a
+-- transition out of an initial vertex ends on a State. Later work widens this premise; no definition changes with it.
 use Rattle.std.specs.Prelude.{◌≡◌, ◌⊎◌}
 use Rattle.std.specs.List.{AllByRecursion}
 use Rattle.pssm_model.specs.declared.elements.DraftMachine.{DraftMachine}
 use Rattle.pssm_model.specs.declared.elements.Vertex.{Vertex}
 use Rattle.pssm_model.specs.declared.elements.VertexKind.TheVariants as kinds
 use Rattle.pssm_model.specs.declared.elements.Transition.{Transition}
-use Rattle.pssm_model.specs.declared.elements.TransKind.TheVariants.{External, Local, Internal}
-use Rattle.pssm_model.specs.Forest.{HasKind, LiesInState}
+use Rattle.pssm_model.specs.Forest.{HasKind}
 use Rattle.pssm_model.specs.WellFormed.{KeepsModelRules}
 
 -- an initial vertex or a State
 abbrev pub IsInitialOrState : Vertex → Type 0
 IsInitialOrState x = (x.kind ≡ kinds.Initial) ⊎ (x.kind ≡ kinds.State)
-
--- The transition is external; or it is local, and ends in the State that it leaves; or it is internal, and ends on the State that it leaves.
-abbrev pub GoesPlainly : DraftMachine → Transition → Type 0
-GoesPlainly m x =
-    (x.kind ≡ External)
-    ⊎ ((x.kind ≡ Local) × HasKind m x.source kinds.State × LiesInState m x.target x.source)
-    ⊎ ((x.kind ≡ Internal) × HasKind m x.source kinds.State × (x.source ≡ x.target))
-
--- such a transition that ends on a State
-pub record EndsOnState (m : DraftMachine) (x : Transition) : Type 0 where
-  pub goes : GoesPlainly m x
-  pub target : HasKind m x.target kinds.State
-
--- a machine of such vertices and transitions
-pub record IsPlainlyNested (m : DraftMachine) : Type 0 where
-  pub vertices : AllByRecursion IsInitialOrState m.vertices
-  pub transitions : AllByRecursion (EndsOnState m) m.transitions
-
--- What follows is the wider premise that is to take the place of `IsPlainlyNested`.
 
 -- an initial vertex, a State or a junction
 abbrev pub IsInitialStateOrJunction : Vertex → Type 0
@@ -43,7 +23,7 @@ StartsOnState m x = HasKind m x.source kinds.Initial → HasKind m x.target kind
 
 -- A machine of such vertices and transitions that keeps the rules of models. So each of its routes is one leg, from a State over junctions to a State,
 -- or one transition from an initial vertex to a State; only a first transition of a route is local or internal; and no junctions lie on a cycle.
-pub record IsNestedOverJunctions (m : DraftMachine) : Type 0 where
+pub record IsPlainlyNested (m : DraftMachine) : Type 0 where
   pub rules : KeepsModelRules m
   pub vertices : AllByRecursion IsInitialStateOrJunction m.vertices
   pub transitions : AllByRecursion (StartsOnState m) m.transitions

@@ -13,17 +13,25 @@ use Rattle.pssm_model.specs.Shapes.{IsEarlier}
 abbrev pub IsRichState : Vertex → Type 0
 IsRichState x = (x.kind ≡ kinds.State) × (x.steps ≢ [])
 
--- a final state, or any pseudostate but an initial one
+-- a final state, or any pseudostate but an initial one and a junction
 abbrev pub IsOtherKind : Vertex → Type 0
-IsOtherKind x = (x.kind ≢ kinds.State) × (x.kind ≢ kinds.Initial)
+IsOtherKind x = (x.kind ≢ kinds.State) × (x.kind ≢ kinds.Initial) × (x.kind ≢ kinds.Junction)
 
 -- a vertex of a form that the code does not run yet
 abbrev pub IsFurtherVertex : Vertex → Type 0
 IsFurtherVertex x = IsOtherKind x ⊎ IsRichState x
 
--- The transition leaves a State without a trigger, so that completion takes it: a form that the code does not run yet.
+-- The transition leaves a State without a trigger, so that completion takes it.
+abbrev pub IsByCompletion : DraftMachine → Transition → Type 0
+IsByCompletion m x = HasKind m x.source kinds.State × (x.triggers ≡ [])
+
+-- The transition leads from an initial vertex to a junction.
+abbrev pub StartsOnJunction : DraftMachine → Transition → Type 0
+StartsOnJunction m x = HasKind m x.source kinds.Initial × HasKind m x.target kinds.Junction
+
+-- a transition of a form that the code does not run yet
 abbrev pub IsFurtherTransition : DraftMachine → Transition → Type 0
-IsFurtherTransition m x = HasKind m x.source kinds.State × (x.triggers ≡ [])
+IsFurtherTransition m x = IsByCompletion m x ⊎ StartsOnJunction m x
 
 -- The element is of a form that the code does not run yet. Regions are of none.
 abbrev pub IsNotBuilt : DraftMachine → Element → Type 0

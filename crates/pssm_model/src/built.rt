@@ -1,11 +1,11 @@
 //! The first element of a machine that the code does not run yet.
 ghost use Rattle.std.specs.Prelude.{◌↔◌, IsTrue, IfSome, IfNone, length};
 ghost use Rattle.pssm_model.specs.declared.elements.Element.{Element};
-ghost use Rattle.pssm_model.specs.declared.elements.VertexKind.TheVariants as kinds;
 ghost use Rattle.pssm_model.specs.declared.shape.PlaceKind.TheVariants as places;
 ghost use Rattle.pssm_model.specs.Forest.{HasKind};
 ghost use Rattle.pssm_model.specs.inner.Faultless.{place_element, transition_element};
-ghost use Rattle.pssm_model.specs.NotBuilt.{IsFurtherVertex, IsFurtherTransition, IsNotBuilt, IsFirstNotBuilt};
+ghost use Rattle.pssm_model.specs.NotBuilt.{IsFurtherVertex, IsByCompletion, StartsOnJunction, IsFurtherTransition};
+ghost use Rattle.pssm_model.specs.NotBuilt.{IsNotBuilt, IsFirstNotBuilt};
 ghost use Rattle.pssm_model.specs.inner.Found.{AreBuiltBelow, IsFirstNumber};
 
 use crate::elements::{Element, Transition, Vertex, VertexKind};
@@ -13,8 +13,8 @@ use crate::ids::{TransId, VertexId};
 use crate::machine::Machine;
 
 /// The first element of a form that the code does not run yet, if there is one: a final state or any pseudostate but an
-/// initial one, a State with do steps, or a transition that leaves a State without a trigger. The vertices come before
-/// the transitions, each by number (this profile's choice).
+/// initial one and a junction, a State with do steps, a transition that leaves a State without a trigger, or one from
+/// an initial vertex to a junction. The vertices come before the transitions, each by number (this profile's choice).
 pub fn first_not_built(machine: &Machine) -> Option<Element>
     ensures first { IfSome result (IsFirstNotBuilt machine.now) }
     ensures none { IfNone result ((e : Element) → IsNotBuilt machine.now e → ⊥) }
@@ -42,12 +42,12 @@ fn first_vertex(machine: &Machine) -> Option<u16>
 }
 
 /// Whether the vertex is of a form that the code does not run yet: a State that has do steps, a final state, or any
-/// pseudostate but an initial one.
+/// pseudostate but an initial one and a junction.
 fn is_further_vertex(vertex: &Vertex) -> bool
     ensures { IsTrue result ↔ IsFurtherVertex vertex.now }
 {
     match vertex.kind {
-        VertexKind::Initial => false,
+        VertexKind::Initial | VertexKind::Junction => false,
         VertexKind::State => !vertex.steps.as_slice().is_empty(),
         _ => true,
     }
@@ -66,16 +66,33 @@ fn first_transition(machine: &Machine) -> Option<u16>
     None
 }
 
-/// Whether the transition is of a form that the code does not run yet: one that leaves a State without a trigger.
+/// Whether the transition leaves a State without a trigger.
+fn is_by_completion(machine: &Machine, transition: &Transition) -> bool
+    ensures { IsTrue result ↔ IsByCompletion machine.now transition.now }
+{
+    has_kind(machine, transition.source, VertexKind::State)
+        && transition.triggers.as_slice().is_empty()
+}
+
+/// Whether the transition leads from an initial vertex to a junction.
+fn starts_on_junction(machine: &Machine, transition: &Transition) -> bool
+    ensures { IsTrue result ↔ StartsOnJunction machine.now transition.now }
+{
+    has_kind(machine, transition.source, VertexKind::Initial)
+        && has_kind(machine, transition.target, VertexKind::Junction)
+}
+
+/// Whether the transition is of a form that the code does not run yet: one that leaves a State without a trigger, or
+/// one from an initial vertex to a junction.
 fn is_further_transition(machine: &Machine, transition: &Transition) -> bool
     ensures { IsTrue result ↔ IsFurtherTransition machine.now transition.now }
 {
-    is_state(machine, transition.source) && transition.triggers.as_slice().is_empty()
+    is_by_completion(machine, transition) || starts_on_junction(machine, transition)
 }
 
-/// Whether the vertex is there and is a State.
-fn is_state(machine: &Machine, v: VertexId) -> bool
-    ensures { IsTrue result ↔ HasKind machine.now v kinds.State }
+/// Whether the vertex is there and of this kind.
+fn has_kind(machine: &Machine, v: VertexId, kind: VertexKind) -> bool
+    ensures { IsTrue result ↔ HasKind machine.now v kind }
 {
-    v.0 < machine.vertices() && machine.vertex(v).kind == VertexKind::State
+    v.0 < machine.vertices() && machine.vertex(v).kind == kind
 }

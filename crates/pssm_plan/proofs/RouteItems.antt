@@ -20,7 +20,7 @@ use Rattle.pssm_model.specs.Items.{CanExit, LegEnds, LegOpens, IsCalledInLeg, Op
 use Rattle.pssm_model.specs.Items.Called.{start, run, ends, opens, restored, entered}
 use Rattle.pssm_model.specs.Items.Before.{inner_exit, outer_enter, exit_effect, path, effect_enter, effect_end, enter_end, later}
 use Rattle.pssm_model.specs.Routes.{IsRoute}
-use Rattle.pssm_model.specs.Nested.{IsNestedOverJunctions}
+use Rattle.pssm_model.specs.Nested.{IsPlainlyNested}
 use Rattle.pssm_plan.specs.inner.OverRoutes.{EndsOn, IsEnteredBy, GoesBy, GoesByRoutes, IsExitedOver, OpensAfterEntry, IsCalledOver, IsOrderedOver}
 use Rattle.pssm_model.proofs.StateRoutes.{start_of}
 use Rattle.pssm_model.proofs.OverJunctions.{single_legs}
@@ -28,7 +28,7 @@ use Rattle.pssm_model.proofs.OneLeg.{leg_ends_on, on_start, one_leg, no_later_le
 use Rattle.pssm_plan.proofs.RouteLegs.{ends_on_state, leg_exits_is, leg_exits_of, leg_enters_is, leg_enters_of, aimed_is, aimed_of, no_leg_end, leg_opening_is, leg_opening_of}
 use Rattle.pssm_plan.proofs.RoutePaths.{path_begins_on}
 
-module _ {m : DraftMachine} (nested : IsNestedOverJunctions m) (shape : HasShape m) (course : Course) (g : GoesByRoutes m course) where
+module _ {m : DraftMachine} (nested : IsPlainlyNested m) (shape : HasShape m) (course : Course) (g : GoesByRoutes m course) where
   -- a route by which the step goes has one start, by which its leg can be named
   route_by : (p : Route) → GoesBy course p → IsRoute m p
   route_by p by = g.routes p by

@@ -22,7 +22,7 @@ use Rattle.pssm_model.specs.Legs.LegScope.{internal, local, point, other}
 use Rattle.pssm_model.specs.Items.{IsAimedAt, LegEnds, LegOpens}
 use Rattle.pssm_model.specs.Routes.{IsRoute, IsSource}
 use Rattle.pssm_model.specs.SingleLegs.{HasSingleLegs}
-use Rattle.pssm_model.specs.Nested.{IsNestedOverJunctions}
+use Rattle.pssm_model.specs.Nested.{IsPlainlyNested}
 use Rattle.pssm_plan.specs.inner.OverRoutes.{GoesAs, IsEndOf, IsArea, LiesInArea, EndsOn, IsEnteredBy, EndsIn, OpensBeside}
 use Rattle.pssm_model.proofs.ElementLaws.{mapped_at, kind_unique}
 use Rattle.pssm_model.proofs.StateRoutes.{is_start, source_is_left}
@@ -30,7 +30,7 @@ use Rattle.pssm_model.proofs.OverJunctions.{single_legs, target_is_state, intern
 use Rattle.pssm_model.proofs.CommonRegions.{scope_same}
 use Rattle.pssm_model.proofs.OneLeg.{leg_begins_on, leg_ends_on, on_start, on_there, source_of, one_leg, no_later_leg, no_point, no_some_point, internal_is_start, local_is_start, local_from_start, alone}
 
-module _ {m : DraftMachine} (nested : IsNestedOverJunctions m) (shape : HasShape m) (p : Route) (route : IsRoute m p) (t : TransId) (starts : p.starts ≡ t ∷ [])
+module _ {m : DraftMachine} (nested : IsPlainlyNested m) (shape : HasShape m) (p : Route) (route : IsRoute m p) (t : TransId) (starts : p.starts ≡ t ∷ [])
     where
   b : HasSingleLegs m
   b = single_legs nested

@@ -30,7 +30,7 @@ use Rattle.pssm_model.specs.WellFormed.Breaks.{E19}
 use Rattle.pssm_model.specs.Course.{Course}
 use Rattle.pssm_model.specs.Items.{Called, Before, PathBefore}
 use Rattle.pssm_model.specs.Items.PathBefore.{next, after}
-use Rattle.pssm_model.specs.Nested.{IsNestedOverJunctions}
+use Rattle.pssm_model.specs.Nested.{IsPlainlyNested}
 use Rattle.pssm_plan.specs.inner.OverRoutes.{GoesByRoutes, IsCalledOver, IsOrderedOver}
 use Rattle.pssm_model.proofs.ElementLaws.{mapped_some, same_vertex, nothing_in_nil}
 use Rattle.pssm_model.proofs.RouteLaws.{is_one}
@@ -46,7 +46,7 @@ pub data LeadsBack (m : DraftMachine) : TransId → List ℕ → Type 0 where
   step : {t u : TransId} {vs : List ℕ} (v : VertexId) → HasKind m v kinds.Junction → Enters m t v → Leaves m u v → LeadsBack m t vs
       → LeadsBack m u (vs ++ v.0 ∷ [])
 
-module _ {m : DraftMachine} (nested : IsNestedOverJunctions m) where
+module _ {m : DraftMachine} (nested : IsPlainlyNested m) where
   -- a junction of a chain leads on to the one that its last transition leaves
   record Passed (u : TransId) (n : ℕ) : Type 0 where
     first : VertexId
@@ -130,7 +130,7 @@ HasRank m (items.Enter s) n = (d : ℕ) × HasRegionsAbove m (State s) d × (n �
 HasRank m (items.Opened r mode) n = n ≡ 34 + length m.vertices
 HasRank m (items.Pick c) n = n ≡ 0
 
-module _ {m : DraftMachine} (nested : IsNestedOverJunctions m) (shape : HasShape m) where
+module _ {m : DraftMachine} (nested : IsPlainlyNested m) (shape : HasShape m) where
   exit_rank : (s : VertexId) → (d : ℕ) × (d ≤ 32) × HasRegionsAbove m (State s) d → (n : ℕ) × HasRank m (items.Exit s) n × (n ≤ 32)
   exit_rank s h = let le = h.1 in (32 - h.0, (h.0, h.2, omega arith), omega arith)
 

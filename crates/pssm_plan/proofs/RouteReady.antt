@@ -7,12 +7,12 @@ use Rattle.pssm_model.specs.Course.{Course}
 use Rattle.pssm_model.specs.Items.{Before, IsWaiting, IsCleared, HasRunOut}
 use Rattle.pssm_model.specs.Order.{IsReady, IsAtOrBefore}
 use Rattle.pssm_model.specs.Order.IsAtOrBefore.{at, before}
-use Rattle.pssm_model.specs.Nested.{IsNestedOverJunctions}
+use Rattle.pssm_model.specs.Nested.{IsPlainlyNested}
 use Rattle.pssm_plan.specs.inner.OverRoutes.{GoesByRoutes}
 use Rattle.pssm_plan.proofs.ReadyItems.{run_known}
 use Rattle.pssm_plan.proofs.RouteRanks.{HasRank, rank_of_called, rank_of_earlier}
 
-module _ {m : DraftMachine} (nested : IsNestedOverJunctions m) (shape : HasShape m) (course : Course) (g : GoesByRoutes m course) where
+module _ {m : DraftMachine} (nested : IsPlainlyNested m) (shape : HasShape m) (course : Course) (g : GoesByRoutes m course) where
   -- a chain that no ready item begins: nothing on it waits
   none_waits : (last : Item) → ((x : Item) → IsReady m course x → IsAtOrBefore m course x last → ⊥) → (n k : ℕ) (y : Item) → k < n → HasRank m y k
       → IsWaiting m course y → IsAtOrBefore m course y last → ⊥

@@ -24,7 +24,7 @@ use Rattle.pssm_model.specs.Items.{Called, PathBefore, Before}
 use Rattle.pssm_model.specs.Ways.{Memory, IsWay}
 use Rattle.pssm_model.specs.Order.{HasGone, course_by}
 use Rattle.pssm_model.specs.Order.HasGone.{begun as gone_begun, more as gone_more}
-use Rattle.pssm_model.specs.Nested.{IsNestedOverJunctions}
+use Rattle.pssm_model.specs.Nested.{IsPlainlyNested}
 use Rattle.pssm_plan.specs.inner.OverRoutes.{GoesBy, GoesByRoutes, IsCalledOver, IsOrderedOver}
 use Rattle.pssm_plan.specs.inner.RouteSequence.{fired_at, IsLateStart, IsTakenBy, IsSequence}
 use Rattle.std.proofs.lemmas.List.Elements.{Contains-append_right}
@@ -38,7 +38,7 @@ use Rattle.pssm_plan.proofs.RouteItems.{called_is, called_of, before_is, before_
 use Rattle.pssm_plan.proofs.MoreItems.{begins_by, gone_by_more}
 use Rattle.pssm_plan.proofs.RouteMore.{goes_on_by_routes}
 
-module _ {m : DraftMachine} (nested : IsNestedOverJunctions m) (shape : HasShape m) where
+module _ {m : DraftMachine} (nested : IsPlainlyNested m) (shape : HasShape m) where
   -- a late route is one transition out of an initial vertex
   late_origin_is : (v : VertexId) → IsLateOrigin m v → HasKind m v kinds.Initial
   late_origin_is v h =
