@@ -1,5 +1,6 @@
 pub mod Agenda
 pub mod Waiting
+pub mod Ways
 pub mod Plans
 pub mod Standings
 pub mod Steadiness

@@ -9,6 +9,7 @@ use Rattle.pssm_config.specs.Tables.{configuration_of}
 use Rattle.pssm_plan.specs.declared.roster.Call.{Call}
 use Rattle.pssm_plan.specs.Agenda.{Agenda, course_of}
 use Rattle.pssm_plan.specs.Waiting.{IsExact}
+use Rattle.pssm_plan.specs.Ways.{AreWaysOf}
 
 -- The item is one of a call.
 abbrev pub IsOfCall : List Call → Item → Type 0
@@ -19,8 +20,8 @@ abbrev pub IsOfRunCall : List Call → Item → Type 0
 IsOfRunCall calls item = (call : Call) × Contains calls call × (call.item ≡ item) × IsTrue call.ran
 
 -- The plan is that of its step in the machine: its calls are exactly the called items, each once, marked as run exactly where they have run and as
--- blocked exactly where a called one that comes before has not, and each says which is the first that it waits for
--- (UML 2.5.1 14.2.3.9, transition execution sequence).
+-- blocked exactly where a called one that comes before has not, and each says which is the first that it waits for; and its ways are those of the routes
+-- by which the step goes (UML 2.5.1 14.2.3.9, transition execution sequence).
 pub record IsPlanOf (m : DraftMachine) (plan : Agenda) : Type 0 where
   pub step : HasGone m plan.head (configuration_of plan.at_head) plan.ran
   pub called : (item : Item) → IsOfCall plan.calls item ↔ Called m (course_of plan) item
@@ -29,3 +30,4 @@ pub record IsPlanOf (m : DraftMachine) (plan : Agenda) : Type 0 where
   pub blocked : (call : Call) → Contains plan.calls call → IsTrue call.blocked
       ↔ ((on : Item) × Called m (course_of plan) on × Before m (course_of plan) on call.item × (HasRun (course_of plan) on → ⊥))
   pub exact : (call : Call) → Contains plan.calls call → IsExact (Before m (course_of plan)) plan.calls call
+  pub ways : AreWaysOf m (course_of plan) plan.ways plan.restored

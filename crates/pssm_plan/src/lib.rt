@@ -4,14 +4,15 @@
 //! This crate knows nothing of behaviours, journals or objects.
 #![tactic(auto)]
 
-mod arrows;
-mod calling;
 mod laws;
+mod listing;
 mod plan;
+mod progress;
 mod ready;
 mod roster;
 mod standing;
 mod waiting;
+mod ways;
 
 pub use laws::{ready_items, step_length};
 pub use plan::Plan;

@@ -1,7 +1,7 @@
 //! `Plan`: the items that a step calls, which of them have run, and which are ready.
 ghost use Rattle.std.specs.Prelude.{◌≡◌, ◌↔◌, ◌<◌, ◌++◌, ◌∷◌, [], length, slice_get, Some, IsTrue, IfOk, OnOk, OnErr, Contains};
 ghost use Rattle.pssm_model.specs.declared.elements.DraftMachine.{DraftMachine};
-ghost use Rattle.pssm_model.specs.Nested.{IsPlainlyNested};
+ghost use Rattle.pssm_model.specs.SingleLegs.{HasSingleLegs};
 ghost use Rattle.pssm_model.specs.Course.Head.{Starts, Fires};
 ghost use Rattle.pssm_model.specs.Items.{HasRunOut};
 ghost use Rattle.pssm_model.specs.Changes.{Agree, nothing_yet};
@@ -13,8 +13,9 @@ ghost use Rattle.pssm_plan.specs.Agenda.{course_of};
 ghost use Rattle.pssm_plan.specs.Plans.{IsPlanOf};
 ghost use Rattle.pssm_plan.specs.Standings.{StandsAs, ListsReady, IsItemAt, ready_calls};
 
+use crate::progress::Progress;
 use crate::ready::{count_ready, ready_item};
-use crate::roster::{Roster, call_at, call_of, have_all_run};
+use crate::roster::{call_at, call_of, have_all_run};
 use crate::standing::Standing;
 use pssm_config::Config;
 use pssm_model::{Firing, How, Item, Machine};
@@ -40,15 +41,15 @@ struct Step {
 /// The plan of a step (UML 2.5.1, 14.2.3.9, run to completion): the items that it calls, which of them have run, and
 /// which wait for others.
 ///
-/// A clause sees the step as far as it has come, and the list of its called items. `IsPlanOf` says that all this is
-/// that of a step of a machine.
+/// A clause sees the step as far as it has come, the list of its called items, and the routes by which it goes.
+/// `IsPlanOf` says that all this is that of a step of a machine.
 #[derive(Drop)]
 pub struct Plan {
     beginning: Beginning,
     ran: Vec<Step>,
-    roster: Roster,
-    /// A roster that is out of use, whose room the next step takes.
-    spare: Roster,
+    progress: Progress,
+    /// A progress that is out of use, whose room the next step takes.
+    spare: Progress,
 }
 
 impl Model for Plan {
@@ -59,9 +60,9 @@ impl Model for Plan {
     ghost use Rattle.pssm_plan.specs.inner.Views.{head_of, tables_of, steps_of};
     ghost use Rattle.std.specs.Prelude.{◌<◌, ◌^◌, length};
 
-    ghost view = { λ p. record { head = head_of p.beginning; at_head = tables_of p.beginning; ran = steps_of p.ran.items; calls = p.roster.calls.items } };
+    ghost view = { λ p. record { head = head_of p.beginning; at_head = tables_of p.beginning; ran = steps_of p.ran.items; calls = p.progress.roster.calls.items; ways = p.progress.ways.items; restored = p.progress.restored.items } };
 
-    ghost invariant = { λ p. length p.roster.calls.items < 2 ^ 32 };
+    ghost invariant = { λ p. length p.progress.roster.calls.items < 2 ^ 32 };
 }
 
 impl Plan {
@@ -69,7 +70,7 @@ impl Plan {
     pub fn standing(&self, item: Item) -> Standing
         ensures { (m : DraftMachine) → IsPlanOf m self.now → StandsAs m (course_of self.now) item result }
     {
-        let calls = self.roster.calls.as_slice();
+        let calls = self.progress.roster.calls.as_slice();
         let Some(call) = call_of(calls, item, self.ran.len()) else {
             return Standing::NotCalled;
         };
@@ -89,7 +90,7 @@ impl Plan {
     pub fn finished(&self) -> bool
         ensures { (m : DraftMachine) → IsPlanOf m self.now → (IsTrue result ↔ HasRunOut m (course_of self.now)) }
     {
-        have_all_run(self.roster.calls.as_slice())
+        have_all_run(self.progress.roster.calls.as_slice())
     }
 
     /// How many items are ready.
@@ -97,7 +98,7 @@ impl Plan {
         ensures count { result ≡ length (ready_calls self.now) }
         ensures listed { (m : DraftMachine) → IsPlanOf m self.now → ListsReady m (course_of self.now) (ready_calls self.now) }
     {
-        count_ready(self.roster.calls.as_slice())
+        count_ready(self.progress.roster.calls.as_slice())
     }
 
     /// The ready item with a number, in the order in which they were called.
@@ -106,26 +107,26 @@ impl Plan {
         ensures listed { IsItemAt (ready_calls self.now) i result }
         ensures ready { (m : DraftMachine) → IsPlanOf m self.now → IsReady m (course_of self.now) result }
     {
-        ready_item(self.roster.calls.as_slice(), i)
+        ready_item(self.progress.roster.calls.as_slice(), i)
     }
 
     /// The plan of a start, which opens the top regions.
     ///
     /// `NoMemory`: memory ran out.
     pub fn of_start(alloc: Global, machine: &Machine) -> Result<Plan, NoMemory>
-        requires { IsPlainlyNested machine.now }
+        requires single { HasSingleLegs machine.now }
         ensures head { IfOk result (λ plan. plan.head ≡ Starts) }
         ensures at_head { IfOk result (λ plan. Agree (configuration_of plan.at_head) nothing_yet) }
         ensures none_ran { IfOk result (λ plan. plan.ran ≡ []) }
         ensures plan { IfOk result (IsPlanOf machine.now) }
     {
         let _shaped = machine.regions();
-        let roster = Roster::of_start(alloc, machine)?;
+        let progress = Progress::of_start(alloc, machine)?;
         Ok(Plan {
             beginning: Beginning::Start,
             ran: Vec::new(alloc),
-            roster,
-            spare: Roster::new(alloc),
+            progress,
+            spare: Progress::new(alloc),
         })
     }
 
@@ -138,7 +139,7 @@ impl Plan {
         config: &Config,
         firing: &Firing,
     ) -> Result<Plan, NoMemory>
-        requires nested { IsPlainlyNested machine.now }
+        requires single { HasSingleLegs machine.now }
         requires fits { Fits machine.now config.now }
         requires routes { (route : Route) → Contains firing.now.routes route → IsStateRoute machine.now route }
         ensures head { IfOk result (λ plan. plan.head ≡ Fires firing.now.routes) }
@@ -147,26 +148,27 @@ impl Plan {
         ensures plan { IfOk result (IsPlanOf machine.now) }
     {
         let _shaped = machine.regions();
-        let roster = Roster::of_routes(alloc, machine, config, firing.routes.as_slice())?;
+        let progress = Progress::of_routes(alloc, machine, config, firing.routes.as_slice())?;
         Ok(Plan {
             beginning: Beginning::Firing(Snapshot::of(firing), Snapshot::of(config)),
             ran: Vec::new(alloc),
-            roster,
-            spare: Roster::new(alloc),
+            progress,
+            spare: Progress::new(alloc),
         })
     }
 
-    /// Becomes the plan of routes that fire in a configuration. It takes memory only where it has less room than it
-    /// needs.
+    /// Becomes the plan of routes that fire in a configuration. It takes memory for the legs of the routes, and else only
+    /// where it has less room than it needs.
     ///
     /// `NoMemory`: memory ran out; the plan is as before.
     pub fn fire(
         &mut self,
+        alloc: Global,
         machine: &Machine,
         config: &Config,
         firing: &Firing,
     ) -> Result<(), NoMemory>
-        requires nested { IsPlainlyNested machine.now }
+        requires single { HasSingleLegs machine.now }
         requires fits { Fits machine.now config.now }
         requires routes { (route : Route) → Contains firing.now.routes route → IsStateRoute machine.now route }
         ensures head { OnOk result (self.new.head ≡ Fires firing.now.routes) }
@@ -176,8 +178,9 @@ impl Plan {
         ensures refused { OnErr result (self.new ≡ self.old) }
     {
         let _shaped = machine.regions();
-        self.spare.renew(machine, config, firing.routes.as_slice())?;
-        mem::swap(&mut self.roster, &mut self.spare);
+        self.spare
+            .renew(alloc, machine, config, firing.routes.as_slice())?;
+        mem::swap(&mut self.progress, &mut self.spare);
         self.beginning = Beginning::Firing(Snapshot::of(firing), Snapshot::of(config));
         self.ran.clear();
         Ok(())
@@ -186,8 +189,14 @@ impl Plan {
     /// Runs a ready item in one of its ways.
     ///
     /// `NoMemory`: memory ran out; the plan is as before.
-    pub fn run(&mut self, machine: &Machine, item: Item, how: &How) -> Result<(), NoMemory>
-        requires nested { IsPlainlyNested machine.now }
+    pub fn run(
+        &mut self,
+        alloc: Global,
+        machine: &Machine,
+        item: Item,
+        how: &How,
+    ) -> Result<(), NoMemory>
+        requires single { HasSingleLegs machine.now }
         requires plan { IsPlanOf machine.now self.old }
         requires ready { IsReady machine.now (course_of self.old) item }
         requires way { (truth : Truth) × IsWayNow machine.now truth (course_of self.old) item how.now }
@@ -204,7 +213,7 @@ impl Plan {
             how: Snapshot::of(how),
         };
         self.ran.push(step)?;
-        let outcome = self.roster.run(machine, item, how, ran);
+        let outcome = self.progress.run(alloc, machine, item, how, ran);
         if outcome.is_err() {
             self.ran.truncate(ran);
         }

@@ -3,8 +3,9 @@ ghost use Rattle.std.specs.Prelude.{◌≡◌, ◌≢◌, ◌↔◌, ◌<◌, �
 ghost use Rattle.std.specs.Prelude.{IsTrue, AllPairs, IfSome, MatchOption, Contains, OnOk};
 ghost use Rattle.pssm_model.specs.declared.steps.Item.{Item};
 ghost use Rattle.pssm_plan.specs.declared.roster.Call.{Call};
-ghost use Rattle.pssm_plan.specs.inner.Marks.{IsListed, IsMarked, IsLonger, IsTold, ArePairwise};
-ghost use Rattle.pssm_plan.specs.inner.Sequence.{IsItemOf, IsRoster, IsExtended};
+ghost use Rattle.pssm_plan.specs.inner.Marks.{IsListed, IsMarked, IsLonger, IsTold, IsForgotten, ArePairwise};
+ghost use Rattle.pssm_legs.specs.Calls.{IsItemIn};
+ghost use Rattle.pssm_plan.specs.inner.Sequence.{IsRoster, IsExtended};
 
 use pssm_model::{Item, Machine};
 use std::alloc::{AllocError as NoMemory, Global};
@@ -131,6 +132,19 @@ fn tell_one(calls: &mut [Call], item: Item, hint: usize)
     }
 }
 
+// Says of each call that it has not looked at the others yet.
+fn forget_all(calls: &mut [Call])
+    ensures { ArePairwise IsForgotten calls.old calls.new }
+{
+    for k in 0..calls.len() {
+        calls[k] = Call {
+            blocked: false,
+            seen: 0,
+            ..calls[k]
+        };
+    }
+}
+
 /// The items that a step calls, each once.
 #[derive(Drop)]
 pub struct Roster {
@@ -150,7 +164,7 @@ impl Roster {
     // Lists an item that is not listed yet.
     fn push(&mut self, machine: &Machine, item: Item) -> Result<(), NoMemory>
         requires roster { IsRoster machine.now self.old.calls.items }
-        requires item { IsItemOf machine.now item }
+        requires item { IsItemIn machine.now item }
         requires fresh { IsListed self.old.calls.items item → ⊥ }
         ensures calls { IsLonger self.old.calls.items self.new.calls.items }
         ensures added { OnOk result (IsExtended machine.now self.old.calls.items (λ x. x ≡ item) self.new.calls.items) }
@@ -168,7 +182,7 @@ impl Roster {
     /// Lists an item where it is wanted and not listed yet.
     pub fn add(&mut self, machine: &Machine, item: Item, wanted: bool) -> Result<(), NoMemory>
         requires roster { IsRoster machine.now self.old.calls.items }
-        requires item { IsTrue wanted → IsItemOf machine.now item }
+        requires item { IsTrue wanted → IsItemIn machine.now item }
         ensures calls { IsLonger self.old.calls.items self.new.calls.items }
         ensures added { OnOk result (IsExtended machine.now self.old.calls.items
             (λ x. IsTrue wanted × (x ≡ item)) self.new.calls.items) }
@@ -178,6 +192,13 @@ impl Roster {
         } else {
             Ok(())
         }
+    }
+
+    /// Says of each item that it has not looked at the others yet.
+    pub fn forget(&mut self)
+        ensures forgot { ArePairwise IsForgotten self.old.calls.items self.new.calls.items }
+    {
+        forget_all(self.calls.as_mut_slice());
     }
 
     /// Says of an item that it has run. It is looked for from the hint on first.

@@ -1,21 +1,26 @@
 //! Which of the listed items wait for others.
 ghost use Rattle.std.specs.Prelude.{◌↔◌, ◌<◌, ◌^◌, IsTrue, Contains, length};
+ghost use Rattle.pssm_model.specs.SingleLegs.{HasSingleLegs};
+ghost use Rattle.pssm_legs.specs.Calls.{IsItemIn};
 ghost use Rattle.pssm_plan.specs.declared.roster.Call.{Call};
 ghost use Rattle.pssm_plan.specs.Waiting.{HoldsUp};
+ghost use Rattle.pssm_plan.specs.Ways.{AreWaysIn};
 ghost use Rattle.pssm_plan.specs.inner.Marks.{HasSeen, IsUpToDate, IsSettled, ArePairwise};
-ghost use Rattle.pssm_plan.specs.inner.Sequence.{IsItemOf, IsSequence, AreItemsOf};
+ghost use Rattle.pssm_plan.specs.inner.Sequence.{IsSequence, AreItemsOf};
 
-use crate::arrows::{comes_before, may_wait};
 use crate::roster::{Call, Roster};
+use crate::ways::{Way, comes_before, ways_of};
 use pssm_model::{Item, Machine};
 
 // Whether a call holds up an item: it comes before it and has not run.
-fn holds_up(machine: &Machine, on: Call, item: Item) -> bool
-    requires on { IsItemOf machine.now on.item }
-    requires item { IsItemOf machine.now item }
-    ensures { IsTrue result ↔ HoldsUp (IsSequence machine.now) on item }
+fn holds_up(machine: &Machine, ways: &[Way], on: Call, item: Item) -> bool
+    requires single { HasSingleLegs machine.now }
+    requires ways { AreWaysIn machine.now ways.now }
+    requires on { IsItemIn machine.now on.item }
+    requires item { IsItemIn machine.now item }
+    ensures { IsTrue result ↔ HoldsUp (IsSequence machine.now ways.now) on item }
 {
-    !on.ran && comes_before(machine, on.item, item)
+    !on.ran && comes_before(machine, ways, on.item, item)
 }
 
 // Whether a call is blocked by one that has not run yet, or has seen them all.
@@ -28,24 +33,21 @@ fn is_up_to_date(calls: &[Call], call: Call) -> bool
     }
 }
 
-// The call once it has looked further, for the first call that holds it up.
-fn look_on(machine: &Machine, calls: &[Call], call: Call) -> Call
+// The call once it has looked further, for the first call that holds it up. Of the ways, those that do not call its item
+// say nothing of it.
+fn look_on(machine: &Machine, ways: &[Way], calls: &[Call], call: Call) -> Call
+    requires single { HasSingleLegs machine.now }
+    requires ways { AreWaysIn machine.now ways.now }
     requires items { AreItemsOf machine.now calls.now }
-    requires item { IsItemOf machine.now call.item }
+    requires item { IsItemIn machine.now call.item }
     requires few { length calls.now < 2 ^ 32 }
-    requires seen { HasSeen (IsSequence machine.now) calls.now call }
-    ensures { IsSettled (IsSequence machine.now) calls.now call result }
+    requires seen { HasSeen (IsSequence machine.now ways.now) calls.now call }
+    ensures { IsSettled (IsSequence machine.now ways.now) calls.now call result }
 {
     let count = calls.len() as u32;
-    if !may_wait(machine, call.item) {
-        return Call {
-            seen: count,
-            blocked: false,
-            ..call
-        };
-    }
+    let near = ways_of(machine, ways, call.item);
     for place in call.seen..count {
-        if holds_up(machine, calls[place as usize], call.item) {
+        if holds_up(machine, near, calls[place as usize], call.item) {
             return Call {
                 blocked: true,
                 seen: place,
@@ -61,47 +63,34 @@ fn look_on(machine: &Machine, calls: &[Call], call: Call) -> Call
 }
 
 // Says of each call whether it waits, and for which one.
-fn settle_all(machine: &Machine, calls: &mut [Call])
+fn settle_all(machine: &Machine, ways: &[Way], calls: &mut [Call])
+    requires single { HasSingleLegs machine.now }
+    requires ways { AreWaysIn machine.now ways.now }
     requires items { AreItemsOf machine.now calls.old }
     requires few { length calls.old < 2 ^ 32 }
-    requires seen { (call : Call) → Contains calls.old call → HasSeen (IsSequence machine.now) calls.old call }
-    ensures { ArePairwise (IsSettled (IsSequence machine.now) calls.old) calls.old calls.new }
+    requires seen { (call : Call) → Contains calls.old call → HasSeen (IsSequence machine.now ways.now) calls.old call }
+    ensures { ArePairwise (IsSettled (IsSequence machine.now ways.now) calls.old) calls.old calls.new }
 {
     for k in 0..calls.len() {
         let call = calls[k];
         if !is_up_to_date(calls, call) {
-            calls[k] = look_on(machine, calls, call);
+            calls[k] = look_on(machine, ways, calls, call);
         }
     }
 }
 
 impl Roster {
     /// Says of each call whether it waits, and for which one.
-    pub fn settle(&mut self, machine: &Machine)
+    pub fn settle(&mut self, machine: &Machine, ways: &[Way])
+        requires single { HasSingleLegs machine.now }
+        requires ways { AreWaysIn machine.now ways.now }
         requires items { AreItemsOf machine.now self.old.calls.items }
         requires few { length self.old.calls.items < 2 ^ 32 }
         requires seen { (call : Call) → Contains self.old.calls.items call
-            → HasSeen (IsSequence machine.now) self.old.calls.items call }
-        ensures { ArePairwise (IsSettled (IsSequence machine.now) self.old.calls.items)
+            → HasSeen (IsSequence machine.now ways.now) self.old.calls.items call }
+        ensures { ArePairwise (IsSettled (IsSequence machine.now ways.now) self.old.calls.items)
             self.old.calls.items self.new.calls.items }
     {
-        settle_all(machine, self.calls.as_mut_slice());
-    }
-
-    /// Says it once more where the roster has grown, or the item that has run may have held up others.
-    pub fn settle_where(&mut self, machine: &Machine, grew: bool, holds: bool)
-        requires items { AreItemsOf machine.now self.old.calls.items }
-        requires few { length self.old.calls.items < 2 ^ 32 }
-        requires seen { (call : Call) → Contains self.old.calls.items call
-            → HasSeen (IsSequence machine.now) self.old.calls.items call }
-        requires still { (IsTrue grew → ⊥) → (IsTrue holds → ⊥)
-            → ArePairwise (IsSettled (IsSequence machine.now) self.old.calls.items)
-            self.old.calls.items self.old.calls.items }
-        ensures { ArePairwise (IsSettled (IsSequence machine.now) self.old.calls.items)
-            self.old.calls.items self.new.calls.items }
-    {
-        if grew || holds {
-            self.settle(machine);
-        }
+        settle_all(machine, ways, self.calls.as_mut_slice());
     }
 }

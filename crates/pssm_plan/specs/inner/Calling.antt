@@ -1,97 +1,96 @@
 -- Which items the parts of a step call, as a plan lists them.
-use Rattle.std.specs.Prelude.{◌≡◌, ◌⊎◌, ◌<◌, List, [], Some, Contains, length}
+use Rattle.std.specs.Prelude.{◌≡◌, ◌⊎◌, List, Some, Contains}
 use Rattle.pssm_model.specs.declared.ids.VertexId.{VertexId}
 use Rattle.pssm_model.specs.declared.ids.RegionId.{RegionId}
 use Rattle.pssm_model.specs.declared.ids.TransId.{TransId}
 use Rattle.pssm_model.specs.declared.elements.DraftMachine.{DraftMachine}
 use Rattle.pssm_model.specs.declared.elements.Owner.TheVariants.{Top, Region, State}
-use Rattle.pssm_model.specs.declared.steps.Route.{Route}
-use Rattle.pssm_model.specs.declared.steps.How.{How}
-use Rattle.pssm_model.specs.declared.steps.How.TheVariants.{By}
+use Rattle.pssm_model.specs.declared.steps.Mode.{Mode}
+use Rattle.pssm_model.specs.declared.steps.Mode.TheVariants.{Plain}
 use Rattle.pssm_model.specs.declared.steps.Item.{Item}
 use Rattle.pssm_model.specs.declared.steps.Item.TheVariants.{Exit, Effect, Enter, Opened, Pick}
-use Rattle.pssm_model.specs.declared.steps.Mode.TheVariants.{Plain}
 use Rattle.pssm_model.specs.Configuration.{Configuration}
-use Rattle.pssm_model.specs.Forest.{owner_of, LiesInState}
-use Rattle.pssm_model.specs.Routes.{single_route}
-use Rattle.pssm_plan.specs.inner.Single.{LiesInArea, IsEnteredBy, EndsIn, OpensBeside}
+use Rattle.pssm_model.specs.Forest.{owner_of}
+use Rattle.pssm_model.specs.Items.{restored_mode}
+use Rattle.pssm_plan.specs.declared.ways.Way.{Way}
 use Rattle.pssm_plan.specs.declared.roster.Call.{Call}
-use Rattle.pssm_plan.specs.inner.Sequence.{IsSequence, IsExtended}
-use Rattle.pssm_plan.specs.inner.Marks.{IsListed, IsMarked, IsTold, IsSettled, ArePairwise}
-
--- the opening of a region of the State in which the transition does not end
-abbrev pub IsOpeningOf : DraftMachine → VertexId → TransId → Item → Type 0
-IsOpeningOf m s t x = (r : RegionId) × (x ≡ Opened r Plain) × (owner_of m (Region r) ≡ Some (State s)) × (EndsIn m t r → ⊥)
-
--- the entry of a vertex that the transition enters, or where that has run what it opens
-abbrev pub IsEntryOf : DraftMachine → List Call → TransId → VertexId → Item → Type 0
-IsEntryOf m calls t v x = IsEnteredBy m t v × ((x ≡ Enter v) ⊎ (IsMarked calls (Enter v) × IsOpeningOf m v t x))
-
--- an entry that comes of the transition, of a State in its area in which its target lies
-abbrev pub IsEntryAround : DraftMachine → List Call → TransId → VertexId → Item → Type 0
-IsEntryAround m calls t target x = (s : VertexId) × LiesInArea m t s × LiesInState m target s × IsEntryOf m calls t s x
-
--- an entry that comes of the transition
-abbrev pub IsSomeEntryOf : DraftMachine → List Call → TransId → Item → Type 0
-IsSomeEntryOf m calls t x = (v : VertexId) × IsEntryOf m calls t v x
-
--- the opening of a region that the transition opens beside what it enters
-abbrev pub IsBeside : DraftMachine → TransId → Item → Type 0
-IsBeside m t x = (r : RegionId) × (x ≡ Opened r Plain) × OpensBeside m t r
-
--- the effect of the transition, an entry that comes of it, or an opening beside
-abbrev pub IsOfLeg : DraftMachine → List Call → TransId → Item → Type 0
-IsOfLeg m calls t x = (x ≡ Effect t) ⊎ IsSomeEntryOf m calls t x ⊎ IsBeside m t x
-
--- the exit of an active State in the area of the transition
-abbrev pub IsExitOf : DraftMachine → Configuration → TransId → Item → Type 0
-IsExitOf m now t x = (s : VertexId) × (x ≡ Exit s) × now.Active s × LiesInArea m t s
-
--- what the transition of an effect opens in a State that it enters
-abbrev pub IsOpenedAfter : DraftMachine → VertexId → Item → Item → Type 0
-IsOpenedAfter m s item x = (t : TransId) × (item ≡ Effect t) × IsEnteredBy m t s × IsOpeningOf m s t x
-
--- what the entry of the State opens
-abbrev pub IsOpenedBy : DraftMachine → List Call → VertexId → Item → Type 0
-IsOpenedBy m calls s x = (t : TransId) × IsListed calls (Effect t) × IsEnteredBy m t s × IsOpeningOf m s t x
+use Rattle.pssm_plan.specs.declared.progress.Restored.{Restored}
+use Rattle.pssm_plan.specs.Ways.{calls_by, opens_by}
+use Rattle.pssm_plan.specs.inner.Marks.{IsMarked}
+use Rattle.pssm_plan.specs.inner.Sequence.{IsOpenedBySome}
 
 -- the opening of a top region
 abbrev pub IsTopOpening : DraftMachine → Item → Type 0
 IsTopOpening m x = (r : RegionId) × (x ≡ Opened r Plain) × (owner_of m (Region r) ≡ Some Top)
 
--- a route of one transition
-abbrev pub IsSingle : DraftMachine → Route → Type 0
-IsSingle m route = (t : TransId) × (route ≡ single_route t) × (t.0 < length m.transitions)
+-- the exit of an active vertex that the way calls
+abbrev pub IsExitBy : DraftMachine → Configuration → Way → Item → Type 0
+IsExitBy m now way x = (s : VertexId) × (x ≡ Exit s) × now.Active s × calls_by m way x
 
--- an item of a route that fires
-abbrev pub IsOfRoute : DraftMachine → Configuration → List Call → Route → Item → Type 0
-IsOfRoute m now calls route x = (t : TransId) × (route ≡ single_route t) × (IsExitOf m now t x ⊎ IsOfLeg m calls t x)
+-- an effect that the way calls
+abbrev pub IsEffectBy : DraftMachine → Way → Item → Type 0
+IsEffectBy m way x = (t : TransId) × (x ≡ Effect t) × calls_by m way x
 
--- an item of one of the routes that fire
-abbrev pub IsOfRoutes : DraftMachine → Configuration → List Call → List Route → Item → Type 0
-IsOfRoutes m now calls routes x = (route : Route) × Contains routes route × IsOfRoute m now calls route x
+-- an entry that it calls
+abbrev pub IsEntryBy : DraftMachine → Way → Item → Type 0
+IsEntryBy m way x = (s : VertexId) × (x ≡ Enter s) × calls_by m way x
 
--- an item of the late route
-abbrev pub IsLate : DraftMachine → List Call → How → Item → Type 0
-IsLate m calls how x = (t : TransId) × (how ≡ By (single_route t)) × IsOfLeg m calls t x
+-- an opening in this mode that it calls
+abbrev pub IsOpeningBy : DraftMachine → Way → Mode → Item → Type 0
+IsOpeningBy m way mode x = (r : RegionId) × (x ≡ Opened r mode) × calls_by m way x
 
--- what an item calls once it has run in this way
-abbrev pub IsFollowing : DraftMachine → List Call → Item → How → Item → Type 0
-IsFollowing m calls (Enter s) how x = IsOpenedBy m calls s x
-IsFollowing m calls (Opened r mode) how x = IsLate m calls how x
-IsFollowing m calls (Pick c) how x = IsLate m calls how x
-IsFollowing m calls _ how x = ⊥
+-- a pick that it calls
+abbrev pub IsPickBy : DraftMachine → Way → Item → Type 0
+IsPickBy m way x = (c : VertexId) × (x ≡ Pick c) × calls_by m way x
 
--- the list of a roster that has these items, none of which has run
-pub record IsMadeOf (m : DraftMachine) (Added : Item → Type 0) (calls : List Call) : Type 0 where
-  pub first : List Call
-  pub extended : IsExtended m [] Added first
-  pub settled : ArePairwise (IsSettled (IsSequence m) first) first calls
+-- an item other than an exit
+abbrev pub IsNoExit : Item → Type 0
+IsNoExit (Exit s) = ⊥
+IsNoExit _ = Unit {0}
 
--- the list of a roster once an item of these calls has run in this way
-pub record IsRunIn (m : DraftMachine) (old : List Call) (item : Item) (how : How) (calls : List Call) : Type 0 where
-  pub grown : List Call
-  pub now : List Call
-  pub extended : IsExtended m old (IsFollowing m old item how) grown
-  pub told : ArePairwise (IsTold item) grown now
-  pub settled : ArePairwise (IsSettled (IsSequence m) now) now calls
+-- an item other than an exit that it calls
+abbrev pub IsOtherBy : DraftMachine → Way → Item → Type 0
+IsOtherBy m way x = IsNoExit x × calls_by m way x
+
+-- What it exits is active.
+abbrev pub MayRun : Configuration → Item → Type 0
+MayRun now (Exit s) = now.Active s
+MayRun now _ = Unit {0}
+
+-- an item of one of the ways that fire
+abbrev pub IsOfWays : DraftMachine → Configuration → List Way → Item → Type 0
+IsOfWays m now ways x = (way : Way) × Contains ways way × MayRun now x × calls_by m way x
+
+-- the opening of a region of a State whose entry has run, since the way enters it and does not aim at the region
+abbrev pub IsReopened : DraftMachine → List Call → Way → Item → Type 0
+IsReopened m calls way x =
+    (s : VertexId) × (r : RegionId) × (x ≡ Opened r Plain) × (owner_of m (Region r) ≡ Some (State s)) × IsMarked calls (Enter s) × opens_by m way s r
+
+-- what a late way calls
+abbrev pub IsLate : DraftMachine → List Call → Way → Item → Type 0
+IsLate m calls way x = IsOtherBy m way x ⊎ IsReopened m calls way x
+
+-- the opening of a region of the State in this mode
+abbrev pub IsOpeningOf : DraftMachine → VertexId → Mode → Item → Type 0
+IsOpeningOf m s mode x = (r : RegionId) × (x ≡ Opened r mode) × (owner_of m (Region r) ≡ Some (State s))
+
+-- what a State calls that is restored: its entry, and where that has run, the openings of its regions
+abbrev pub IsOfRestored : DraftMachine → List Call → Mode → VertexId → Item → Type 0
+IsOfRestored m calls mode s x = (x ≡ Enter s) ⊎ (IsMarked calls (Enter s) × IsOpeningOf m s (restored_mode mode) x)
+
+-- the opening of a region of the State by one of the ways
+abbrev pub IsDefaultOf : DraftMachine → List Way → VertexId → Item → Type 0
+IsDefaultOf m ways s x = (r : RegionId) × (x ≡ Opened r Plain) × (owner_of m (Region r) ≡ Some (State s)) × IsOpenedBySome m ways s r
+
+-- the opening of a region of the State since the State was restored
+abbrev pub IsRestoredOf : DraftMachine → List Restored → VertexId → Item → Type 0
+IsRestoredOf m restored s x = (mode : Mode) × Contains restored (record { mode = mode; state = s }) × IsOpeningOf m s (restored_mode mode) x
+
+-- what the entry of the State opens
+abbrev pub IsOpenedByEntry : DraftMachine → List Way → List Restored → VertexId → Item → Type 0
+IsOpenedByEntry m ways restored s x = IsDefaultOf m ways s x ⊎ IsRestoredOf m restored s x
+
+-- what an item calls once it has run, besides what it calls by its way
+abbrev pub IsEntered : DraftMachine → List Way → List Restored → Item → Item → Type 0
+IsEntered m ways restored (Enter s) x = IsOpenedByEntry m ways restored s x
+IsEntered m ways restored _ x = ⊥

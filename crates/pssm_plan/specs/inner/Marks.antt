@@ -27,6 +27,17 @@ pub record IsTold (item : Item) (old new : Call) : Type 0 where
   pub blocked : new.blocked ≡ old.blocked
   pub seen : new.seen ≡ old.seen
 
+-- The second call is of the same item, has run where the first has, and has not looked at the others yet.
+pub record IsForgotten (old new : Call) : Type 0 where
+  pub item_is : new.item ≡ old.item
+  pub ran : new.ran ≡ old.ran
+  pub fresh : IsFresh new
+
+-- The second call is of the same item, and has run where the first has or is of this item.
+pub record IsNoted (item : Item) (old new : Call) : Type 0 where
+  pub item_is : new.item ≡ old.item
+  pub ran : IsTrue new.ran ↔ (IsTrue old.ran ⊎ (old.item ≡ item))
+
 -- No call before the place that this one has seen holds it up, and where it is blocked, the one at that place comes before it.
 pub record HasSeen (Comes : Item → Item → Type 0) (calls : List Call) (call : Call) : Type 0 where
   pub within : call.seen ≤ length calls

@@ -1,42 +1,42 @@
--- Which of the items that a step calls come before which: it is seen from the items alone.
-use Rattle.std.specs.Prelude.{◌⊎◌, ◌<◌, ◌↔◌, ◌≢◌, List, length, Contains, AllPairs}
+-- Which of the items that a step calls come before which, in a step that goes by these ways; and the lists of its items.
+use Rattle.std.specs.Prelude.{◌⊎◌, ◌↔◌, ◌≢◌, List, Contains, AllPairs}
 use Rattle.pssm_model.specs.declared.ids.VertexId.{VertexId}
-use Rattle.pssm_model.specs.declared.ids.TransId.{TransId}
+use Rattle.pssm_model.specs.declared.ids.RegionId.{RegionId}
 use Rattle.pssm_model.specs.declared.elements.DraftMachine.{DraftMachine}
-use Rattle.pssm_model.specs.declared.elements.VertexKind.TheVariants as kinds
 use Rattle.pssm_model.specs.declared.steps.Item.{Item}
-use Rattle.pssm_model.specs.declared.steps.Item.TheVariants.{Exit, Effect, Enter, Opened, Pick}
-use Rattle.pssm_model.specs.declared.steps.Mode.TheVariants.{Plain}
-use Rattle.pssm_model.specs.Forest.{HasKind, LiesInState}
-use Rattle.pssm_model.specs.Legs.{Leaves}
-use Rattle.pssm_plan.specs.inner.Single.{LiesInArea, IsEnteredBy, OpensBeside}
+use Rattle.pssm_model.specs.declared.steps.Item.TheVariants.{Exit, Enter}
+use Rattle.pssm_model.specs.Forest.{LiesInState}
+use Rattle.pssm_legs.specs.Calls.{IsItemIn}
+use Rattle.pssm_plan.specs.declared.ways.Way.{Way}
 use Rattle.pssm_plan.specs.declared.roster.Call.{Call}
+use Rattle.pssm_plan.specs.Ways.{calls_by, opens_by, orders_by}
 use Rattle.pssm_plan.specs.inner.Marks.{IsListed, IsMarked, IsFresh}
 
--- What the item names is there.
-abbrev pub IsItemOf : DraftMachine → Item → Type 0
-IsItemOf m (Exit s) = s.0 < length m.vertices
-IsItemOf m (Effect t) = t.0 < length m.transitions
-IsItemOf m (Enter s) = s.0 < length m.vertices
-IsItemOf m (Opened r mode) = r.0 < length m.regions
-IsItemOf m (Pick c) = c.0 < length m.vertices
+-- One of the ways calls the item.
+abbrev pub IsCalledBySome : DraftMachine → List Way → Item → Type 0
+IsCalledBySome m ways x = (way : Way) × Contains ways way × calls_by m way x
 
--- The transition leaves a State, and so no late route goes by it.
-abbrev pub LeavesState : DraftMachine → TransId → Type 0
-LeavesState m t = (s : VertexId) × Leaves m t s × HasKind m s kinds.State
+-- One of the ways opens the region of the State.
+abbrev pub IsOpenedBySome : DraftMachine → List Way → VertexId → RegionId → Type 0
+IsOpenedBySome m ways s r = (way : Way) × Contains ways way × opens_by m way s r
+
+-- One of the ways orders the items so.
+abbrev pub IsOrderedBySome : DraftMachine → List Way → Item → Item → Type 0
+IsOrderedBySome m ways x y = (way : Way) × Contains ways way × orders_by m way x y
+
+-- exits from within, entries from without
+abbrev pub IsNestedPair : DraftMachine → Item → Item → Type 0
+IsNestedPair m (Exit s) (Exit q) = LiesInState m s q
+IsNestedPair m (Enter s) (Enter q) = LiesInState m q s
+IsNestedPair m _ _ = ⊥
 
 -- The first of two called items comes before the second.
-abbrev pub IsSequence : DraftMachine → Item → Item → Type 0
-IsSequence m (Exit s) (Exit q) = LiesInState m s q
-IsSequence m (Exit s) (Effect t) = LeavesState m t × LiesInArea m t s
-IsSequence m (Effect t) (Enter s) = IsEnteredBy m t s
-IsSequence m (Effect t) (Opened r Plain) = OpensBeside m t r
-IsSequence m (Enter s) (Enter q) = LiesInState m q s
-IsSequence m _ _ = ⊥
+abbrev pub IsSequence : DraftMachine → List Way → Item → Item → Type 0
+IsSequence m ways x y = IsNestedPair m x y ⊎ IsOrderedBySome m ways x y
 
 -- What each listed item names is there.
 abbrev pub AreItemsOf : DraftMachine → List Call → Type 0
-AreItemsOf m calls = (item : Item) → IsListed calls item → IsItemOf m item
+AreItemsOf m calls = (item : Item) → IsListed calls item → IsItemIn m item
 
 -- The list is that of a roster: its items are there, and none is listed twice.
 pub record IsRoster (m : DraftMachine) (calls : List Call) : Type 0 where

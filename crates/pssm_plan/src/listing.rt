@@ -1,0 +1,338 @@
+//! Lists the items that the parts of a step call.
+ghost use Rattle.std.specs.Prelude.{◌≡◌, ◌⊎◌, ◌↔◌, ◌<◌, Some, IsTrue, OnOk, Contains, length};
+ghost use Rattle.pssm_model.specs.declared.steps.Item.{Item as Called};
+ghost use Rattle.pssm_model.specs.Items.{restored_mode as opened_mode};
+ghost use Rattle.pssm_model.specs.SingleLegs.{HasSingleLegs};
+ghost use Rattle.pssm_config.specs.Tables.{Fits, configuration_of};
+ghost use Rattle.pssm_legs.specs.Calls.{IsItemIn};
+ghost use Rattle.pssm_plan.specs.Ways.{IsWayIn, AreWaysIn, calls_by};
+ghost use Rattle.pssm_plan.specs.inner.Marks.{IsListed, IsLonger};
+ghost use Rattle.pssm_plan.specs.inner.Sequence.{IsRoster, IsExtended};
+ghost use Rattle.pssm_plan.specs.inner.Calling.{IsTopOpening, IsExitBy, IsEffectBy, IsEntryBy, IsOpeningBy, IsPickBy};
+ghost use Rattle.pssm_plan.specs.inner.Calling.{IsOtherBy, IsReopened, IsLate, IsOfRestored, IsOpeningOf, MayRun};
+ghost use Rattle.pssm_plan.specs.inner.Calling.{IsDefaultOf, IsRestoredOf, IsOpenedByEntry, IsEntered};
+
+use crate::progress::Restored;
+use crate::roster::{Call, Roster, has_run};
+use crate::ways::{Way, some_way_opens, way_calls, way_opens};
+use pssm_config::Config;
+use pssm_model::{Item, Machine, Mode, Owner, RegionId, TransId, VertexId};
+use std::alloc::AllocError as NoMemory;
+
+/// Whether a listed item is one that the way calls.
+pub fn meets(machine: &Machine, calls: &[Call], way: &Way) -> bool
+    requires single { HasSingleLegs machine.now }
+    requires way { IsWayIn machine.now way.now }
+    requires items { (x : Called) → IsListed calls.now x → IsItemIn machine.now x }
+    ensures { IsTrue result ↔ ((x : Called) × IsListed calls.now x × calls_by machine.now way.now x) }
+{
+    for call in calls {
+        if way_calls(machine, way, call.item) {
+            return true;
+        }
+    }
+    false
+}
+
+impl Roster {
+    /// Lists the openings of the top regions.
+    pub fn list_tops(&mut self, machine: &Machine) -> Result<(), NoMemory>
+        requires roster { IsRoster machine.now self.old.calls.items }
+        ensures calls { IsLonger self.old.calls.items self.new.calls.items }
+        ensures added { OnOk result (IsExtended machine.now self.old.calls.items
+            (IsTopOpening machine.now) self.new.calls.items) }
+    {
+        for r in machine.top_regions() {
+            self.add(machine, Item::Opened(*r, Mode::Plain), true)?;
+        }
+        Ok(())
+    }
+
+    // Lists the exits of what is active where a way exits.
+    fn list_exits(&mut self, machine: &Machine, config: &Config, way: &Way) -> Result<(), NoMemory>
+        requires single { HasSingleLegs machine.now }
+        requires roster { IsRoster machine.now self.old.calls.items }
+        requires fits { Fits machine.now config.now }
+        requires way { IsWayIn machine.now way.now }
+        ensures calls { IsLonger self.old.calls.items self.new.calls.items }
+        ensures added { OnOk result (IsExtended machine.now self.old.calls.items
+            (IsExitBy machine.now (configuration_of config.now) way.now) self.new.calls.items) }
+    {
+        for number in 0..machine.vertices() {
+            let exit = Item::Exit(VertexId(number));
+            let wanted = config.is_active(VertexId(number)) && way_calls(machine, way, exit);
+            self.add(machine, exit, wanted)?;
+        }
+        Ok(())
+    }
+
+    // Lists the effects that a way calls.
+    fn list_effects(&mut self, machine: &Machine, way: &Way) -> Result<(), NoMemory>
+        requires single { HasSingleLegs machine.now }
+        requires roster { IsRoster machine.now self.old.calls.items }
+        requires way { IsWayIn machine.now way.now }
+        ensures calls { IsLonger self.old.calls.items self.new.calls.items }
+        ensures added { OnOk result (IsExtended machine.now self.old.calls.items
+            (IsEffectBy machine.now way.now) self.new.calls.items) }
+    {
+        for number in 0..machine.transitions() {
+            let effect = Item::Effect(TransId(number));
+            let wanted = way_calls(machine, way, effect);
+            self.add(machine, effect, wanted)?;
+        }
+        Ok(())
+    }
+
+    // Lists the entries that a way calls.
+    fn list_entries(&mut self, machine: &Machine, way: &Way) -> Result<(), NoMemory>
+        requires single { HasSingleLegs machine.now }
+        requires roster { IsRoster machine.now self.old.calls.items }
+        requires way { IsWayIn machine.now way.now }
+        ensures calls { IsLonger self.old.calls.items self.new.calls.items }
+        ensures added { OnOk result (IsExtended machine.now self.old.calls.items
+            (IsEntryBy machine.now way.now) self.new.calls.items) }
+    {
+        for number in 0..machine.vertices() {
+            let entry = Item::Enter(VertexId(number));
+            let wanted = way_calls(machine, way, entry);
+            self.add(machine, entry, wanted)?;
+        }
+        Ok(())
+    }
+
+    // Lists the openings in a mode that a way calls.
+    fn list_openings(&mut self, machine: &Machine, way: &Way, mode: Mode) -> Result<(), NoMemory>
+        requires single { HasSingleLegs machine.now }
+        requires roster { IsRoster machine.now self.old.calls.items }
+        requires way { IsWayIn machine.now way.now }
+        ensures calls { IsLonger self.old.calls.items self.new.calls.items }
+        ensures added { OnOk result (IsExtended machine.now self.old.calls.items
+            (IsOpeningBy machine.now way.now mode) self.new.calls.items) }
+    {
+        for number in 0..machine.regions() {
+            let opening = Item::Opened(RegionId(number), mode);
+            let wanted = way_calls(machine, way, opening);
+            self.add(machine, opening, wanted)?;
+        }
+        Ok(())
+    }
+
+    // Lists the picks that a way calls.
+    fn list_picks(&mut self, machine: &Machine, way: &Way) -> Result<(), NoMemory>
+        requires single { HasSingleLegs machine.now }
+        requires roster { IsRoster machine.now self.old.calls.items }
+        requires way { IsWayIn machine.now way.now }
+        ensures calls { IsLonger self.old.calls.items self.new.calls.items }
+        ensures added { OnOk result (IsExtended machine.now self.old.calls.items
+            (IsPickBy machine.now way.now) self.new.calls.items) }
+    {
+        for number in 0..machine.vertices() {
+            let pick = Item::Pick(VertexId(number));
+            let wanted = way_calls(machine, way, pick);
+            self.add(machine, pick, wanted)?;
+        }
+        Ok(())
+    }
+
+    // Lists what a way calls, but for exits.
+    fn list_others(&mut self, machine: &Machine, way: &Way) -> Result<(), NoMemory>
+        requires single { HasSingleLegs machine.now }
+        requires roster { IsRoster machine.now self.old.calls.items }
+        requires way { IsWayIn machine.now way.now }
+        ensures calls { IsLonger self.old.calls.items self.new.calls.items }
+        ensures added { OnOk result (IsExtended machine.now self.old.calls.items
+            (IsOtherBy machine.now way.now) self.new.calls.items) }
+    {
+        self.list_effects(machine, way)?;
+        self.list_entries(machine, way)?;
+        self.list_openings(machine, way, Mode::Plain)?;
+        self.list_openings(machine, way, Mode::Shallow)?;
+        self.list_openings(machine, way, Mode::Deep)?;
+        self.list_picks(machine, way)
+    }
+
+    /// Lists what a way calls that fires.
+    pub fn list_fired(&mut self, machine: &Machine, config: &Config, way: &Way) -> Result<(), NoMemory>
+        requires single { HasSingleLegs machine.now }
+        requires roster { IsRoster machine.now self.old.calls.items }
+        requires fits { Fits machine.now config.now }
+        requires way { IsWayIn machine.now way.now }
+        ensures calls { IsLonger self.old.calls.items self.new.calls.items }
+        ensures added { OnOk result (IsExtended machine.now self.old.calls.items
+            (λ x. MayRun (configuration_of config.now) x × calls_by machine.now way.now x) self.new.calls.items) }
+    {
+        self.list_exits(machine, config, way)?;
+        self.list_others(machine, way)
+    }
+
+    // Whether the region is one of a State whose entry has run, and opens now since the way enters the State.
+    fn is_reopened(&self, machine: &Machine, way: &Way, r: RegionId) -> bool
+        requires single { HasSingleLegs machine.now }
+        requires way { IsWayIn machine.now way.now }
+        requires region { r.0 < length machine.now.regions }
+        ensures { IsTrue result ↔ IsReopened machine.now self.now.calls.items way.now (Called.Opened r Mode.Plain) }
+    {
+        let _shaped = machine.regions();
+        match machine.region_owner(r) {
+            Owner::State(s) => {
+                way_opens(machine, way, s, r) && has_run(self.calls.as_slice(), Item::Enter(s))
+            }
+            Owner::Top | Owner::Region(_) => false,
+        }
+    }
+
+    // Lists the openings of regions of States whose entries have run, and which a way enters once more.
+    fn list_reopened(&mut self, machine: &Machine, way: &Way) -> Result<(), NoMemory>
+        requires single { HasSingleLegs machine.now }
+        requires roster { IsRoster machine.now self.old.calls.items }
+        requires way { IsWayIn machine.now way.now }
+        ensures calls { IsLonger self.old.calls.items self.new.calls.items }
+        ensures added { OnOk result (IsExtended machine.now self.old.calls.items
+            (IsReopened machine.now self.old.calls.items way.now) self.new.calls.items) }
+    {
+        for number in 0..machine.regions() {
+            let reopened = self.is_reopened(machine, way, RegionId(number));
+            self.add(machine, Item::Opened(RegionId(number), Mode::Plain), reopened)?;
+        }
+        Ok(())
+    }
+
+    /// Lists what a late way calls.
+    pub fn list_late(&mut self, machine: &Machine, way: &Way) -> Result<(), NoMemory>
+        requires single { HasSingleLegs machine.now }
+        requires roster { IsRoster machine.now self.old.calls.items }
+        requires way { IsWayIn machine.now way.now }
+        ensures calls { IsLonger self.old.calls.items self.new.calls.items }
+        ensures added { OnOk result (IsExtended machine.now self.old.calls.items
+            (IsLate machine.now self.old.calls.items way.now) self.new.calls.items) }
+    {
+        self.list_others(machine, way)?;
+        self.list_reopened(machine, way)
+    }
+
+    // Lists the openings of a State's regions in a mode, where this is wanted.
+    fn list_regions(
+        &mut self,
+        machine: &Machine,
+        s: VertexId,
+        mode: Mode,
+        wanted: bool,
+    ) -> Result<(), NoMemory>
+        requires roster { IsRoster machine.now self.old.calls.items }
+        requires state { s.0 < length machine.now.vertices }
+        ensures calls { IsLonger self.old.calls.items self.new.calls.items }
+        ensures added { OnOk result (IsExtended machine.now self.old.calls.items
+            (λ x. IsTrue wanted × IsOpeningOf machine.now s mode x) self.new.calls.items) }
+    {
+        for r in machine.regions_of(s) {
+            self.add(machine, Item::Opened(*r, mode), wanted)?;
+        }
+        Ok(())
+    }
+
+    /// Lists what a State calls that is restored: its entry, and where that has run, the openings of its regions.
+    pub fn list_restored(
+        &mut self,
+        machine: &Machine,
+        mode: Mode,
+        s: VertexId,
+    ) -> Result<(), NoMemory>
+        requires roster { IsRoster machine.now self.old.calls.items }
+        requires state { s.0 < length machine.now.vertices }
+        ensures calls { IsLonger self.old.calls.items self.new.calls.items }
+        ensures added { OnOk result (IsExtended machine.now self.old.calls.items
+            (IsOfRestored machine.now self.old.calls.items mode s) self.new.calls.items) }
+    {
+        self.add(machine, Item::Enter(s), true)?;
+        let ran = has_run(self.calls.as_slice(), Item::Enter(s));
+        self.list_regions(machine, s, restored_mode(mode), ran)
+    }
+
+    // Lists the openings of a State's regions that open since one of the ways enters the State.
+    fn list_defaults(&mut self, machine: &Machine, ways: &[Way], s: VertexId) -> Result<(), NoMemory>
+        requires single { HasSingleLegs machine.now }
+        requires roster { IsRoster machine.now self.old.calls.items }
+        requires ways { AreWaysIn machine.now ways.now }
+        requires state { s.0 < length machine.now.vertices }
+        ensures calls { IsLonger self.old.calls.items self.new.calls.items }
+        ensures added { OnOk result (IsExtended machine.now self.old.calls.items
+            (IsDefaultOf machine.now ways.now s) self.new.calls.items) }
+    {
+        for r in machine.regions_of(s) {
+            let opens = some_way_opens(machine, ways, s, *r);
+            self.add(machine, Item::Opened(*r, Mode::Plain), opens)?;
+        }
+        Ok(())
+    }
+
+    // Lists the openings of the regions of a State that has been restored.
+    fn list_as_restored(
+        &mut self,
+        machine: &Machine,
+        restored: &[Restored],
+        s: VertexId,
+    ) -> Result<(), NoMemory>
+        requires roster { IsRoster machine.now self.old.calls.items }
+        requires state { s.0 < length machine.now.vertices }
+        ensures calls { IsLonger self.old.calls.items self.new.calls.items }
+        ensures added { OnOk result (IsExtended machine.now self.old.calls.items
+            (IsRestoredOf machine.now restored.now s) self.new.calls.items) }
+    {
+        for one in restored {
+            self.list_regions(machine, s, restored_mode(one.mode), one.state == s)?;
+        }
+        Ok(())
+    }
+
+    // Lists what the entry of a State opens.
+    fn list_opened(
+        &mut self,
+        machine: &Machine,
+        ways: &[Way],
+        restored: &[Restored],
+        s: VertexId,
+    ) -> Result<(), NoMemory>
+        requires single { HasSingleLegs machine.now }
+        requires roster { IsRoster machine.now self.old.calls.items }
+        requires ways { AreWaysIn machine.now ways.now }
+        requires state { s.0 < length machine.now.vertices }
+        ensures calls { IsLonger self.old.calls.items self.new.calls.items }
+        ensures added { OnOk result (IsExtended machine.now self.old.calls.items
+            (IsOpenedByEntry machine.now ways.now restored.now s) self.new.calls.items) }
+    {
+        self.list_defaults(machine, ways, s)?;
+        self.list_as_restored(machine, restored, s)
+    }
+
+    /// Lists what an item calls once it has run, besides what it calls by its way.
+    pub fn list_entered(
+        &mut self,
+        machine: &Machine,
+        ways: &[Way],
+        restored: &[Restored],
+        item: Item,
+    ) -> Result<(), NoMemory>
+        requires single { HasSingleLegs machine.now }
+        requires roster { IsRoster machine.now self.old.calls.items }
+        requires ways { AreWaysIn machine.now ways.now }
+        requires item { IsItemIn machine.now item }
+        ensures calls { IsLonger self.old.calls.items self.new.calls.items }
+        ensures added { OnOk result (IsExtended machine.now self.old.calls.items
+            (IsEntered machine.now ways.now restored.now item) self.new.calls.items) }
+    {
+        match item {
+            Item::Enter(s) => self.list_opened(machine, ways, restored, s),
+            Item::Exit(_) | Item::Effect(_) | Item::Opened(_, _) | Item::Pick(_) => Ok(()),
+        }
+    }
+}
+
+// How the regions of a restored State open: by default after a shallow history, deeply after a deep one.
+fn restored_mode(mode: Mode) -> Mode
+    ensures { result ≡ opened_mode mode }
+{
+    match mode {
+        Mode::Plain | Mode::Shallow => Mode::Plain,
+        Mode::Deep => Mode::Deep,
+    }
+}

@@ -1,0 +1,321 @@
+//! How far a step has come: the items that it calls, the routes by which it goes, and what it has restored.
+ghost use Rattle.std.specs.Prelude.{◌^◌, ◌≡◌, ◌<◌, [], length, take, Contains, OnOk, OnErr, IfOk, IsTrue};
+ghost use Rattle.pssm_model.specs.declared.steps.Route.{Route as TheRoute};
+ghost use Rattle.pssm_model.specs.Routes.{IsRoute};
+ghost use Rattle.pssm_model.specs.SingleLegs.{HasSingleLegs};
+ghost use Rattle.pssm_config.specs.Tables.{Fits, configuration_of};
+ghost use Rattle.pssm_legs.specs.Calls.{IsItemIn};
+ghost use Rattle.pssm_plan.specs.declared.roster.Call.{Call};
+ghost use Rattle.pssm_plan.specs.Waiting.{IsExact};
+ghost use Rattle.pssm_plan.specs.Ways.{AreWaysIn};
+ghost use Rattle.pssm_plan.specs.inner.Marks.{IsFresh, HasSeen, IsSettled, ArePairwise};
+ghost use Rattle.pssm_plan.specs.inner.Sequence.{IsSequence, AreItemsOf, IsRoster, IsExtended};
+ghost use Rattle.pssm_plan.specs.inner.Calling.{IsTopOpening, IsOfWays};
+ghost use Rattle.pssm_plan.specs.inner.Going.{IsMadeOf, AreFired, CanRunSo, KeepsOrder, IsLongerProgress};
+ghost use Rattle.pssm_plan.specs.inner.Going.{IsFollowedBy, IsFollowedRestoring, IsFollowedPlainly, IsFollowedSo};
+ghost use Rattle.pssm_plan.specs.inner.Going.{IsFinished, IsRunSo, IsUnchanged};
+
+use crate::listing::meets;
+use crate::roster::Roster;
+use crate::ways::{Way, way_of};
+use pssm_config::Config;
+use pssm_model::{How, Item, Machine, Mode, Route, VertexId};
+use std::alloc::{AllocError as NoMemory, Global};
+
+/// A State that an opening has restored, in the mode of that opening.
+#[derive(Clone, Copy, PartialEq, Eq, Debug)]
+pub struct Restored {
+    pub mode: Mode,
+    pub state: VertexId,
+}
+
+/// How far a step has come.
+#[derive(Drop)]
+pub struct Progress {
+    pub roster: Roster,
+    pub ways: Vec<Way>,
+    pub restored: Vec<Restored>,
+}
+
+/// The most items that a plan lists; for more there is no memory.
+const MOST_CALLS: usize = 4_294_967_295;
+
+// Lists what each of the ways calls that fire.
+fn list_all_fired(
+    roster: &mut Roster,
+    machine: &Machine,
+    config: &Config,
+    ways: &[Way],
+) -> Result<(), NoMemory>
+    requires single { HasSingleLegs machine.now }
+    requires roster { IsRoster machine.now roster.old.calls.items }
+    requires fits { Fits machine.now config.now }
+    requires ways { AreWaysIn machine.now ways.now }
+    ensures added { OnOk result (IsExtended machine.now roster.old.calls.items
+        (IsOfWays machine.now (configuration_of config.now) ways.now) roster.new.calls.items) }
+{
+    for way in ways {
+        roster.list_fired(machine, config, way)?;
+    }
+    Ok(())
+}
+
+// Puts the ways of routes that fire into a list that is empty.
+fn add_ways(
+    alloc: Global,
+    ways: &mut Vec<Way>,
+    machine: &Machine,
+    routes: &[Route],
+) -> Result<(), NoMemory>
+    requires single { HasSingleLegs machine.now }
+    requires routes { (p : TheRoute) → Contains routes.now p → IsRoute machine.now p }
+    requires none { ways.old.items ≡ [] }
+    ensures { OnOk result (AreFired machine.now routes.now ways.new.items) }
+{
+    for route in routes {
+        let way = way_of(alloc, machine, route, true)?;
+        ways.push(way)?;
+    }
+    Ok(())
+}
+
+// Settles a roster of items of which none has looked at the others yet, where they are not too many.
+fn settle_first(roster: &mut Roster, machine: &Machine, ways: &[Way]) -> Result<(), NoMemory>
+    requires single { HasSingleLegs machine.now }
+    requires ways { AreWaysIn machine.now ways.now }
+    requires items { AreItemsOf machine.now roster.old.calls.items }
+    requires fresh { (call : Call) → Contains roster.old.calls.items call → IsFresh call }
+    ensures few { OnOk result (length roster.new.calls.items < 2 ^ 32) }
+    ensures settled { OnOk result (ArePairwise (IsSettled (IsSequence machine.now ways.now) roster.old.calls.items)
+        roster.old.calls.items roster.new.calls.items) }
+{
+    if roster.calls.as_slice().len() > MOST_CALLS {
+        return Err(NoMemory);
+    }
+    roster.settle(machine, ways);
+    Ok(())
+}
+
+impl Progress {
+    /// Nothing yet.
+    pub fn new(alloc: Global) -> Progress
+        ensures calls { result.roster.calls.items ≡ [] }
+        ensures ways { result.ways.items ≡ [] }
+        ensures restored { result.restored.items ≡ [] }
+    {
+        Progress {
+            roster: Roster::new(alloc),
+            ways: Vec::new(alloc),
+            restored: Vec::new(alloc),
+        }
+    }
+
+    /// The progress of a start.
+    pub fn of_start(alloc: Global, machine: &Machine) -> Result<Progress, NoMemory>
+        requires single { HasSingleLegs machine.now }
+        ensures few { IfOk result (λ progress. length progress.roster.calls.items < 2 ^ 32) }
+        ensures ways { IfOk result (λ progress. progress.ways.items ≡ []) }
+        ensures restored { IfOk result (λ progress. progress.restored.items ≡ []) }
+        ensures made { IfOk result (λ progress. IsMadeOf machine.now [] (IsTopOpening machine.now) progress.roster.calls.items) }
+    {
+        let mut progress = Progress::new(alloc);
+        progress.roster.list_tops(machine)?;
+        settle_first(&mut progress.roster, machine, &[])?;
+        Ok(progress)
+    }
+
+    /// The progress of routes that fire.
+    pub fn of_routes(
+        alloc: Global,
+        machine: &Machine,
+        config: &Config,
+        routes: &[Route],
+    ) -> Result<Progress, NoMemory>
+        requires single { HasSingleLegs machine.now }
+        requires fits { Fits machine.now config.now }
+        requires routes { (p : TheRoute) → Contains routes.now p → IsRoute machine.now p }
+        ensures few { IfOk result (λ progress. length progress.roster.calls.items < 2 ^ 32) }
+        ensures ways { IfOk result (λ progress. AreFired machine.now routes.now progress.ways.items) }
+        ensures restored { IfOk result (λ progress. progress.restored.items ≡ []) }
+        ensures made { IfOk result (λ progress. IsMadeOf machine.now progress.ways.items
+            (IsOfWays machine.now (configuration_of config.now) progress.ways.items) progress.roster.calls.items) }
+    {
+        let mut progress = Progress::new(alloc);
+        progress.renew(alloc, machine, config, routes)?;
+        Ok(progress)
+    }
+
+    /// Becomes the progress of routes that fire.
+    pub fn renew(
+        &mut self,
+        alloc: Global,
+        machine: &Machine,
+        config: &Config,
+        routes: &[Route],
+    ) -> Result<(), NoMemory>
+        requires single { HasSingleLegs machine.now }
+        requires fits { Fits machine.now config.now }
+        requires routes { (p : TheRoute) → Contains routes.now p → IsRoute machine.now p }
+        ensures few { OnOk result (length self.new.roster.calls.items < 2 ^ 32) }
+        ensures ways { OnOk result (AreFired machine.now routes.now self.new.ways.items) }
+        ensures restored { OnOk result (self.new.restored.items ≡ []) }
+        ensures made { OnOk result (IsMadeOf machine.now self.new.ways.items
+            (IsOfWays machine.now (configuration_of config.now) self.new.ways.items) self.new.roster.calls.items) }
+    {
+        self.roster.calls.clear();
+        self.ways.clear();
+        self.restored.clear();
+        add_ways(alloc, &mut self.ways, machine, routes)?;
+        list_all_fired(&mut self.roster, machine, config, self.ways.as_slice())?;
+        settle_first(&mut self.roster, machine, self.ways.as_slice())
+    }
+
+    // Gives up what was listed, gone by and restored beyond these numbers.
+    fn undo(&mut self, calls: usize, ways: usize, restored: usize)
+        ensures calls { self.new.roster.calls.items ≡ take calls self.old.roster.calls.items }
+        ensures ways { self.new.ways.items ≡ take ways self.old.ways.items }
+        ensures restored { self.new.restored.items ≡ take restored self.old.restored.items }
+    {
+        self.roster.calls.truncate(calls);
+        self.ways.truncate(ways);
+        self.restored.truncate(restored);
+    }
+
+    // Goes by a late route, and lists what this calls. It is true where the route calls something that was listed
+    // already, so that none may rely on what it has seen.
+    fn follow_route(
+        &mut self,
+        alloc: Global,
+        machine: &Machine,
+        route: &Route,
+    ) -> Result<bool, NoMemory>
+        requires single { HasSingleLegs machine.now }
+        requires roster { IsRoster machine.now self.old.roster.calls.items }
+        requires route { IsRoute machine.now route.now }
+        ensures longer { IsLongerProgress self.old self.new }
+        ensures followed { OnOk result (IsFollowedBy machine.now self.old route.now self.new) }
+        ensures kept { IfOk result (λ anew. (IsTrue anew → ⊥)
+            → KeepsOrder machine.now self.old.roster.calls.items self.old.ways.items self.new.ways.items) }
+    {
+        let way = way_of(alloc, machine, route, false)?;
+        let anew = meets(machine, self.roster.calls.as_slice(), &way);
+        self.roster.list_late(machine, &way)?;
+        self.ways.push(way)?;
+        Ok(anew)
+    }
+
+    // Restores a State, and lists what this calls.
+    fn follow_restore(&mut self, machine: &Machine, mode: Mode, s: VertexId) -> Result<(), NoMemory>
+        requires roster { IsRoster machine.now self.old.roster.calls.items }
+        requires state { s.0 < length machine.now.vertices }
+        ensures longer { IsLongerProgress self.old self.new }
+        ensures followed { OnOk result (IsFollowedRestoring machine.now self.old mode s self.new) }
+    {
+        self.roster.list_restored(machine, mode, s)?;
+        self.restored.push(Restored { mode, state: s })?;
+        Ok(())
+    }
+
+    // Lists what an item calls that runs without a way.
+    fn follow_plainly(&mut self, machine: &Machine, item: Item) -> Result<(), NoMemory>
+        requires single { HasSingleLegs machine.now }
+        requires roster { IsRoster machine.now self.old.roster.calls.items }
+        requires ways { AreWaysIn machine.now self.old.ways.items }
+        requires item { IsItemIn machine.now item }
+        ensures longer { IsLongerProgress self.old self.new }
+        ensures followed { OnOk result (IsFollowedPlainly machine.now self.old item self.new) }
+    {
+        let ways = self.ways.as_slice();
+        let restored = self.restored.as_slice();
+        self.roster.list_entered(machine, ways, restored, item)
+    }
+
+    // Lists what an item calls that runs in this way. It is true where none may rely on what it has seen.
+    fn follow(
+        &mut self,
+        alloc: Global,
+        machine: &Machine,
+        item: Item,
+        how: &How,
+    ) -> Result<bool, NoMemory>
+        requires single { HasSingleLegs machine.now }
+        requires roster { IsRoster machine.now self.old.roster.calls.items }
+        requires ways { AreWaysIn machine.now self.old.ways.items }
+        requires item { IsItemIn machine.now item }
+        requires way { CanRunSo machine.now item how.now }
+        ensures longer { IsLongerProgress self.old self.new }
+        ensures followed { OnOk result (IsFollowedSo machine.now self.old item how.now self.new) }
+        ensures kept { IfOk result (λ anew. (IsTrue anew → ⊥)
+            → KeepsOrder machine.now self.old.roster.calls.items self.old.ways.items self.new.ways.items) }
+    {
+        match (how, item) {
+            (How::By(route), _) => return self.follow_route(alloc, machine, route),
+            (How::Restore(s), Item::Opened(_, mode)) => self.follow_restore(machine, mode, *s)?,
+            (How::Restore(_), _) => unreachable!(),
+            (How::Nothing, _) => self.follow_plainly(machine, item)?,
+        }
+        Ok(false)
+    }
+
+    /// Notes that a listed item runs in this way, and lists what it calls, all of it or nothing. The item is looked for
+    /// from the hint on first.
+    pub fn run(
+        &mut self,
+        alloc: Global,
+        machine: &Machine,
+        item: Item,
+        how: &How,
+        hint: usize,
+    ) -> Result<(), NoMemory>
+        requires single { HasSingleLegs machine.now }
+        requires roster { IsRoster machine.now self.old.roster.calls.items }
+        requires ways { AreWaysIn machine.now self.old.ways.items }
+        requires item { IsItemIn machine.now item }
+        requires exact { (call : Call) → Contains self.old.roster.calls.items call
+            → IsExact (IsSequence machine.now self.old.ways.items) self.old.roster.calls.items call }
+        requires way { CanRunSo machine.now item how.now }
+        ensures ran { OnOk result (IsRunSo machine.now self.old item how.now self.new) }
+        ensures few { OnOk result (length self.new.roster.calls.items < 2 ^ 32) }
+        ensures refused { OnErr result (IsUnchanged self.old self.new) }
+    {
+        let calls = self.roster.calls.len();
+        let ways = self.ways.len();
+        let restored = self.restored.len();
+        let outcome = self.follow(alloc, machine, item, how);
+        match outcome {
+            Ok(anew) if self.roster.calls.len() <= MOST_CALLS => {
+                finish(&mut self.roster, machine, self.ways.as_slice(), item, hint, anew);
+                Ok(())
+            }
+            Ok(_) | Err(_) => {
+                self.undo(calls, ways, restored);
+                Err(NoMemory)
+            }
+        }
+    }
+}
+
+// Notes that an item has run, and says of each call once more for which one it waits; `anew` where none may rely on what
+// it has seen.
+fn finish(
+    roster: &mut Roster,
+    machine: &Machine,
+    ways: &[Way],
+    item: Item,
+    hint: usize,
+    anew: bool,
+)
+    requires single { HasSingleLegs machine.now }
+    requires ways { AreWaysIn machine.now ways.now }
+    requires roster { IsRoster machine.now roster.old.calls.items }
+    requires few { length roster.old.calls.items < 2 ^ 32 }
+    requires seen { (IsTrue anew → ⊥) → (call : Call) → Contains roster.old.calls.items call
+        → HasSeen (IsSequence machine.now ways.now) roster.old.calls.items call }
+    ensures { IsFinished machine.now ways.now item roster.old.calls.items roster.new.calls.items }
+{
+    roster.tell(item, hint);
+    if anew {
+        roster.forget();
+    }
+    roster.settle(machine, ways);
+}

@@ -1,0 +1,186 @@
+//! `Way`: a route by which a step goes, with its legs.
+ghost use Rattle.std.specs.Prelude.{◌≡◌, ◌≤◌, ◌<◌, ◌↔◌, ℕ, IsTrue, IfOk, Contains, length, slice_get, Some};
+ghost use Rattle.pssm_model.specs.Forest.{LiesInState};
+ghost use Rattle.pssm_model.specs.Routes.{IsRoute};
+ghost use Rattle.pssm_model.specs.SingleLegs.{HasSingleLegs};
+ghost use Rattle.pssm_legs.specs.Calls.{IsItemIn};
+ghost use Rattle.pssm_plan.specs.declared.ways.Way.{Way as TakenWay};
+ghost use Rattle.pssm_plan.specs.Ways.{IsWayIn, AreWaysIn, calls_by, opens_by, orders_by};
+ghost use Rattle.pssm_plan.specs.inner.Sequence.{IsNestedPair, IsSequence, IsOrderedBySome, IsOpenedBySome};
+
+use pssm_legs::{Legs, calls, legs_of, opens_for, orders};
+use pssm_model::{Item, Machine, RegionId, Route, VertexId};
+use std::alloc::{AllocError as NoMemory, Global};
+use std::snapshot::Snapshot;
+
+/// A route by which a step goes: one that fires at its head, or one by which a region has opened or a choice was left.
+#[derive(Drop)]
+pub struct Way {
+    /// Whether the route fires at the head of the step.
+    pub fires: bool,
+    /// The route itself, which is only for clauses and takes no memory.
+    pub route: Snapshot<Route>,
+    pub legs: Legs,
+}
+
+/// The way of a route.
+///
+/// `NoMemory`: memory ran out.
+pub fn way_of(alloc: Global, machine: &Machine, route: &Route, fires: bool) -> Result<Way, NoMemory>
+    requires single { HasSingleLegs machine.now }
+    requires route { IsRoute machine.now route.now }
+    ensures way { IfOk result (IsWayIn machine.now) }
+    ensures route { IfOk result (λ way. way.route.value ≡ route.now) }
+    ensures fires { IfOk result (λ way. way.fires ≡ fires) }
+{
+    let legs = legs_of(alloc, machine, route)?;
+    Ok(Way {
+        fires,
+        route: Snapshot::of(route),
+        legs,
+    })
+}
+
+/// Whether a way calls an item; exits of all that lies where it exits, whether that is active or not.
+pub fn way_calls(machine: &Machine, way: &Way, item: Item) -> bool
+    requires single { HasSingleLegs machine.now }
+    requires way { IsWayIn machine.now way.now }
+    requires item { IsItemIn machine.now item }
+    ensures { IsTrue result ↔ calls_by machine.now way.now item }
+{
+    calls(machine, &way.legs, way.fires, item)
+}
+
+/// Whether the region of a State opens by default since a way enters the State and does not aim at the region.
+pub fn way_opens(machine: &Machine, way: &Way, s: VertexId, r: RegionId) -> bool
+    requires single { HasSingleLegs machine.now }
+    requires way { IsWayIn machine.now way.now }
+    requires state { s.0 < length machine.now.vertices }
+    requires region { r.0 < length machine.now.regions }
+    ensures { IsTrue result ↔ opens_by machine.now way.now s r }
+{
+    opens_for(machine, &way.legs, s, r)
+}
+
+/// Whether one of the ways opens a region of a State so.
+pub fn some_way_opens(machine: &Machine, ways: &[Way], s: VertexId, r: RegionId) -> bool
+    requires single { HasSingleLegs machine.now }
+    requires ways { AreWaysIn machine.now ways.now }
+    requires state { s.0 < length machine.now.vertices }
+    requires region { r.0 < length machine.now.regions }
+    ensures { IsTrue result ↔ IsOpenedBySome machine.now ways.now s r }
+{
+    for way in ways {
+        if way_opens(machine, way, s, r) {
+            return true;
+        }
+    }
+    false
+}
+
+// Whether the first of two items comes before the second by a way that calls both.
+fn way_orders(machine: &Machine, way: &Way, first: Item, second: Item) -> bool
+    requires single { HasSingleLegs machine.now }
+    requires way { IsWayIn machine.now way.now }
+    requires first { IsItemIn machine.now first }
+    requires second { IsItemIn machine.now second }
+    ensures { IsTrue result ↔ orders_by machine.now way.now first second }
+{
+    orders(machine, &way.legs, way.fires, first, second)
+}
+
+// Whether the first of two items comes before the second by one of the ways.
+fn some_way_orders(machine: &Machine, ways: &[Way], first: Item, second: Item) -> bool
+    requires single { HasSingleLegs machine.now }
+    requires ways { AreWaysIn machine.now ways.now }
+    requires first { IsItemIn machine.now first }
+    requires second { IsItemIn machine.now second }
+    ensures { IsTrue result ↔ IsOrderedBySome machine.now ways.now first second }
+{
+    for way in ways {
+        if way_orders(machine, way, first, second) {
+            return true;
+        }
+    }
+    false
+}
+
+// Whether the first of two items comes before the second since one of their States lies in the other: exits from
+// within, entries from without.
+fn nests(machine: &Machine, first: Item, second: Item) -> bool
+    requires first { IsItemIn machine.now first }
+    requires second { IsItemIn machine.now second }
+    ensures { IsTrue result ↔ IsNestedPair machine.now first second }
+{
+    match (first, second) {
+        (Item::Exit(s), Item::Exit(q)) => lies_in(machine, s, q),
+        (Item::Enter(s), Item::Enter(q)) => lies_in(machine, q, s),
+        _ => false,
+    }
+}
+
+// Whether a vertex lies in a State; in one without regions none does.
+fn lies_in(machine: &Machine, v: VertexId, s: VertexId) -> bool
+    requires vertex { v.0 < length machine.now.vertices }
+    requires state { s.0 < length machine.now.vertices }
+    ensures { IsTrue result ↔ LiesInState machine.now v s }
+{
+    !machine.regions_of(s).is_empty() && machine.lies_in_state(v, s)
+}
+
+/// Whether the first of two items that a step calls comes before the second, in a step that goes by these ways.
+pub fn comes_before(machine: &Machine, ways: &[Way], first: Item, second: Item) -> bool
+    requires single { HasSingleLegs machine.now }
+    requires ways { AreWaysIn machine.now ways.now }
+    requires first { IsItemIn machine.now first }
+    requires second { IsItemIn machine.now second }
+    ensures { IsTrue result ↔ IsSequence machine.now ways.now first second }
+{
+    nests(machine, first, second) || some_way_orders(machine, ways, first, second)
+}
+
+// How many of the ways stand before the first that calls an item.
+fn first_calling(machine: &Machine, ways: &[Way], item: Item) -> usize
+    requires single { HasSingleLegs machine.now }
+    requires ways { AreWaysIn machine.now ways.now }
+    requires item { IsItemIn machine.now item }
+    ensures within { result ≤ length ways.now }
+    ensures none { (k : ℕ) (way : TakenWay) → k < result → slice_get ways.now k ≡ Some way → calls_by machine.now way item → ⊥ }
+{
+    for k in 0..ways.len() {
+        if way_calls(machine, &ways[k], item) {
+            return k;
+        }
+    }
+    ways.len()
+}
+
+// The number of the ways up to the last that calls an item.
+fn last_calling(machine: &Machine, ways: &[Way], item: Item) -> usize
+    requires single { HasSingleLegs machine.now }
+    requires ways { AreWaysIn machine.now ways.now }
+    requires item { IsItemIn machine.now item }
+    ensures within { result ≤ length ways.now }
+    ensures none { (k : ℕ) (way : TakenWay) → result ≤ k → slice_get ways.now k ≡ Some way → calls_by machine.now way item → ⊥ }
+{
+    let mut last = 0;
+    for k in 0..ways.len() {
+        if way_calls(machine, &ways[k], item) {
+            last = k + 1;
+        }
+    }
+    last
+}
+
+/// Ways among which are all that call an item: most often one.
+pub fn ways_of<'a>(machine: &Machine, ways: &'a [Way], item: Item) -> &'a [Way]
+    requires single { HasSingleLegs machine.now }
+    requires ways { AreWaysIn machine.now ways.now }
+    requires item { IsItemIn machine.now item }
+    ensures all { (way : TakenWay) → Contains ways.now way → calls_by machine.now way item → Contains result.now way }
+    ensures some { (way : TakenWay) → Contains result.now way → Contains ways.now way }
+{
+    let first = first_calling(machine, ways, item);
+    let last = last_calling(machine, ways, item);
+    if first < last { &ways[first..last] } else { &ways[..0] }
+}
