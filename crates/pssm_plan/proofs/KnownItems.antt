@@ -1,5 +1,5 @@
 -- What a step calls is known where the configuration at its head is, and so is on which item another waits.
-use Rattle.std.proofs.Common.{List, Bool, true, false, IsTrue, ◌≡◌, ◌⊎◌, ◌<◌, ℕ, length, Contains, Some, refl, sym, ap, subst, inl, inr, ⊎_elim, ◌∙◌}
+use Rattle.std.proofs.Common.{List, Bool, true, false, IsTrue, ◌≡◌, ◌⊎◌, ◌<◌, ℕ, length, Contains, Some, refl, sym, subst, inl, inr, ⊎_elim}
 use Rattle.std.proofs.lemmas.Option.{slice_get_within}
 use Rattle.pssm_model.specs.declared.ids.VertexId.{VertexId}
 use Rattle.pssm_model.specs.declared.ids.RegionId.{RegionId}
@@ -24,7 +24,7 @@ use Rattle.pssm_model.specs.Items.PathBefore.{after}
 use Rattle.pssm_model.specs.Nested.{IsPlainlyNested}
 use Rattle.pssm_model.specs.Order.{IsReady, IsAtOrBefore, HasReadyAtOrBefore, KnownConfiguration, known_course, IsNestedStep}
 use Rattle.pssm_model.specs.Routes.{IsRoute}
-use Rattle.pssm_plan.specs.inner.OverRoutes.{GoesByRoutes, LiesInArea, GoesBy, IsEnteredBy, IsExitedOver, IsEnteredOver, OpensBeside, IsOpenedOver, IsCalledOver, IsOrderedOver}
+use Rattle.pssm_plan.specs.inner.OverRoutes.{GoesByRoutes, LiesInArea, GoesBy, IsEnteredBy, IsEnteredOver, OpensBeside, IsOpenedOver, IsCalledOver, IsOrderedOver}
 use Rattle.pssm_model.specs.declared.steps.Mode.TheVariants.{Plain, Shallow, Deep}
 use Rattle.pssm_model.proofs.ElementLaws.{mapped_some}
 use Rattle.pssm_model.proofs.StateRoutes.{start_of}
