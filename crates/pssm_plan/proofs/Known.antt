@@ -1,5 +1,5 @@
 -- Facts that are known to hold or not to hold.
-use Rattle.std.proofs.Common.{◌≡◌, ◌⊎◌, ◌<◌, ℕ, zero, suc, List, [], ◌∷◌, Contains, refl, ap, subst, inl, inr, ⊎_elim, arith, Bool, true, false, rules}
+use Rattle.std.proofs.Common.{◌≡◌, ◌⊎◌, ◌<◌, ℕ, zero, suc, List, [], ◌∷◌, Contains, refl, sym, ap, subst, inl, inr, ⊎_elim, arith, Bool, true, false, rules}
 use Rattle.std.proofs.lemmas.List.Elements.{Contains-append_cases, Contains-append_left, Contains-append_right}
 use Rattle.pssm_model.specs.declared.ids.VertexId.{VertexId}
 use Rattle.pssm_model.specs.declared.ids.RegionId.{RegionId}
@@ -68,6 +68,31 @@ known_among P (x ∷ xs) each =
     (Contains-append_cases (x ∷ []) xs h.0 h.1))
     (known_among P xs (λ y inside. each y (Contains-append_right (x ∷ []) xs y inside))))
     (each x (Contains-append_left (x ∷ []) xs x (in_one x)))
+
+-- All elements of a list are such, or some is not.
+pub known_all : {X : Type 0} (P : X → Type 0) (xs : List X) → ((x : X) → Contains xs x → Known (P x)) → Known ((x : X) → Contains xs x → P x)
+known_all P [] each = inl (λ x h. absurd (nothing_in_nil x h))
+known_all P (x ∷ xs) each =
+    known_as
+    (λ both y h. ⊎_elim
+    (λ first. subst P (sym (is_one x y first)) both.0)
+    (λ rest. both.1 y rest)
+    (Contains-append_cases (x ∷ []) xs y h))
+    (λ all. (
+      all x (Contains-append_left (x ∷ []) xs x (in_one x)),
+      λ y inside. all y (Contains-append_right (x ∷ []) xs y inside),
+    ))
+    (known_both
+    (each x (Contains-append_left (x ∷ []) xs x (in_one x)))
+    (known_all P xs (λ y inside. each y (Contains-append_right (x ∷ []) xs y inside))))
+
+-- An element is in a list, or not.
+pub known_inside : {X : Type 0} → ((x y : X) → Known (x ≡ y)) → (xs : List X) (x : X) → Known (Contains xs x)
+known_inside same xs x =
+    known_as
+    (λ h. subst (λ y. Contains xs y) h.2 h.1)
+    (λ h. (x, h, refl))
+    (known_among (λ y. y ≡ x) xs (λ y inside. same y x))
 
 -- Two numbers are the same, or not.
 pub known_number : (a b : ℕ) → Known (a ≡ b)

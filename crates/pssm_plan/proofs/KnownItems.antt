@@ -1,5 +1,5 @@
--- What a step of routes of one transition calls is known where the configuration at its head is, and so is on which item another waits.
-use Rattle.std.proofs.Common.{List, Bool, true, false, IsTrue, ◌≡◌, ◌⊎◌, ◌<◌, ℕ, length, Contains, Some, refl, sym, ap, subst, inl, inr, ⊎_elim, ◌∙◌}
+-- What a step calls is known where the configuration at its head is, and so is on which item another waits.
+use Rattle.std.proofs.Common.{List, Bool, true, false, IsTrue, ◌≡◌, ◌⊎◌, ◌<◌, ℕ, length, Contains, Some, refl, sym, subst, inl, inr, ⊎_elim}
 use Rattle.std.proofs.lemmas.Option.{slice_get_within}
 use Rattle.pssm_model.specs.declared.ids.VertexId.{VertexId}
 use Rattle.pssm_model.specs.declared.ids.RegionId.{RegionId}
@@ -18,20 +18,26 @@ use Rattle.pssm_model.specs.Forest.{vertex_at, HasKind, owner_of, LiesUnder, Lie
 use Rattle.pssm_model.specs.Shapes.{HasShape}
 use Rattle.pssm_model.specs.Course.{Head, Course, FiresBy, HasGoneBy, HasRun}
 use Rattle.pssm_model.specs.Course.Head.{Starts, Fires}
-use Rattle.pssm_model.specs.Items.{HasRunOut, Before, IsWaiting, IsCleared}
+use Rattle.pssm_model.specs.Legs.{On, transitions_of}
+use Rattle.pssm_model.specs.Items.{PathBefore, HasRunOut, Before, IsWaiting, IsCleared}
+use Rattle.pssm_model.specs.Items.PathBefore.{after}
+use Rattle.pssm_model.specs.Nested.{IsPlainlyNested}
 use Rattle.pssm_model.specs.Order.{IsReady, IsAtOrBefore, HasReadyAtOrBefore, KnownConfiguration, known_course, IsNestedStep}
-use Rattle.pssm_model.specs.Routes.{single_route}
-use Rattle.pssm_plan.specs.inner.Single.{IsDirectRoute, GoesDirectly, LiesInArea, GoesOver, IsEnteredBy, IsExitedOver, IsEnteredOver, OpensBeside, IsOpenedOver, IsCalledOver, IsOrderedOver}
+use Rattle.pssm_model.specs.Routes.{IsRoute}
+use Rattle.pssm_plan.specs.inner.OverRoutes.{GoesByRoutes, LiesInArea, GoesBy, IsEnteredBy, IsEnteredOver, OpensBeside, IsOpenedOver, IsCalledOver, IsOrderedOver}
 use Rattle.pssm_model.specs.declared.steps.Mode.TheVariants.{Plain, Shallow, Deep}
-use Rattle.pssm_plan.proofs.Spans.{area_there}
 use Rattle.pssm_model.proofs.ElementLaws.{mapped_some}
+use Rattle.pssm_model.proofs.StateRoutes.{start_of}
+use Rattle.pssm_model.proofs.OverJunctions.{single_legs}
 use Rattle.pssm_plan.proofs.Ranks.{owner_under}
-use Rattle.pssm_model.proofs.RouteLaws.{single_route_same}
-use Rattle.pssm_plan.proofs.SingleItems.{called_is, called_of, before_is, before_of}
-use Rattle.pssm_plan.proofs.Known.{Known, known_as, known_both, known_either, known_not, known_below, known_among, known_transition}
+use Rattle.pssm_plan.proofs.RouteItems.{called_is, called_of, before_is, before_of}
+use Rattle.pssm_plan.proofs.RoutePaths.{path_begins_on, path_ends_on, no_round_path, path_order}
+use Rattle.pssm_plan.proofs.RouteCourses.{area_there}
+use Rattle.pssm_plan.proofs.Known.{Known, known_as, known_both, known_either, known_not, known_below, known_among, known_inside, known_transition}
 use Rattle.pssm_plan.proofs.KnownPlaces.{known_in_state, known_in_area, known_entered, known_beside}
-use Rattle.pssm_plan.proofs.NestedSteps.{gone_directly}
-use Rattle.pssm_plan.proofs.ReadyItems.{run_known, ready_at_or_before, nothing_ready}
+use Rattle.pssm_plan.proofs.RouteSteps.{gone_by_routes}
+use Rattle.pssm_plan.proofs.ReadyItems.{run_known}
+use Rattle.pssm_plan.proofs.RouteReady.{ready_at_or_before, nothing_ready}
 
 -- an opening of a history or a pick, which is in no order with the others
 abbrev IsUnordered : Item → Type 0
@@ -57,99 +63,62 @@ owning_there {m} shape s r e =
     let at = mapped_some (λ (x : Vertex). x.kind) (vertex_at m s) kinds.State is in
     slice_get_within m.vertices s.0 at.0 at.1
 
-module _ (m : DraftMachine) where
-  -- whether a route of one transition is that of another
-  known_route : (route : Route) (t : TransId) → IsDirectRoute m route → Known (route ≡ single_route t)
-  known_route route t is =
-      known_as
-      (λ same. is.1 ∙ ap single_route same)
-      (λ e. single_route_same is.0 t (sym is.1 ∙ e))
-      (known_transition is.0 t)
+-- some route that fires is such
+known_firing : (head : Head) (P : Route → Type 0) → ((p : Route) → FiresBy head p → Known (P p)) → Known ((p : Route) × FiresBy head p × P p)
+known_firing Starts P each = inr (λ h. h.1)
+known_firing (Fires routes) P each = known_among P routes each
 
-  -- some transition of the routes that fire is such
-  known_firing : (head : Head) → ((route : Route) → FiresBy head route → IsDirectRoute m route)
-      → (P : TransId → Type 0) → ((t : TransId) → Known (P t)) → Known ((t : TransId) × FiresBy head (single_route t) × P t)
-  known_firing Starts direct P each = inr (λ h. h.1)
-  known_firing (Fires routes) direct P each =
-      known_as
-      (λ h. (h.2.0, subst (λ r. Contains routes r) h.2.1 h.1, h.2.2))
-      (λ h. (single_route h.0, h.1, (h.0, refl, h.2)))
-      (known_among
-      (λ route. (t : TransId) × (route ≡ single_route t) × P t)
-      routes
-      (λ route inside. known_one route (direct route inside)))
-    where
-      known_one : (route : Route) → IsDirectRoute m route → Known ((t : TransId) × (route ≡ single_route t) × P t)
-      known_one route is =
-          known_as
-          (λ h. (is.0, is.1, h))
-          (λ h. subst P (sym (single_route_same is.0 h.0 (sym is.1 ∙ h.1))) h.2)
-          (each is.0)
+-- some late route by which it goes is such
+known_way : (how : How) (P : Route → Type 0) → ((p : Route) → how ≡ By p → Known (P p)) → Known ((p : Route) × (how ≡ By p) × P p)
+known_way (By q) P each =
+    known_as
+    (λ h. (q, refl, h))
+    (λ h. subst P (sym (same_way h.0 h.1)) h.2)
+    (each q refl)
+  where
+    same_way : (p : Route) → By q ≡ By p → q ≡ p
+    same_way p e = cc
+known_way (Restore s) P each = inr (λ h. let clash = h.1 in cc)
+known_way Nothing P each = inr (λ h. let clash = h.1 in cc)
 
-  -- some transition of the late routes by which it goes is such
-  known_way : (P : TransId → Type 0) → ((t : TransId) → Known (P t)) → (how : How) → ((route : Route) → how ≡ By route → IsDirectRoute m route)
-      → Known ((t : TransId) × (how ≡ By (single_route t)) × P t)
-  known_way P each (By route) direct =
-      let is = direct route refl in
-      known_as
-      (λ h. (is.0, ap By is.1, h))
-      (λ h. subst P (sym (single_route_same is.0 h.0 (sym is.1 ∙ same_way route (single_route h.0) h.1))) h.2)
-      (each is.0)
-    where
-      same_way : (p q : Route) → By p ≡ By q → p ≡ q
-      same_way p q e = cc
-  known_way P each (Restore s) direct = inr (λ h. let clash = h.1 in cc)
-  known_way P each Nothing direct = inr (λ h. let clash = h.1 in cc)
+known_late : (course : Course) (P : Route → Type 0) → ((p : Route) → HasGoneBy course p → Known (P p)) → Known ((p : Route) × HasGoneBy course p × P p)
+known_late course P each =
+    known_as
+    (λ h. (h.2.0, (h.0.0, subst (λ x. Contains course.ran x) (pair h.0 (By h.2.0) h.2.1) h.1), h.2.2))
+    (λ h. ((h.1.0, By h.0), h.1.1, (h.0, refl, h.2)))
+    (known_among
+    (λ x. (p : Route) × (x.1 ≡ By p) × P p)
+    course.ran
+    (λ x inside. known_way x.1 P (λ p e. each p (x.0, subst (λ y. Contains course.ran y) (pair x (By p) e) inside))))
+  where
+    pair : (x : Item × How) (how : How) → x.1 ≡ how → x ≡ (x.0, how)
+    pair x how e = λ i. (x.0, e i)
 
-  known_late : (course : Course) → GoesDirectly m course → (P : TransId → Type 0) → ((t : TransId) → Known (P t))
-      → Known ((t : TransId) × HasGoneBy course (single_route t) × P t)
-  known_late course g P each =
-      known_as
-      (λ h. (h.2.0, (h.0.0, subst (λ x. Contains course.ran x) (pair h.0 (By (single_route h.2.0)) h.2.1) h.1), h.2.2))
-      (λ h. ((h.1.0, By (single_route h.0)), h.1.1, (h.0, refl, h.2)))
-      (known_among
-      (λ x. (t : TransId) × (x.1 ≡ By (single_route t)) × P t)
-      course.ran
-      (λ x inside. known_way P each x.1
-      (λ route e. g.routes route (inr (x.0, subst (λ y. Contains course.ran y) (pair x (By route) e) inside)))))
-    where
-      pair : (x : Item × How) (how : How) → x.1 ≡ how → x ≡ (x.0, how)
-      pair x how e = λ i. (x.0, e i)
+-- whether a transition is of a route
+known_on : (p : Route) (t : TransId) → Known (On p t)
+known_on p t = known_inside known_transition (transitions_of p) t
 
 -- the step, where the configuration at its head is known
-module _ {m : DraftMachine} (shape : HasShape m) (course : Course) (g : GoesDirectly m course)
+module _ {m : DraftMachine} (nested : IsPlainlyNested m) (shape : HasShape m) (course : Course) (g : GoesByRoutes m course)
     (active : (s : VertexId) → Known (course.at_head.Active s)) where
-  known_fires_some : (P : TransId → Type 0) → ((t : TransId) → Known (P t))
-      → Known ((t : TransId) × FiresBy course.head (single_route t) × P t)
-  known_fires_some P each = known_firing m course.head (λ route fires. g.routes route (inl fires)) P each
-
-  pub known_over_some : (P : TransId → Type 0) → ((t : TransId) → Known (P t)) → Known ((t : TransId) × GoesOver course t × P t)
-  known_over_some P each =
+  pub known_by_some : (P : Route → Type 0) → ((p : Route) → GoesBy course p → Known (P p)) → Known ((p : Route) × GoesBy course p × P p)
+  known_by_some P each =
       known_as
       (λ h. ⊎_elim (λ fires. (fires.0, inl fires.1, fires.2)) (λ gone. (gone.0, inr gone.1, gone.2)) h)
       (λ h. ⊎_elim (λ fires. inl (h.0, fires, h.2)) (λ gone. inr (h.0, gone, h.2)) h.1)
-      (known_either (known_fires_some P each) (known_late m course g P each))
+      (known_either
+      (known_firing course.head P (λ p fires. each p (inl fires)))
+      (known_late course P (λ p gone. each p (inr gone))))
 
-  pub known_over : (t : TransId) → Known (GoesOver course t)
-  known_over t =
-      known_as
-      (λ h. subst (λ u. GoesOver course u) h.2 h.1)
-      (λ h. (t, h, refl))
-      (known_over_some (λ u. u ≡ t) (λ u. known_transition u t))
+  pub known_over_some : (P : Route → Type 0) → ((p : Route) → Known (P p)) → Known ((p : Route) × GoesBy course p × P p)
+  known_over_some P each = known_by_some P (λ p by. each p)
 
-  known_fires : (t : TransId) → Known (FiresBy course.head (single_route t))
-  known_fires t =
-      known_as
-      (λ h. subst (λ u. FiresBy course.head (single_route u)) h.2 h.1)
-      (λ h. (t, h, refl))
-      (known_fires_some (λ u. u ≡ t) (λ u. known_transition u t))
+  -- which effects it calls
+  pub known_over : (t : TransId) → Known (IsCalledOver m course (items.Effect t))
+  known_over t = known_over_some (λ p. On p t) (λ p. known_on p t)
 
-  known_exited : (t : TransId) (s : VertexId) → Known (IsExitedOver m course t s)
-  known_exited t s =
-      known_as
-      (λ h. (h.0, h.1.0, h.1.1))
-      (λ h. (h.0, (h.1, h.2)))
-      (known_both (known_fires t) (known_both (active s) (known_in_area shape t s)))
+  known_fires_some : (P : Route → Type 0) → ((p : Route) → Known (P p)) → Known ((p : Route) × FiresBy course.head p × P p)
+  known_fires_some P each = known_firing course.head P (λ p fires. each p)
 
   -- which exits and entries it calls
   pub known_exit : (s : VertexId) → Known (IsCalledOver m course (items.Exit s))
@@ -157,14 +126,14 @@ module _ {m : DraftMachine} (shape : HasShape m) (course : Course) (g : GoesDire
       known_as
       (λ h. (h.0, (h.1, h.2.0, h.2.1)))
       (λ h. (h.0, h.1.0, (h.1.1, h.1.2)))
-      (known_fires_some (λ t. course.at_head.Active s × LiesInArea m t s) (λ t. known_both (active s) (known_in_area shape t s)))
+      (known_fires_some (λ p. course.at_head.Active s × LiesInArea m p s) (λ p. known_both (active s) (known_in_area shape p s)))
 
   pub known_enter : (s : VertexId) → Known (IsCalledOver m course (items.Enter s))
   known_enter s =
       known_as
       (λ h. (h.0, (h.1, h.2)))
       (λ h. (h.0, h.1.0, h.1.1))
-      (known_over_some (λ t. IsEnteredBy m t s) (λ t. known_entered shape t s))
+      (known_over_some (λ p. IsEnteredBy m p s) (λ p. known_entered shape p s))
 
   known_run : (item : Item) → Known (HasRun course item)
   known_run item = run_known course item
@@ -191,35 +160,88 @@ module _ {m : DraftMachine} (shape : HasShape m) (course : Course) (g : GoesDire
       (λ s. known_both (known_in_state shape s q) (known_both (known_exit s) (known_not (known_run (items.Exit s))))))
 
   -- an exit for which an effect waits
-  known_leg_exit : (t : TransId) → Known ((s : VertexId) × IsExitedOver m course t s × (HasRun course (items.Exit s) → ⊥))
+  known_exit_before : (s : VertexId) (t : TransId) → Known (IsOrderedOver m course (items.Exit s) (items.Effect t))
+  known_exit_before s t =
+      known_as
+      (λ h. (h.0, (h.1, h.2.0, h.2.1.0), h.2.1.1))
+      (λ h. (h.0, h.1.0, (h.1.1, (h.1.2, h.2))))
+      (known_fires_some
+      (λ p. course.at_head.Active s × (LiesInArea m p s × On p t))
+      (λ p. known_both (active s) (known_both (known_in_area shape p s) (known_on p t))))
+
+  known_leg_exit : (t : TransId)
+      → Known ((s : VertexId) × IsOrderedOver m course (items.Exit s) (items.Effect t) × (HasRun course (items.Exit s) → ⊥))
   known_leg_exit t =
       known_as
       (λ h. (h.0, h.1.0, h.1.1))
       (λ h. (h.0, (h.1, h.2)))
       (known_vertex_some
-      (λ s. IsExitedOver m course t s × (HasRun course (items.Exit s) → ⊥))
-      (λ s h. area_there m t s h.0.2)
-      (λ s. known_both (known_exited t s) (known_not (known_run (items.Exit s)))))
+      (λ s. IsOrderedOver m course (items.Exit s) (items.Effect t) × (HasRun course (items.Exit s) → ⊥))
+      (λ s h. area_there m h.0.0 s h.0.1.2)
+      (λ s. known_both (known_exit_before s t) (known_not (known_run (items.Exit s)))))
+
+  -- an earlier effect for which an effect waits: of two transitions of a route, one comes before the other
+  in_order : (p : Route) → IsRoute m p → (t u : TransId) → On p t → On p u → Known (PathBefore m p t u)
+  in_order p route t u first second =
+      let start = start_of (single_legs nested) p route.starts in
+      ⊎_elim
+      (λ same. inr (λ h. no_round_path m p (single_legs nested) t (subst (λ x. PathBefore m p t x) (sym same) h)))
+      (⊎_elim
+      (λ before. inl before)
+      (λ back. inr (λ h. no_round_path m p (single_legs nested) t (after h back))))
+      (path_order (single_legs nested) shape p route start.0 start.1 t u first second)
+
+  known_path : (p : Route) → IsRoute m p → (t u : TransId) → Known (PathBefore m p t u)
+  known_path p route t u =
+      ⊎_elim
+      (λ first. ⊎_elim
+      (λ second. in_order p route t u first second)
+      (λ none. inr (λ h. none (path_ends_on m p t u h)))
+      (known_on p u))
+      (λ none. inr (λ h. none (path_begins_on m p t u h)))
+      (known_on p t)
+
+  abbrev HasEarlier : Route → TransId → Type 0
+  HasEarlier p u = (t : TransId) × PathBefore m p t u × (HasRun course (items.Effect t) → ⊥)
+
+  known_earlier : (p : Route) → IsRoute m p → (u : TransId) → Known (HasEarlier p u)
+  known_earlier p route u =
+      known_as
+      (λ h. (h.0, h.2.0, h.2.1))
+      (λ h. (h.0, path_begins_on m p h.0 u h.1, (h.1, h.2)))
+      (known_among
+      (λ t. PathBefore m p t u × (HasRun course (items.Effect t) → ⊥))
+      (transitions_of p)
+      (λ t on. known_both (known_path p route t u) (known_not (known_run (items.Effect t)))))
+
+  known_earlier_effect : (u : TransId) → Known ((p : Route) × GoesBy course p × HasEarlier p u)
+  known_earlier_effect u = known_by_some (λ p. HasEarlier p u) (λ p by. known_earlier p (g.routes p by) u)
 
   -- an effect and an outer entry for which an entry waits
-  known_leg_effect : (s : VertexId) → Known ((t : TransId) × IsEnteredOver m course t s × (HasRun course (items.Effect t) → ⊥))
+  abbrev HasUnrun : Route → Type 0
+  HasUnrun p = (t : TransId) × On p t × (HasRun course (items.Effect t) → ⊥)
+
+  known_unrun : (p : Route) → Known (HasUnrun p)
+  known_unrun p =
+      known_among
+      (λ t. HasRun course (items.Effect t) → ⊥)
+      (transitions_of p)
+      (λ t on. known_not (known_run (items.Effect t)))
+
+  known_leg_effect : (s : VertexId) → Known ((p : Route) × IsEnteredOver m course p s × HasUnrun p)
   known_leg_effect s =
       known_as
       (λ h. (h.0, (h.1, h.2.0), h.2.1))
       (λ h. (h.0, h.1.0, (h.1.1, h.2)))
-      (known_over_some
-      (λ t. IsEnteredBy m t s × (HasRun course (items.Effect t) → ⊥))
-      (λ t. known_both (known_entered shape t s) (known_not (known_run (items.Effect t)))))
+      (known_over_some (λ p. IsEnteredBy m p s × HasUnrun p) (λ p. known_both (known_entered shape p s) (known_unrun p)))
 
   -- an effect for which an opening waits
-  known_beside_effect : (r : RegionId) → Known ((t : TransId) × IsOpenedOver m course t r × (HasRun course (items.Effect t) → ⊥))
+  known_beside_effect : (r : RegionId) → Known ((p : Route) × IsOpenedOver m course p r × HasUnrun p)
   known_beside_effect r =
       known_as
       (λ h. (h.0, (h.1, h.2.0), h.2.1))
       (λ h. (h.0, h.1.0, (h.1.1, h.2)))
-      (known_over_some
-      (λ t. OpensBeside m t r × (HasRun course (items.Effect t) → ⊥))
-      (λ t. known_both (known_beside shape t r) (known_not (known_run (items.Effect t)))))
+      (known_over_some (λ p. OpensBeside m p r × HasUnrun p) (λ p. known_both (known_beside shape p r) (known_unrun p)))
 
   known_outer_enter : (q : VertexId)
       → Known ((s : VertexId) × LiesInState m q s × IsCalledOver m course (items.Enter s) × (HasRun course (items.Enter s) → ⊥))
@@ -234,14 +256,14 @@ module _ {m : DraftMachine} (shape : HasShape m) (course : Course) (g : GoesDire
 
   -- a called item that has not run
   waiting : (x : Item) → IsCalledOver m course x → (HasRun course x → ⊥) → IsWaiting m course x
-  waiting x called not = record { called = called_of m course g x called; not_run = not }
+  waiting x called not = record { called = called_of nested shape course g x called; not_run = not }
 
   -- an item is cleared where no called item that comes before it waits
   cleared : (y : Item) → ((x : Item) → IsOrderedOver m course x y → IsCalledOver m course x → (HasRun course x → ⊥) → ⊥) → IsCleared m course y
   cleared y none x called h =
       ⊎_elim
       (λ ran. ran)
-      (λ not. absurd (none x (before_is m course g x y h) (called_is m course g x called) not))
+      (λ not. absurd (none x (before_is nested shape course g x y h) (called_is nested shape course g x called) not))
       (known_run x)
 
   no_exit_before : (q : VertexId)
@@ -253,26 +275,28 @@ module _ {m : DraftMachine} (shape : HasShape m) (course : Course) (g : GoesDire
   no_exit_before q none (items.Opened r mode) h called not = h
   no_exit_before q none (items.Pick c) h called not = h
 
-  no_effect_before : (t : TransId) → ((s : VertexId) × IsExitedOver m course t s × (HasRun course (items.Exit s) → ⊥) → ⊥)
+  no_effect_before : (t : TransId)
+      → ((s : VertexId) × IsOrderedOver m course (items.Exit s) (items.Effect t) × (HasRun course (items.Exit s) → ⊥) → ⊥)
+      → ((p : Route) × GoesBy course p × HasEarlier p t → ⊥)
       → (x : Item) → IsOrderedOver m course x (items.Effect t) → IsCalledOver m course x → (HasRun course x → ⊥) → ⊥
-  no_effect_before t none (items.Exit s) h called not = none (s, h, not)
-  no_effect_before t none (items.Effect u) h called not = h
-  no_effect_before t none (items.Enter s) h called not = h
-  no_effect_before t none (items.Opened r mode) h called not = h
-  no_effect_before t none (items.Pick c) h called not = h
+  no_effect_before t no_exit no_earlier (items.Exit s) h called not = no_exit (s, h, not)
+  no_effect_before t no_exit no_earlier (items.Effect u) h called not = no_earlier (h.0, h.1, (u, h.2, not))
+  no_effect_before t no_exit no_earlier (items.Enter s) h called not = h
+  no_effect_before t no_exit no_earlier (items.Opened r mode) h called not = h
+  no_effect_before t no_exit no_earlier (items.Pick c) h called not = h
 
-  no_enter_before : (q : VertexId) → ((t : TransId) × IsEnteredOver m course t q × (HasRun course (items.Effect t) → ⊥) → ⊥)
+  no_enter_before : (q : VertexId) → ((p : Route) × IsEnteredOver m course p q × HasUnrun p → ⊥)
       → ((s : VertexId) × LiesInState m q s × IsCalledOver m course (items.Enter s) × (HasRun course (items.Enter s) → ⊥) → ⊥)
       → (x : Item) → IsOrderedOver m course x (items.Enter q) → IsCalledOver m course x → (HasRun course x → ⊥) → ⊥
-  no_enter_before q no_effect no_outer (items.Effect t) h called not = no_effect (t, h, not)
+  no_enter_before q no_effect no_outer (items.Effect t) h called not = no_effect (h.0, h.1, (t, h.2, not))
   no_enter_before q no_effect no_outer (items.Enter s) h called not = no_outer (s, h, called, not)
   no_enter_before q no_effect no_outer (items.Exit s) h called not = h
   no_enter_before q no_effect no_outer (items.Opened r mode) h called not = h
   no_enter_before q no_effect no_outer (items.Pick c) h called not = h
 
-  no_opening_before : (r : RegionId) → ((t : TransId) × IsOpenedOver m course t r × (HasRun course (items.Effect t) → ⊥) → ⊥)
+  no_opening_before : (r : RegionId) → ((p : Route) × IsOpenedOver m course p r × HasUnrun p → ⊥)
       → (x : Item) → IsOrderedOver m course x (items.Opened r Plain) → IsCalledOver m course x → (HasRun course x → ⊥) → ⊥
-  no_opening_before r none (items.Effect t) h called not = none (t, h, not)
+  no_opening_before r none (items.Effect t) h called not = none (h.0, h.1, (t, h.2, not))
   no_opening_before r none (items.Exit s) h called not = h
   no_opening_before r none (items.Enter s) h called not = h
   no_opening_before r none (items.Opened q mode) h called not = h
@@ -300,39 +324,44 @@ module _ {m : DraftMachine} (shape : HasShape m) (course : Course) (g : GoesDire
   nothing_before (items.Enter s) x is h = is
 
   -- an item is cleared, or waits for one
+  waits_for : (x y : Item) → IsOrderedOver m course x y → IsCalledOver m course x → (HasRun course x → ⊥)
+      → IsCleared m course y ⊎ ((x : Item) × IsWaiting m course x × Before m course x y)
+  waits_for x y order called not = inr (x, waiting x called not, before_of nested shape course g x y order)
+
   pub cleared_or_waits : (y : Item) → IsCleared m course y ⊎ ((x : Item) × IsWaiting m course x × Before m course x y)
   cleared_or_waits (items.Exit q) =
       ⊎_elim
-      (λ on. inr (items.Exit on.0, waiting (items.Exit on.0) on.2 on.3, before_of m course g (items.Exit on.0) (items.Exit q) on.1))
+      (λ on. waits_for (items.Exit on.0) (items.Exit q) on.1 on.2 on.3)
       (λ none. inl (cleared (items.Exit q) (no_exit_before q none)))
       (known_inner_exit q)
   cleared_or_waits (items.Effect t) =
       ⊎_elim
-      (λ on. inr (
-        items.Exit on.0,
-        waiting (items.Exit on.0) (t, on.1) on.2,
-        before_of m course g (items.Exit on.0) (items.Effect t) on.1,
+      (λ on. waits_for (items.Exit on.0) (items.Effect t) on.1 (on.1.0, on.1.1) on.2)
+      (λ no_exit. ⊎_elim
+      (λ on. (
+      let earlier = on.2 in
+      waits_for (items.Effect earlier.0) (items.Effect t) (on.0, on.1, earlier.1)
+      (on.0, on.1, path_begins_on m on.0 earlier.0 t earlier.1) earlier.2
       ))
-      (λ none. inl (cleared (items.Effect t) (no_effect_before t none)))
+      (λ no_earlier. inl (cleared (items.Effect t) (no_effect_before t no_exit no_earlier)))
+      (known_earlier_effect t))
       (known_leg_exit t)
   cleared_or_waits (items.Enter q) =
       ⊎_elim
-      (λ on. inr (
-        items.Effect on.0,
-        waiting (items.Effect on.0) on.1.0 on.2,
-        before_of m course g (items.Effect on.0) (items.Enter q) on.1,
+      (λ on. (
+      let effect = on.2 in
+      waits_for (items.Effect effect.0) (items.Enter q) (on.0, on.1, effect.1) (on.0, on.1.0, effect.1) effect.2
       ))
       (λ no_effect. ⊎_elim
-      (λ on. inr (items.Enter on.0, waiting (items.Enter on.0) on.2 on.3, before_of m course g (items.Enter on.0) (items.Enter q) on.1))
+      (λ on. waits_for (items.Enter on.0) (items.Enter q) on.1 on.2 on.3)
       (λ no_outer. inl (cleared (items.Enter q) (no_enter_before q no_effect no_outer)))
       (known_outer_enter q))
       (known_leg_effect q)
   cleared_or_waits (items.Opened r Plain) =
       ⊎_elim
-      (λ on. inr (
-        items.Effect on.0,
-        waiting (items.Effect on.0) on.1.0 on.2,
-        before_of m course g (items.Effect on.0) (items.Opened r Plain) on.1,
+      (λ on. (
+      let effect = on.2 in
+      waits_for (items.Effect effect.0) (items.Opened r Plain) (on.0, on.1, effect.1) (on.0, on.1.0, effect.1) effect.2
       ))
       (λ none. inl (cleared (items.Opened r Plain) (no_opening_before r none)))
       (known_beside_effect r)
@@ -343,16 +372,17 @@ module _ {m : DraftMachine} (shape : HasShape m) (course : Course) (g : GoesDire
 
   -- a called item that has not run has a ready item at or before it
   pub some_ready : (item : Item) → IsWaiting m course item → (x : Item) × IsReady m course x × IsAtOrBefore m course x item
-  some_ready item waits = ready_at_or_before shape course g (λ x is. cleared_or_waits x) item waits
+  some_ready item waits = ready_at_or_before nested shape course g (λ x is. cleared_or_waits x) item waits
 
 -- so it is in the steps of a machine of States in regions
 pub step_ready : (m : DraftMachine) (course : Course) → IsNestedStep m course → ((s : VertexId) → Known (course.at_head.Active s))
     → (item : Item) → IsWaiting m course item → HasReadyAtOrBefore m course item
 step_ready m course h active item waits =
-    some_ready h.shape course (gone_directly h.nested course.head course.at_head course.ran h.gone) active item waits
+    some_ready h.nested h.shape course (gone_by_routes h.nested h.shape course.head course.at_head course.ran h.gone) active item waits
 
 pub step_finished : (m : DraftMachine) (course : Course) → IsNestedStep m course → ((item : Item) → IsReady m course item → ⊥) → HasRunOut m course
-step_finished m course h none = nothing_ready h.shape course (gone_directly h.nested course.head course.at_head course.ran h.gone) none
+step_finished m course h none =
+    nothing_ready h.nested h.shape course (gone_by_routes h.nested h.shape course.head course.at_head course.ran h.gone) none
 
 -- and where the configuration at the head is known
 pub known_true : (b : Bool) → Known (IsTrue b)

@@ -1,5 +1,5 @@
--- What lies where is known of a draft that has the shape of a machine, and so is what its transitions span and enter.
-use Rattle.std.proofs.Common.{◌≡◌, ◌⊎◌, ◌<◌, ℕ, length, Option, Some, None, option_map, refl, sym, ap, subst, inl, inr, ⊎_elim, ◌∙◌}
+-- What lies where is known of a draft that has the shape of a machine, and so is what routes span and enter.
+use Rattle.std.proofs.Common.{◌≡◌, ◌⊎◌, ◌<◌, ℕ, List, [], ◌∷◌, length, Option, Some, None, option_map, refl, sym, ap, subst, inl, inr, ⊎_elim, ◌∙◌}
 use Rattle.std.proofs.lemmas.Option.{slice_get_within}
 use Rattle.pssm_model.specs.declared.ids.VertexId.{VertexId}
 use Rattle.pssm_model.specs.declared.ids.RegionId.{RegionId}
@@ -9,21 +9,24 @@ use Rattle.pssm_model.specs.declared.elements.Vertex.{Vertex}
 use Rattle.pssm_model.specs.declared.elements.Transition.{Transition}
 use Rattle.pssm_model.specs.declared.elements.Owner.{Owner}
 use Rattle.pssm_model.specs.declared.elements.Owner.TheVariants.{Top, Region, State}
-use Rattle.pssm_model.specs.Forest.{vertex_at, transition_at, owner_of, LiesUnder, LiesInRegion, LiesInState, HasRegionsAbove}
+use Rattle.pssm_model.specs.Forest.{vertex_at, transition_at, HasKind, owner_of, LiesUnder, LiesInRegion, LiesInState, HasRegionsAbove}
 use Rattle.pssm_model.specs.Forest.LiesUnder.{owned, further}
 use Rattle.pssm_model.specs.Forest.HasRegionsAbove.{region, state, machine}
+use Rattle.pssm_model.specs.declared.elements.VertexKind.{VertexKind}
+use Rattle.pssm_model.specs.declared.elements.VertexKind.TheVariants as kinds
 use Rattle.pssm_model.specs.declared.elements.TransKind.{TransKind}
 use Rattle.pssm_model.specs.declared.elements.TransKind.TheVariants.{External, Local, Internal}
-use Rattle.pssm_model.specs.Legs.{Leaves, Enters, Goes, Scope}
+use Rattle.pssm_model.specs.declared.steps.Route.{Route}
+use Rattle.pssm_model.specs.Legs.{Leaves, Enters, Goes, transitions_of, Scope, LiesInScope}
 use Rattle.pssm_model.specs.Legs.Scope.{Nowhere, Inside, Within}
 use Rattle.pssm_model.specs.Shapes.{HasShape}
-use Rattle.pssm_plan.specs.inner.Single.{IsEndOf, IsSpan, IsArea, LiesInArea, IsPassedBy, IsEnteredBy, EndsIn, LeavesOwner, OpensBeside}
-use Rattle.pssm_model.proofs.ElementLaws.{mapped_at, leaves_at, enters_at}
+use Rattle.pssm_model.specs.Routes.{IsSource}
+use Rattle.pssm_plan.specs.inner.OverRoutes.{GoesAs, IsEndOf, IsSpan, IsArea, LiesInArea, EndsOn, IsPassedBy, IsEnteredBy, EndsIn, LeavesOwner, OpensBeside}
+use Rattle.pssm_model.proofs.ElementLaws.{mapped_at, leaves_at, enters_at, kind_at}
 use Rattle.pssm_model.proofs.OwnerChains.{top_lies_nowhere, counted_is_place}
 use Rattle.pssm_model.proofs.Nesting.{under_cases, shallower}
 use Rattle.pssm_plan.proofs.Ranks.{owner_under, depth_under}
-use Rattle.pssm_plan.proofs.Known.{Known, known_as, known_both, known_either, known_not, known_below, known_vertex, known_place, known_kind}
-use Rattle.pssm_plan.proofs.Spans.{one_kind, external_area, local_area, internal_area}
+use Rattle.pssm_plan.proofs.Known.{Known, known_as, known_both, known_either, known_not, known_below, known_among, known_all, known_vertex, known_place, known_kind}
 
 -- the region of a number
 abbrev region_of : ℕ → RegionId
@@ -49,6 +52,104 @@ module _ (m : DraftMachine) where
 
   pub known_owner : (p q : Owner) → Known (owner_of m p ≡ Some q)
   known_owner p q = known_some (owner_of m p) q
+
+  -- the kind of a vertex
+  known_is_junction : (k : VertexKind) → Known (k ≡ kinds.Junction)
+  known_is_junction kinds.Junction = inl refl
+  known_is_junction kinds.State = inr (λ e. cc)
+  known_is_junction kinds.Final = inr (λ e. cc)
+  known_is_junction kinds.Initial = inr (λ e. cc)
+  known_is_junction kinds.DeepHistory = inr (λ e. cc)
+  known_is_junction kinds.ShallowHistory = inr (λ e. cc)
+  known_is_junction kinds.Join = inr (λ e. cc)
+  known_is_junction kinds.Fork = inr (λ e. cc)
+  known_is_junction kinds.Choice = inr (λ e. cc)
+  known_is_junction kinds.EntryPoint = inr (λ e. cc)
+  known_is_junction kinds.ExitPoint = inr (λ e. cc)
+  known_is_junction kinds.Terminate = inr (λ e. cc)
+
+  known_junction : (v : VertexId) → Known (HasKind m v kinds.Junction)
+  known_junction v = by (vertex_at m v) refl
+    where
+      by : (o : Option Vertex) → vertex_at m v ≡ o → Known (HasKind m v kinds.Junction)
+      by None e = inr (λ h. let none = ap (option_map (λ (x : Vertex). x.kind)) e in let clash : HasKind m v kinds.Junction = h in cc)
+      by (Some x) e = known_as (kind_at m v x kinds.Junction e).1 (kind_at m v x kinds.Junction e).0 (known_is_junction x.kind)
+
+  -- what there is of a transition that is not there
+  no_kind : (t : TransId) (k : TransKind) → transition_at m t ≡ None → Goes m t k → ⊥
+  no_kind t k e goes = let none = ap (option_map (λ (x : Transition). x.kind)) e in let clash : Goes m t k = goes in cc
+
+  no_source : (t : TransId) (v : VertexId) → transition_at m t ≡ None → Leaves m t v → ⊥
+  no_source t v e leaves = let none = ap (option_map (λ (x : Transition). x.source)) e in let clash : Leaves m t v = leaves in cc
+
+  no_target : (t : TransId) (v : VertexId) → transition_at m t ≡ None → Enters m t v → ⊥
+  no_target t v e enters = let none = ap (option_map (λ (x : Transition). x.target)) e in let clash : Enters m t v = enters in cc
+
+  pub known_goes : (t : TransId) (k : TransKind) → Known (Goes m t k)
+  known_goes t k = by (transition_at m t) refl
+    where
+      by : (o : Option Transition) → transition_at m t ≡ o → Known (Goes m t k)
+      by None e = inr (no_kind t k e)
+      by (Some x) e =
+          let at = mapped_at (λ (y : Transition). y.kind) (transition_at m t) x e in
+          known_as (λ same. at ∙ ap Some same) (λ goes. let clash : Goes m t k = goes in cc) (known_kind x.kind k)
+
+  -- and so is how a route goes
+  pub known_goes_as : (p : Route) (k : TransKind) → Known (GoesAs m p k)
+  known_goes_as p k = by p.starts refl
+    where
+      by : (ts : List TransId) → p.starts ≡ ts → Known (GoesAs m p k)
+      by [] e = inr (λ h. let clash = h.1 in cc)
+      by (t ∷ []) e =
+          known_as
+          (λ goes. (t, e, goes))
+          (λ h. let same : h.0 ≡ t = let first = h.1 in cc in subst (λ u. Goes m u k) same h.2)
+          (known_goes t k)
+      by (t ∷ u ∷ ts) e = inr (λ h. let clash = h.1 in cc)
+
+  -- some vertex that the transition leaves or enters is such
+  known_source_some : (P : VertexId → Type 0) → ((v : VertexId) → Known (P v)) → (t : TransId) → Known ((v : VertexId) × Leaves m t v × P v)
+  known_source_some P each t = by (transition_at m t) refl
+    where
+      by : (o : Option Transition) → transition_at m t ≡ o → Known ((v : VertexId) × Leaves m t v × P v)
+      by None e = inr (λ h. no_source t h.0 e h.1)
+      by (Some x) e =
+          known_as
+          (λ h. (x.source, (leaves_at m t x x.source e).1 refl, h))
+          (λ h. subst P (sym ((leaves_at m t x h.0 e).0 h.1)) h.2)
+          (each x.source)
+
+  known_target_some : (P : VertexId → Type 0) → ((v : VertexId) → Known (P v)) → (t : TransId) → Known ((v : VertexId) × Enters m t v × P v)
+  known_target_some P each t = by (transition_at m t) refl
+    where
+      by : (o : Option Transition) → transition_at m t ≡ o → Known ((v : VertexId) × Enters m t v × P v)
+      by None e = inr (λ h. no_target t h.0 e h.1)
+      by (Some x) e =
+          known_as
+          (λ h. (x.target, (enters_at m t x x.target e).1 refl, h))
+          (λ h. subst P (sym ((enters_at m t x h.0 e).0 h.1)) h.2)
+          (each x.target)
+
+  -- some vertex that the route leaves, or on which it ends, is such
+  pub known_source : (P : VertexId → Type 0) → ((v : VertexId) → Known (P v)) → (p : Route) → Known ((v : VertexId) × IsSource m p v × P v)
+  known_source P each p =
+      known_as
+      (λ h. (h.2.0, (h.0, h.1, h.2.1), h.2.2))
+      (λ h. (h.1.0, h.1.1, (h.0, h.1.2, h.2)))
+      (known_among (λ t. (v : VertexId) × Leaves m t v × P v) p.starts (λ t inside. known_source_some P each t))
+
+  pub known_end : (P : VertexId → Type 0) → ((v : VertexId) → Known (P v)) → (p : Route) → Known ((v : VertexId) × EndsOn m p v × P v)
+  known_end P each p =
+      known_as
+      (λ h. (h.2.0, (h.0, h.1, h.2.1, h.2.2.0), h.2.2.1))
+      (λ h. (h.1.0, h.1.1, (h.0, h.1.2, (h.1.3, h.2))))
+      (known_among
+      (λ t. (v : VertexId) × Enters m t v × ((HasKind m v kinds.Junction → ⊥) × P v))
+      (transitions_of p)
+      (λ t inside. known_target_some
+      (λ v. (HasKind m v kinds.Junction → ⊥) × P v)
+      (λ v. known_both (known_not (known_junction v)) (each v))
+      t))
 
 module _ {m : DraftMachine} (shape : HasShape m) where
   pub known_in_region : (v : VertexId) (r : RegionId) → Known (LiesInRegion m v r)
@@ -84,15 +185,12 @@ module _ {m : DraftMachine} (shape : HasShape m) where
       (λ k. known_both (known_owner m (Region (region_of k)) (State s)) (known_in_region v (region_of k)))
       (length m.regions))
 
-  -- the regions in which both ends of a transition lie
-  known_common : (t : TransId) (r : RegionId) → Known ((v : VertexId) → IsEndOf m t v → LiesInRegion m v r)
-  known_common t r = by (transition_at m t) refl
+  -- the regions in which the ends of a transition lie, and those in which all vertices of a route do
+  known_both_ends : (t : TransId) (r : RegionId) → Known ((v : VertexId) → (Leaves m t v ⊎ Enters m t v) → LiesInRegion m v r)
+  known_both_ends t r = by (transition_at m t) refl
     where
-      by : (o : Option Transition) → transition_at m t ≡ o → Known ((v : VertexId) → IsEndOf m t v → LiesInRegion m v r)
-      by None e = inl (λ v h. absurd (⊎_elim
-          (λ leaves. let none = ap (option_map (λ (x : Transition). x.source)) e in let clash : Leaves m t v = leaves in cc)
-          (λ enters. let none = ap (option_map (λ (x : Transition). x.target)) e in let clash : Enters m t v = enters in cc)
-          h))
+      by : (o : Option Transition) → transition_at m t ≡ o → Known ((v : VertexId) → (Leaves m t v ⊎ Enters m t v) → LiesInRegion m v r)
+      by None e = inl (λ v h. absurd (⊎_elim (no_source m t v e) (no_target m t v e) h))
       by (Some x) e =
           known_as
           (λ both v h. ⊎_elim
@@ -102,17 +200,27 @@ module _ {m : DraftMachine} (shape : HasShape m) where
           (λ all. (all x.source (inl ((leaves_at m t x x.source e).1 refl)), all x.target (inr ((enters_at m t x x.target e).1 refl))))
           (known_both (known_in_region x.source r) (known_in_region x.target r))
 
-  known_inner : (t : TransId) (r : RegionId)
+  known_common : (p : Route) (r : RegionId) → Known ((v : VertexId) → IsEndOf m p v → LiesInRegion m v r)
+  known_common p r =
+      known_as
+      (λ all v h. all h.0 h.1 v h.2)
+      (λ all t on v ends. all v (t, on, ends))
+      (known_all
+      (λ t. (v : VertexId) → (Leaves m t v ⊎ Enters m t v) → LiesInRegion m v r)
+      (transitions_of p)
+      (λ t on. known_both_ends t r))
+
+  known_inner : (p : Route) (r : RegionId)
       → Known ((k : ℕ) × (k < length m.regions)
-      × (((v : VertexId) → IsEndOf m t v → LiesInRegion m v (region_of k)) × LiesUnder m (Region (region_of k)) (Region r)))
-  known_inner t r =
+      × (((v : VertexId) → IsEndOf m p v → LiesInRegion m v (region_of k)) × LiesUnder m (Region (region_of k)) (Region r)))
+  known_inner p r =
       known_below
-      (λ k. ((v : VertexId) → IsEndOf m t v → LiesInRegion m v (region_of k)) × LiesUnder m (Region (region_of k)) (Region r))
-      (λ k. known_both (known_common t (region_of k)) (known_region_under (region_of k) r))
+      (λ k. ((v : VertexId) → IsEndOf m p v → LiesInRegion m v (region_of k)) × LiesUnder m (Region (region_of k)) (Region r))
+      (λ k. known_both (known_common p (region_of k)) (known_region_under (region_of k) r))
       (length m.regions)
 
-  pub known_span : (t : TransId) (r : RegionId) → Known (IsSpan m t r)
-  known_span t r =
+  pub known_span : (p : Route) (r : RegionId) → Known (IsSpan m p r)
+  known_span p r =
       known_as
       (λ h. record {
         common = h.0;
@@ -124,100 +232,59 @@ module _ {m : DraftMachine} (shape : HasShape m) where
         );
       })
       (λ span. (span.common, λ h. span.innermost (region_of h.0) h.2.0 h.2.1))
-      (known_both (known_common t r) (known_not (known_inner t r)))
+      (known_both (known_common p r) (known_not (known_inner p r)))
 
-  known_in_span : (t : TransId) (s : VertexId) → Known ((r : RegionId) × IsSpan m t r × LiesInRegion m s r)
-  known_in_span t s =
+  known_in_span : (p : Route) (s : VertexId) → Known ((r : RegionId) × IsSpan m p r × LiesInRegion m s r)
+  known_in_span p s =
       known_as
       (λ h. (region_of h.0, h.2.0, h.2.1))
       (λ h. (h.0.0, region_there s h.0 h.2, (h.1, h.2)))
       (known_below
-      (λ k. IsSpan m t (region_of k) × LiesInRegion m s (region_of k))
-      (λ k. known_both (known_span t (region_of k)) (known_in_region s (region_of k)))
+      (λ k. IsSpan m p (region_of k) × LiesInRegion m s (region_of k))
+      (λ k. known_both (known_span p (region_of k)) (known_in_region s (region_of k)))
       (length m.regions))
 
-  -- what there is of a transition that is not there
-  no_kind : (t : TransId) (k : TransKind) → transition_at m t ≡ None → Goes m t k → ⊥
-  no_kind t k e goes = let none = ap (option_map (λ (x : Transition). x.kind)) e in let clash : Goes m t k = goes in cc
+  -- where it exits and enters: in the State that it leaves locally, or in the span
+  abbrev IsByKind : Route → VertexId → Type 0
+  IsByKind p s =
+      (GoesAs m p Local × ((q : VertexId) × IsSource m p q × LiesInState m s q))
+      ⊎ (GoesAs m p External × ((r : RegionId) × IsSpan m p r × LiesInRegion m s r))
 
-  no_source : (t : TransId) (v : VertexId) → transition_at m t ≡ None → Leaves m t v → ⊥
-  no_source t v e leaves = let none = ap (option_map (λ (x : Transition). x.source)) e in let clash : Leaves m t v = leaves in cc
+  area_by_kind : (p : Route) (s : VertexId) (scope : Scope) → IsArea m p scope → LiesInScope m s scope → IsByKind p s
+  area_by_kind p s Nowhere is lies = absurd lies
+  area_by_kind p s (Inside q) is lies = inl (is.0, (q, is.1, lies))
+  area_by_kind p s (Within r) is lies = inr (is.0, (r, is.1, lies))
 
-  no_target : (t : TransId) (v : VertexId) → transition_at m t ≡ None → Enters m t v → ⊥
-  no_target t v e enters = let none = ap (option_map (λ (x : Transition). x.target)) e in let clash : Enters m t v = enters in cc
+  pub known_in_area : (p : Route) (s : VertexId) → Known (LiesInArea m p s)
+  known_in_area p s =
+      known_as
+      (λ h. ⊎_elim (λ local. (Inside local.1.0, (local.0, local.1.1), local.1.2)) (λ out. (Within out.1.0, (out.0, out.1.1), out.1.2)) h)
+      (λ h. area_by_kind p s h.0 h.1 h.2)
+      (known_either
+      (known_both (known_goes_as m p Local) (known_source m (λ q. LiesInState m s q) (λ q. known_in_state s q) p))
+      (known_both (known_goes_as m p External) (known_in_span p s)))
 
-  pub known_goes : (t : TransId) (k : TransKind) → Known (Goes m t k)
-  known_goes t k = by (transition_at m t) refl
-    where
-      by : (o : Option Transition) → transition_at m t ≡ o → Known (Goes m t k)
-      by None e = inr (no_kind t k e)
-      by (Some x) e =
-          let at = mapped_at (λ (x : Transition). x.kind) (transition_at m t) x e in
-          known_as (λ same. at ∙ ap Some same) (λ goes. one_kind m t x.kind k at goes) (known_kind x.kind k)
+  -- which States it enters
+  known_passed : (p : Route) (s : VertexId) → Known (IsPassedBy m p s)
+  known_passed p s =
+      known_end m
+      (λ v. (v ≡ s) ⊎ (LiesInArea m p s × LiesInState m v s))
+      (λ v. known_either (known_vertex v s) (known_both (known_in_area p s) (known_in_state v s)))
+      p
 
-  -- where it exits and enters
-  area_of_kind : (t : TransId) (s v : VertexId) (k : TransKind) → Goes m t k → Leaves m t v → Known (LiesInArea m t s)
-  area_of_kind t s v External goes leaves =
-      let same = external_area m t s goes in known_as same.0 same.1 (known_in_span t s)
-  area_of_kind t s v Local goes leaves =
-      let same = local_area m t s v goes leaves in known_as same.0 same.1 (known_in_state s v)
-  area_of_kind t s v Internal goes leaves = inr (internal_area m t s goes)
-
-  no_area : (t : TransId) (area : Scope) → transition_at m t ≡ None → IsArea m t area → ⊥
-  no_area t Nowhere e is = no_kind t Internal e is
-  no_area t (Inside s) e is = no_kind t Local e is.0
-  no_area t (Within r) e is = no_kind t External e is.0
-
-  pub known_in_area : (t : TransId) (s : VertexId) → Known (LiesInArea m t s)
-  known_in_area t s = by (transition_at m t) refl
-    where
-      by : (o : Option Transition) → transition_at m t ≡ o → Known (LiesInArea m t s)
-      by None e = inr (λ h. no_area t h.0 e h.1)
-      by (Some x) e =
-          area_of_kind t s x.source x.kind
-          (mapped_at (λ (x : Transition). x.kind) (transition_at m t) x e)
-          (mapped_at (λ (x : Transition). x.source) (transition_at m t) x e)
-
-  known_passed : (t : TransId) (s : VertexId) → Known (IsPassedBy m t s)
-  known_passed t s = by (transition_at m t) refl
-    where
-      by : (o : Option Transition) → transition_at m t ≡ o → Known (IsPassedBy m t s)
-      by None e = inr (λ h. no_target t h.0 e h.1)
-      by (Some x) e =
-          known_as
-          (λ h. (x.target, (enters_at m t x x.target e).1 refl, h))
-          (λ h. subst (λ v. (v ≡ s) ⊎ (LiesInArea m t s × LiesInState m v s)) (sym ((enters_at m t x h.0 e).0 h.1)) h.2)
-          (known_either (known_vertex x.target s) (known_both (known_in_area t s) (known_in_state x.target s)))
-
-  pub known_entered : (t : TransId) (s : VertexId) → Known (IsEnteredBy m t s)
-  known_entered t s = known_both (known_not (known_goes t Internal)) (known_passed t s)
+  pub known_entered : (p : Route) (s : VertexId) → Known (IsEnteredBy m p s)
+  known_entered p s = known_both (known_not (known_goes_as m p Internal)) (known_passed p s)
 
   -- whether it ends in a region, or opens it beside what it enters
-  pub known_ends : (t : TransId) (r : RegionId) → Known (EndsIn m t r)
-  known_ends t r = by (transition_at m t) refl
-    where
-      by : (o : Option Transition) → transition_at m t ≡ o → Known (EndsIn m t r)
-      by None e = inr (λ h. no_target t h.0 e h.1)
-      by (Some x) e =
-          known_as
-          (λ h. (x.target, (enters_at m t x x.target e).1 refl, h))
-          (λ h. subst (λ v. LiesInRegion m v r) (sym ((enters_at m t x h.0 e).0 h.1)) h.2)
-          (known_in_region x.target r)
+  pub known_ends : (p : Route) (r : RegionId) → Known (EndsIn m p r)
+  known_ends p r = known_end m (λ v. LiesInRegion m v r) (λ v. known_in_region v r) p
 
-  known_leaves_owner : (t : TransId) (r : RegionId) → Known (LeavesOwner m t r)
-  known_leaves_owner t r = by (transition_at m t) refl
-    where
-      by : (o : Option Transition) → transition_at m t ≡ o → Known (LeavesOwner m t r)
-      by None e = inr (λ h. no_source t h.0 e h.1)
-      by (Some x) e =
-          known_as
-          (λ h. (x.source, (leaves_at m t x x.source e).1 refl, h))
-          (λ h. subst (λ v. owner_of m (Region r) ≡ Some (State v)) (sym ((leaves_at m t x h.0 e).0 h.1)) h.2)
-          (known_owner m (Region r) (State x.source))
+  known_leaves_owner : (p : Route) (r : RegionId) → Known (LeavesOwner m p r)
+  known_leaves_owner p r = known_source m (λ s. owner_of m (Region r) ≡ Some (State s)) (λ s. known_owner m (Region r) (State s)) p
 
-  pub known_beside : (t : TransId) (r : RegionId) → Known (OpensBeside m t r)
-  known_beside t r =
+  pub known_beside : (p : Route) (r : RegionId) → Known (OpensBeside m p r)
+  known_beside p r =
       known_as
       (λ h. (h.0, h.1.0, h.1.1))
       (λ h. (h.0, (h.1, h.2)))
-      (known_both (known_goes t Local) (known_both (known_leaves_owner t r) (known_not (known_ends t r))))
+      (known_both (known_goes_as m p Local) (known_both (known_leaves_owner p r) (known_not (known_ends p r))))

@@ -17,13 +17,13 @@ use Rattle.pssm_model.specs.Course.Head.{Starts, Fires}
 use Rattle.pssm_model.specs.Items.{StartOpens, IsWaiting, HasRunOut}
 use Rattle.pssm_model.specs.Order.{HasGone, IsReady, course_by}
 use Rattle.pssm_model.specs.Nested.{IsPlainlyNested}
-use Rattle.pssm_plan.specs.inner.Single.{GoesDirectly, EndsIn, IsEnteredBy, OpensBeside, OpensAfterEntry, IsCalledOver}
+use Rattle.pssm_plan.specs.inner.OverRoutes.{GoesByRoutes, EndsIn, IsEnteredBy, OpensBeside, OpensAfterEntry, IsCalledOver}
 use Rattle.pssm_plan.proofs.Known.{Known, known_as, known_both, known_either, known_not, known_below}
 use Rattle.pssm_plan.proofs.KnownPlaces.{known_owner, known_entered, known_ends, known_beside}
 use Rattle.pssm_plan.proofs.KnownItems.{known_over_some, known_over, known_exit, known_enter, owning_there, some_ready}
-use Rattle.pssm_plan.proofs.NestedSteps.{gone_directly}
 use Rattle.pssm_plan.proofs.ReadyItems.{run_known}
-use Rattle.pssm_plan.proofs.SingleItems.{called_is, called_of}
+use Rattle.pssm_plan.proofs.RouteItems.{called_is, called_of}
+use Rattle.pssm_plan.proofs.RouteSteps.{gone_by_routes}
 use Rattle.pssm_plan.proofs.StepLengths.{IsThere, called_there}
 
 -- what a start opens is known
@@ -53,7 +53,7 @@ enter_of k = items.Enter (vertex_of k)
 abbrev opening_of : ℕ → Item
 opening_of k = items.Opened (region_of k) Plain
 
-module _ {m : DraftMachine} (shape : HasShape m) (course : Course) (g : GoesDirectly m course)
+module _ {m : DraftMachine} (nested : IsPlainlyNested m) (shape : HasShape m) (course : Course) (g : GoesByRoutes m course)
     (active : (s : VertexId) → Known (course.at_head.Active s)) where
   -- which openings are called
   after_entry_known : (s : VertexId) (r : RegionId) → Known (OpensAfterEntry m course s r)
@@ -65,9 +65,9 @@ module _ {m : DraftMachine} (shape : HasShape m) (course : Course) (g : GoesDire
       (run_known course (items.Enter s))
       (known_both
       (known_owner m (Region r) (State s))
-      (known_over_some shape course g active
-      (λ t. IsEnteredBy m t s × (EndsIn m t r → ⊥))
-      (λ t. known_both (known_entered shape t s) (known_not (known_ends shape t r))))))
+      (known_over_some nested shape course g active
+      (λ p. IsEnteredBy m p s × (EndsIn m p r → ⊥))
+      (λ p. known_both (known_entered shape p s) (known_not (known_ends shape p r))))))
 
   opening_known : (r : RegionId) → Known (IsCalledOver m course (items.Opened r Plain))
   opening_known r =
@@ -81,14 +81,14 @@ module _ {m : DraftMachine} (shape : HasShape m) (course : Course) (g : GoesDire
       (known_as
       (λ h. (h.0, (h.1, h.2)))
       (λ h. (h.0, h.1.0, h.1.1))
-      (known_over_some shape course g active (λ t. OpensBeside m t r) (λ t. known_beside shape t r))))
+      (known_over_some nested shape course g active (λ p. OpensBeside m p r) (λ p. known_beside shape p r))))
 
   -- some item of a kind waits, or none does
   waiting_known : (item : ℕ → Item) → ((k : ℕ) → Known (IsCalledOver m course (item k))) → (n : ℕ)
       → ((x : Item) × IsWaiting m course x) ⊎ ((k : ℕ) → k < n → IsCalledOver m course (item k) → HasRun course (item k))
   waiting_known item called n =
       ⊎_elim
-      (λ h. inl (item h.0, record { called = called_of m course g (item h.0) h.2.0; not_run = h.2.1 }))
+      (λ h. inl (item h.0, record { called = called_of nested shape course g (item h.0) h.2.0; not_run = h.2.1 }))
       (λ none. inr (λ k lt is. ⊎_elim (λ ran. ran) (λ not. absurd (none (k, lt, (is, not)))) (run_known course (item k))))
       (known_below
       (λ k. IsCalledOver m course (item k) × (HasRun course (item k) → ⊥))
@@ -122,13 +122,13 @@ module _ {m : DraftMachine} (shape : HasShape m) (course : Course) (g : GoesDire
       (λ entries. ⊎_elim
       (λ waits. inr waits)
       (λ openings. inl (λ x called. (
-      let is = called_is m course g x called in
+      let is = called_is nested shape course g x called in
       all_ran exits effects entries openings x (there x is) is
       )))
       (waiting_known opening_of (λ k. opening_known (region_of k)) (length m.regions)))
-      (waiting_known enter_of (λ k. known_enter shape course g active (vertex_of k)) (length m.vertices)))
-      (waiting_known effect_of (λ k. known_over shape course g active (transition_of k)) (length m.transitions)))
-      (waiting_known exit_of (λ k. known_exit shape course g active (vertex_of k)) (length m.vertices))
+      (waiting_known enter_of (λ k. known_enter nested shape course g active (vertex_of k)) (length m.vertices)))
+      (waiting_known effect_of (λ k. known_over nested shape course g active (transition_of k)) (length m.transitions)))
+      (waiting_known exit_of (λ k. known_exit nested shape course g active (vertex_of k)) (length m.vertices))
 
 -- A step has run out, or an item is ready.
 pub ready_or_out : {m : DraftMachine} → HasShape m → IsPlainlyNested m
@@ -137,8 +137,8 @@ pub ready_or_out : {m : DraftMachine} → HasShape m → IsPlainlyNested m
     → HasRunOut m (course_by head now ran) ⊎ ((x : Item) × IsReady m (course_by head now ran) x)
 ready_or_out shape nested head now ran gone active =
     let course = course_by head now ran in
-    let g = gone_directly nested head now ran gone in
+    let g = gone_by_routes nested shape head now ran gone in
     ⊎_elim
     (λ out. inl out)
-    (λ waits. (let first = some_ready shape course g active waits.0 waits.1 in inr (first.0, first.1)))
-    (some_waits shape course g active (called_there shape nested head now ran gone))
+    (λ waits. (let first = some_ready nested shape course g active waits.0 waits.1 in inr (first.0, first.1)))
+    (some_waits nested shape course g active (called_there shape nested head now ran gone))

@@ -1,7 +1,6 @@
 -- A step of a machine of States in regions runs each item at most once, so it is no longer than the machine is large.
-use Rattle.std.proofs.Common.{◌≡◌, ◌+◌, ◌<◌, ◌≤◌, ℕ, List, [], ◌∷◌, length, map, Bool, true, false, Contains, refl, sym, ap, subst, ⊎_elim, arith, eqb}
+use Rattle.std.proofs.Common.{◌≡◌, ◌+◌, ◌<◌, ◌≤◌, ℕ, List, [], ◌∷◌, length, map, Bool, true, false, Contains, refl, sym, ap, subst, inl, ⊎_elim, arith, eqb}
 use Rattle.std.specs.List.{list_any, IsDistinct}
-use Rattle.std.proofs.lemmas.Option.{slice_get_within}
 use Rattle.std.proofs.lemmas.Cmp.{nat_eq_equiv}
 use Rattle.std.proofs.lemmas.Bool.{eqb-true}
 use Rattle.std.proofs.lemmas.List.{map-append, length-map}
@@ -9,33 +8,27 @@ use Rattle.std.proofs.lemmas.List.Elements.{Contains-append_cases, Contains-appe
 use Rattle.std.proofs.lemmas.Map.Keys.{IsDistinct-push}
 use Rattle.std.proofs.lemmas.Map.Views.{Contains-from_any}
 use Rattle.std.proofs.lemmas.Map.Steps.{length-le_from_distinct_below}
-use Rattle.pssm_model.specs.declared.ids.VertexId.{VertexId}
-use Rattle.pssm_model.specs.declared.ids.RegionId.{RegionId}
 use Rattle.pssm_model.specs.declared.elements.DraftMachine.{DraftMachine}
-use Rattle.pssm_model.specs.declared.elements.Vertex.{Vertex}
-use Rattle.pssm_model.specs.declared.elements.VertexKind.TheVariants as kinds
-use Rattle.pssm_model.specs.declared.elements.Owner.TheVariants.{Top, State}
 use Rattle.pssm_model.specs.declared.steps.Mode.TheVariants.{Plain, Shallow, Deep}
 use Rattle.pssm_model.specs.declared.steps.How.{How}
 use Rattle.pssm_model.specs.declared.steps.Item.{Item}
 use Rattle.pssm_model.specs.declared.steps.Item.TheVariants as items
-use Rattle.pssm_model.specs.Forest.{vertex_at, HasKind}
 use Rattle.pssm_model.specs.Shapes.{HasShape}
 use Rattle.pssm_model.specs.Configuration.{Configuration}
 use Rattle.pssm_model.specs.Course.{Head, Course, HasRun}
-use Rattle.pssm_model.specs.Course.Head.{Starts, Fires}
-use Rattle.pssm_model.specs.Items.{StartOpens}
 use Rattle.pssm_model.specs.Order.{HasGone, course_by, entries_at_most, IsNestedStep}
 use Rattle.pssm_model.specs.Order.HasGone.{begun, more}
 use Rattle.pssm_model.specs.Nested.{IsPlainlyNested}
-use Rattle.pssm_plan.specs.inner.Single.{IsCalledOver}
-use Rattle.pssm_model.proofs.ElementLaws.{mapped_some, same_vertex, same_transition}
+use Rattle.pssm_plan.specs.inner.OverRoutes.{IsCalledOver}
+use Rattle.pssm_model.proofs.ElementLaws.{same_vertex, same_transition}
 use Rattle.pssm_model.proofs.ElementLaws.{same_region}
 use Rattle.pssm_model.proofs.ElementLaws.{nothing_in_nil}
 use Rattle.pssm_model.proofs.RouteLaws.{in_one, is_one}
-use Rattle.pssm_plan.proofs.SingleItems.{called_is, direct_over}
-use Rattle.pssm_plan.proofs.NestedSteps.{gone_directly, over_in_range, ran_was_called}
-use Rattle.pssm_plan.proofs.Spans.{area_there}
+use Rattle.pssm_plan.proofs.MoreItems.{run_more}
+use Rattle.pssm_plan.proofs.RouteMore.{called_more}
+use Rattle.pssm_plan.proofs.RouteItems.{called_is}
+use Rattle.pssm_plan.proofs.RouteSteps.{gone_by_routes}
+use Rattle.pssm_plan.proofs.RouteCourses.{called_there as names_there}
 
 module _ (m : DraftMachine) where
   -- a number for each item: exits, entries, openings and effects
@@ -112,37 +105,32 @@ module _ (m : DraftMachine) where
       (Contains-append_cases (number_of x.0 ∷ []) (numbers_of ran) n h)
 
 module _ {m : DraftMachine} (shape : HasShape m) where
-  kind_there : (s : VertexId) → HasKind m s kinds.State → s.0 < length m.vertices
-  kind_there s h =
-      let at = mapped_some (λ (x : Vertex). x.kind) (vertex_at m s) kinds.State h in
-      slice_get_within m.vertices s.0 at.0 at.1
-
-  start_there : (head : Head) (r : RegionId) → StartOpens m head (items.Opened r Plain) → r.0 < length m.regions
-  start_there Starts r h = slice_get_within m.regions r.0 Top h
-  start_there (Fires routes) r h = absurd h
+  -- what has run is called
+  pub ran_was_called : (b : IsPlainlyNested m) (head : Head) (now : Configuration) (ran : List (Item × How)) → HasGone m head now ran
+      → (x : Item) → HasRun (course_by head now ran) x → IsCalledOver m (course_by head now ran) x
+  ran_was_called b head now _ (begun fires) x h = absurd (nothing_in_nil (x, h.0) h.1)
+  ran_was_called b head now _ (more {ran = ran} item how before ready truth way) x h =
+      let course = course_by head now ran in
+      let called = called_is b shape course (gone_by_routes b shape head now ran before) item ready.waiting.called in
+      (called_more course item how m x).1 (inl (⊎_elim
+      (λ was. ran_was_called b head now ran before x was)
+      (λ is. subst (λ y. IsCalledOver m course y) (sym is) called)
+      ((run_more course item how x).0 h)))
 
   -- what is called is there
   pub called_there : (b : IsPlainlyNested m) (head : Head) (now : Configuration) (ran : List (Item × How)) → HasGone m head now ran
       → (x : Item) → IsCalledOver m (course_by head now ran) x → IsThere m x
-  called_there b head now ran gone (items.Exit s) h = area_there m h.0 s h.1.2
-  called_there b head now ran gone (items.Effect t) h = over_in_range b head now ran gone t h
-  called_there b head now ran gone (items.Enter s) h =
-      let direct = direct_over m (course_by head now ran) (gone_directly b head now ran gone) h.0 h.1.0 in
-      let at = h.1.1.1 in
-      ⊎_elim
-      (λ same. kind_there s (subst (λ v. HasKind m v kinds.State) same (direct.to_state at.0 at.1)))
-      (λ nested. area_there m h.0 s nested.0)
-      at.2
-  called_there b head now ran gone (items.Opened r Plain) h =
-      ⊎_elim
-      (λ starts. start_there head r starts)
-      (⊎_elim
-      (λ at. slice_get_within m.regions r.0 (State at.0) at.1.1)
-      (λ beside. (let owner = beside.1.1.1 in slice_get_within m.regions r.0 (State owner.0) owner.2)))
-      h
-  called_there b head now ran gone (items.Opened r Shallow) h = h
-  called_there b head now ran gone (items.Opened r Deep) h = h
-  called_there b head now ran gone (items.Pick c) h = h
+  called_there b head now ran gone x h = plain x h
+    where
+      plain : (y : Item) → IsCalledOver m (course_by head now ran) y → IsThere m y
+      plain (items.Exit s) called = names_there shape (course_by head now ran) (gone_by_routes b shape head now ran gone) (items.Exit s) called
+      plain (items.Effect t) called = names_there shape (course_by head now ran) (gone_by_routes b shape head now ran gone) (items.Effect t) called
+      plain (items.Enter s) called = names_there shape (course_by head now ran) (gone_by_routes b shape head now ran gone) (items.Enter s) called
+      plain (items.Opened r Plain) called =
+          names_there shape (course_by head now ran) (gone_by_routes b shape head now ran gone) (items.Opened r Plain) called
+      plain (items.Opened r Shallow) called = called
+      plain (items.Opened r Deep) called = called
+      plain (items.Pick c) called = called
 
   ran_there : (b : IsPlainlyNested m) (head : Head) (now : Configuration) (ran : List (Item × How)) → HasGone m head now ran
       → (x : Item × How) → Contains ran x → IsThere m x.0
@@ -169,7 +157,7 @@ module _ {m : DraftMachine} (shape : HasShape m) where
   distinct b head now _ (begun fires) = tt
   distinct b head now _ (more {ran = ran} item how before ready truth way) =
       let course = course_by head now ran in
-      let called = called_is m course (gone_directly b head now ran before) item ready.waiting.called in
+      let called = called_is b shape course (gone_by_routes b shape head now ran before) item ready.waiting.called in
       subst (IsDistinct eqb) (sym (map-append (λ (x : Item × How). number_of m x.0) ran ((item, how) ∷ [])))
       (IsDistinct-push nat_eq_equiv (numbers_of m ran) (number_of m item) (distinct b head now ran before)
       (is_new b head now ran item before called ready.waiting.not_run))
