@@ -8,7 +8,9 @@ use Rattle.pssm_model.specs.declared.elements.Owner.{Owner}
 use Rattle.pssm_model.specs.declared.elements.Owner.TheVariants.{Top, Region, State}
 use Rattle.pssm_model.specs.declared.elements.TransKind.{TransKind}
 use Rattle.pssm_model.specs.declared.elements.TransKind.TheVariants.{External, Local, Internal}
+use Rattle.pssm_model.specs.declared.steps.How.{How}
 use Rattle.pssm_model.specs.declared.steps.Item.{Item}
+use Rattle.pssm_model.specs.Course.{Course, HasRun}
 use Rattle.pssm_model.specs.contracts.steps.ItemPartialEq.TheImpl.{eq-value as item_eq}
 use Rattle.pssm_model.proofs.ElementLaws.{same_vertex, same_transition}
 use Rattle.pssm_model.proofs.ElementLaws.{same_region}
@@ -145,3 +147,14 @@ known_item a b = by (item_eq.it a b) refl
     by : (same : Bool) → item_eq.it a b ≡ same → Known (a ≡ b)
     by true e = inl (item_same a b e)
     by false e = inr (λ is. let self : item_eq.it a b ≡ true = subst (λ x. item_eq.it a x ≡ true) is (item_self a) in cc)
+
+-- an item has run or not
+pub run_known : (course : Course) (item : Item) → Known (HasRun course item)
+run_known course item =
+    known_as
+    (λ h. (h.0.1, subst (λ y. Contains course.ran y) (pair h.0 h.2) h.1))
+    (λ h. ((item, h.0), h.1, refl))
+    (known_among (λ x. x.0 ≡ item) course.ran (λ x inside. known_item x.0 item))
+  where
+    pair : (x : Item × How) → x.0 ≡ item → x ≡ (item, x.1)
+    pair x e = λ i. (e i, x.1)

@@ -29,14 +29,14 @@ use Rattle.pssm_model.specs.declared.steps.Mode.TheVariants.{Plain, Shallow, Dee
 use Rattle.pssm_model.proofs.ElementLaws.{mapped_some}
 use Rattle.pssm_model.proofs.StateRoutes.{start_of}
 use Rattle.pssm_model.proofs.OverJunctions.{single_legs}
-use Rattle.pssm_plan.proofs.Ranks.{owner_under}
+use Rattle.pssm_plan.proofs.Depths.{owner_under}
 use Rattle.pssm_plan.proofs.RouteItems.{called_is, called_of, before_is, before_of}
 use Rattle.pssm_plan.proofs.RoutePaths.{path_begins_on, path_ends_on, no_round_path, path_order}
 use Rattle.pssm_plan.proofs.RouteCourses.{area_there}
 use Rattle.pssm_plan.proofs.Known.{Known, known_as, known_both, known_either, known_not, known_below, known_among, known_inside, known_transition}
 use Rattle.pssm_plan.proofs.KnownPlaces.{known_in_state, known_in_area, known_entered, known_beside}
 use Rattle.pssm_plan.proofs.RouteSteps.{gone_by_routes}
-use Rattle.pssm_plan.proofs.ReadyItems.{run_known}
+use Rattle.pssm_plan.proofs.Known.{run_known}
 use Rattle.pssm_plan.proofs.RouteReady.{ready_at_or_before, nothing_ready}
 
 -- an opening of a history or a pick, which is in no order with the others

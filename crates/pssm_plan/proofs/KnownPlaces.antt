@@ -25,7 +25,7 @@ use Rattle.pssm_plan.specs.inner.OverRoutes.{GoesAs, IsEndOf, IsSpan, IsArea, Li
 use Rattle.pssm_model.proofs.ElementLaws.{mapped_at, leaves_at, enters_at, kind_at}
 use Rattle.pssm_model.proofs.OwnerChains.{top_lies_nowhere, counted_is_place}
 use Rattle.pssm_model.proofs.Nesting.{under_cases, shallower}
-use Rattle.pssm_plan.proofs.Ranks.{owner_under, depth_under}
+use Rattle.pssm_plan.proofs.Depths.{owner_under, depth_under}
 use Rattle.pssm_plan.proofs.Known.{Known, known_as, known_both, known_either, known_not, known_below, known_among, known_all, known_vertex, known_place, known_kind}
 
 -- the region of a number

@@ -6,6 +6,8 @@ pub mod Settling
 pub mod Telling
 pub mod StandingItems
 pub mod ReadyCalls
+pub mod Depths
+pub mod MoreRan
 pub mod RouteLegs
 pub mod RoutePaths
 pub mod RouteItems
@@ -13,6 +15,7 @@ pub mod RouteMore
 pub mod RouteSteps
 pub mod RouteRanks
 pub mod RouteReady
+pub mod RouteCourses
 pub mod Known
 pub mod KnownPlaces
 pub mod KnownItems

@@ -21,7 +21,7 @@ use Rattle.pssm_plan.specs.inner.OverRoutes.{GoesByRoutes, EndsIn, IsEnteredBy, 
 use Rattle.pssm_plan.proofs.Known.{Known, known_as, known_both, known_either, known_not, known_below}
 use Rattle.pssm_plan.proofs.KnownPlaces.{known_owner, known_entered, known_ends, known_beside}
 use Rattle.pssm_plan.proofs.KnownItems.{known_over_some, known_over, known_exit, known_enter, owning_there, some_ready}
-use Rattle.pssm_plan.proofs.ReadyItems.{run_known}
+use Rattle.pssm_plan.proofs.Known.{run_known}
 use Rattle.pssm_plan.proofs.RouteItems.{called_is, called_of}
 use Rattle.pssm_plan.proofs.RouteSteps.{gone_by_routes}
 use Rattle.pssm_plan.proofs.StepLengths.{IsThere, called_there}

@@ -14,7 +14,7 @@ use Rattle.pssm_model.specs.Forest.{owner_of}
 use Rattle.pssm_model.specs.Routes.{IsRoute}
 use Rattle.pssm_model.specs.Course.{Course}
 use Rattle.pssm_plan.specs.inner.OverRoutes.{GoesByRoutes, GoesBy, IsEnteredBy, OpensBeside, IsEnteredOver, IsOpenedOver, EndsIn, OpensNext, IsCalledOver, IsCalledNext}
-use Rattle.pssm_plan.proofs.MoreItems.{gone_on, run_more as ran_more, gone_by_more as by_more, restored_more as put_back_more}
+use Rattle.pssm_plan.proofs.MoreRan.{gone_on, run_more as ran_more, gone_by_more as by_more, restored_more as put_back_more}
 
 module _ (course : Course) (item : Item) (how : How) where
   -- its routes

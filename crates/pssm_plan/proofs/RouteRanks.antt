@@ -36,7 +36,7 @@ use Rattle.pssm_model.proofs.ElementLaws.{mapped_some, same_vertex, nothing_in_n
 use Rattle.pssm_model.proofs.RouteLaws.{is_one}
 use Rattle.pssm_model.proofs.OwnerChains.{one_count}
 use Rattle.pssm_model.proofs.Nesting.{shallower}
-use Rattle.pssm_plan.proofs.Ranks.{state_down_region, depth_of_kind, depth_under, depth_in_scope}
+use Rattle.pssm_plan.proofs.Depths.{state_down_region, depth_of_kind, depth_under, depth_in_scope}
 use Rattle.pssm_plan.proofs.RoutePaths.{step_leads, then_leads}
 use Rattle.pssm_plan.proofs.RouteItems.{called_is, before_is, entered_is_state}
 

@@ -9,7 +9,7 @@ use Rattle.pssm_model.specs.Order.{IsReady, IsAtOrBefore}
 use Rattle.pssm_model.specs.Order.IsAtOrBefore.{at, before}
 use Rattle.pssm_model.specs.Nested.{IsPlainlyNested}
 use Rattle.pssm_plan.specs.inner.OverRoutes.{GoesByRoutes}
-use Rattle.pssm_plan.proofs.ReadyItems.{run_known}
+use Rattle.pssm_plan.proofs.Known.{run_known}
 use Rattle.pssm_plan.proofs.RouteRanks.{HasRank, rank_of_called, rank_of_earlier}
 
 module _ {m : DraftMachine} (nested : IsPlainlyNested m) (shape : HasShape m) (course : Course) (g : GoesByRoutes m course) where

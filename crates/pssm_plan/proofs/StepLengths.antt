@@ -24,7 +24,7 @@ use Rattle.pssm_model.proofs.ElementLaws.{same_vertex, same_transition}
 use Rattle.pssm_model.proofs.ElementLaws.{same_region}
 use Rattle.pssm_model.proofs.ElementLaws.{nothing_in_nil}
 use Rattle.pssm_model.proofs.RouteLaws.{in_one, is_one}
-use Rattle.pssm_plan.proofs.MoreItems.{run_more}
+use Rattle.pssm_plan.proofs.MoreRan.{run_more}
 use Rattle.pssm_plan.proofs.RouteMore.{called_more}
 use Rattle.pssm_plan.proofs.RouteItems.{called_is}
 use Rattle.pssm_plan.proofs.RouteSteps.{gone_by_routes}
