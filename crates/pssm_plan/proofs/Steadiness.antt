@@ -91,8 +91,8 @@ module _ {m : DraftMachine} (shape : HasShape m) (nested : IsPlainlyNested m) (i
       let target = second.1.1.1 in
       let step = step_route shape nested head now ran gone second.0 second.1.0 in
       one_reached shape target.0 s v r e f
-      (entered_reached shape nested initials second.0 s target.0 step (subst (λ x. IsEnteredBy m x s) one first.1.1) target.1)
-      (entered_reached shape nested initials second.0 v target.0 step second.1.1 target.1)
+      (entered_reached shape nested second.0 s target.0 step (subst (λ x. IsEnteredBy m x s) one first.1.1) target.1)
+      (entered_reached shape nested second.0 v target.0 step second.1.1 target.1)
 
   -- the region of a State whose entry is ready has no active direct vertex
   vacant : (ran : List (Item × How)) → HasGone m head now ran → (r : RegionId) (s v : VertexId)

@@ -8,7 +8,7 @@ use Rattle.pssm_model.specs.declared.steps.Route.{Route}
 use Rattle.pssm_model.specs.declared.steps.How.{How}
 use Rattle.pssm_model.specs.declared.steps.Item.{Item}
 use Rattle.pssm_model.specs.Forest.{owner_of, LiesUnder, HasRegionsAbove}
-use Rattle.pssm_model.specs.Legs.{Leaves, Scope}
+use Rattle.pssm_model.specs.Legs.{Scope}
 use Rattle.pssm_model.specs.Paths.{IsInitialOf}
 use Rattle.pssm_model.specs.Shapes.{HasShape}
 use Rattle.pssm_model.specs.Configuration.{Configuration}

@@ -1,6 +1,6 @@
 -- What has run before an entry, and where a step enters States: all that is entered lies where something fires, and
 -- every called exit of that place has run.
-use Rattle.std.proofs.Common.{List, Some, ◌≡◌, ◌⊎◌, [], ◌∷◌, refl, sym, ap, subst, inl, inr, ⊎_elim, ◌∙◌}
+use Rattle.std.proofs.Common.{List, Some, ◌≡◌, ◌⊎◌, [], ◌∷◌, refl, sym, ap, subst, inl, inr, ⊎_elim}
 use Rattle.pssm_model.specs.declared.ids.VertexId.{VertexId}
 use Rattle.pssm_model.specs.declared.ids.RegionId.{RegionId}
 use Rattle.pssm_model.specs.declared.ids.TransId.{TransId}
@@ -29,13 +29,12 @@ use Rattle.pssm_model.specs.Nested.{IsPlainlyNested}
 use Rattle.pssm_plan.specs.Steadiness.{KeepsInitials, BeginsWell}
 use Rattle.pssm_model.specs.Legs.{Leaves, On, Scope}
 use Rattle.pssm_plan.specs.inner.OverRoutes.{IsArea, OpensBeside, GoesBy, IsEnteredBy, IsExitedOver, IsEnteredOver, IsOpenedOver, IsCalledOver}
-use Rattle.pssm_plan.specs.inner.RouteSequence.{IsLateStart}
 use Rattle.pssm_model.proofs.ElementLaws.{kind_unique, leaves_one, nothing_in_nil}
 use Rattle.pssm_model.proofs.RouteLaws.{single_source_is}
 use Rattle.pssm_model.proofs.StateRoutes.{start_is_on, state_route_from}
 use Rattle.pssm_model.proofs.OverJunctions.{single_legs}
 use Rattle.pssm_plan.proofs.RouteItems.{called_is, called_of, before_of}
-use Rattle.pssm_plan.proofs.RouteMore.{over_more, entered_more, called_more}
+use Rattle.pssm_plan.proofs.RouteMore.{entered_more, called_more}
 use Rattle.pssm_plan.proofs.RouteSteps.{gone_by_routes, fires_states, late_single}
 use Rattle.pssm_plan.proofs.MoreItems.{gone_on, nothing_ran, begins_by, gone_by_more, run_more}
 use Rattle.pssm_plan.proofs.SteadyPlaces.{IsRegionUnder, IsSingleFrom, IsStepRoute, has_area, late_lies, entered_in_area, beside_at_edge, under_is_in, region_in_scope, around_in_scope, owned_under}

@@ -29,17 +29,15 @@ use Rattle.pssm_model.specs.Shapes.{HasShape, OwnsVertex}
 use Rattle.pssm_model.specs.WellFormed.Breaks.{E14}
 use Rattle.pssm_plan.specs.Steadiness.{KeepsInitials}
 use Rattle.pssm_plan.specs.inner.OverRoutes.{GoesAs, IsEndOf, IsSpan, IsArea, LiesInArea, EndsOn, IsEnteredBy, EndsIn, OpensBeside}
-use Rattle.pssm_model.proofs.ElementLaws.{mapped_some, mapped_at, kind_unique}
-use Rattle.pssm_model.proofs.ElementLaws.{leaves_one, enters_one}
-use Rattle.pssm_model.proofs.RouteLaws.{is_one, on_single, on_single_is, single_source_is, reached_is_on}
+use Rattle.pssm_model.proofs.ElementLaws.{mapped_some, mapped_at, kind_unique, leaves_one}
+use Rattle.pssm_model.proofs.RouteLaws.{on_single, on_single_is, reached_is_on}
 use Rattle.pssm_model.proofs.Nesting.{under_cases, region_cases, outer_of_region, lies_within}
 use Rattle.pssm_model.proofs.OwnerChains.{one_owner, under_further, circle_is_endless, top_lies_nowhere, region_down}
 use Rattle.pssm_model.proofs.Scopes.{one_scope}
-use Rattle.pssm_model.proofs.StateRoutes.{is_start as start_inside, start_is_on, source_is_left, state_route_from}
-use Rattle.pssm_model.proofs.OverJunctions.{single_legs, internal_leaves, local_leaves, late_target}
+use Rattle.pssm_model.proofs.StateRoutes.{is_start as start_inside, source_is_left, state_route_from}
+use Rattle.pssm_model.proofs.OverJunctions.{single_legs, internal_leaves, local_leaves}
 use Rattle.pssm_model.proofs.OneLeg.{is_start, passes_junction}
 use Rattle.pssm_model.proofs.LegScopes.{some_leg}
-use Rattle.pssm_plan.proofs.Known.{Known}
 use Rattle.pssm_plan.proofs.KnownPlaces.{known_in_state}
 use Rattle.pssm_plan.proofs.Ranks.{owner_under, depth_under, state_down_region}
 use Rattle.pssm_plan.proofs.RouteLegs.{leg_scope_is}
@@ -339,8 +337,8 @@ module _ (m : DraftMachine) where
   path_more _ u v w (more {u = next} {rest = rest} j e out behind) k l enters = more j e out (path_more (next ∷ rest) u v w behind k l enters)
 
 -- where a local route ends
-module _ {m : DraftMachine} (shape : HasShape m) (nested : IsPlainlyNested m) (p : Route) (route : IsRoute m p) (t : TransId) (starts : p.starts ≡ t ∷ [])
-    where
+module _ {m : DraftMachine} (shape : HasShape m) (nested : IsPlainlyNested m)
+    (p : Route) (route : IsRoute m p) (t : TransId) (starts : p.starts ≡ t ∷ []) where
   -- a junction path leads from its start to each vertex on which one of its transitions ends
   path_to : (u : TransId) (w : VertexId) → IsReached m p u → Enters m u w → (rest : List TransId) × IsJunctionPath m (t ∷ rest) w
   path_to u w (reached_first h) e =
@@ -371,6 +369,17 @@ module _ {m : DraftMachine} (shape : HasShape m) (nested : IsPlainlyNested m) wh
       (λ fires. (let from = state_route_from (single_legs nested) p fires in (from.0, from.2.starts)))
       (λ late. (late.1.1.0, ap (λ (q : Route). q.starts) late.1.1.1))
       is
+
+  -- what a route enters stands on the owner chain of its last vertex
+  pub entered_reached : (p : Route) (s w : VertexId) → IsStepRoute m p → IsEnteredBy m p s → EndsOn m p w → IsAtOrUnder m w s
+  entered_reached p s w step h ends =
+      let start = has_start p step in
+      let last = λ (a c : VertexId). one_last (single_legs nested) shape p (is_route p step) start.0 start.1 a c in
+      ⊎_elim
+      (λ same. inl (last w h.1.0 ends h.1.1 ∙ same))
+      (λ around. inr (subst (λ x. LiesUnder m (State x) (State s)) (last h.1.0 w h.1.1 ends)
+      (under_further around.1.2 (owned around.1.1))))
+      h.1.2
 
   -- a route out of States exits and enters somewhere, or nowhere
   state_area : (p : Route) → IsStateRoute m p → (area : Scope) × IsArea m p area
@@ -485,17 +494,6 @@ module _ {m : DraftMachine} (shape : HasShape m) (nested : IsPlainlyNested m) (i
       (λ same. subst (λ x. LiesInRegion m x r) same
       ((late_is_area r v p initial from).1.common h.1.0 (h.1.1.0, h.1.1.1, inr h.1.1.2)))
       (λ around. subst (λ x. LiesInScope m s x) (late_area r v p around.0.0 initial from around.0.1) around.0.2)
-      h.1.2
-
-  -- what a route enters stands on the owner chain of its last vertex
-  pub entered_reached : (p : Route) (s w : VertexId) → IsStepRoute m p → IsEnteredBy m p s → EndsOn m p w → IsAtOrUnder m w s
-  entered_reached p s w step h ends =
-      let start = has_start shape nested p step in
-      let last = λ (a c : VertexId). one_last (single_legs nested) shape p (is_route shape nested p step) start.0 start.1 a c in
-      ⊎_elim
-      (λ same. inl (last w h.1.0 ends h.1.1 ∙ same))
-      (λ around. inr (subst (λ x. LiesUnder m (State x) (State s)) (last h.1.0 w h.1.1 ends)
-      (under_further around.1.2 (owned around.1.1))))
       h.1.2
 
 module _ (m : DraftMachine) where
