@@ -2,11 +2,11 @@
 use Rattle.std.proofs.Common.{List, Some, ◌≡◌, ◌⊎◌, sym, subst, inl, inr, ⊎_elim, ◌∙◌}
 use Rattle.pssm_model.specs.declared.ids.VertexId.{VertexId}
 use Rattle.pssm_model.specs.declared.ids.RegionId.{RegionId}
-use Rattle.pssm_model.specs.declared.ids.TransId.{TransId}
 use Rattle.pssm_model.specs.declared.elements.DraftMachine.{DraftMachine}
 use Rattle.pssm_model.specs.declared.elements.VertexKind.TheVariants as kinds
 use Rattle.pssm_model.specs.declared.elements.Owner.{Owner}
 use Rattle.pssm_model.specs.declared.elements.Owner.TheVariants.{Top, Region, State}
+use Rattle.pssm_model.specs.declared.steps.Route.{Route}
 use Rattle.pssm_model.specs.declared.steps.How.{How}
 use Rattle.pssm_model.specs.declared.steps.How.TheVariants.{By, Restore, Nothing}
 use Rattle.pssm_model.specs.declared.steps.Item.{Item}
@@ -21,22 +21,20 @@ use Rattle.pssm_model.specs.Course.{Head, FiresBy, HasGoneBy, HasRun}
 use Rattle.pssm_model.specs.Order.{HasGone, IsReady, course_by}
 use Rattle.pssm_model.specs.Order.HasGone.{begun as gone_begun, more as gone_more}
 use Rattle.pssm_model.specs.Nested.{IsPlainlyNested}
-use Rattle.pssm_model.specs.Routes.{single_route}
+use Rattle.pssm_model.specs.Routes.{IsSource}
 use Rattle.pssm_config.specs.Tables.{CanEnter}
 use Rattle.pssm_plan.specs.Steadiness.{IsConsistent, KeepsInitials, BeginsWell, changed_by_item, changed_along}
-use Rattle.pssm_plan.specs.inner.Single.{IsArea, EndsIn, IsEnteredBy, IsEnteredOver, IsCalledOver}
-use Rattle.pssm_model.specs.Legs.{Leaves, Scope}
+use Rattle.pssm_plan.specs.inner.OverRoutes.{IsArea, GoesBy, EndsIn, IsEnteredBy, IsEnteredOver, IsCalledOver}
+use Rattle.pssm_model.specs.Legs.{Scope}
 use Rattle.pssm_model.specs.Legs.Scope.{Nowhere, Inside, Within}
-use Rattle.pssm_model.proofs.ElementLaws.{some_at}
-use Rattle.pssm_model.proofs.RouteLaws.{single_source}
 use Rattle.pssm_model.proofs.OwnerChains.{one_owner, owner_above}
-use Rattle.pssm_plan.proofs.Spans.{source_of}
-use Rattle.pssm_plan.proofs.NestedRoutes.{target_is_state}
-use Rattle.pssm_plan.proofs.NestedSteps.{gone_directly, over_in_range, ran_was_called}
-use Rattle.pssm_plan.proofs.SingleItems.{called_is, called_of, before_of}
-use Rattle.pssm_plan.proofs.SteadyPlaces.{IsRegionIn, IsEdge, same_state, one_reached, home_of_state, home_above, edge_or_outer, home_in_scope, region_in_scope, around_in_scope, beside_at_edge, late_area, entered_fills, entered_reached}
-use Rattle.pssm_plan.proofs.SteadyApart.{IsFiredAround, edge_owner_stays}
-use Rattle.pssm_plan.proofs.SteadyItems.{starts_at, late_is, exited_around, ready_after_exits, over_area, beside_fires, inside_fired}
+use Rattle.pssm_model.proofs.StateRoutes.{is_start, state_route_from}
+use Rattle.pssm_model.proofs.OverJunctions.{single_legs, target_is_state}
+use Rattle.pssm_plan.proofs.RouteItems.{called_is, called_of, before_of}
+use Rattle.pssm_plan.proofs.RouteSteps.{gone_by_routes}
+use Rattle.pssm_plan.proofs.SteadyPlaces.{IsRegionIn, IsEdge, same_state, one_reached, home_of_state, home_above, edge_or_outer, home_in_scope, region_in_scope, around_in_scope, source_is_end, beside_at_edge, late_area, entered_fills, entered_reached}
+use Rattle.pssm_plan.proofs.SteadyApart.{IsFired, IsFiredAround, edge_owner_stays}
+use Rattle.pssm_plan.proofs.SteadyItems.{starts_at, late_is, ran_was_called, step_route, is_fired, exited_around, ready_after_exits, over_area, beside_fires, inside_fired}
 use Rattle.pssm_plan.proofs.SteadyFilling.{one_fills}
 use Rattle.pssm_plan.proofs.SteadyChanges.{changed_along-push, no_entry_yet, active_is}
 
@@ -72,10 +70,11 @@ module _ {m : DraftMachine} (shape : HasShape m) (now : Configuration) (consiste
 module _ {m : DraftMachine} (shape : HasShape m) (nested : IsPlainlyNested m) (initials : KeepsInitials m)
     (head : Head) (now : Configuration) (begins : BeginsWell m head now) where
   -- what is entered is a State
-  entered_is_state : (t : TransId) (s : VertexId) → IsEnteredBy m t s → HasKind m s kinds.State
-  entered_is_state t s h =
+  entered_is_state : (p : Route) (s : VertexId) → IsEnteredBy m p s → HasKind m s kinds.State
+  entered_is_state p s h =
+      let last = h.1.1 in
       ⊎_elim
-      (λ same. subst (λ v. HasKind m v kinds.State) same (target_is_state nested t h.1.0 h.1.1))
+      (λ same. subst (λ v. HasKind m v kinds.State) same (target_is_state nested shape last.0 h.1.0 last.2 last.3))
       (λ inside. (shape.regions inside.1.0 (State s) inside.1.1).0)
       h.1.2
 
@@ -87,12 +86,13 @@ module _ {m : DraftMachine} (shape : HasShape m) (nested : IsPlainlyNested m) (i
   entered_once ran gone r s v e f first second =
       let above = home_above shape s r e in
       let one = one_fills shape nested initials head now begins ran gone r above.0 above.1 first.0 second.0 first.1.0 second.1.0
-      (entered_fills shape nested initials first.0 s r (over_in_range nested head now ran gone first.0 first.1.0) e first.1.1)
-      (entered_fills shape nested initials second.0 v r (over_in_range nested head now ran gone second.0 second.1.0) f second.1.1) in
+      (entered_fills shape nested initials first.0 s r (step_route shape nested head now ran gone first.0 first.1.0) e first.1.1)
+      (entered_fills shape nested initials second.0 v r (step_route shape nested head now ran gone second.0 second.1.0) f second.1.1) in
       let target = second.1.1.1 in
+      let step = step_route shape nested head now ran gone second.0 second.1.0 in
       one_reached shape target.0 s v r e f
-      (entered_reached m second.0 s target.0 (subst (λ x. IsEnteredBy m x s) one first.1.1) target.1)
-      (entered_reached m second.0 v target.0 second.1.1 target.1)
+      (entered_reached shape nested second.0 s target.0 step (subst (λ x. IsEnteredBy m x s) one first.1.1) target.1)
+      (entered_reached shape nested second.0 v target.0 step second.1.1 target.1)
 
   -- the region of a State whose entry is ready has no active direct vertex
   vacant : (ran : List (Item × How)) → HasGone m head now ran → (r : RegionId) (s v : VertexId)
@@ -100,10 +100,10 @@ module _ {m : DraftMachine} (shape : HasShape m) (nested : IsPlainlyNested m) (i
       → (changed_along m now ran).Active v → ⊥
   vacant ran gone r s v ready e f active =
       let course = course_by head now ran in
-      let over = called_is m course (gone_directly nested head now ran gone) (items.Enter s) ready.waiting.called in
+      let over = called_is nested shape course (gone_by_routes nested shape head now ran gone) (items.Enter s) ready.waiting.called in
       ⊎_elim
       (λ entry. (
-      let same = entered_once ran gone r s v e.0 f.0 over (ran_was_called nested head now ran gone (items.Enter v) entry) in
+      let same = entered_once ran gone r s v e.0 f.0 over (ran_was_called shape nested head now ran gone (items.Enter v) entry) in
       ready.waiting.not_run (subst (λ x. HasRun course (items.Enter x)) (sym same) entry)
       ))
       (λ left. ⊎_elim
@@ -123,7 +123,7 @@ module _ {m : DraftMachine} (shape : HasShape m) (nested : IsPlainlyNested m) (i
       → IsReady m (course_by head now ran) (items.Enter s)
       → CanEnter m (changed_along m now ran) s
   may_enter ran gone s ready =
-      let over = called_is m (course_by head now ran) (gone_directly nested head now ran gone) (items.Enter s) ready.waiting.called in
+      let over = called_is nested shape (course_by head now ran) (gone_by_routes nested shape head now ran gone) (items.Enter s) ready.waiting.called in
       record {
         state = inl (entered_is_state over.0 s over.1.1);
         vacant = λ r v e f active. vacant ran gone r s v ready e f active;
@@ -150,8 +150,8 @@ module _ {m : DraftMachine} (shape : HasShape m) (nested : IsPlainlyNested m) (i
           → (changed_along m now ran).Active s → ⊥
       nothing_inside r s d e active =
           let course = course_by head now ran in
-          let g = gone_directly nested head now ran gone in
-          let called = called_is m course g (items.Exit q) ready.waiting.called in
+          let g = gone_by_routes nested shape head now ran gone in
+          let called = called_is nested shape course g (items.Exit q) ready.waiting.called in
           let at = exited_around shape nested initials head now ran gone q called in
           let area = at.1.1 in
           let around : IsFiredAround m head s at.0 = (at.1.0, (area.0, area.1, around_in_scope m s q r area.0 (owned d.0) e area.2)) in
@@ -159,8 +159,8 @@ module _ {m : DraftMachine} (shape : HasShape m) (nested : IsPlainlyNested m) (i
           (λ entry. no_entry_yet shape nested initials head now begins ran gone at.0 q s at.1 around ready.waiting entry)
           (λ left. (
           let exits : IsCalledOver m course (items.Exit s) = (at.0, (around.0.0, left.0, around.1)) in
-          left.1 (ready.cleared (items.Exit s) (called_of m course g (items.Exit s) exits)
-          (before_of m course g (items.Exit s) (items.Exit q) (r, e, owned d.0)))
+          left.1 (ready.cleared (items.Exit s) (called_of nested shape course g (items.Exit s) exits)
+          (before_of nested shape course g (items.Exit s) (items.Exit q) (r, e, owned d.0)))
           ))
           ((active_is shape nested initials head now begins ran gone s).0 active)
 
@@ -171,41 +171,42 @@ module _ {m : DraftMachine} (shape : HasShape m) (nested : IsPlainlyNested m) (i
       ⊎ ((q : VertexId) × (owner_of m (Region r) ≡ Some (State q)) × (changed_along m now ran).Active q)
 
   -- a region at the edge of where what fires exits and enters lies around its source, or that owns it
-  edge_active : (t : TransId) (v o : VertexId) (r : RegionId) (area : Scope) → FiresBy head (single_route t) → Leaves m t v → IsArea m t area
+  edge_active : (p : Route) (v o : VertexId) (r : RegionId) (area : Scope) → FiresBy head p → IsSource m p v → IsArea m p area
       → IsEdge m r area → owner_of m (Region r) ≡ Some (State o) → now.Active o
-  edge_active t v o r Nowhere fires leaves is edge e = absurd edge
-  edge_active t v o r (Inside w) fires leaves is edge e =
+  edge_active p v o r Nowhere fires source is edge e = absurd edge
+  edge_active p v o r (Inside w) fires source is edge e =
       let same : w ≡ o = same_state w o (one_owner m (Region r) (State w) (State o) edge e) in
-      subst (λ x. now.Active x) same (begins.from_active (single_route t) w fires (single_source m t w is.1))
-  edge_active t v o r (Within q) fires leaves is edge e =
-      let active = begins.from_active (single_route t) v fires (single_source m t v leaves) in
+      subst (λ x. now.Active x) same (begins.from_active p w fires is.1)
+  edge_active p v o r (Within q) fires source is edge e =
+      let active = begins.from_active p v fires source in
       around_active shape now begins.consistent v o r active
-      (subst (λ x. LiesInRegion m v x) (sym edge) (is.1.common v (inl leaves))) e
+      (subst (λ x. LiesInRegion m v x) (sym edge) (is.1.common v (source_is_end m p v source))) e
 
-  fired_owner : (ran : List (Item × How)) → HasGone m head now ran → (t : TransId) (r : RegionId) (o : VertexId) (area : Scope)
-      → FiresBy head (single_route t) → IsArea m t area → IsEdge m r area → owner_of m (Region r) ≡ Some (State o) → IsOwnerActive ran r
-  fired_owner ran gone t r o area fires is edge e =
-      let lt = over_in_range nested head now ran gone t (inl fires) in
-      let at = some_at m.transitions t.0 lt in
+  fired_owner : (ran : List (Item × How)) → HasGone m head now ran → (p : Route) (r : RegionId) (o : VertexId) (area : Scope)
+      → FiresBy head p → IsArea m p area → IsEdge m r area → owner_of m (Region r) ≡ Some (State o) → IsOwnerActive ran r
+  fired_owner ran gone p r o area fires is edge e =
+      let fired : IsFired m head p = is_fired shape nested initials head now ran gone p fires in
+      let from = state_route_from (single_legs nested) p fired.1 in
+      let source : IsSource m p from.1 = (from.0, is_start p from.0 from.2.starts, from.2.leaves) in
       inr (
         o,
         e,
         (active_is shape nested initials head now begins ran gone o).1 (inr (
-          edge_active t at.0.source o r area fires (source_of m t at.0 at.1) is edge e,
+          edge_active p from.1 o r area fires source is edge e,
           λ exit. (
-              let called = ran_was_called nested head now ran gone (items.Exit o) exit in
+              let called = ran_was_called shape nested head now ran gone (items.Exit o) exit in
               let at = exited_around shape nested initials head now ran gone o called in
-              edge_owner_stays shape nested head now begins t at.0 r o area (fires, lt) is edge e at.1
+              edge_owner_stays shape nested head now begins p at.0 r o area fired is edge e at.1
               ),
         )),
       )
 
-  late_owner : (ran : List (Item × How)) → HasGone m head now ran → (t : TransId) (r : RegionId) (area : Scope)
-      → HasGoneBy (course_by head now ran) (single_route t) → IsArea m t area → IsEdge m r area → IsOwnerActive ran r
-  late_owner ran gone t r area late is edge =
+  late_owner : (ran : List (Item × How)) → HasGone m head now ran → (p : Route) (r : RegionId) (area : Scope)
+      → HasGoneBy (course_by head now ran) p → IsArea m p area → IsEdge m r area → IsOwnerActive ran r
+  late_owner ran gone p r area late is edge =
       let course = course_by head now ran in
-      let by = late_is nested head now ran gone t late in
-      let place = late_area shape nested initials by.0 by.1 t area by.2.0.0 by.2.0.1 is in
+      let by = late_is shape nested head now ran gone p late in
+      let place = late_area shape nested initials by.0 by.1 p area by.2.0.0 by.2.0.1 is in
       let same : r ≡ by.0 = subst (λ x. IsEdge m r x) place edge in
       let called : IsCalledOver m course (items.Opened r Plain) =
       subst (λ x. IsCalledOver m course (items.Opened x Plain)) (sym same) by.2.0.2 in
@@ -221,18 +222,18 @@ module _ {m : DraftMachine} (shape : HasShape m) (nested : IsPlainlyNested m) (i
       )))
       called
 
-  inner_owner : (ran : List (Item × How)) → HasGone m head now ran → (t : TransId) (q o : VertexId) (r h : RegionId) (area : Scope)
+  inner_owner : (ran : List (Item × How)) → HasGone m head now ran → (p : Route) (q o : VertexId) (r h : RegionId) (area : Scope)
       → IsReady m (course_by head now ran) (items.Enter q) → owner_of m (State q) ≡ Some (Region r)
-      → owner_of m (Region r) ≡ Some (State o) → owner_of m (State o) ≡ Some (Region h) → IsEnteredOver m (course_by head now ran) t q
-      → EndsIn m t r → IsArea m t area → IsRegionIn m h area → IsOwnerActive ran r
-  inner_owner ran gone t q o r h area ready f e home over ends is inside =
+      → owner_of m (Region r) ≡ Some (State o) → owner_of m (State o) ≡ Some (Region h) → IsEnteredOver m (course_by head now ran) p q
+      → EndsIn m p r → IsArea m p area → IsRegionIn m h area → IsOwnerActive ran r
+  inner_owner ran gone p q o r h area ready f e home over ends is inside =
       let course = course_by head now ran in
-      let g = gone_directly nested head now ran gone in
+      let g = gone_by_routes nested shape head now ran gone in
       let lies = region_in_scope shape o h area (owned home) inside in
       let called : IsCalledOver m course (items.Enter o) =
-      (t, (over.0, (over.1.0, (ends.0, ends.1, inr ((area, is, lies), (r, e, ends.2)))))) in
-      let entry = ready.cleared (items.Enter o) (called_of m course g (items.Enter o) called)
-      (before_of m course g (items.Enter o) (items.Enter q) (r, e, owned f)) in
+      (p, (over.0, (over.1.0, (ends.0, ends.1, inr ((area, is, lies), (r, e, ends.2)))))) in
+      let entry = ready.cleared (items.Enter o) (called_of nested shape course g (items.Enter o) called)
+      (before_of nested shape course g (items.Enter o) (items.Enter q) (r, e, owned f)) in
       inr (o, e, (active_is shape nested initials head now begins ran gone o).1 (inl entry))
 
   owner_of_entered : (ran : List (Item × How)) → HasGone m head now ran → (r : RegionId) (q : VertexId) (p : Owner)
@@ -242,18 +243,18 @@ module _ {m : DraftMachine} (shape : HasShape m) (nested : IsPlainlyNested m) (i
   owner_of_entered ran gone r q (Region k) ready f e = absurd (shape.regions r (Region k) e).0
   owner_of_entered ran gone r q (State o) ready f e =
       let course = course_by head now ran in
-      let called = called_is m course (gone_directly nested head now ran gone) (items.Enter q) ready.waiting.called in
-      let t = called.0 in
-      let over = called.1.0 in
-      let fills = entered_fills shape nested initials t q r (over_in_range nested head now ran gone t over) f called.1.1 in
+      let called = called_is nested shape course (gone_by_routes nested shape head now ran gone) (items.Enter q) ready.waiting.called in
+      let p = called.0 in
+      let over : GoesBy course p = called.1.0 in
+      let fills = entered_fills shape nested initials p q r (step_route shape nested head now ran gone p over) f called.1.1 in
       let area = fills.1 in
       let home = home_of_state shape o (inl (shape.regions r (State o) e).0) in
       ⊎_elim
       (λ edge. ⊎_elim
-      (λ fires. fired_owner ran gone t r o area.0 fires area.1 edge e)
-      (λ late. late_owner ran gone t r area.0 late area.1 edge)
+      (λ fires. fired_owner ran gone p r o area.0 fires area.1 edge e)
+      (λ late. late_owner ran gone p r area.0 late area.1 edge)
       over)
-      (λ outer. inner_owner ran gone t q o r home.0 area.0 ready f e home.1 called.1 fills.0 area.1 outer)
+      (λ outer. inner_owner ran gone p q o r home.0 area.0 ready f e home.1 called.1 fills.0 area.1 outer)
       (edge_or_outer shape r home.0 o area.0 e home.1 area.2)
 
   owner_active : (ran : List (Item × How)) → HasGone m head now ran → (r : RegionId) (q : VertexId)

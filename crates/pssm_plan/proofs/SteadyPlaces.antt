@@ -1,5 +1,6 @@
--- Where the States stand that a transition enters: owner chains, places where transitions exit and enter, and the regions that a transition fills.
-use Rattle.std.proofs.Common.{◌≡◌, ◌⊎◌, ◌<◌, ℕ, suc, length, Some, refl, sym, ap, subst, ◌∙◌, inl, inr, ⊎_elim}
+-- Where the States stand that a route enters: owner chains, places where routes exit and enter, and the regions that a route fills.
+use Rattle.std.proofs.Common.{◌≡◌, ◌⊎◌, ◌++◌, ℕ, suc, List, [], ◌∷◌, Contains, Some, refl, sym, ap, subst, ◌∙◌, inl, inr, ⊎_elim}
+use Rattle.std.proofs.lemmas.List.Elements.{Contains-append_left}
 use Rattle.pssm_model.specs.declared.ids.VertexId.{VertexId}
 use Rattle.pssm_model.specs.declared.ids.RegionId.{RegionId}
 use Rattle.pssm_model.specs.declared.ids.TransId.{TransId}
@@ -9,29 +10,38 @@ use Rattle.pssm_model.specs.declared.elements.VertexKind.{VertexKind}
 use Rattle.pssm_model.specs.declared.elements.VertexKind.TheVariants as kinds
 use Rattle.pssm_model.specs.declared.elements.Owner.{Owner}
 use Rattle.pssm_model.specs.declared.elements.Owner.TheVariants.{Top, Region, State}
+use Rattle.pssm_model.specs.declared.elements.FaultPlace.TheVariants as places
+use Rattle.pssm_model.specs.declared.elements.Element.TheVariants as elements
 use Rattle.pssm_model.specs.declared.elements.Transition.{Transition}
 use Rattle.pssm_model.specs.declared.elements.TransKind.{TransKind}
 use Rattle.pssm_model.specs.declared.elements.TransKind.TheVariants.{External, Local, Internal}
-use Rattle.pssm_model.specs.Forest.{vertex_at, transition_at, owner_of, HasKind, IsStateOrFinal, LiesUnder, LiesInRegion, IsWithin, HasRegionsAbove}
+use Rattle.pssm_model.specs.declared.steps.Route.{Route}
+use Rattle.pssm_model.specs.Forest.{vertex_at, transition_at, owner_of, HasKind, IsStateOrFinal, LiesUnder, LiesInRegion, LiesInState, IsWithin, HasRegionsAbove}
 use Rattle.pssm_model.specs.Forest.LiesUnder.{owned, further}
-use Rattle.pssm_model.specs.Forest.HasRegionsAbove.{region, state, machine}
-use Rattle.pssm_model.specs.Legs.{Leaves, Enters, Goes, Scope, LiesInScope}
+use Rattle.pssm_model.specs.Legs.{Leaves, Enters, Goes, On, Scope, LiesInScope}
 use Rattle.pssm_model.specs.Legs.Scope.{Nowhere, Inside, Within}
 use Rattle.pssm_model.specs.Nested.{IsPlainlyNested}
-use Rattle.pssm_model.specs.Paths.{IsInitialOf}
+use Rattle.pssm_model.specs.Paths.{IsInitialOf, IsJunctionPath}
+use Rattle.pssm_model.specs.Paths.IsJunctionPath.{one, more}
+use Rattle.pssm_model.specs.Routes.{single_route, IsRoute, IsSource, IsStateRoute, IsReached}
+use Rattle.pssm_model.specs.Routes.IsReached.{start as reached_first, on as reached_after}
 use Rattle.pssm_model.specs.Shapes.{HasShape, OwnsVertex}
-use Rattle.pssm_model.specs.WellFormed.{ShareRegion}
+use Rattle.pssm_model.specs.WellFormed.Breaks.{E14}
 use Rattle.pssm_plan.specs.Steadiness.{KeepsInitials}
-use Rattle.pssm_plan.specs.inner.Single.{IsEndOf, IsSpan, IsArea, LiesInArea, IsEnteredBy, EndsIn, OpensBeside}
-use Rattle.pssm_model.proofs.ElementLaws.{mapped_some, mapped_at, some_at, kind_unique}
-use Rattle.pssm_model.proofs.ElementLaws.{leaves_one, enters_one}
+use Rattle.pssm_plan.specs.inner.OverRoutes.{GoesAs, IsEndOf, IsSpan, IsArea, LiesInArea, EndsOn, IsEnteredBy, EndsIn, OpensBeside}
+use Rattle.pssm_model.proofs.ElementLaws.{mapped_some, mapped_at, kind_unique, leaves_one}
+use Rattle.pssm_model.proofs.RouteLaws.{on_single, on_single_is, reached_is_on}
 use Rattle.pssm_model.proofs.Nesting.{under_cases, region_cases, outer_of_region, lies_within}
 use Rattle.pssm_model.proofs.OwnerChains.{one_owner, under_further, circle_is_endless, top_lies_nowhere, region_down}
 use Rattle.pssm_model.proofs.Scopes.{one_scope}
-use Rattle.pssm_plan.proofs.KnownPlaces.{known_in_region}
+use Rattle.pssm_model.proofs.StateRoutes.{is_start as start_inside, source_is_left, state_route_from}
+use Rattle.pssm_model.proofs.OverJunctions.{single_legs, internal_leaves, local_leaves}
+use Rattle.pssm_model.proofs.OneLeg.{is_start, passes_junction}
+use Rattle.pssm_model.proofs.LegScopes.{some_leg}
+use Rattle.pssm_plan.proofs.KnownPlaces.{known_in_state}
 use Rattle.pssm_plan.proofs.Ranks.{owner_under, depth_under, state_down_region}
-use Rattle.pssm_plan.proofs.NestedRoutes.{local_ends, internal_leaves}
-use Rattle.pssm_plan.proofs.Spans.{source_of, target_of, external_not_local, external_not_internal, local_not_internal}
+use Rattle.pssm_plan.proofs.RouteLegs.{leg_scope_is}
+use Rattle.pssm_plan.proofs.RoutePaths.{one_last}
 
 -- The region is all of the place, or lies in it.
 abbrev pub IsRegionIn : DraftMachine → RegionId → Scope → Type 0
@@ -51,9 +61,17 @@ IsEdge m r Nowhere = ⊥
 IsEdge m r (Inside s) = owner_of m (Region r) ≡ Some (State s)
 IsEdge m r (Within q) = r ≡ q
 
--- The transition ends in the region, which lies where the transition exits and enters.
-abbrev pub Fills : DraftMachine → TransId → RegionId → Type 0
-Fills m t r = EndsIn m t r × ((area : Scope) × IsArea m t area × IsRegionIn m r area)
+-- The route ends in the region, which lies where the route exits and enters.
+abbrev pub Fills : DraftMachine → Route → RegionId → Type 0
+Fills m p r = EndsIn m p r × ((area : Scope) × IsArea m p area × IsRegionIn m r area)
+
+-- The route is one transition, which leaves the vertex.
+abbrev pub IsSingleFrom : DraftMachine → Route → VertexId → Type 0
+IsSingleFrom m p v = (t : TransId) × (p ≡ single_route t) × Leaves m t v
+
+-- The route is one by which steps go: one out of States, or one transition out of an initial vertex.
+abbrev pub IsStepRoute : DraftMachine → Route → Type 0
+IsStepRoute m p = IsStateRoute m p ⊎ (IsRoute m p × ((v : VertexId) × IsSingleFrom m p v × HasKind m v kinds.Initial))
 
 -- The vertex is the State, or lies on an owner chain that passes it.
 abbrev pub IsAtOrUnder : DraftMachine → VertexId → VertexId → Type 0
@@ -224,55 +242,6 @@ module _ {m : DraftMachine} (shape : HasShape m) where
       → (s : VertexId) × (h : RegionId) × (owner_of m (Region r) ≡ Some (State s)) × (owner_of m (State s) ≡ Some (Region h))
   outer_of r q under = let up = owner_under m (Region r) (Region q) under in owner_is_state r q up.0 up.1 under
 
-  -- the innermost region of an owner chain in which the vertex lies too
-  innermost : {p : Owner} {n : ℕ} (w : VertexId) → HasRegionsAbove m p n → (q : RegionId) → LiesUnder m p (Region q)
-      → LiesInRegion m w q
-      → (r : RegionId) × LiesUnder m p (Region r) × LiesInRegion m w r
-      × ((k : RegionId) → LiesUnder m p (Region k) → LiesInRegion m w k → IsWithin m r k)
-  innermost {p = p} w (region {r = r} e above) q under lies =
-      ⊎_elim
-      (λ here. (r, owned e, here, λ k below there. region_cases m p r k e below))
-      (λ not. (
-      let beyond = λ (k : RegionId) (below : LiesUnder m p (Region k)) (there : LiesInRegion m w k).
-      past r k not there (region_cases m p r k e below) in
-      let rest = innermost w above q (beyond q under lies) lies in
-      (rest.0, further e rest.1, rest.2, λ k below there. rest.3 k (beyond k below there) there)
-      ))
-      (known_in_region shape w r)
-    where
-      past : (r k : RegionId) → (LiesInRegion m w r → ⊥) → LiesInRegion m w k → IsWithin m r k
-          → LiesUnder m (Region r) (Region k)
-      past r k not there within =
-          ⊎_elim (λ same. absurd (not (subst (λ x. LiesInRegion m w x) (sym same) there))) (λ more. more) within
-  innermost {p = p} w (state {s = s} e above) q under lies =
-      let beyond = λ (k : RegionId) (below : LiesUnder m p (Region k)). past k (under_cases m p (State s) (Region k) e below) in
-      let rest = innermost w above q (beyond q under) lies in
-      (rest.0, further e rest.1, rest.2, λ k below there. rest.3 k (beyond k below) there)
-    where
-      past : (k : RegionId) → (State s ≡ Region k) ⊎ LiesUnder m (State s) (Region k) → LiesUnder m (State s) (Region k)
-      past k h = ⊎_elim (λ same. absurd (cc)) (λ more. more) h
-  innermost {p = p} w (machine e) q under lies =
-      absurd (⊎_elim (λ same. cc) (λ more. top_lies_nowhere (Region q) more) (under_cases m p Top (Region q) e under))
-
-  -- a transition whose ends share a region has a span
-  pub span_of : (t : TransId) (v w : VertexId) → Leaves m t v → Enters m t w → ShareRegion m v w
-      → (r : RegionId) × IsSpan m t r
-  span_of t v w leaves enters share =
-      let depth = depth_under shape v (Region share.0) share.1 in
-      let at = innermost w depth.2 share.0 share.1 share.2 in (
-        at.0,
-        record {
-          common = λ u end. ⊎_elim
-              (λ l. subst (λ x. LiesInRegion m x at.0) (leaves_one m t v u leaves l) at.1)
-              (λ l. subst (λ x. LiesInRegion m x at.0) (enters_one m t w u enters l) at.2)
-              end;
-          innermost = λ q all under. ⊎_elim
-              (λ same. no_circle q (subst (λ x. LiesUnder m (Region q) (Region x)) same under))
-              (λ out. no_circle q (under_further under out))
-              (at.3 q (all v (inl leaves)) (all w (inr enters)));
-        },
-      )
-
 module _ (m : DraftMachine) where
   pub under_is_in : (r : RegionId) (area : Scope) → IsRegionUnder m r area → IsRegionIn m r area
   under_is_in r Nowhere under = under
@@ -304,73 +273,212 @@ module _ (m : DraftMachine) where
   around_in_scope v s r (Inside w) lies e outer = (outer.0, outer.1, under_further lies (further e outer.2))
   around_in_scope v s r (Within q) lies e outer = under_further lies (further e outer)
 
-  -- a local transition opens regions where it exits and enters
-  pub beside_at_edge : (t : TransId) (r : RegionId) (area : Scope) → OpensBeside m t r → IsArea m t area
+  -- the start of a route is one, and so are its kind and what it leaves
+  start_same : (p : Route) (t u : TransId) → p.starts ≡ t ∷ [] → p.starts ≡ u ∷ [] → t ≡ u
+  start_same p t u e f = cc
+
+  goes_one_way : (p : Route) (k l : TransKind) → GoesAs m p k → GoesAs m p l → k ≡ l
+  goes_one_way p k l first second =
+      let same = start_same p first.0 second.0 first.1 second.1 in
+      let goes : Goes m second.0 k = subst (λ t. Goes m t k) same first.2 in
+      let other = second.2 in
+      cc
+
+  external_not_local : (p : Route) → GoesAs m p External → GoesAs m p Local → ⊥
+  external_not_local p first second = let same = goes_one_way p External Local first second in cc
+
+  external_not_internal : (p : Route) → GoesAs m p External → GoesAs m p Internal → ⊥
+  external_not_internal p first second = let same = goes_one_way p External Internal first second in cc
+
+  local_not_internal : (p : Route) → GoesAs m p Local → GoesAs m p Internal → ⊥
+  local_not_internal p first second = let same = goes_one_way p Local Internal first second in cc
+
+  one_source : (p : Route) (k : TransKind) (s q : VertexId) → GoesAs m p k → IsSource m p s → IsSource m p q → s ≡ q
+  one_source p k s q goes first second =
+      leaves_one m goes.0 s q (source_is_left p goes.0 goes.1 m s first) (source_is_left p goes.0 goes.1 m q second)
+
+  -- what it leaves is one of its vertices
+  pub source_is_end : (p : Route) (s : VertexId) → IsSource m p s → IsEndOf m p s
+  source_is_end p s source = (source.0, Contains-append_left p.starts p.rest source.0 source.1, inl source.2)
+
+  some_source : (p : Route) (k : TransKind) → GoesAs m p k → (s : VertexId) × IsSource m p s
+  some_source p k goes =
+      let x = mapped_some (λ (y : Transition). y.kind) (transition_at m goes.0) k goes.2 in
+      (x.0.source, (goes.0, start_inside p goes.0 goes.1, mapped_at (λ (y : Transition). y.source) (transition_at m goes.0) x.0 x.1))
+
+  -- a local route opens regions where it exits and enters
+  pub beside_at_edge : (p : Route) (r : RegionId) (area : Scope) → OpensBeside m p r → IsArea m p area
       → IsEdge m r area × IsRegionUnder m r area
-  beside_at_edge t r Nowhere beside is = absurd (local_not_internal m t beside.0 is)
-  beside_at_edge t r (Inside s) beside is =
-      let same = leaves_one m t beside.1.0 s beside.1.1 is.1 in
+  beside_at_edge p r Nowhere beside is = absurd (local_not_internal p beside.0 is)
+  beside_at_edge p r (Inside s) beside is =
+      let same = one_source p Local beside.1.0 s is.0 beside.1.1 is.1 in
       let owner = subst (λ x. owner_of m (Region r) ≡ Some (State x)) same beside.1.2 in
       (owner, owned owner)
-  beside_at_edge t r (Within q) beside is = absurd (external_not_local m t is.0 beside.0)
+  beside_at_edge p r (Within q) beside is = absurd (external_not_local p is.0 beside.0)
 
-  -- a transition exits and enters in one place
-  pub one_area : (t : TransId) (a b : Scope) → t.0 < length m.transitions → IsArea m t a → IsArea m t b → a ≡ b
-  one_area t Nowhere Nowhere lt is h = refl
-  one_area t Nowhere (Inside s) lt is h = absurd (local_not_internal m t h.0 is)
-  one_area t Nowhere (Within r) lt is h = absurd (external_not_internal m t h.0 is)
-  one_area t (Inside s) Nowhere lt is h = absurd (local_not_internal m t is.0 h)
-  one_area t (Inside s) (Inside q) lt is h = ap Inside (leaves_one m t s q is.1 h.1)
-  one_area t (Inside s) (Within r) lt is h = absurd (external_not_local m t h.0 is.0)
-  one_area t (Within r) Nowhere lt is h = absurd (external_not_internal m t is.0 h)
-  one_area t (Within r) (Inside s) lt is h = absurd (external_not_local m t is.0 h.0)
-  one_area t (Within r) (Within q) lt is h =
-      let at = some_at m.transitions t.0 lt in
-      ap Within (one_scope m (IsEndOf m t) at.0.source r q (inl (source_of m t at.0 at.1)) is.1 h.1)
+  -- a route exits and enters in one place
+  pub one_area : (p : Route) (a b : Scope) → IsArea m p a → IsArea m p b → a ≡ b
+  one_area p Nowhere Nowhere is h = refl
+  one_area p Nowhere (Inside s) is h = absurd (local_not_internal p h.0 is)
+  one_area p Nowhere (Within r) is h = absurd (external_not_internal p h.0 is)
+  one_area p (Inside s) Nowhere is h = absurd (local_not_internal p is.0 h)
+  one_area p (Inside s) (Inside q) is h = ap Inside (one_source p Local s q is.0 is.1 h.1)
+  one_area p (Inside s) (Within r) is h = absurd (external_not_local p h.0 is.0)
+  one_area p (Within r) Nowhere is h = absurd (external_not_internal p is.0 h)
+  one_area p (Within r) (Inside s) is h = absurd (external_not_local p is.0 h.0)
+  one_area p (Within r) (Within q) is h =
+      let source = some_source p External is.0 in
+      ap Within (one_scope m (IsEndOf m p) source.0 r q (source_is_end p source.0 source.1) is.1 h.1)
+
+  -- a junction path goes on from its end
+  path_more : (path : List TransId) (u : TransId) (v w : VertexId) → IsJunctionPath m path v → HasKind m v kinds.Junction → Leaves m u v → Enters m u w
+      → IsJunctionPath m (path ++ u ∷ []) w
+  path_more _ u v w (one e) k l enters = more k e l (one enters)
+  path_more _ u v w (more {u = next} {rest = rest} j e out behind) k l enters = more j e out (path_more (next ∷ rest) u v w behind k l enters)
+
+-- where a local route ends
+module _ {m : DraftMachine} (shape : HasShape m) (nested : IsPlainlyNested m)
+    (p : Route) (route : IsRoute m p) (t : TransId) (starts : p.starts ≡ t ∷ []) where
+  -- a junction path leads from its start to each vertex on which one of its transitions ends
+  path_to : (u : TransId) (w : VertexId) → IsReached m p u → Enters m u w → (rest : List TransId) × IsJunctionPath m (t ∷ rest) w
+  path_to u w (reached_first h) e =
+      ([], one (subst (λ x. Enters m x w) (is_start (single_legs nested) shape p route t starts u h) e))
+  path_to u w (reached_after {u = k} {v = v} r enters l h) e =
+      let before = path_to k v r enters in
+      let junction = passes_junction (single_legs nested) shape p route t starts u k v (reached_is_on m p k r) enters l h in
+      (before.0 ++ u ∷ [], path_more m (t ∷ before.0) u v w before.1 junction l e)
+
+  -- so where it is local, each lies in the State that it leaves
+  pub local_ends : (s : VertexId) (u : TransId) (w : VertexId) → Goes m t Local → Leaves m t s → On p u → Enters m u w → LiesInState m w s
+  local_ends s u w goes l on e =
+      let path = path_to u w (route.reached u on) e in
+      ⊎_elim
+      (λ lies. lies)
+      (λ out. absurd (nested.rules (places.At (elements.Transition t)) 14
+      (E14 (goes, inr (s, w, path.0, inl (l, local_leaves nested shape t s goes l), path.1, out)))))
+      (known_in_state shape w s)
+
+module _ {m : DraftMachine} (shape : HasShape m) (nested : IsPlainlyNested m) where
+  pub is_route : (p : Route) → IsStepRoute m p → IsRoute m p
+  is_route p is = ⊎_elim (λ fires. fires.0) (λ late. late.0) is
+
+  -- it has one start
+  pub has_start : (p : Route) → IsStepRoute m p → (t : TransId) × (p.starts ≡ t ∷ [])
+  has_start p is =
+      ⊎_elim
+      (λ fires. (let from = state_route_from (single_legs nested) p fires in (from.0, from.2.starts)))
+      (λ late. (late.1.1.0, ap (λ (q : Route). q.starts) late.1.1.1))
+      is
+
+  -- what a route enters stands on the owner chain of its last vertex
+  pub entered_reached : (p : Route) (s w : VertexId) → IsStepRoute m p → IsEnteredBy m p s → EndsOn m p w → IsAtOrUnder m w s
+  entered_reached p s w step h ends =
+      let start = has_start p step in
+      let last = λ (a c : VertexId). one_last (single_legs nested) shape p (is_route p step) start.0 start.1 a c in
+      ⊎_elim
+      (λ same. inl (last w h.1.0 ends h.1.1 ∙ same))
+      (λ around. inr (subst (λ x. LiesUnder m (State x) (State s)) (last h.1.0 w h.1.1 ends)
+      (under_further around.1.2 (owned around.1.1))))
+      h.1.2
+
+  -- a route out of States exits and enters somewhere, or nowhere
+  state_area : (p : Route) → IsStateRoute m p → (area : Scope) × IsArea m p area
+  state_area p is =
+      let from = state_route_from (single_legs nested) p is in
+      let leg = some_leg (single_legs nested) shape p is.0 from.0 from.2.starts from.1 from.2.leaves from.2.state in
+      (leg.0, (leg_scope_is nested shape p is.0 from.0 from.2.starts from.0 leg.0 leg.1).1)
+
+  -- a region owns each initial vertex
+  region_of_initial : (v : VertexId) (p : Owner) → HasKind m v kinds.Initial → owner_of m (State v) ≡ Some p → OwnsVertex m v p
+      → (r : RegionId) × IsInitialOf m r v
+  region_of_initial v Top i e owns = absurd owns
+  region_of_initial v (Region r) i e owns = (r, (i, e))
+  region_of_initial v (State q) i e owns =
+      absurd (⊎_elim
+      (λ point. (let clash = kind_unique m v kinds.Initial kinds.EntryPoint i point in cc))
+      (λ point. (let clash = kind_unique m v kinds.Initial kinds.ExitPoint i point in cc))
+      owns.0)
+
+  initial_of : (v : VertexId) → HasKind m v kinds.Initial → (r : RegionId) × IsInitialOf m r v
+  initial_of v i =
+      let x = mapped_some (λ (x : Vertex). x.kind) (vertex_at m v) kinds.Initial i in
+      region_of_initial v x.0.owner i (mapped_at (λ (x : Vertex). x.owner) (vertex_at m v) x.0 x.1) (shape.vertices v x.0 x.1).0
+
+  -- the kind of a transition that leaves an initial vertex is external
+  external_from : (v : VertexId) (t : TransId) (k : TransKind) → HasKind m v kinds.Initial → Leaves m t v → Goes m t k → Goes m t External
+  external_from v t External i l goes = goes
+  external_from v t Local i l goes =
+      absurd (let clash = kind_unique m v kinds.Initial kinds.State i (local_leaves nested shape t v goes l) in cc)
+  external_from v t Internal i l goes =
+      absurd (let clash = kind_unique m v kinds.Initial kinds.State i (internal_leaves nested shape t v goes l) in cc)
+
+  goes_externally : (v : VertexId) (t : TransId) → HasKind m v kinds.Initial → Leaves m t v → Goes m t External
+  goes_externally v t i l =
+      let x = mapped_some (λ (y : Transition). y.source) (transition_at m t) v l in
+      external_from v t x.0.kind i l (mapped_at (λ (y : Transition). y.kind) (transition_at m t) x.0 x.1)
 
 module _ {m : DraftMachine} (shape : HasShape m) (nested : IsPlainlyNested m) (initials : KeepsInitials m) where
-  -- each external transition of the machine has a span
-  has_span : (t : TransId) → t.0 < length m.transitions → (r : RegionId) × IsSpan m t r
-  has_span t lt =
-      let at = some_at m.transitions t.0 lt in
-      let leaves = source_of m t at.0 at.1 in
-      let enters = target_of m t at.0 at.1 in
-      span_of shape t at.0.source at.0.target leaves enters (initials.shared t at.0.source at.0.target leaves enters)
+  -- the span of a transition out of an initial vertex is the region of that
+  late_span : (r : RegionId) (v : VertexId) (t : TransId) → IsInitialOf m r v → Leaves m t v → IsSpan m (single_route t) r
+  late_span r v t initial leaves = record {
+    common = λ u end. ⊎_elim
+        (λ l. subst (λ x. LiesInRegion m x r)
+        (leaves_one m t v u leaves (subst (λ k. Leaves m k u) (on_single_is t end.0 end.1) l)) (owned initial.1))
+        (λ l. initials.stays r v u t initial leaves (subst (λ k. Enters m k u) (on_single_is t end.0 end.1) l))
+        end.2;
+    innermost = λ q all under. ⊎_elim
+        (λ same. no_circle shape q (subst (λ x. LiesUnder m (Region q) (Region x)) same under))
+        (λ out. no_circle shape q (under_further under out))
+        (region_cases m (State v) r q initial.1 (all v (t, on_single t, inl leaves)));
+  }
 
-  -- and so each transition exits and enters somewhere, or nowhere
-  area_by_kind : (t : TransId) (v : VertexId) (k : TransKind) → t.0 < length m.transitions → Leaves m t v → Goes m t k
-      → (area : Scope) × IsArea m t area
-  area_by_kind t v External lt leaves goes = let span = has_span t lt in (Within span.0, (goes, span.1))
-  area_by_kind t v Local lt leaves goes = (Inside v, (goes, leaves))
-  area_by_kind t v Internal lt leaves goes = (Nowhere, goes)
+  -- it is external, so it exits and enters there
+  late_is_area : (r : RegionId) (v : VertexId) (p : Route) → IsInitialOf m r v → IsSingleFrom m p v → IsArea m p (Within r)
+  late_is_area r v p initial from =
+      subst (λ q. IsArea m q (Within r)) (sym from.1) (
+        (from.0, refl, goes_externally shape nested v from.0 initial.0 from.2),
+        late_span r v from.0 initial from.2,
+      )
 
-  pub has_area : (t : TransId) → t.0 < length m.transitions → (area : Scope) × IsArea m t area
-  has_area t lt =
-      let at = some_at m.transitions t.0 lt in
-      area_by_kind t at.0.source at.0.kind lt (source_of m t at.0 at.1)
-      (mapped_at (λ (x : Transition). x.kind) (transition_at m t) at.0 at.1)
+  pub late_area : (r : RegionId) (v : VertexId) (p : Route) (area : Scope) → IsInitialOf m r v → IsSingleFrom m p v → IsArea m p area
+      → area ≡ Within r
+  late_area r v p area initial from is = one_area m p area (Within r) is (late_is_area r v p initial from)
+
+  -- each route by which steps go exits and enters somewhere, or nowhere
+  pub has_area : (p : Route) → IsStepRoute m p → (area : Scope) × IsArea m p area
+  has_area p is =
+      ⊎_elim
+      (λ fires. state_area shape nested p fires)
+      (λ late. (
+      let initial = initial_of shape nested late.1.0 late.1.2 in
+      (Within initial.0, late_is_area initial.0 late.1.0 p initial.1 late.1.1)
+      ))
+      is
 
   -- what it enters lies there
-  target_in_area : (t : TransId) (v : VertexId) (area : Scope) → Enters m t v → (Goes m t Internal → ⊥) → IsArea m t area → LiesInScope m v area
-  target_in_area t v Nowhere enters not is = absurd (not is)
-  target_in_area t v (Inside s) enters not is = (local_ends nested t s v is.0 is.1 enters).1
-  target_in_area t v (Within r) enters not is = is.1.common v (inr enters)
+  target_in_area : (p : Route) (v : VertexId) (area : Scope) → IsStepRoute m p → EndsOn m p v → (GoesAs m p Internal → ⊥) → IsArea m p area
+      → LiesInScope m v area
+  target_in_area p v Nowhere step ends not is = absurd (not is)
+  target_in_area p v (Inside s) step ends not is =
+      let goes = is.0 in
+      local_ends shape nested p (is_route shape nested p step) goes.0 goes.1 s ends.0 v goes.2 (source_is_left p goes.0 goes.1 m s is.1) ends.1 ends.2
+  target_in_area p v (Within r) step ends not is = is.1.common v (ends.0, ends.1, inr ends.2)
 
-  pub entered_in_area : (t : TransId) (s : VertexId) → t.0 < length m.transitions → IsEnteredBy m t s → LiesInArea m t s
-  entered_in_area t s lt h =
+  pub entered_in_area : (p : Route) (s : VertexId) → IsStepRoute m p → IsEnteredBy m p s → LiesInArea m p s
+  entered_in_area p s step h =
       ⊎_elim
       (λ same. (
-      let area = has_area t lt in
-      (area.0, area.1, subst (λ x. LiesInScope m x area.0) same (target_in_area t h.1.0 area.0 h.1.1 h.0 area.1))
+      let area = has_area p step in
+      (area.0, area.1, subst (λ x. LiesInScope m x area.0) same (target_in_area p h.1.0 area.0 step h.1.1 h.0 area.1))
       ))
       (λ inside. inside.0)
       h.1.2
 
   -- so it fills the region that owns what it enters
-  pub entered_fills : (t : TransId) (s : VertexId) (r : RegionId) → t.0 < length m.transitions → owner_of m (State s) ≡ Some (Region r)
-      → IsEnteredBy m t s → Fills m t r
-  entered_fills t s r lt e h =
-      let inside = entered_in_area t s lt h in (
+  pub entered_fills : (p : Route) (s : VertexId) (r : RegionId) → IsStepRoute m p → owner_of m (State s) ≡ Some (Region r)
+      → IsEnteredBy m p s → Fills m p r
+  entered_fills p s r step e h =
+      let inside = entered_in_area p s step h in (
         ⊎_elim
             (λ same. (h.1.0, h.1.1, subst (λ x. LiesInRegion m x r) (sym same) (owned e)))
             (λ around. (h.1.0, h.1.1, under_further around.1.2 (further around.1.1 (owned e))))
@@ -378,56 +486,21 @@ module _ {m : DraftMachine} (shape : HasShape m) (nested : IsPlainlyNested m) (i
         (inside.0, inside.1, home_in_scope m s r inside.0 e inside.2),
       )
 
-  -- the span of a transition out of an initial vertex is the region of that
-  late_span : (r : RegionId) (v : VertexId) (t : TransId) → IsInitialOf m r v → Leaves m t v → IsSpan m t r
-  late_span r v t initial leaves = record {
-    common = λ u end. ⊎_elim
-        (λ l. subst (λ x. LiesInRegion m x r) (leaves_one m t v u leaves l) (owned initial.1))
-        (λ l. initials.stays r v u t initial leaves l)
-        end;
-    innermost = λ q all under. ⊎_elim
-        (λ same. no_circle shape q (subst (λ x. LiesUnder m (Region q) (Region x)) same under))
-        (λ out. no_circle shape q (under_further under out))
-        (region_cases m (State v) r q initial.1 (all v (inl leaves)));
-  }
-
-  -- it is external, so it exits and enters there
-  pub late_area : (r : RegionId) (v : VertexId) (t : TransId) (area : Scope) → IsInitialOf m r v → Leaves m t v → IsArea m t area
-      → area ≡ Within r
-  late_area r v t Nowhere initial leaves is =
-      let clash = kind_unique m v kinds.Initial kinds.State initial.0 (internal_leaves nested t v is leaves) in
-      absurd (cc)
-  late_area r v t (Inside s) initial leaves is =
-      let x = mapped_some (λ (x : Transition). x.source) (transition_at m t) v leaves in
-      let ends = local_ends nested t v x.0.target is.0 leaves (target_of m t x.0 x.1) in
-      let clash = kind_unique m v kinds.Initial kinds.State initial.0 ends.0 in
-      absurd (cc)
-  late_area r v t (Within q) initial leaves is =
-      ap Within (one_scope m (IsEndOf m t) v q r (inl leaves) is.1 (late_span r v t initial leaves))
-
-  -- what such a transition enters lies in that region
-  pub late_lies : (r : RegionId) (v : VertexId) (t : TransId) (s : VertexId) → IsInitialOf m r v → Leaves m t v
-      → IsEnteredBy m t s → LiesInRegion m s r
-  late_lies r v t s initial leaves h =
+  -- what a route out of an initial vertex enters lies in the region of that
+  pub late_lies : (r : RegionId) (v : VertexId) (p : Route) (s : VertexId) → IsInitialOf m r v → IsSingleFrom m p v
+      → IsEnteredBy m p s → LiesInRegion m s r
+  late_lies r v p s initial from h =
       ⊎_elim
-      (λ same. subst (λ x. LiesInRegion m x r) same (initials.stays r v h.1.0 t initial leaves h.1.1))
-      (λ around. subst (λ x. LiesInScope m s x) (late_area r v t around.0.0 initial leaves around.0.1) around.0.2)
+      (λ same. subst (λ x. LiesInRegion m x r) same
+      ((late_is_area r v p initial from).1.common h.1.0 (h.1.1.0, h.1.1.1, inr h.1.1.2)))
+      (λ around. subst (λ x. LiesInScope m s x) (late_area r v p around.0.0 initial from around.0.1) around.0.2)
       h.1.2
 
 module _ (m : DraftMachine) where
-  -- what a transition enters stands on the owner chain of its target
-  pub entered_reached : (t : TransId) (s w : VertexId) → IsEnteredBy m t s → Enters m t w → IsAtOrUnder m w s
-  entered_reached t s w h enters =
-      ⊎_elim
-      (λ same. inl (enters_one m t w h.1.0 enters h.1.1 ∙ same))
-      (λ around. inr (subst (λ x. LiesUnder m (State x) (State s)) (enters_one m t h.1.0 w h.1.1 enters)
-      (under_further around.1.2 (owned around.1.1))))
-      h.1.2
-
   -- what ends in a region ends in the one around it
-  pub fills_out : (t : TransId) (r h : RegionId) (s : VertexId) (area : Scope) → owner_of m (Region r) ≡ Some (State s)
-      → owner_of m (State s) ≡ Some (Region h) → EndsIn m t r → IsArea m t area → IsRegionIn m h area → Fills m t h
-  fills_out t r h s area e f ends is inside =
+  pub fills_out : (p : Route) (r h : RegionId) (s : VertexId) (area : Scope) → owner_of m (Region r) ≡ Some (State s)
+      → owner_of m (State s) ≡ Some (Region h) → EndsIn m p r → IsArea m p area → IsRegionIn m h area → Fills m p h
+  fills_out p r h s area e f ends is inside =
       ((ends.0, ends.1, under_further ends.2 (further e (owned f))), (area, is, inside))
 
   -- and so many regions stand above that
