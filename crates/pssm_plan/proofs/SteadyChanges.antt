@@ -18,7 +18,7 @@ use Rattle.pssm_model.specs.Nested.{IsPlainlyNested}
 use Rattle.pssm_plan.specs.Steadiness.{KeepsInitials, BeginsWell, changed_by_item, changed_along}
 use Rattle.pssm_plan.proofs.RouteItems.{called_is}
 use Rattle.pssm_plan.proofs.RouteSteps.{gone_by_routes}
-use Rattle.pssm_plan.proofs.MoreItems.{gone_on, nothing_ran, run_more}
+use Rattle.pssm_plan.proofs.MoreRan.{gone_on, nothing_ran, run_more}
 use Rattle.pssm_plan.proofs.SteadyApart.{IsFiredAround}
 use Rattle.pssm_plan.proofs.SteadyItems.{exited_around, entry_after_exits}
 

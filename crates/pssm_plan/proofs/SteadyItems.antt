@@ -36,7 +36,7 @@ use Rattle.pssm_model.proofs.OverJunctions.{single_legs}
 use Rattle.pssm_plan.proofs.RouteItems.{called_is, called_of, before_of}
 use Rattle.pssm_plan.proofs.RouteMore.{entered_more, called_more}
 use Rattle.pssm_plan.proofs.RouteSteps.{gone_by_routes, fires_states, late_single}
-use Rattle.pssm_plan.proofs.MoreItems.{gone_on, nothing_ran, begins_by, gone_by_more, run_more}
+use Rattle.pssm_plan.proofs.MoreRan.{gone_on, nothing_ran, begins_by, gone_by_more, run_more}
 use Rattle.pssm_plan.proofs.SteadyPlaces.{IsRegionUnder, IsSingleFrom, IsStepRoute, has_area, late_lies, entered_in_area, beside_at_edge, under_is_in, region_in_scope, around_in_scope, owned_under}
 use Rattle.pssm_plan.proofs.SteadyApart.{IsFired, IsFiredAround, one_around}
 

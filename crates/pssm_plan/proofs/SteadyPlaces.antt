@@ -39,7 +39,7 @@ use Rattle.pssm_model.proofs.OverJunctions.{single_legs, internal_leaves, local_
 use Rattle.pssm_model.proofs.OneLeg.{is_start, passes_junction}
 use Rattle.pssm_model.proofs.LegScopes.{some_leg}
 use Rattle.pssm_plan.proofs.KnownPlaces.{known_in_state}
-use Rattle.pssm_plan.proofs.Ranks.{owner_under, depth_under, state_down_region}
+use Rattle.pssm_plan.proofs.Depths.{owner_under, depth_under, state_down_region}
 use Rattle.pssm_plan.proofs.RouteLegs.{leg_scope_is}
 use Rattle.pssm_plan.proofs.RoutePaths.{one_last}
 
