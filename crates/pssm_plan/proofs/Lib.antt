@@ -28,3 +28,4 @@ pub mod SteadyFilling
 pub mod SteadyChanges
 pub mod Steadiness
 pub mod SteadyRules
+pub mod WayLaws
