@@ -3,7 +3,6 @@ use Rattle.std.proofs.Common.{◌≡◌, ◌⊎◌, ◌↔◌, ◌<◌, List, Bo
 use Rattle.std.proofs.lemmas.Option.{slice_get_within}
 use Rattle.std.proofs.lemmas.List.Elements.{All-contains}
 use Rattle.pssm_model.specs.declared.ids.VertexId.{VertexId}
-use Rattle.pssm_model.specs.declared.ids.RegionId.{RegionId}
 use Rattle.pssm_model.specs.declared.ids.TransId.{TransId}
 use Rattle.pssm_model.specs.declared.elements.DraftMachine.{DraftMachine}
 use Rattle.pssm_model.specs.declared.elements.Vertex.{Vertex}
@@ -25,7 +24,7 @@ use Rattle.pssm_model.specs.Legs.{transitions_of, On, Enters, LegExits, LegEnter
 use Rattle.pssm_model.specs.Configuration.{Configuration}
 use Rattle.pssm_model.specs.Course.{Head, Course, Leg, IsLeg, FiresBy, HasGoneBy, HasRun, HasRestored, RemembersSoFar}
 use Rattle.pssm_model.specs.Course.Head.{Starts, Fires}
-use Rattle.pssm_model.specs.Items.{CanExit, LegCalls, LegEnds, LegOpens, restored_mode, StartOpens, EnterOpens, IsExit, IsEffect, IsEnter, Called, Before}
+use Rattle.pssm_model.specs.Items.{CanExit, LegCalls, LegEnds, LegOpens, restored_mode, StartOpens, EnterOpens, IsExit, Called, Before}
 use Rattle.pssm_model.specs.Items.{IsCalledInLeg as IsCalledByLeg, IsItemOfLeg as IsItemByLeg}
 use Rattle.pssm_model.specs.Items.Called.{start, run, ends, opens, restored, entered}
 use Rattle.pssm_model.specs.Items.Before.{inner_exit, outer_enter, exit_effect, path, effect_enter, effect_end, enter_end, later}
@@ -38,7 +37,7 @@ use Rattle.pssm_legs.specs.Calls.IsOrderedInLeg.{exit_effect as leg_exit_effect,
 use Rattle.pssm_legs.specs.Calls.IsOrderedInLeg.{effect_end as leg_effect_end, enter_end as leg_enter_end, later as leg_later}
 use Rattle.pssm_plan.specs.declared.ways.Way.{Way}
 use Rattle.pssm_plan.specs.declared.progress.Restored.{Restored}
-use Rattle.pssm_plan.specs.Ways.{IsWayTaken, AreWaysOf, calls_by, opens_by, orders_by}
+use Rattle.pssm_plan.specs.Ways.{AreWaysOf}
 use Rattle.pssm_plan.specs.inner.Sequence.{IsNestedPair, IsSequence, IsOpenedBySome, IsOrderedBySome}
 use Rattle.pssm_plan.specs.inner.Calling.{MayRun, IsOfWays, IsDefaultOf, IsRestoredOf, IsOpenedByEntry}
 use Rattle.pssm_model.proofs.ElementLaws.{mapped_some, nothing_in_nil}
@@ -171,7 +170,7 @@ module _ {m : DraftMachine} (course : Course) (ways : List Way) (states : List R
   item_is leg is x called h =
       let w = way_for leg.route x x (item_exit_fires m course leg x h) (item_exit_fires m course leg x h) is.0 in
       let item : IsItemOfLeg m w.way.fires leg.route leg.named_by x =
-          ⊎_elim (λ calls. inl (calls_by_way m course leg.route leg.named_by x w.way.fires w.first calls)) (λ end. inr end) h in
+      ⊎_elim (λ calls. inl (calls_by_way m course leg.route leg.named_by x w.way.fires w.first calls)) (λ end. inr end) h in
       let by : IsCalledBy m w.way.fires leg.route x = (leg.named_by, is.1, item) in
       (w.way, w.inside, may_run m course x called, subst (λ p. IsCalledBy m w.way.fires p x) (sym w.route) by)
 
@@ -228,14 +227,14 @@ module _ {m : DraftMachine} (course : Course) (ways : List Way) (states : List R
       let way = some.0 in
       let by = some.2 in
       let opening : EnterOpens m course s (items.Opened r Plain) =
-          (h.2, inl (leg_of way by.0, (goes_by way some.1, by.1), by.2, refl, by.3)) in
+      (h.2, inl (leg_of way by.0, (goes_by way some.1, by.1), by.2, refl, by.3)) in
       subst (λ y. EnterOpens m course s y) (sym h.1) opening
 
   restored_of : (s : VertexId) (x : Item) → IsRestoredOf m states s x → EnterOpens m course s x
   restored_of s x h =
       let opened = h.2 in
       let opening : EnterOpens m course s (items.Opened opened.0 (restored_mode h.0)) =
-          (opened.2, inr (h.0, (are.restored h.0 s).0 h.1, refl)) in
+      (opened.2, inr (h.0, (are.restored h.0 s).0 h.1, refl)) in
       subst (λ y. EnterOpens m course s y) (sym opened.1) opening
 
   pub entry_opens : (s : VertexId) (x : Item) → EnterOpens m course s x ↔ IsOpenedByEntry m ways states s x
@@ -248,7 +247,8 @@ module _ {m : DraftMachine} (course : Course) (ways : List Way) (states : List R
       let some : IsOrderedBySome m ways x y = (w.way, w.inside, subst (λ q. IsOrderedBy m w.way.fires q x y) (sym w.route) by) in
       inr some
 
-  in_leg : (leg : Leg) (x y : Item) → IsLeg course leg → IsCalledByLeg m course leg x → (IsExit y → FiresBy course.head leg.route) → IsWayFor leg.route x y
+  in_leg : (leg : Leg) (x y : Item) → IsLeg course leg → IsCalledByLeg m course leg x → (IsExit y → FiresBy course.head leg.route)
+      → IsWayFor leg.route x y
   in_leg leg x y is h second = way_for leg.route x y (exit_fires m course leg x h) second is.0
 
   before_is : (x y : Item) → Before m course x y → IsSequence m ways x y
@@ -257,16 +257,16 @@ module _ {m : DraftMachine} (course : Course) (ways : List Way) (states : List R
   before_is _ _ (exit_effect {x = x} {y = y} leg is a c h k) =
       let w = in_leg leg x y is h (exit_fires m course leg y k) in
       by_way w leg.named_by is.1 (leg_exit_effect a c
-        (calls_by_way m course leg.route leg.named_by x w.way.fires w.first h)
-        (calls_by_way m course leg.route leg.named_by y w.way.fires w.second k))
+      (calls_by_way m course leg.route leg.named_by x w.way.fires w.first h)
+      (calls_by_way m course leg.route leg.named_by y w.way.fires w.second k))
   before_is _ _ (path {t = t} {u = u} leg is same h) =
       let w = way_taken leg.route (items.Effect t) (items.Effect u) (λ e. e) (λ e. e) is.0 in
       by_way w leg.named_by is.1 (leg_path same h)
   before_is _ _ (effect_enter {x = x} {y = y} leg is a c h k) =
       let w = in_leg leg x y is h (exit_fires m course leg y k) in
       by_way w leg.named_by is.1 (leg_effect_enter a c
-        (calls_by_way m course leg.route leg.named_by x w.way.fires w.first h)
-        (calls_by_way m course leg.route leg.named_by y w.way.fires w.second k))
+      (calls_by_way m course leg.route leg.named_by x w.way.fires w.first h)
+      (calls_by_way m course leg.route leg.named_by y w.way.fires w.second k))
   before_is _ _ (effect_end {x = x} {y = y} leg is a h k) =
       let w = in_leg leg x y is h (λ e. absurd (end_is_no_exit m course leg.route leg.named_by y k e)) in
       by_way w leg.named_by is.1 (leg_effect_end a (calls_by_way m course leg.route leg.named_by x w.way.fires w.first h) k)
@@ -276,7 +276,7 @@ module _ {m : DraftMachine} (course : Course) (ways : List Way) (states : List R
   before_is _ _ (later {x = x} {y = y} leg next is late h k) =
       let w = in_leg leg x y is h (item_exit_fires m course (record leg { named_by = next }) y k) in
       let item : IsItemOfLeg m w.way.fires leg.route next y =
-          ⊎_elim (λ calls. inl (calls_by_way m course leg.route next y w.way.fires w.second calls)) (λ end. inr end) k in
+      ⊎_elim (λ calls. inl (calls_by_way m course leg.route next y w.way.fires w.second calls)) (λ end. inr end) k in
       by_way w leg.named_by is.1 (leg_later next late (calls_by_way m course leg.route leg.named_by x w.way.fires w.first h) item)
 
   nested_before : (x y : Item) → IsNestedPair m x y → Before m course x y
