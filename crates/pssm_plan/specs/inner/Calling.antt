@@ -57,7 +57,7 @@ abbrev pub MayRun : Configuration → Item → Type 0
 MayRun now (Exit s) = now.Active s
 MayRun now _ = Unit {0}
 
--- an item of one of the ways that fire
+-- an item of one of the ways, of which exits are of what is active
 abbrev pub IsOfWays : DraftMachine → Configuration → List Way → Item → Type 0
 IsOfWays m now ways x = (way : Way) × Contains ways way × MayRun now x × calls_by m way x
 
