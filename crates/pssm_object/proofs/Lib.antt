@@ -2,6 +2,8 @@ pub mod BuiltMachines
 pub mod PlanItems
 pub mod BuiltWays
 pub mod Fired
+pub mod KnownWays
+pub mod KnownJoiners
 pub mod SomeFiring
 pub mod CourseLaws
 pub mod UnderWay
