@@ -49,7 +49,7 @@ module _ {m : DraftMachine} (p : Route) (route : IsRoute m p) where
     pub none_goes_on : HasShape m → (u : TransId) (v : VertexId) (ts : List TransId) (found : Option TransId) → On p u → Enters m u v → ts ≡ p.rest
         → IfNone found ((w : TransId) → Contains ts w → Leaves m w v → ⊥)
         → IfNone found ((x : VertexId) → Enters m u x → HasKind m x kinds.Junction → ⊥)
-    none_goes_on shape u v ts None is e same none x other k =
+    none_goes_on shape u v ts None is e same none = λ x other k.
         let start = start_of b p route.starts in
         rest_goes_on b shape p route start.0 start.1 u v is e (subst (λ y. HasKind m y kinds.Junction) (enters_one m u x v other e) k)
         (λ w inside. none w (subst (λ us. Contains us w) (sym same) inside))
