@@ -1,5 +1,5 @@
 -- The start of a route that is one leg, and which transition follows on another.
-use Rattle.std.proofs.Common.{◌≡◌, ◌<◌, List, [], ◌∷◌, length, get_or, Option, Some, None, IfNone, Contains, sym, ap, subst, ◌∙◌, arith}
+use Rattle.std.proofs.Common.{◌≡◌, ◌<◌, List, [], ◌∷◌, length, get_or, Option, Some, None, IfNone, Contains, sym, ap, subst, ◌∙◌}
 use Rattle.std.proofs.lemmas.List.Elements.{All-contains, Contains-append_right}
 use Rattle.pssm_model.specs.declared.ids.VertexId.{VertexId}
 use Rattle.pssm_model.specs.declared.ids.TransId.{TransId}
@@ -35,15 +35,10 @@ module _ {m : DraftMachine} (p : Route) (route : IsRoute m p) where
 
   module _ (b : HasSingleLegs m) where
     -- it starts with one transition
-    pub one_start : (d : TransId) → p.starts ≡ get_or p.starts 0 d ∷ []
-    one_start d =
+    pub one_start : (ts : List TransId) (d : TransId) → ts ≡ p.starts → p.starts ≡ get_or ts 0 d ∷ []
+    one_start ts d e =
         let start = start_of b p route.starts in
-        start.1 ∙ ap (λ (x : TransId). x ∷ []) (sym (ap (λ ts. get_or ts 0 d) start.1))
-
-    pub some_start : 0 < length p.starts
-    some_start =
-        let start = start_of b p route.starts in
-        subst (λ ts. 0 < length ts) (sym start.1) (omega arith)
+        start.1 ∙ ap (λ (x : TransId). x ∷ []) (sym (ap (λ us. get_or us 0 d) (e ∙ start.1)))
 
     -- where none of the rest leaves the vertex on which one ends, this is no junction
     pub none_goes_on : HasShape m → (u : TransId) (v : VertexId) (ts : List TransId) (found : Option TransId) → On p u → Enters m u v → ts ≡ p.rest
