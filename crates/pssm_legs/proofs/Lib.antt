@@ -1,0 +1,4 @@
+pub mod RoutePaths
+pub mod Chains
+pub mod Starts
+pub mod NoneSoFar

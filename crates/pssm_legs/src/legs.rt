@@ -1,5 +1,5 @@
 //! `Legs`: what is known of the legs of a route.
-ghost use Rattle.std.specs.Prelude.{IfOk};
+ghost use Rattle.std.specs.Prelude.{◌≡◌, ◌∷◌, [], IfOk};
 ghost use Rattle.pssm_model.specs.Routes.{IsRoute};
 ghost use Rattle.pssm_model.specs.SingleLegs.{HasSingleLegs};
 ghost use Rattle.pssm_legs.specs.LegsOf.{AreLegsOf};
@@ -23,6 +23,15 @@ pub struct Legs {
     pub last: VertexId,
 }
 
+// The transition with which a route starts.
+fn start_of(machine: &Machine, route: &Route) -> TransId
+    requires legs { HasSingleLegs machine.now }
+    requires route { IsRoute machine.now route.now }
+    ensures { route.now.starts ≡ result ∷ [] }
+{
+    route.starts.as_slice()[0]
+}
+
 /// The legs of a route.
 ///
 /// `NoMemory`: memory ran out.
@@ -31,7 +40,7 @@ pub fn legs_of(alloc: Global, machine: &Machine, route: &Route) -> Result<Legs, 
     requires route { IsRoute machine.now route.now }
     ensures { IfOk result (AreLegsOf machine.now route.now) }
 {
-    let start = route.starts.as_slice()[0];
+    let start = start_of(machine, route);
     let path = path_of(alloc, machine, route, start)?;
     let last = last_of(machine, path.as_slice(), start);
     let area = area_of(machine, route, start);

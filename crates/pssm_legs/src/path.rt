@@ -45,6 +45,7 @@ fn next_of(machine: &Machine, route: &Route, t: TransId) -> Option<TransId>
         × Enters machine.now t v × Leaves machine.now u v)) }
     ensures none { IfNone result ((v : VertexId) → Enters machine.now t v → HasKind machine.now v kinds.Junction → ⊥) }
 {
+    let _shaped = machine.regions();
     let target = machine.target(t);
     if is_junction(machine, target) {
         one_out(machine, route.rest.as_slice(), target)
@@ -68,12 +69,10 @@ pub fn path_of(
     ensures path { (t : TransId) → IfOk result (λ path. Contains path.items t ↔ On route.now t) }
     ensures order { (t u : TransId) → IfOk result (λ path. PathBefore machine.now route.now t u ↔ StandsBefore path.items t u) }
 {
+    let _shaped = machine.regions();
     let mut path = vec![in alloc; start]?;
     let mut last = start;
-    for _ in 0..route.rest.as_slice().len() {
-        let Some(next) = next_of(machine, route, last) else {
-            break;
-        };
+    while let Some(next) = next_of(machine, route, last) {
         path.push(next)?;
         last = next;
     }
@@ -90,6 +89,7 @@ pub fn last_of(machine: &Machine, path: &[TransId], start: TransId) -> VertexId
         → ((t u : TransId) → PathBefore machine.now p t u ↔ StandsBefore path.now t u)
         → (v : VertexId) → IsLastVertex machine.now p start v ↔ (v ≡ result) }
 {
+    let _shaped = machine.regions();
     let last = path.last().copied().unwrap_or(start);
     machine.target(last)
 }
