@@ -1,0 +1,2 @@
+pub mod TheLeg
+pub mod SeenBefore
