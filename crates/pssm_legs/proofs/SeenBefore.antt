@@ -47,17 +47,17 @@ module _ (path : List TransId) (t u : TransId) where
         (cases_lt i count)
 
     more_none : (IsTrue seen × (w ≡ u) → ⊥) → (i j : ℕ) → i < j → j < count + 1 → slice_get path i ≡ Some t → slice_get path j ≡ Some u → ⊥
-    more_none no i j before lt e f =
+    more_none fails i j before lt e f =
         ⊎_elim
         (λ below. h.none_after i j before below e f)
         (λ past.
         let last : j ≡ count = omega (arith, lt, past) in
         let inside : i < count = omega (arith, before, last) in
-        no (h.seen_of i inside e, element_is count w u at (subst (λ k. slice_get path k ≡ Some u) last f)))
+        fails (h.seen_of i inside e, element_is count w u at (subst (λ k. slice_get path k ≡ Some u) last f)))
         (cases_lt j count)
 
     pub one_more_seen : (IsTrue seen × (w ≡ u) → ⊥) → HasSeen now_seen (count + 1)
-    one_more_seen no = record { seen_is = more_is; seen_of = more_of; none_after = more_none no }
+    one_more_seen fails = record { seen_is = more_is; seen_of = more_of; none_after = more_none fails }
 
   pub none_stands : (seen : Bool) (count : ℕ) → length path ≤ count → HasSeen seen count → StandsBefore path t u → ⊥
   none_stands seen count all h found =
