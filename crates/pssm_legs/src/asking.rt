@@ -144,7 +144,12 @@ fn is_called(machine: &Machine, legs: &Legs, fires: bool, item: Item) -> bool
         Item::Effect(t) => legs.path.as_slice().contains(&t),
         Item::Enter(s) => is_entered(machine, legs, s),
         Item::Opened(r, Mode::Plain) => is_beside(machine, legs, r),
-        Item::Opened(r, Mode::Shallow) => is_history_end(machine, legs, VertexKind::ShallowHistory, r),
+        Item::Opened(r, Mode::Shallow) => is_history_end(
+            machine,
+            legs,
+            VertexKind::ShallowHistory,
+            r,
+        ),
         Item::Opened(r, Mode::Deep) => is_history_end(machine, legs, VertexKind::DeepHistory, r),
         Item::Pick(c) => c == legs.last && machine.vertex(c).kind == VertexKind::Choice,
     }
@@ -177,7 +182,13 @@ fn are_path_pair(path: &[TransId], first: Item, second: Item) -> bool
 }
 
 // Whether the items come in this order by their kinds, and the leg calls both.
-fn are_called_in_order(machine: &Machine, legs: &Legs, fires: bool, first: Item, second: Item) -> bool
+fn are_called_in_order(
+    machine: &Machine,
+    legs: &Legs,
+    fires: bool,
+    first: Item,
+    second: Item,
+) -> bool
     requires legs { AreLegsIn machine.now legs.now }
     requires first { IsItemIn machine.now first }
     requires second { IsItemIn machine.now second }
