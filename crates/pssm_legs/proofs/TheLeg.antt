@@ -15,7 +15,7 @@ use Rattle.pssm_model.specs.declared.steps.Item.TheVariants as items
 use Rattle.pssm_model.specs.Shapes.{HasShape}
 use Rattle.pssm_model.specs.Forest.{HasKind, owner_of, LiesInRegion, LiesInState}
 use Rattle.pssm_model.specs.Legs.{Leaves, Goes, On, SameLeg, LaterLeg, IsLastVertex, IsLocalFrom, IsInternal, IsEnteredFor, IsEndState, LegScope, LiesInScope, LegExits, LegEnters, Scope}
-use Rattle.pssm_model.specs.Legs.Scope.{Nowhere as nowhere, Inside as inside, Within as within}
+use Rattle.pssm_model.specs.Legs.Scope.{Nowhere as nowhere, Inside as inside}
 use Rattle.pssm_model.specs.Legs.SameLeg.{itself}
 use Rattle.pssm_model.specs.Legs.LegScope.{internal, local, point, other}
 use Rattle.pssm_model.specs.Items.{IsAimedAt, LegEnds, LegOpens, IsExit, IsEffect, IsEnter, PathBefore}

@@ -12,7 +12,6 @@ use Rattle.pssm_model.specs.declared.steps.Item.{Item}
 use Rattle.pssm_model.specs.declared.steps.Item.TheVariants.{Exit, Effect, Enter, Opened, Pick}
 use Rattle.pssm_model.specs.Forest.{HasKind, owner_of, LiesInState, LiesInRegion}
 use Rattle.pssm_model.specs.Legs.{IsEnteredFor, IsEndState, LiesInScope}
-use Rattle.pssm_legs.specs.declared.areas.Area.{Area}
 use Rattle.pssm_legs.specs.declared.areas.Area.TheVariants.{Nowhere, Inside}
 use Rattle.pssm_legs.specs.declared.legs.Legs.{Legs}
 use Rattle.pssm_legs.specs.Areas.{scope_of}
