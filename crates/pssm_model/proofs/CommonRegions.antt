@@ -6,15 +6,14 @@ use Rattle.pssm_model.specs.declared.ids.VertexId.{VertexId}
 use Rattle.pssm_model.specs.declared.ids.RegionId.{RegionId}
 use Rattle.pssm_model.specs.declared.ids.TransId.{TransId}
 use Rattle.pssm_model.specs.declared.elements.DraftMachine.{DraftMachine}
-use Rattle.pssm_model.specs.declared.elements.VertexKind.TheVariants as kinds
 use Rattle.pssm_model.specs.declared.elements.Owner.{Owner}
 use Rattle.pssm_model.specs.declared.elements.Owner.TheVariants.{Region, State}
 use Rattle.pssm_model.specs.declared.steps.Route.{Route}
 use Rattle.pssm_model.specs.Shapes.{HasShape}
-use Rattle.pssm_model.specs.Forest.{owner_of, HasKind, LiesUnder, LiesInRegion, IsWithin, HasRegionsAbove, IsScope}
+use Rattle.pssm_model.specs.Forest.{owner_of, LiesUnder, LiesInRegion, IsWithin, HasRegionsAbove, IsScope}
 use Rattle.pssm_model.specs.Forest.LiesUnder.{owned, further}
 use Rattle.pssm_model.specs.Forest.HasRegionsAbove.{region, state, machine}
-use Rattle.pssm_model.specs.Legs.{Leaves, Enters, On, IsOfLeg}
+use Rattle.pssm_model.specs.Legs.{Leaves, Enters, On, IsOfLeg, IsPoint}
 use Rattle.pssm_model.specs.Routes.{IsRoute, IsReached}
 use Rattle.pssm_model.specs.Routes.IsReached.{start, on}
 use Rattle.pssm_model.specs.WellFormed.{ShareRegion}
@@ -199,7 +198,7 @@ module _ (m : DraftMachine) (t : TransId) (rest : List TransId) where
         met;
   }
 
--- the one leg of a route from a State
+-- the one leg of a route from a vertex
 module _ {m : DraftMachine} (b : HasSingleLegs m) (shape : HasShape m) (p : Route) (route : IsRoute m p) (t : TransId) (starts : p.starts ≡ t ∷ [])
     (s : VertexId) (l : Leaves m t s) where
   -- all its vertices lie in the topmost region of its source
@@ -225,75 +224,77 @@ module _ {m : DraftMachine} (b : HasSingleLegs m) (shape : HasShape m) (p : Rout
   reached_in_topmost top u w h (on {u = before} {v = v} r enters leaves c) e =
       connected top u v w (reached_in_topmost top before v h r enters) leaves e (target_there u w (of_rest b shape p route t starts u c) e)
 
-  module _ (state : HasKind m s kinds.State) where
-    source_there : s.0 < length m.vertices
-    source_there =
-        let source = source_of b shape p route t starts t (on_start b shape p route t starts) in
-        subst (λ x. x.0 < length m.vertices) (leaves_one m t source.0 s source.1 l) source.2
+  source_is_no_point : IsPoint m s → ⊥
+  source_is_no_point h = ⊎_elim (λ entry. b.uncut s (inr (inr (inl entry)))) (λ exit. b.uncut s (inr (inr (inr exit)))) h
 
-    pub target_shares : (u : TransId) (w : VertexId) → On p u → Enters m u w → ShareRegion m s w
-    target_shares u w is e =
-        let x = vertex_there shape s source_there in
-        let some = some_region shape s x.0 x.1 state in
-        let above = counted shape s source_there in
-        let top = topmost m (State s) above.0 some.0 above.1 some.1 in
-        (top.0, top.1.lies, (reached_in_topmost top.0 u w top.1 (route.reached u is) e).lies)
+  source_there : s.0 < length m.vertices
+  source_there =
+      let source = source_of b shape p route t starts t (on_start b shape p route t starts) in
+      subst (λ x. x.0 < length m.vertices) (leaves_one m t source.0 s source.1 l) source.2
 
-    scope_so_far : (count : ℕ) → count ≤ length p.rest → (c : RegionId) × IsScope m (IsMet m t p.rest count) c
-    scope_so_far zero le =
-        let target = target_of b shape p route t starts t (on_start b shape p route t starts) in
-        let shared = target_shares t target.0 (on_start b shape p route t starts) target.1 in
-        let pair = pair_scope shape s target.0 source_there target.2 shared in
-        (pair.0, none_met m t p.rest s target.0 l target.1 pair.0 pair.1)
-    scope_so_far (suc count) le =
-        let inside : count < length p.rest = omega (arith, le) in
-        let before = scope_so_far count (omega (arith, le)) in
-        let u = get_or p.rest count t in
-        let here : u ≡ get_or p.rest count u = get_or_default p.rest count t u inside in
-        let is : On p u = of_rest b shape p route t starts u (count, inside, sym here) in
-        let target = target_of b shape p route t starts u is in
-        let more = one_more_met m t p.rest count u target.0 inside here target.1 in
-        let found = next_scope shape (IsMet m t p.rest count) (IsMet m t p.rest (count + 1)) s target.0 before.0 more source_there target.2 (inl (inl l))
-        before.1 (target_shares u target.0 is target.1) in
-        (found.0, subst (λ k. IsScope m (IsMet m t p.rest k) found.0) (add-one count) found.1)
+  pub target_shares : (u : TransId) (w : VertexId) → On p u → Enters m u w → ShareRegion m s w
+  target_shares u w is e =
+      let x = vertex_there shape s source_there in
+      let some = some_region shape s x.0 x.1 source_is_no_point in
+      let above = counted shape s source_there in
+      let top = topmost m (State s) above.0 some.0 above.1 some.1 in
+      (top.0, top.1.lies, (reached_in_topmost top.0 u w top.1 (route.reached u is) e).lies)
 
-    leg_is_met : (v : VertexId) → IsOfLeg m p t v → IsMet m t p.rest (length p.rest) v
-    leg_is_met v h =
-        ⊎_elim
-        (λ same. inl (inl (subst (Leaves m t) (sym same) l)))
-        (λ met. ⊎_elim
-        (λ same. inl (inr (subst (λ x. Enters m x v) same met.2)))
-        (λ in_rest. inr (in_rest.0, met.0, in_rest.1, sym in_rest.2, met.2))
-        (start_or_rest b shape p route t starts met.0 met.1))
-        (of_leg_cases b shape p route t starts s v l h)
+  scope_so_far : (count : ℕ) → count ≤ length p.rest → (c : RegionId) × IsScope m (IsMet m t p.rest count) c
+  scope_so_far zero le =
+      let target = target_of b shape p route t starts t (on_start b shape p route t starts) in
+      let shared = target_shares t target.0 (on_start b shape p route t starts) target.1 in
+      let pair = pair_scope shape s target.0 source_there target.2 shared in
+      (pair.0, none_met m t p.rest s target.0 l target.1 pair.0 pair.1)
+  scope_so_far (suc count) le =
+      let inside : count < length p.rest = omega (arith, le) in
+      let before = scope_so_far count (omega (arith, le)) in
+      let u = get_or p.rest count t in
+      let here : u ≡ get_or p.rest count u = get_or_default p.rest count t u inside in
+      let is : On p u = of_rest b shape p route t starts u (count, inside, sym here) in
+      let target = target_of b shape p route t starts u is in
+      let more = one_more_met m t p.rest count u target.0 inside here target.1 in
+      let found = next_scope shape (IsMet m t p.rest count) (IsMet m t p.rest (count + 1)) s target.0 before.0 more source_there target.2 (inl (inl l))
+      before.1 (target_shares u target.0 is target.1) in
+      (found.0, subst (λ k. IsScope m (IsMet m t p.rest k) found.0) (add-one count) found.1)
 
-    met_is_leg : (v : VertexId) → IsMet m t p.rest (length p.rest) v → IsOfLeg m p t v
-    met_is_leg v (inl (inl leaves)) = source_of_leg b shape p route t starts v leaves
-    met_is_leg v (inl (inr e)) = target_of_leg b shape p route t starts t v (on_start b shape p route t starts) e
-    met_is_leg v (inr few) =
-        target_of_leg b shape p route t starts few.1 v (of_rest b shape p route t starts few.1 (few.0, few.2, sym few.3)) few.4
+  leg_is_met : (v : VertexId) → IsOfLeg m p t v → IsMet m t p.rest (length p.rest) v
+  leg_is_met v h =
+      ⊎_elim
+      (λ same. inl (inl (subst (Leaves m t) (sym same) l)))
+      (λ met. ⊎_elim
+      (λ same. inl (inr (subst (λ x. Enters m x v) same met.2)))
+      (λ in_rest. inr (in_rest.0, met.0, in_rest.1, sym in_rest.2, met.2))
+      (start_or_rest b shape p route t starts met.0 met.1))
+      (of_leg_cases b shape p route t starts s v l h)
 
-    -- at the end
-    pub leg_scope : (c : RegionId) → IsScope m (IsMet m t p.rest (length p.rest)) c → IsScope m (IsOfLeg m p t) c
-    leg_scope c h = scope_same m (IsMet m t p.rest (length p.rest)) (IsOfLeg m p t) c leg_is_met met_is_leg h
+  met_is_leg : (v : VertexId) → IsMet m t p.rest (length p.rest) v → IsOfLeg m p t v
+  met_is_leg v (inl (inl leaves)) = source_of_leg b shape p route t starts v leaves
+  met_is_leg v (inl (inr e)) = target_of_leg b shape p route t starts t v (on_start b shape p route t starts) e
+  met_is_leg v (inr few) =
+      target_of_leg b shape p route t starts few.1 v (of_rest b shape p route t starts few.1 (few.0, few.2, sym few.3)) few.4
 
-    pub some_leg_scope : (c : RegionId) × IsScope m (IsOfLeg m p t) c
-    some_leg_scope = let found = scope_so_far (length p.rest) (omega arith) in (found.0, leg_scope found.0 found.1)
+  -- at the end
+  pub leg_scope : (c : RegionId) → IsScope m (IsMet m t p.rest (length p.rest)) c → IsScope m (IsOfLeg m p t) c
+  leg_scope c h = scope_same m (IsMet m t p.rest (length p.rest)) (IsOfLeg m p t) c leg_is_met met_is_leg h
 
-    -- the loop over the rest, one transition further
-    module _ (list : List TransId) (same : list ≡ p.rest) (count : ℕ) (inside : count < length list) (u : TransId) (here : u ≡ get_or list count u)
-        (w : VertexId) (enters : Enters m u w) where
-      pub next_shares : ShareRegion m s w
-      next_shares =
-          target_shares u w (of_rest b shape p route t starts u (subst (λ ts. Contains ts u) same (count, inside, sym here))) enters
+  pub some_leg_scope : (c : RegionId) × IsScope m (IsOfLeg m p t) c
+  some_leg_scope = let found = scope_so_far (length p.rest) (omega arith) in (found.0, leg_scope found.0 found.1)
 
-      one_more : HasOneMore (IsMet m t p.rest count) (IsMet m t p.rest (count + 1)) w
-      one_more =
-          one_more_met m t p.rest count u w (subst (λ ts. count < length ts) same inside) (subst (λ ts. u ≡ get_or ts count u) same here) enters
+  -- the loop over the rest, one transition further
+  module _ (list : List TransId) (same : list ≡ p.rest) (count : ℕ) (inside : count < length list) (u : TransId) (here : u ≡ get_or list count u)
+      (w : VertexId) (enters : Enters m u w) where
+    pub next_shares : ShareRegion m s w
+    next_shares =
+        target_shares u w (of_rest b shape p route t starts u (subst (λ ts. Contains ts u) same (count, inside, sym here))) enters
 
-      pub next_stays : (c : RegionId) → IsScope m (IsMet m t p.rest count) c → LiesInRegion m w c → IsScope m (IsMet m t p.rest (count + 1)) c
-      next_stays c h lies = scope_stays m (IsMet m t p.rest count) (IsMet m t p.rest (count + 1)) s w one_more c h lies
+    one_more : HasOneMore (IsMet m t p.rest count) (IsMet m t p.rest (count + 1)) w
+    one_more =
+        one_more_met m t p.rest count u w (subst (λ ts. count < length ts) same inside) (subst (λ ts. u ≡ get_or ts count u) same here) enters
 
-      pub next_grows : (c r : RegionId) → IsScope m (IsMet m t p.rest count) c → (LiesInRegion m w c → ⊥) → IsScope m (IsOneOf s w) r
-          → IsScope m (IsMet m t p.rest (count + 1)) r
-      next_grows c r h out both = scope_grows m (IsMet m t p.rest count) (IsMet m t p.rest (count + 1)) s w one_more c r (inl (inl l)) h out both
+    pub next_stays : (c : RegionId) → IsScope m (IsMet m t p.rest count) c → LiesInRegion m w c → IsScope m (IsMet m t p.rest (count + 1)) c
+    next_stays c h lies = scope_stays m (IsMet m t p.rest count) (IsMet m t p.rest (count + 1)) s w one_more c h lies
+
+    pub next_grows : (c r : RegionId) → IsScope m (IsMet m t p.rest count) c → (LiesInRegion m w c → ⊥) → IsScope m (IsOneOf s w) r
+        → IsScope m (IsMet m t p.rest (count + 1)) r
+    next_grows c r h out both = scope_grows m (IsMet m t p.rest count) (IsMet m t p.rest (count + 1)) s w one_more c r (inl (inl l)) h out both

@@ -21,16 +21,22 @@ use Rattle.pssm_model.proofs.Nesting.{lies_within}
 use Rattle.pssm_model.proofs.Scopes.{one_scope}
 use Rattle.pssm_model.specs.SingleLegs.{HasSingleLegs}
 use Rattle.pssm_model.proofs.RegionChains.{on_one_chain, under_state}
-use Rattle.pssm_model.proofs.OneLeg.{on_start, on_there, no_later_leg, no_point, no_some_point, internal_is_start, local_is_start, local_from_start, alone, of_leg_same, source_of_leg}
+use Rattle.pssm_model.proofs.OneLeg.{internal_leaves_state, local_leaves_state, on_start, on_there, no_later_leg, no_point, no_some_point, internal_is_start, local_is_start, local_from_start, alone, of_leg_same, source_of_leg}
 use Rattle.pssm_model.proofs.CommonRegions.{scope_same, some_leg_scope}
 
 module _ {m : DraftMachine} (b : HasSingleLegs m) (shape : HasShape m) (p : Route) (route : IsRoute m p) (t : TransId) (starts : p.starts ≡ t ∷ [])
-    (s : VertexId) (l : Leaves m t s) (state : HasKind m s kinds.State) where
+    (s : VertexId) (l : Leaves m t s) where
   start_on : On p t
   start_on = on_start b shape p route t starts
 
+  state_of_internal : Goes m t Internal → HasKind m s kinds.State
+  state_of_internal goes = internal_leaves_state b shape t s goes l
+
+  state_of_local : Goes m t Local → HasKind m s kinds.State
+  state_of_local goes = local_leaves_state b shape t s goes l
+
   -- the leg may be named by its start
-  start_scope : (u : TransId) (scope : Scope) → LegScope m p u scope → LegScope m p t scope
+  pub start_scope : (u : TransId) (scope : Scope) → LegScope m p u scope → LegScope m p t scope
   start_scope u _ (internal i) = internal (subst (IsInternal m p) (internal_is_start b shape p route t starts u i) i)
   start_scope u _ (local {s = q} h) =
       let is = local_is_start b shape p route t starts u q h in
@@ -38,7 +44,7 @@ module _ {m : DraftMachine} (b : HasSingleLegs m) (shape : HasShape m) (p : Rout
   start_scope u _ (point {s = q} {v = v} h e all) = absurd (no_point b shape p route t starts u v q h)
   start_scope u _ (other {r = r} is i j k scope) =
       other start_on
-      (λ h. i (is, subst (λ x. Goes m x Internal) (sym (alone b shape p route t starts s u l state h.1 is)) h.1))
+      (λ h. i (is, subst (λ x. Goes m x Internal) (sym (alone b shape p route t starts s u l (state_of_internal h.1) h.1 is)) h.1))
       (λ q h.
       let from = local_is_start b shape p route t starts t q h in
       j q (local_from_start b shape p route t starts u q is from.0 h.3 from.1))
@@ -64,7 +70,7 @@ module _ {m : DraftMachine} (b : HasSingleLegs m) (shape : HasShape m) (p : Rout
       let is = local_is_start b shape p route t starts t q h in
       ap Inside (leaves_one m t q s is.0 l)
   scope_by Local _ goes (point {s = q} {v = v} h e all) = absurd (no_point b shape p route t starts t v q h)
-  scope_by Local _ goes (other is i j k scope) = absurd (j s (local_from_start b shape p route t starts t s start_on l state goes))
+  scope_by Local _ goes (other is i j k scope) = absurd (j s (local_from_start b shape p route t starts t s start_on l (state_of_local goes) goes))
   scope_by External _ goes (internal i) = absurd (let clash = i.1 in cc)
   scope_by External _ goes (local {s = q} h) = absurd (let is = local_is_start b shape p route t starts t q h in let clash = is.1 in cc)
   scope_by External _ goes (point {s = q} {v = v} h e all) = absurd (no_point b shape p route t starts t v q h)
@@ -74,7 +80,7 @@ module _ {m : DraftMachine} (b : HasSingleLegs m) (shape : HasShape m) (p : Rout
   scope_of_internal goes = internal (start_on, goes)
 
   pub scope_of_local : Goes m t Local → LegScope m p t (Inside s)
-  scope_of_local goes = local (local_from_start b shape p route t starts t s start_on l state goes)
+  scope_of_local goes = local (local_from_start b shape p route t starts t s start_on l (state_of_local goes) goes)
 
   pub scope_of_external : (r : RegionId) → Goes m t External → IsScope m (IsOfLeg m p t) r → LegScope m p t (Within r)
   scope_of_external r goes scope =
@@ -89,15 +95,18 @@ module _ {m : DraftMachine} (b : HasSingleLegs m) (shape : HasShape m) (p : Rout
       let x = on_there b shape p route t starts t start_on in
       (x.0.kind, mapped_at (λ (y : Transition). y.kind) (transition_at m t) x.0 x.1)
 
-  pub some_leg : (scope : Scope) × LegScope m p t scope
-  some_leg = by start_kind.0 start_kind.1
+  pub some_scope : (scope : Scope) × LegScope m p t scope
+  some_scope = by start_kind.0 start_kind.1
     where
       by : (kind : TransKind) → Goes m t kind → (scope : Scope) × LegScope m p t scope
       by Internal goes = (Nowhere, scope_of_internal goes)
       by Local goes = (Inside s, scope_of_local goes)
       by External goes =
-          let found = some_leg_scope b shape p route t starts s l state in
+          let found = some_leg_scope b shape p route t starts s l in
           (Within found.0, scope_of_external found.0 goes found.1)
+
+  pub some_leg : HasKind m s kinds.State → (scope : Scope) × LegScope m p t scope
+  some_leg state = some_scope
 
   -- a leg has one scope
   pub one_leg_scope : (x y : Scope) → LegScope m p t x → LegScope m p t y → x ≡ y

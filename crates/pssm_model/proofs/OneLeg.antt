@@ -17,8 +17,8 @@ use Rattle.pssm_model.specs.Legs.SameLeg.{itself, joined}
 use Rattle.pssm_model.specs.Legs.LaterLeg.{next, after}
 use Rattle.pssm_model.specs.Routes.{GoesOnAt, IsRoute, IsReached}
 use Rattle.pssm_model.specs.Routes.IsReached.{start, on}
-use Rattle.pssm_model.specs.WellFormed.Breaks.{E13}
-use Rattle.pssm_model.proofs.ElementLaws.{mapped_at, some_at, kind_unique, leaves_one, enters_one}
+use Rattle.pssm_model.specs.WellFormed.Breaks.{E13, E14}
+use Rattle.pssm_model.proofs.ElementLaws.{mapped_some, mapped_at, some_at, kind_unique, leaves_one, enters_one}
 use Rattle.pssm_model.proofs.RouteLaws.{in_one, is_one, reached_is_on}
 use Rattle.pssm_model.specs.SingleLegs.{HasSingleLegs}
 use Rattle.pssm_model.proofs.RegionChains.{vertex_there}
@@ -41,6 +41,42 @@ module _ (m : DraftMachine) (p : Route) where
   legs_meet : (t u w : TransId) → SameLeg m p t u → SameLeg m p u w → SameLeg m p t w
   legs_meet t u w (itself is) more = more
   legs_meet t u w (joined {u = k} is j rest) more = joined is j (legs_meet k u w rest more)
+
+module _ {m : DraftMachine} (b : HasSingleLegs m) (shape : HasShape m) where
+  -- whether a vertex is a State can be told
+  state_or_not : (v : VertexId) (kind : VertexKind) → HasKind m v kind → HasKind m v kinds.State ⊎ (HasKind m v kinds.State → ⊥)
+  state_or_not v kinds.State k = inl k
+  state_or_not v kinds.Final k = inr (λ s. (let clash = kind_unique m v kinds.Final kinds.State k s in cc))
+  state_or_not v kinds.Initial k = inr (λ s. (let clash = kind_unique m v kinds.Initial kinds.State k s in cc))
+  state_or_not v kinds.DeepHistory k = inr (λ s. (let clash = kind_unique m v kinds.DeepHistory kinds.State k s in cc))
+  state_or_not v kinds.ShallowHistory k = inr (λ s. (let clash = kind_unique m v kinds.ShallowHistory kinds.State k s in cc))
+  state_or_not v kinds.Junction k = inr (λ s. (let clash = kind_unique m v kinds.Junction kinds.State k s in cc))
+  state_or_not v kinds.Fork k = inr (λ s. (let clash = kind_unique m v kinds.Fork kinds.State k s in cc))
+  state_or_not v kinds.Join k = inr (λ s. (let clash = kind_unique m v kinds.Join kinds.State k s in cc))
+  state_or_not v kinds.EntryPoint k = inr (λ s. (let clash = kind_unique m v kinds.EntryPoint kinds.State k s in cc))
+  state_or_not v kinds.ExitPoint k = inr (λ s. (let clash = kind_unique m v kinds.ExitPoint kinds.State k s in cc))
+  state_or_not v kinds.Choice k = inr (λ s. (let clash = kind_unique m v kinds.Choice kinds.State k s in cc))
+  state_or_not v kinds.Terminate k = inr (λ s. (let clash = kind_unique m v kinds.Terminate kinds.State k s in cc))
+
+  leaves_state_or_not : (t : TransId) (v : VertexId) → Leaves m t v → HasKind m v kinds.State ⊎ (HasKind m v kinds.State → ⊥)
+  leaves_state_or_not t v l =
+      let x = mapped_some (λ (y : Transition). y.source) (transition_at m t) v l in
+      let there = vertex_there shape v (subst (λ (y : VertexId). y.0 < length m.vertices) x.2 (shape.ends t x.0 x.1).0) in
+      state_or_not v there.0.kind (mapped_at (λ (y : Vertex). y.kind) (vertex_at m v) there.0 there.1)
+
+  -- an internal or a local transition leaves a State
+  pub internal_leaves_state : (t : TransId) (v : VertexId) → Goes m t Internal → Leaves m t v → HasKind m v kinds.State
+  internal_leaves_state t v goes l =
+      ⊎_elim (λ s. s) (λ other. absurd (b.rules _ 13 (E13 (goes, (v, l, inl other))))) (leaves_state_or_not t v l)
+
+  pub local_leaves_state : (t : TransId) (v : VertexId) → Goes m t Local → Leaves m t v → HasKind m v kinds.State
+  local_leaves_state t v goes l =
+      ⊎_elim
+      (λ s. s)
+      (λ other. absurd (b.rules _ 14 (E14 (goes, inl (λ s. ⊎_elim
+      (λ h. other (subst (λ x. HasKind m x kinds.State) (leaves_one m t s v h.0 l) h.1))
+      (λ h. b.uncut h.0 (inr (inr (inl h.2)))))))))
+      (leaves_state_or_not t v l)
 
 -- the route begins with the transition and goes on over junctions alone
 module _ {m : DraftMachine} (b : HasSingleLegs m) (shape : HasShape m) (p : Route) (route : IsRoute m p) (t : TransId) (starts : p.starts ≡ t ∷ []) where

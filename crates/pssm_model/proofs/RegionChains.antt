@@ -1,16 +1,16 @@
--- Owner chains: what a place lies under can be told, and all that shares a region with a State lies in one topmost region.
+-- Owner chains: what a place lies under can be told, and all that shares a region with a vertex lies in one topmost region.
 use Rattle.std.proofs.Common.{◌≡◌, ◌⊎◌, ◌<◌, ℕ, length, Some, sym, subst, inl, inr, ⊎_elim}
 use Rattle.std.proofs.lemmas.Bool.{cases_eq}
 use Rattle.pssm_model.specs.declared.ids.VertexId.{VertexId}
 use Rattle.pssm_model.specs.declared.ids.RegionId.{RegionId}
 use Rattle.pssm_model.specs.declared.elements.Vertex.{Vertex}
 use Rattle.pssm_model.specs.declared.elements.DraftMachine.{DraftMachine}
-use Rattle.pssm_model.specs.declared.elements.VertexKind.TheVariants as kinds
 use Rattle.pssm_model.specs.declared.elements.Owner.{Owner}
 use Rattle.pssm_model.specs.declared.elements.Owner.TheVariants.{Top, Region, State}
-use Rattle.pssm_model.specs.Forest.{owner_of, vertex_at, HasKind, LiesUnder, LiesInRegion, IsWithin, HasRegionsAbove}
+use Rattle.pssm_model.specs.Forest.{owner_of, vertex_at, LiesUnder, LiesInRegion, IsWithin, HasRegionsAbove}
 use Rattle.pssm_model.specs.Forest.LiesUnder.{owned, further}
 use Rattle.pssm_model.specs.Forest.HasRegionsAbove.{region, state, machine}
+use Rattle.pssm_model.specs.Legs.{IsPoint}
 use Rattle.pssm_model.specs.Shapes.{HasShape, OwnsVertex}
 use Rattle.pssm_model.specs.WellFormed.{ShareRegion}
 use Rattle.pssm_model.proofs.ElementLaws.{mapped_at, some_at, same_region}
@@ -109,11 +109,11 @@ module _ {m : DraftMachine} (shape : HasShape m) where
       let over = shallower m (State v) r above.0 lies above.1 in
       counted_is_place m over.2
 
-  -- a State lies in a region
-  pub some_region : (s : VertexId) (x : Vertex) → vertex_at m s ≡ Some x → HasKind m s kinds.State → (r : RegionId) × LiesInRegion m s r
-  some_region s x e kind = by x.owner (shape.vertices s x e).0 (mapped_at (λ (y : Vertex). y.owner) (vertex_at m s) x e)
+  -- a vertex that is no entry or exit point lies in a region
+  pub some_region : (s : VertexId) (x : Vertex) → vertex_at m s ≡ Some x → (IsPoint m s → ⊥) → (r : RegionId) × LiesInRegion m s r
+  some_region s x e no_point = by x.owner (shape.vertices s x e).0 (mapped_at (λ (y : Vertex). y.owner) (vertex_at m s) x e)
     where
       by : (p : Owner) → OwnsVertex m s p → owner_of m (State s) ≡ Some p → (r : RegionId) × LiesInRegion m s r
       by Top owns e = absurd owns
       by (Region r) owns e = (r, owned e)
-      by (State w) owns e = absurd (⊎_elim (λ entry. cc) (λ exit. cc) owns.0)
+      by (State w) owns e = absurd (no_point owns.0)

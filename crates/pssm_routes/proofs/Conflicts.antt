@@ -76,11 +76,11 @@ module _ {m : DraftMachine} (b : HasSingleLegs m) (shape : HasShape m) where
 
     -- what the kind of its start says of its area
     abbrev IsAreaBy : TransKind → Type 0
-    IsAreaBy kind = IsScopeBy b shape p route.0 footprint.start footprint.from.starts g.source footprint.from.leaves footprint.from.state kind (scope_of g.area)
+    IsAreaBy kind = IsScopeBy b shape p route.0 footprint.start footprint.from.starts g.source footprint.from.leaves kind (scope_of g.area)
 
     area_is : (kind : TransKind) → Goes m footprint.start kind → IsAreaBy kind
     area_is kind goes =
-        scope_by b shape p route.0 footprint.start footprint.from.starts g.source footprint.from.leaves footprint.from.state kind (scope_of g.area) goes footprint.area
+        scope_by b shape p route.0 footprint.start footprint.from.starts g.source footprint.from.leaves kind (scope_of g.area) goes footprint.area
 
     source_is : (x : VertexId) → IsSource m p x → x ≡ g.source
     source_is x h =
@@ -94,7 +94,7 @@ module _ {m : DraftMachine} (b : HasSingleLegs m) (shape : HasShape m) where
     around = by kind.0 (area_is kind.0 kind.1)
       where
         kind : (kind : TransKind) × Goes m footprint.start kind
-        kind = start_kind b shape p route.0 footprint.start footprint.from.starts g.source footprint.from.leaves footprint.from.state
+        kind = start_kind b shape p route.0 footprint.start footprint.from.starts g.source footprint.from.leaves
 
         by : (kind : TransKind) → IsAreaBy kind → IsAround m g.source (scope_of g.area)
         by Internal h = subst (IsAround m g.source) (sym h) tt
@@ -105,11 +105,11 @@ module _ {m : DraftMachine} (b : HasSingleLegs m) (shape : HasShape m) where
 
     exits_in : (Active : VertexId → Type 0) (x : VertexId) → Exits m Active p x → LiesInScope m x (scope_of g.area)
     exits_in Active x h =
-        (exits_is b shape p route.0 footprint.start footprint.from.starts g.source footprint.from.leaves footprint.from.state Active (scope_of g.area) x footprint.area h).1
+        (exits_is b shape p route.0 footprint.start footprint.from.starts g.source footprint.from.leaves Active (scope_of g.area) x footprint.area h).1
 
     exits_what : (Active : VertexId → Type 0) (x : VertexId) → Active x → LiesInScope m x (scope_of g.area) → Exits m Active p x
     exits_what Active x is lies =
-        exits_of b shape p route.0 footprint.start footprint.from.starts g.source footprint.from.leaves footprint.from.state Active (scope_of g.area) x footprint.area is lies
+        exits_of b shape p route.0 footprint.start footprint.from.starts g.source footprint.from.leaves Active (scope_of g.area) x footprint.area is lies
 
   pub one_footprint : (p : Route) (a c : Footprint) → IsStateRoute m p → IsFootprintOf m p a → IsFootprintOf m p c → a ≡ c
   one_footprint p a c route first second =
@@ -118,7 +118,7 @@ module _ {m : DraftMachine} (b : HasSingleLegs m) (shape : HasShape m) where
       leaves_one m first.start a.source c.source first.from.leaves (subst (λ u. Leaves m u c.source) start second.from.leaves) in
       let leg : LegScope m p first.start (scope_of c.area) = subst (λ u. LegScope m p u (scope_of c.area)) start second.area in
       same_footprint a c source (same_area a.area c.area
-      (one_leg_scope b shape p route.0 first.start first.from.starts a.source first.from.leaves first.from.state
+      (one_leg_scope b shape p route.0 first.start first.from.starts a.source first.from.leaves
       (scope_of a.area) (scope_of c.area) first.area leg))
 
   -- the kind of the start says which area the route has

@@ -10,17 +10,17 @@ pub returns-in-Internal-clause-area : goal.returns-in-Internal-clause-area
 returns-in-Internal-clause-area c =
     let from = c.requires.from in
     let goes : Goes c.args.machine.now c.args.start Internal = mapped_at (λ (x : Transition). x.kind) _ _ c.transition.ensures ∙ ap Some c.in-Internal.is in
-    scope_of_internal c.requires.legs c.regions-shaped.ensures.shaped _ c.requires.route _ from.starts _ from.leaves from.state goes
+    scope_of_internal c.requires.legs c.regions-shaped.ensures.shaped _ c.requires.route _ from.starts _ from.leaves goes
 
 pub returns-in-Local-clause-area : goal.returns-in-Local-clause-area
 returns-in-Local-clause-area c =
     let from = c.requires.from in
     let goes : Goes c.args.machine.now c.args.start Local = mapped_at (λ (x : Transition). x.kind) _ _ c.transition.ensures ∙ ap Some c.in-Local.is in
-    scope_of_local c.requires.legs c.regions-shaped.ensures.shaped _ c.requires.route _ from.starts _ from.leaves from.state goes
+    scope_of_local c.requires.legs c.regions-shaped.ensures.shaped _ c.requires.route _ from.starts _ from.leaves goes
 
 pub returns-in-External-clause-area : goal.returns-in-External-clause-area
 returns-in-External-clause-area c =
     let from = c.requires.from in
     let goes : Goes c.args.machine.now c.args.start External = mapped_at (λ (x : Transition). x.kind) _ _ c.transition.ensures ∙ ap Some c.in-External.is in
-    scope_of_external c.requires.legs c.regions-shaped.ensures.shaped _ c.requires.route _ from.starts _ from.leaves from.state
+    scope_of_external c.requires.legs c.regions-shaped.ensures.shaped _ c.requires.route _ from.starts _ from.leaves
     c.common_region.result goes c.common_region.ensures.scope
