@@ -1,5 +1,5 @@
 -- A settled roster of what a step calls is its plan; the plans of a start, of routes that fire, and of one more item that runs.
-use Rattle.std.proofs.Common.{◌≡◌, ◌⊎◌, ◌↔◌, ◌<◌, ◌++◌, ℕ, List, [], ◌∷◌, length, get_or, Contains, IsTrue, Some, refl, sym, ap, subst, inl, inr, ⊎_elim, arith, ◌∙◌}
+use Rattle.std.proofs.Common.{◌≡◌, ◌⊎◌, ◌↔◌, ◌<◌, ◌++◌, ℕ, List, [], ◌∷◌, length, get_or, Contains, IsTrue, refl, sym, ap, subst, inl, inr, ⊎_elim, arith, ◌∙◌}
 use Rattle.std.proofs.lemmas.Bool.{false≢true}
 use Rattle.std.proofs.lemmas.Option.{slice_get_within}
 use Rattle.std.proofs.lemmas.List.{get_or_default}
@@ -7,7 +7,6 @@ use Rattle.std.proofs.lemmas.List.Elements.{Contains-get_or}
 use Rattle.pssm_model.specs.declared.ids.VertexId.{VertexId}
 use Rattle.pssm_model.specs.declared.ids.RegionId.{RegionId}
 use Rattle.pssm_model.specs.declared.elements.DraftMachine.{DraftMachine}
-use Rattle.pssm_model.specs.declared.elements.Owner.TheVariants.{Top, Region}
 use Rattle.pssm_model.specs.declared.elements.Vertex.{Vertex}
 use Rattle.pssm_model.specs.declared.elements.VertexKind.{VertexKind}
 use Rattle.pssm_model.specs.declared.elements.VertexKind.TheVariants as kinds
@@ -18,11 +17,10 @@ use Rattle.pssm_model.specs.declared.steps.How.{How}
 use Rattle.pssm_model.specs.declared.steps.How.TheVariants.{By, Restore, Nothing}
 use Rattle.pssm_model.specs.declared.steps.Item.{Item}
 use Rattle.pssm_model.specs.declared.steps.Item.TheVariants as items
-use Rattle.pssm_model.specs.Forest.{owner_of, HasKind, vertex_at}
+use Rattle.pssm_model.specs.Forest.{HasKind, vertex_at}
 use Rattle.pssm_model.specs.Shapes.{HasShape}
-use Rattle.pssm_model.specs.Configuration.{Configuration}
-use Rattle.pssm_model.specs.Routes.{Truth, IsRoute, IsStateRoute}
-use Rattle.pssm_model.specs.Course.{Head, Course, FiresBy, HasGoneBy, HasRun, HasRestored}
+use Rattle.pssm_model.specs.Routes.{Truth, IsStateRoute}
+use Rattle.pssm_model.specs.Course.{Head, Course, FiresBy, HasRun}
 use Rattle.pssm_model.specs.Course.Head.{Starts, Fires}
 use Rattle.pssm_model.specs.Items.{StartOpens, Called, Before}
 use Rattle.pssm_model.specs.Items.Called.{start}
@@ -177,7 +175,7 @@ made_plan {m} head tables ways Added calls fires are same made =
 module _ (m : DraftMachine) (shape : HasShape m) (plan : Agenda) (h : IsPlanOf m plan) where
   pub plan_roster : IsRoster m plan.calls
   plan_roster = record {
-    items = λ x listed. called_there (course_of plan) plan.ways plan.restored h.ways shape x ((h.called x).0 listed);
+    items = λ x listed. called_there (course_of plan) plan.ways plan.restored h.ways shape h.step x ((h.called x).0 listed);
     once = h.once;
   }
 
