@@ -86,8 +86,11 @@ module _ (course : Course) (item : Item) (how : How) where
         (Contains-push_cases course.ran (item, how) (items.Opened h.0 mode, Restore s) h.1),
     λ h. ⊎_elim
         (λ was. (was.0, ran_kept course item how (items.Opened was.0 mode, Restore s) was.1))
-        (λ now. (now.0, subst (λ (y : Item). Contains (gone_on course item how).ran (y, Restore s)) now.1
-        (subst (λ (z : How). Contains (gone_on course item how).ran (item, z)) now.2 (ran_now course item how))))
+        (λ now. (
+          now.0,
+          subst (λ (y : Item). Contains (gone_on course item how).ran (y, Restore s)) now.1
+              (subst (λ (z : How). Contains (gone_on course item how).ran (item, z)) now.2 (ran_now course item how)),
+        ))
         h,
   )
 
@@ -105,9 +108,9 @@ module _ (course : Course) (item : Item) (how : How) where
   entry_kept m s (items.Opened r mode) h = (
     h.0,
     ⊎_elim
-    (λ by. inl (by.0, leg_kept by.0 by.1, by.2, by.3, by.4))
-    (λ was. inr (was.0, (restores_more was.0 s).1 (inl was.1), was.2))
-    h.1,
+        (λ by. inl (by.0, leg_kept by.0 by.1, by.2, by.3, by.4))
+        (λ was. inr (was.0, (restores_more was.0 s).1 (inl was.1), was.2))
+        h.1,
   )
 
   -- what it called it still calls
@@ -296,7 +299,7 @@ module _ {m : DraftMachine} (course : Course) (ways : List Way) (states : List R
               again.0,
               (run_more course item (By p) (items.Enter again.0)).1 (inl ((marks again.0).0 again.4)),
               (entry_opens next (ways ++ way ∷ []) states now again.0 x).1
-              (inl (again.1, again.2, again.3, (some_more (λ (w : Way). opens_by m w again.0 again.1) ways way).1 (inr again.5))),
+                  (inl (again.1, again.2, again.3, (some_more (λ (w : Way). opens_by m w again.0 again.1) ways way).1 (inr again.5))),
             )))))
             h
 
