@@ -29,3 +29,5 @@ pub mod SteadyChanges
 pub mod Steadiness
 pub mod SteadyRules
 pub mod WayLaws
+pub mod CalledNext
+pub mod Settled
