@@ -1,5 +1,6 @@
 //! How far a step has come: the items that it calls, the routes by which it goes, and what it has restored.
-ghost use Rattle.std.specs.Prelude.{◌^◌, ◌≡◌, ◌<◌, [], length, take, Contains, OnOk, OnErr, IfOk, IsTrue};
+ghost use Rattle.std.specs.Prelude.{◌^◌, ◌≡◌, ◌≢◌, ◌<◌, [], length, take, AllPairs, Contains};
+ghost use Rattle.std.specs.Prelude.{OnOk, OnErr, IfOk, IsTrue};
 ghost use Rattle.pssm_model.specs.declared.steps.Route.{Route as TheRoute};
 ghost use Rattle.pssm_model.specs.Routes.{IsRoute};
 ghost use Rattle.pssm_model.specs.SingleLegs.{HasSingleLegs};
@@ -8,7 +9,7 @@ ghost use Rattle.pssm_legs.specs.Calls.{IsItemIn};
 ghost use Rattle.pssm_plan.specs.declared.roster.Call.{Call};
 ghost use Rattle.pssm_plan.specs.Waiting.{IsExact};
 ghost use Rattle.pssm_plan.specs.Ways.{AreWaysIn};
-ghost use Rattle.pssm_plan.specs.inner.Marks.{IsFresh, HasSeen, IsSettled, ArePairwise};
+ghost use Rattle.pssm_plan.specs.inner.Marks.{IsFresh, HasSeen, IsNoted, IsSettled, ArePairwise};
 ghost use Rattle.pssm_plan.specs.inner.Sequence.{IsSequence, AreItemsOf, IsRoster, IsExtended};
 ghost use Rattle.pssm_plan.specs.inner.Calling.{IsTopOpening, IsOfWays};
 ghost use Rattle.pssm_plan.specs.inner.Going.{IsMadeOf, AreFired, CanRunSo, KeepsOrder, IsLongerProgress};
@@ -257,6 +258,38 @@ impl Progress {
         Ok(false)
     }
 
+    // Lists what an item calls that runs in this way, all of it or nothing. It is true where none may rely on what it has
+    // seen.
+    fn follow_whole(
+        &mut self,
+        alloc: Global,
+        machine: &Machine,
+        item: Item,
+        how: &How,
+    ) -> Result<bool, NoMemory>
+        requires single { HasSingleLegs machine.now }
+        requires roster { IsRoster machine.now self.old.roster.calls.items }
+        requires ways { AreWaysIn machine.now self.old.ways.items }
+        requires item { IsItemIn machine.now item }
+        requires way { CanRunSo machine.now item how.now }
+        ensures followed { OnOk result (IsFollowedSo machine.now self.old item how.now self.new) }
+        ensures kept { IfOk result (λ anew. (IsTrue anew → ⊥)
+            → KeepsOrder machine.now self.old.roster.calls.items self.old.ways.items self.new.ways.items) }
+        ensures longer { OnOk result (IsLongerProgress self.old self.new) }
+        ensures few { OnOk result (length self.new.roster.calls.items < 2 ^ 32) }
+        ensures refused { OnErr result (IsUnchanged self.old self.new) }
+    {
+        let calls = self.roster.calls.len();
+        let ways = self.ways.len();
+        let restored = self.restored.len();
+        let outcome = self.follow(alloc, machine, item, how);
+        if outcome.is_ok() && self.roster.calls.as_slice().len() <= MOST_CALLS {
+            return outcome;
+        }
+        self.undo(calls, ways, restored);
+        Err(NoMemory)
+    }
+
     /// Notes that a listed item runs in this way, and lists what it calls, all of it or nothing. The item is looked for
     /// from the hint on first.
     pub fn run(
@@ -278,20 +311,43 @@ impl Progress {
         ensures few { OnOk result (length self.new.roster.calls.items < 2 ^ 32) }
         ensures refused { OnErr result (IsUnchanged self.old self.new) }
     {
-        let calls = self.roster.calls.len();
-        let ways = self.ways.len();
-        let restored = self.restored.len();
-        let outcome = self.follow(alloc, machine, item, how);
-        match outcome {
-            Ok(anew) if self.roster.calls.len() <= MOST_CALLS => {
-                finish(&mut self.roster, machine, self.ways.as_slice(), item, hint, anew);
-                Ok(())
-            }
-            Ok(_) | Err(_) => {
-                self.undo(calls, ways, restored);
-                Err(NoMemory)
-            }
-        }
+        let anew = self.follow_whole(alloc, machine, item, how)?;
+        finish(&mut self.roster, machine, self.ways.as_slice(), item, hint, anew);
+        Ok(())
+    }
+}
+
+// Notes that an item has run, and has each call forget what it has seen.
+#[tactic(auto, using(crate::proofs::Following::forgotten_noted, crate::proofs::Following::forgotten_fresh))]
+fn note_anew(roster: &mut Roster, item: Item, hint: usize)
+    requires once { AllPairs (λ a b. a.item ≢ b.item) roster.old.calls.items }
+    ensures noted { ArePairwise (IsNoted item) roster.old.calls.items roster.new.calls.items }
+    ensures fresh { (call : Call) → Contains roster.new.calls.items call → IsFresh call }
+{
+    roster.tell(item, hint);
+    roster.forget();
+}
+
+// Notes that an item has run; `anew` where none may rely on what it has seen.
+fn note(
+    roster: &mut Roster,
+    machine: &Machine,
+    ways: &[Way],
+    item: Item,
+    hint: usize,
+    anew: bool,
+)
+    requires roster { IsRoster machine.now roster.old.calls.items }
+    requires seen { (IsTrue anew → ⊥) → (call : Call) → Contains roster.old.calls.items call
+        → HasSeen (IsSequence machine.now ways.now) roster.old.calls.items call }
+    ensures noted { ArePairwise (IsNoted item) roster.old.calls.items roster.new.calls.items }
+    ensures seen { (call : Call) → Contains roster.new.calls.items call
+        → HasSeen (IsSequence machine.now ways.now) roster.new.calls.items call }
+{
+    if anew {
+        note_anew(roster, item, hint);
+    } else {
+        roster.tell(item, hint);
     }
 }
 
@@ -313,9 +369,6 @@ fn finish(
         → HasSeen (IsSequence machine.now ways.now) roster.old.calls.items call }
     ensures { IsFinished machine.now ways.now item roster.old.calls.items roster.new.calls.items }
 {
-    roster.tell(item, hint);
-    if anew {
-        roster.forget();
-    }
+    note(roster, machine, ways, item, hint, anew);
     roster.settle(machine, ways);
 }
