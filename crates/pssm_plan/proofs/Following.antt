@@ -1,6 +1,6 @@
 -- The progress of a step as an item runs: what is listed is a roster, and what each call has seen.
-use Rattle.std.proofs.Common.{◌≡◌, ◌⊎◌, ◌<◌, ◌≤◌, ◌++◌, ℕ, Bool, List, [], ◌∷◌, length, get_or, Contains, IsTrue, arith, inl, inr, refl, sym, subst, ap, ⊎_elim, ◌∙◌}
-use Rattle.std.proofs.lemmas.List.{get_or_append_left}
+use Rattle.std.proofs.Common.{◌≡◌, ◌⊎◌, ◌<◌, ◌≤◌, ◌++◌, ℕ, Bool, List, [], ◌∷◌, length, get_or, take, Contains, IsTrue, arith, inl, inr, refl, sym, subst, ap, ⊎_elim, ◌∙◌}
+use Rattle.std.proofs.lemmas.List.{get_or_append_left, take_at}
 use Rattle.std.proofs.lemmas.List.Elements.{Contains-push_cases, Contains-append_left, Contains-get_or}
 use Rattle.pssm_model.specs.declared.ids.TransId.{TransId}
 use Rattle.pssm_model.specs.declared.elements.DraftMachine.{DraftMachine}
@@ -149,3 +149,7 @@ all_seen_told Comes grown now item told seen call inside =
 pub noted_items : (m : DraftMachine) (item : Item) (a b : List Call) → ArePairwise (IsNoted item) a b → AreItemsOf m a → AreItemsOf m b
 noted_items m item a b h were x listed =
     were x (listed_along b a x (sym h.0) (λ k d lt. sym (h.1 k d (omega (arith, h.0, lt))).item_is) listed)
+
+-- a list that is cut back to its length before it grew
+pub cut_back : {X : Type 0} (old new : List X) (n : ℕ) → IsLonger old new → n ≡ length old → take n new ≡ old
+cut_back {X} old new n longer same = ap (λ (l : List X). take n l) longer.1 ∙ take_at old longer.0 n (sym same)

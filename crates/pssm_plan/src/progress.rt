@@ -62,6 +62,7 @@ fn list_all_fired(
 }
 
 // Puts the ways of routes that fire into a list that is empty.
+#[tactic(auto, using(crate::proofs::Firing::fired_none))]
 fn add_ways(
     alloc: Global,
     ways: &mut Vec<Way>,
@@ -71,7 +72,7 @@ fn add_ways(
     requires single { HasSingleLegs machine.now }
     requires routes { (p : TheRoute) → Contains routes.now p → IsRoute machine.now p }
     requires none { ways.old.items ≡ [] }
-    ensures { OnOk result (AreFired machine.now routes.now ways.new.items) }
+    ensures fired { OnOk result (AreFired machine.now routes.now ways.new.items) }
 {
     for route in routes {
         let way = way_of(alloc, machine, route, true)?;
@@ -112,6 +113,7 @@ impl Progress {
     }
 
     /// The progress of a start.
+    #[tactic(auto, using(crate::proofs::Firing::none_are_ways))]
     pub fn of_start(alloc: Global, machine: &Machine) -> Result<Progress, NoMemory>
         requires single { HasSingleLegs machine.now }
         ensures few { IfOk result (λ progress. length progress.roster.calls.items < 2 ^ 32) }
@@ -184,6 +186,7 @@ impl Progress {
 
     // Goes by a late route, and lists what this calls. It is true where the route calls something that was listed
     // already, so that none may rely on what it has seen.
+    #[tactic(auto, using(crate::proofs::Growing::longer_same, crate::proofs::Following::order_kept))]
     fn follow_route(
         &mut self,
         alloc: Global,
@@ -206,6 +209,7 @@ impl Progress {
     }
 
     // Restores a State, and lists what this calls.
+    #[tactic(auto, using(crate::proofs::Growing::longer_same))]
     fn follow_restore(&mut self, machine: &Machine, mode: Mode, s: VertexId) -> Result<(), NoMemory>
         requires roster { IsRoster machine.now self.old.roster.calls.items }
         requires state { s.0 < length machine.now.vertices }
@@ -218,6 +222,7 @@ impl Progress {
     }
 
     // Lists what an item calls that runs without a way.
+    #[tactic(auto, using(crate::proofs::Growing::longer_same))]
     fn follow_plainly(&mut self, machine: &Machine, item: Item) -> Result<(), NoMemory>
         requires single { HasSingleLegs machine.now }
         requires roster { IsRoster machine.now self.old.roster.calls.items }
@@ -232,6 +237,7 @@ impl Progress {
     }
 
     // Lists what an item calls that runs in this way. It is true where none may rely on what it has seen.
+    #[tactic(auto, using(crate::proofs::Following::order_same, crate::proofs::Growing::longer_same))]
     fn follow(
         &mut self,
         alloc: Global,
@@ -260,6 +266,7 @@ impl Progress {
 
     // Lists what an item calls that runs in this way, all of it or nothing. It is true where none may rely on what it has
     // seen.
+    #[tactic(auto, using(crate::proofs::Following::cut_back))]
     fn follow_whole(
         &mut self,
         alloc: Global,
@@ -292,6 +299,7 @@ impl Progress {
 
     /// Notes that a listed item runs in this way, and lists what it calls, all of it or nothing. The item is looked for
     /// from the hint on first.
+    #[tactic(auto, using(crate::proofs::Following::followed_roster, crate::proofs::Following::followed_ways, crate::proofs::Following::followed_fresh, crate::proofs::Following::all_seen_over_ways))]
     pub fn run(
         &mut self,
         alloc: Global,
@@ -329,6 +337,7 @@ fn note_anew(roster: &mut Roster, item: Item, hint: usize)
 }
 
 // Notes that an item has run; `anew` where none may rely on what it has seen.
+#[tactic(auto, using(crate::proofs::Following::told_noted, crate::proofs::Following::all_seen_told))]
 fn note(
     roster: &mut Roster,
     machine: &Machine,
@@ -353,6 +362,7 @@ fn note(
 
 // Notes that an item has run, and says of each call once more for which one it waits; `anew` where none may rely on what
 // it has seen.
+#[tactic(auto, using(crate::proofs::Following::noted_items))]
 fn finish(
     roster: &mut Roster,
     machine: &Machine,
