@@ -337,7 +337,7 @@ fn note_anew(roster: &mut Roster, item: Item, hint: usize)
 }
 
 // Notes that an item has run; `anew` where none may rely on what it has seen.
-#[tactic(auto, using(crate::proofs::Following::told_noted, crate::proofs::Following::all_seen_told))]
+#[tactic(auto, using(crate::proofs::Following::told_noted))]
 fn note(
     roster: &mut Roster,
     machine: &Machine,
