@@ -3,6 +3,8 @@ pub mod Extending
 pub mod Growing
 pub mod Rewriting
 pub mod Settling
+pub mod Firing
+pub mod Following
 pub mod Telling
 pub mod StandingItems
 pub mod ReadyCalls

@@ -1,5 +1,6 @@
 //! How far a step has come: the items that it calls, the routes by which it goes, and what it has restored.
-ghost use Rattle.std.specs.Prelude.{◌^◌, ◌≡◌, ◌<◌, [], length, take, Contains, OnOk, OnErr, IfOk, IsTrue};
+ghost use Rattle.std.specs.Prelude.{◌^◌, ◌≡◌, ◌≢◌, ◌<◌, [], length, take, AllPairs, Contains};
+ghost use Rattle.std.specs.Prelude.{OnOk, OnErr, IfOk, IsTrue};
 ghost use Rattle.pssm_model.specs.declared.steps.Route.{Route as TheRoute};
 ghost use Rattle.pssm_model.specs.Routes.{IsRoute};
 ghost use Rattle.pssm_model.specs.SingleLegs.{HasSingleLegs};
@@ -8,7 +9,7 @@ ghost use Rattle.pssm_legs.specs.Calls.{IsItemIn};
 ghost use Rattle.pssm_plan.specs.declared.roster.Call.{Call};
 ghost use Rattle.pssm_plan.specs.Waiting.{IsExact};
 ghost use Rattle.pssm_plan.specs.Ways.{AreWaysIn};
-ghost use Rattle.pssm_plan.specs.inner.Marks.{IsFresh, HasSeen, IsSettled, ArePairwise};
+ghost use Rattle.pssm_plan.specs.inner.Marks.{IsFresh, HasSeen, IsNoted, IsSettled, ArePairwise};
 ghost use Rattle.pssm_plan.specs.inner.Sequence.{IsSequence, AreItemsOf, IsRoster, IsExtended};
 ghost use Rattle.pssm_plan.specs.inner.Calling.{IsTopOpening, IsOfWays};
 ghost use Rattle.pssm_plan.specs.inner.Going.{IsMadeOf, AreFired, CanRunSo, KeepsOrder, IsLongerProgress};
@@ -61,6 +62,7 @@ fn list_all_fired(
 }
 
 // Puts the ways of routes that fire into a list that is empty.
+#[tactic(auto, using(crate::proofs::Firing::fired_none))]
 fn add_ways(
     alloc: Global,
     ways: &mut Vec<Way>,
@@ -70,7 +72,7 @@ fn add_ways(
     requires single { HasSingleLegs machine.now }
     requires routes { (p : TheRoute) → Contains routes.now p → IsRoute machine.now p }
     requires none { ways.old.items ≡ [] }
-    ensures { OnOk result (AreFired machine.now routes.now ways.new.items) }
+    ensures fired { OnOk result (AreFired machine.now routes.now ways.new.items) }
 {
     for route in routes {
         let way = way_of(alloc, machine, route, true)?;
@@ -111,6 +113,7 @@ impl Progress {
     }
 
     /// The progress of a start.
+    #[tactic(auto, using(crate::proofs::Firing::none_are_ways))]
     pub fn of_start(alloc: Global, machine: &Machine) -> Result<Progress, NoMemory>
         requires single { HasSingleLegs machine.now }
         ensures few { IfOk result (λ progress. length progress.roster.calls.items < 2 ^ 32) }
@@ -183,6 +186,7 @@ impl Progress {
 
     // Goes by a late route, and lists what this calls. It is true where the route calls something that was listed
     // already, so that none may rely on what it has seen.
+    #[tactic(auto, using(crate::proofs::Growing::longer_same, crate::proofs::Following::order_kept))]
     fn follow_route(
         &mut self,
         alloc: Global,
@@ -205,6 +209,7 @@ impl Progress {
     }
 
     // Restores a State, and lists what this calls.
+    #[tactic(auto, using(crate::proofs::Growing::longer_same))]
     fn follow_restore(&mut self, machine: &Machine, mode: Mode, s: VertexId) -> Result<(), NoMemory>
         requires roster { IsRoster machine.now self.old.roster.calls.items }
         requires state { s.0 < length machine.now.vertices }
@@ -217,6 +222,7 @@ impl Progress {
     }
 
     // Lists what an item calls that runs without a way.
+    #[tactic(auto, using(crate::proofs::Growing::longer_same))]
     fn follow_plainly(&mut self, machine: &Machine, item: Item) -> Result<(), NoMemory>
         requires single { HasSingleLegs machine.now }
         requires roster { IsRoster machine.now self.old.roster.calls.items }
@@ -231,6 +237,7 @@ impl Progress {
     }
 
     // Lists what an item calls that runs in this way. It is true where none may rely on what it has seen.
+    #[tactic(auto, using(crate::proofs::Following::order_same, crate::proofs::Growing::longer_same))]
     fn follow(
         &mut self,
         alloc: Global,
@@ -257,8 +264,42 @@ impl Progress {
         Ok(false)
     }
 
+    // Lists what an item calls that runs in this way, all of it or nothing. It is true where none may rely on what it has
+    // seen.
+    #[tactic(auto, using(crate::proofs::Following::cut_back))]
+    fn follow_whole(
+        &mut self,
+        alloc: Global,
+        machine: &Machine,
+        item: Item,
+        how: &How,
+    ) -> Result<bool, NoMemory>
+        requires single { HasSingleLegs machine.now }
+        requires roster { IsRoster machine.now self.old.roster.calls.items }
+        requires ways { AreWaysIn machine.now self.old.ways.items }
+        requires item { IsItemIn machine.now item }
+        requires way { CanRunSo machine.now item how.now }
+        ensures followed { OnOk result (IsFollowedSo machine.now self.old item how.now self.new) }
+        ensures kept { IfOk result (λ anew. (IsTrue anew → ⊥)
+            → KeepsOrder machine.now self.old.roster.calls.items self.old.ways.items self.new.ways.items) }
+        ensures longer { OnOk result (IsLongerProgress self.old self.new) }
+        ensures few { OnOk result (length self.new.roster.calls.items < 2 ^ 32) }
+        ensures refused { OnErr result (IsUnchanged self.old self.new) }
+    {
+        let calls = self.roster.calls.len();
+        let ways = self.ways.len();
+        let restored = self.restored.len();
+        let outcome = self.follow(alloc, machine, item, how);
+        if outcome.is_ok() && self.roster.calls.as_slice().len() <= MOST_CALLS {
+            return outcome;
+        }
+        self.undo(calls, ways, restored);
+        Err(NoMemory)
+    }
+
     /// Notes that a listed item runs in this way, and lists what it calls, all of it or nothing. The item is looked for
     /// from the hint on first.
+    #[tactic(auto, using(crate::proofs::Following::followed_roster, crate::proofs::Following::followed_ways, crate::proofs::Following::followed_fresh, crate::proofs::Following::all_seen_over_ways))]
     pub fn run(
         &mut self,
         alloc: Global,
@@ -278,25 +319,50 @@ impl Progress {
         ensures few { OnOk result (length self.new.roster.calls.items < 2 ^ 32) }
         ensures refused { OnErr result (IsUnchanged self.old self.new) }
     {
-        let calls = self.roster.calls.len();
-        let ways = self.ways.len();
-        let restored = self.restored.len();
-        let outcome = self.follow(alloc, machine, item, how);
-        match outcome {
-            Ok(anew) if self.roster.calls.len() <= MOST_CALLS => {
-                finish(&mut self.roster, machine, self.ways.as_slice(), item, hint, anew);
-                Ok(())
-            }
-            Ok(_) | Err(_) => {
-                self.undo(calls, ways, restored);
-                Err(NoMemory)
-            }
-        }
+        let anew = self.follow_whole(alloc, machine, item, how)?;
+        finish(&mut self.roster, machine, self.ways.as_slice(), item, hint, anew);
+        Ok(())
+    }
+}
+
+// Notes that an item has run, and has each call forget what it has seen.
+#[tactic(auto, using(crate::proofs::Following::forgotten_noted, crate::proofs::Following::forgotten_fresh))]
+fn note_anew(roster: &mut Roster, item: Item, hint: usize)
+    requires once { AllPairs (λ a b. a.item ≢ b.item) roster.old.calls.items }
+    ensures noted { ArePairwise (IsNoted item) roster.old.calls.items roster.new.calls.items }
+    ensures fresh { (call : Call) → Contains roster.new.calls.items call → IsFresh call }
+{
+    roster.tell(item, hint);
+    roster.forget();
+}
+
+// Notes that an item has run; `anew` where none may rely on what it has seen.
+#[tactic(auto, using(crate::proofs::Following::told_noted))]
+fn note(
+    roster: &mut Roster,
+    machine: &Machine,
+    ways: &[Way],
+    item: Item,
+    hint: usize,
+    anew: bool,
+)
+    requires roster { IsRoster machine.now roster.old.calls.items }
+    requires seen { (IsTrue anew → ⊥) → (call : Call) → Contains roster.old.calls.items call
+        → HasSeen (IsSequence machine.now ways.now) roster.old.calls.items call }
+    ensures noted { ArePairwise (IsNoted item) roster.old.calls.items roster.new.calls.items }
+    ensures seen { (call : Call) → Contains roster.new.calls.items call
+        → HasSeen (IsSequence machine.now ways.now) roster.new.calls.items call }
+{
+    if anew {
+        note_anew(roster, item, hint);
+    } else {
+        roster.tell(item, hint);
     }
 }
 
 // Notes that an item has run, and says of each call once more for which one it waits; `anew` where none may rely on what
 // it has seen.
+#[tactic(auto, using(crate::proofs::Following::noted_items))]
 fn finish(
     roster: &mut Roster,
     machine: &Machine,
@@ -313,9 +379,6 @@ fn finish(
         → HasSeen (IsSequence machine.now ways.now) roster.old.calls.items call }
     ensures { IsFinished machine.now ways.now item roster.old.calls.items roster.new.calls.items }
 {
-    roster.tell(item, hint);
-    if anew {
-        roster.forget();
-    }
+    note(roster, machine, ways, item, hint, anew);
     roster.settle(machine, ways);
 }

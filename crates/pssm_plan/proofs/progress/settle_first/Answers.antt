@@ -3,4 +3,5 @@ use Rattle.pssm_plan.proofs.Settling.{seen_fresh}
 use Rattle.pssm_plan.proofs.progress.settle_first.Goals as goal
 
 pub settle-requires-clause-seen : goal.settle-requires-clause-seen
-settle-requires-clause-seen c = λ call inside. seen_fresh (IsSequence c.args.machine.now) c.args.self.now.calls.items call (c.requires.fresh call inside)
+settle-requires-clause-seen c =
+    λ call inside. seen_fresh (IsSequence c.args.machine.now c.args.ways.now) c.args.roster.now.calls.items call (c.requires.fresh call inside)

@@ -1,0 +1,155 @@
+-- The progress of a step as an item runs: what is listed is a roster, and what each call has seen.
+use Rattle.std.proofs.Common.{◌≡◌, ◌⊎◌, ◌<◌, ◌≤◌, ◌++◌, ℕ, Bool, List, [], ◌∷◌, length, get_or, take, Contains, IsTrue, arith, inl, inr, refl, sym, subst, ap, ⊎_elim, ◌∙◌}
+use Rattle.std.proofs.lemmas.List.{get_or_append_left, take_at}
+use Rattle.std.proofs.lemmas.List.Elements.{Contains-push_cases, Contains-append_left, Contains-get_or}
+use Rattle.pssm_model.specs.declared.ids.TransId.{TransId}
+use Rattle.pssm_model.specs.declared.elements.DraftMachine.{DraftMachine}
+use Rattle.pssm_model.specs.declared.steps.Route.{Route}
+use Rattle.pssm_model.specs.declared.steps.How.{How}
+use Rattle.pssm_model.specs.declared.steps.How.TheVariants.{By, Restore, Nothing}
+use Rattle.pssm_model.specs.declared.steps.Item.{Item}
+use Rattle.pssm_model.specs.Legs.{On}
+use Rattle.pssm_legs.specs.Calls.{IsCalledInLeg, IsOrderedInLeg}
+use Rattle.pssm_legs.specs.Calls.IsOrderedInLeg.{exit_effect, path, effect_enter, effect_end, enter_end, later}
+use Rattle.pssm_plan.specs.declared.ways.Way.{Way}
+use Rattle.pssm_plan.specs.declared.roster.Call.{Call}
+use Rattle.pssm_plan.specs.declared.progress.Progress.{Progress}
+use Rattle.pssm_plan.specs.Waiting.{IsExact}
+use Rattle.pssm_plan.specs.Ways.{AreWaysIn, calls_by, orders_by}
+use Rattle.pssm_plan.specs.inner.Marks.{IsListed, IsLonger, IsFresh, IsTold, IsForgotten, IsNoted, HasSeen, ArePairwise}
+use Rattle.pssm_plan.specs.inner.Sequence.{IsSequence, AreItemsOf, IsRoster}
+use Rattle.pssm_plan.specs.inner.Going.{KeepsOrder, IsFollowedSo}
+use Rattle.pssm_plan.proofs.Firing.{one_more_way}
+use Rattle.pssm_plan.proofs.Rewriting.{listed_along}
+use Rattle.pssm_plan.proofs.Settling.{seen_fresh, seen_within, seen_longer, seen_told}
+
+-- a leg calls what it orders before something
+ordered_called : (m : DraftMachine) (fires : Bool) (p : Route) (t : TransId) (x y : Item) → IsOrderedInLeg m fires p t x y → IsCalledInLeg m fires p t x
+ordered_called m fires p t x y (exit_effect is then first second) = first
+ordered_called m fires p t _ _ (path same before) = same
+ordered_called m fires p t x y (effect_enter is then first second) = first
+ordered_called m fires p t x y (effect_end is first last) = first
+ordered_called m fires p t x y (enter_end is first last) = first
+ordered_called m fires p t x y (later next further first second) = first
+
+pub way_calls_first : (m : DraftMachine) (way : Way) (x y : Item) → orders_by m way x y → calls_by m way x
+way_calls_first m way x y h = (h.0, h.1, inl (ordered_called m way.fires way.route.value h.0 x y h.2))
+
+-- a way that calls no listed item orders none of them
+pub order_kept : (m : DraftMachine) (calls : List Call) (ways : List Way) (way : Way) → ((x : Item) × IsListed calls x × calls_by m way x → ⊥)
+    → KeepsOrder m calls ways (ways ++ way ∷ [])
+order_kept m calls ways way none x y first second h =
+    ⊎_elim
+    (λ nested. inl nested)
+    (λ ordered. ⊎_elim
+    (λ was. inr (ordered.0, was, ordered.2))
+    (λ this. absurd (none (x, first, way_calls_first m way x y (subst (λ (w : Way). orders_by m w x y) (sym this) ordered.2))))
+    (Contains-push_cases ways way ordered.0 ordered.1))
+    h
+
+pub order_same : (m : DraftMachine) (calls : List Call) (ways more : List Way) → more ≡ ways → KeepsOrder m calls ways more
+order_same m calls ways more same x y first second h = subst (λ (l : List Way). IsSequence m l x y) same h
+
+-- more ways order what the ways so far do
+sequence_longer : (m : DraftMachine) (ways more : List Way) (x y : Item) → IsLonger ways more → IsSequence m ways x y → IsSequence m more x y
+sequence_longer m ways more x y longer h =
+    ⊎_elim
+    (λ nested. inl nested)
+    (λ ordered. inr (
+      ordered.0,
+      subst (λ (l : List Way). Contains l ordered.0) (sym longer.1) (Contains-append_left ways longer.0 ordered.0 ordered.1),
+      ordered.2,
+    ))
+    h
+
+module _ (m : DraftMachine) (old grown : List Call) (ways more : List Way) (longer : IsLonger old grown) (further : IsLonger ways more)
+    (kept : KeepsOrder m old ways more) where
+  -- what is exact has seen as much of more calls and more ways that do not order the calls so far anew
+  seen_over_ways : (call : Call) → Contains old call → IsExact (IsSequence m ways) old call → HasSeen (IsSequence m more) grown call
+  seen_over_ways call inside exact =
+      let seen = seen_longer (IsSequence m ways) old grown call longer exact in
+      let within = seen_within (IsSequence m ways) old call exact in
+      record {
+        within = seen.within;
+        passed = λ k d lt there up.
+            (let low : k < length old = omega (arith, lt, within) in
+            seen.passed k d lt there (kept (get_or grown k d).item call.item (listed_at k d low) (call, inside, refl) up.0, up.1));
+        there = λ blocked d there. sequence_longer m ways more (get_or grown call.seen d).item call.item further (seen.there blocked d there);
+      }
+    where
+      listed_at : (k : ℕ) (d : Call) → k < length old → IsListed old (get_or grown k d).item
+      listed_at k d low = (
+        get_or old k d,
+        Contains-get_or old k d low,
+        ap (λ (c : Call). c.item) (sym (ap (λ (l : List Call). get_or l k d) longer.1 ∙ get_or_append_left old longer.0 d k low)),
+      )
+
+  pub all_seen_over_ways : ((call : Call) → Contains old call → IsExact (IsSequence m ways) old call)
+      → ((call : Call) → Contains grown call → Contains old call ⊎ IsFresh call)
+      → (call : Call) → Contains grown call → HasSeen (IsSequence m more) grown call
+  all_seen_over_ways exact fresh call inside =
+      ⊎_elim
+      (λ was. seen_over_ways call was (exact call was))
+      (λ new. seen_fresh (IsSequence m more) grown call new)
+      (fresh call inside)
+
+-- what is listed once an item has run in this way
+pub followed_roster : (m : DraftMachine) (old : Progress) (item : Item) (how : How) (new : Progress) → IsFollowedSo m old item how new
+    → IsRoster m new.roster.calls.items
+followed_roster m old item (By p) new h = h.extended.roster
+followed_roster m old item (Restore s) new h = h.3.extended.roster
+followed_roster m old item Nothing new h = h.extended.roster
+
+pub followed_fresh : (m : DraftMachine) (old : Progress) (item : Item) (how : How) (new : Progress) → IsFollowedSo m old item how new
+    → (call : Call) → Contains new.roster.calls.items call → Contains old.roster.calls.items call ⊎ IsFresh call
+followed_fresh m old item (By p) new h = h.extended.fresh
+followed_fresh m old item (Restore s) new h = h.3.extended.fresh
+followed_fresh m old item Nothing new h = h.extended.fresh
+
+pub followed_ways : (m : DraftMachine) (old : Progress) (item : Item) (how : How) (new : Progress) → IsFollowedSo m old item how new
+    → AreWaysIn m old.ways.items → AreWaysIn m new.ways.items
+followed_ways m old item (By p) new h were = subst (AreWaysIn m) (sym h.ways) (one_more_way m old.ways.items h.way were h.inside)
+followed_ways m old item (Restore s) new h were = subst (AreWaysIn m) (sym h.3.ways) were
+followed_ways m old item Nothing new h were = subst (AreWaysIn m) (sym h.ways) were
+
+-- lists of calls that are noted as run
+pub told_noted : (item : Item) (a b : List Call) → ArePairwise (IsTold item) a b → ArePairwise (IsNoted item) a b
+told_noted item a b h = (h.0, λ k d lt. (let t = h.1 k d lt in record { item_is = t.item_is; ran = t.ran }))
+
+pub forgotten_noted : (item : Item) (a b c : List Call) → ArePairwise (IsTold item) a b → ArePairwise IsForgotten b c → ArePairwise (IsNoted item) a c
+forgotten_noted item a b c h g = (
+  g.0 ∙ h.0,
+  λ k d lt.
+      (let low : k < length b = omega (arith, h.0) in
+      let t = h.1 k d lt in
+      let f = g.1 k d low in
+      record {
+        item_is = f.item_is ∙ t.item_is;
+        ran = (
+          λ ran. t.ran.0 (subst (λ (v : Bool). IsTrue v) f.ran ran),
+          λ was. subst (λ (v : Bool). IsTrue v) (sym f.ran) (t.ran.1 was),
+        );
+      }),
+)
+
+pub forgotten_fresh : (b c : List Call) → ArePairwise IsForgotten b c → (call : Call) → Contains c call → IsFresh call
+forgotten_fresh b c g call inside =
+    let low : inside.0 < length b = omega (arith, g.0, inside.1) in
+    subst IsFresh inside.2 (g.1 inside.0 call low).fresh
+
+pub all_seen_told : (Comes : Item → Item → Type 0) (grown now : List Call) (item : Item) → ArePairwise (IsTold item) grown now
+    → ((call : Call) → Contains grown call → HasSeen Comes grown call) → (call : Call) → Contains now call → HasSeen Comes now call
+all_seen_told Comes grown now item told seen call inside =
+    let k = inside.0 in
+    let low : k < length grown = omega (arith, told.0, inside.1) in
+    let g = get_or grown k call in
+    subst (λ (c : Call). HasSeen Comes now c) inside.2
+    (seen_told Comes grown now item g (get_or now k call) told (told.1 k call low) (seen g (Contains-get_or grown k call low)))
+
+pub noted_items : (m : DraftMachine) (item : Item) (a b : List Call) → ArePairwise (IsNoted item) a b → AreItemsOf m a → AreItemsOf m b
+noted_items m item a b h were x listed =
+    were x (listed_along b a x (sym h.0) (λ k d lt. sym (h.1 k d (omega (arith, h.0, lt))).item_is) listed)
+
+-- a list that is cut back to its length before it grew
+pub cut_back : {X : Type 0} (old new : List X) (n : ℕ) → IsLonger old new → n ≡ length old → take n new ≡ old
+cut_back {X} old new n longer same = ap (λ (l : List X). take n l) longer.1 ∙ take_at old longer.0 n (sym same)

@@ -1,0 +1,14 @@
+use Rattle.std.proofs.Common.{◌∙◌, arith}
+use Rattle.std.proofs.lemmas.List.{take_all}
+use Rattle.pssm_plan.proofs.Firing.{fired_more}
+use Rattle.pssm_plan.proofs.progress.add_ways.Goals as goal
+
+pub loop-route-preserved : goal.loop-route-preserved
+loop-route-preserved c =
+    fired_more c.args.machine.now c.args.routes.now c.loop-route.route-index c.route-item.result _ _ c.loop-route-test.true
+    (c.in_ok-way_of.ensures.route ∙ c.route-item.is) c.in_ok-way_of.ensures.fires c.loop-route.invariant c.in_ok-way_of.ensures.way
+
+pub returns-clause-fired : goal.returns-clause-fired
+returns-clause-fired c =
+    let whole = take_all c.loop-route.route-index c.args.routes.now (omega (arith, c.loop-route-test.false)) in
+    rw whole at c.loop-route.invariant
