@@ -28,3 +28,5 @@ pub mod SteadyFilling
 pub mod SteadyChanges
 pub mod Steadiness
 pub mod SteadyRules
+pub mod CalledPlaces
+pub mod AddedCalls

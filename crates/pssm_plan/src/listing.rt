@@ -34,6 +34,17 @@ pub fn meets(machine: &Machine, calls: &[Call], way: &Way) -> bool
     false
 }
 
+// Whether a vertex is active, and the way calls its exit.
+fn calls_exit(machine: &Machine, config: &Config, way: &Way, s: VertexId) -> bool
+    requires single { HasSingleLegs machine.now }
+    requires fits { Fits machine.now config.now }
+    requires way { IsWayIn machine.now way.now }
+    requires vertex { s.0 < length machine.now.vertices }
+    ensures { IsTrue result ↔ ((configuration_of config.now).Active s × calls_by machine.now way.now (Called.Exit s)) }
+{
+    config.is_active(s) && way_calls(machine, way, Item::Exit(s))
+}
+
 impl Roster {
     /// Lists the openings of the top regions.
     pub fn list_tops(&mut self, machine: &Machine) -> Result<(), NoMemory>
@@ -59,9 +70,8 @@ impl Roster {
             (IsExitBy machine.now (configuration_of config.now) way.now) self.new.calls.items) }
     {
         for number in 0..machine.vertices() {
-            let exit = Item::Exit(VertexId(number));
-            let wanted = config.is_active(VertexId(number)) && way_calls(machine, way, exit);
-            self.add(machine, exit, wanted)?;
+            let wanted = calls_exit(machine, config, way, VertexId(number));
+            self.add(machine, Item::Exit(VertexId(number)), wanted)?;
         }
         Ok(())
     }
