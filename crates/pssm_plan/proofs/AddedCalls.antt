@@ -1,5 +1,5 @@
 -- What the loops over numbers add to a roster: the items of one kind that a way calls.
-use Rattle.std.proofs.Common.{◌≡◌, ◌≤◌, ◌<◌, ◌↔◌, ◌⊎◌, ℕ, Bool, IsTrue, Some, List, Contains, length, sym, subst, ap, refl, inl, inr, ⊎_elim, arith}
+use Rattle.std.proofs.Common.{◌≡◌, ◌≤◌, ◌<◌, ◌↔◌, ◌⊎◌, ◌+◌, ℕ, Bool, true, false, IsTrue, Some, get_or, take, List, Contains, length, sym, subst, ap, refl, inl, inr, ⊎_elim, arith}
 use Rattle.pssm_model.specs.declared.ids.VertexId.{VertexId}
 use Rattle.pssm_model.specs.declared.ids.RegionId.{RegionId}
 use Rattle.pssm_model.specs.declared.ids.TransId.{TransId}
@@ -18,11 +18,12 @@ use Rattle.pssm_plan.specs.declared.ways.Way.{Way}
 use Rattle.pssm_plan.specs.Ways.{IsWayIn, calls_by, opens_by}
 use Rattle.pssm_plan.specs.declared.roster.Call.{Call}
 use Rattle.pssm_plan.specs.declared.progress.Restored.{Restored}
-use Rattle.pssm_plan.specs.inner.Marks.{IsMarked}
+use Rattle.pssm_plan.specs.inner.Marks.{IsMarked, IsListed, IsLonger}
 use Rattle.pssm_plan.specs.inner.Calling.{IsExitBy, IsEffectBy, IsEntryBy, IsOpeningBy, IsPickBy, IsNoExit, IsOtherBy, IsReopened, IsLate, MayRun}
 use Rattle.pssm_plan.specs.inner.Calling.{IsOpeningOf, IsOfRestored, IsRestoredOf, IsDefaultOf}
-use Rattle.pssm_plan.specs.inner.Sequence.{IsOpenedBySome}
-use Rattle.pssm_plan.proofs.Growing.{AddedWhere, AddedBy}
+use Rattle.pssm_plan.specs.inner.Sequence.{IsOpenedBySome, IsExtended}
+use Rattle.pssm_plan.proofs.Taken.{taken_cases}
+use Rattle.pssm_plan.proofs.Growing.{HasGrown, AddedWhere, AddedBy, grown_by_one}
 use Rattle.pssm_plan.proofs.CalledPlaces.{region_owned_there, exit_there, effect_there, enter_there, opening_there, pick_there}
 
 -- the items of a number
@@ -200,11 +201,11 @@ module _ (m : DraftMachine) (s : VertexId) where
   of_restored was now mode opens yes ran sure same e has x = (
     λ h. ⊎_elim
         (λ enter. inl enter.1)
-        (λ open. inr ((same (Enter s)).0 (has.0 open.0), subst (λ (k : Mode). IsOpeningOf m s k x) e open.1))
+        (λ it. inr ((same (Enter s)).0 (has.0 it.0), subst (λ (k : Mode). IsOpeningOf m s k x) e it.1))
         h,
     λ h. ⊎_elim
         (λ enter. inl (sure, enter))
-        (λ open. inr (has.1 ((same (Enter s)).1 open.0), subst (λ (k : Mode). IsOpeningOf m s k x) (sym e) open.1))
+        (λ it. inr (has.1 ((same (Enter s)).1 it.0), subst (λ (k : Mode). IsOpeningOf m s k x) (sym e) it.1))
         h,
   )
 
@@ -216,3 +217,31 @@ module _ (m : DraftMachine) (s : VertexId) where
     λ h. (h.0.mode, subst (Contains restored) (same_one h.0 h.2.0) h.1, h.2.1),
     λ h. (record { mode = h.0; state = s }, h.1, (refl, h.2)),
   )
+
+  -- one more of them
+  pub one_more_restored : (old : List Call) (restored : List Restored) (i : ℕ) (d : Restored) (calls new : List Call) (yes : Bool) (opens : Mode)
+      → i < length restored → (IsTrue yes ↔ ((get_or restored i d).state ≡ s)) → opens ≡ restored_mode (get_or restored i d).mode
+      → HasGrown m old (AddedBy (OpenedAs m s) (take i restored)) calls → IsLonger calls new
+      → IsExtended m calls (λ x. IsTrue yes × IsOpeningOf m s opens x) new
+      → HasGrown m old (AddedBy (OpenedAs m s) (take (i + 1) restored)) new
+  one_more_restored old restored i d calls new yes opens lt same e h more g =
+      grown_by_one m old (OpenedAs m s) (λ (x : Item). IsTrue yes × IsOpeningOf m s opens x) restored i d calls new lt
+      (λ x. (
+        λ q. (same.1 q.0, subst (λ (k : Mode). IsOpeningOf m s k x) (sym e) q.1),
+        λ w. (same.0 w.0, subst (λ (k : Mode). IsOpeningOf m s k x) e w.1),
+      ))
+      h more g
+
+-- none of the listed items is one that the way calls
+abbrev pub MeetsNone : DraftMachine → Way → List Call → Type 0
+MeetsNone m way calls = (x : Item) → IsListed calls x → calls_by m way x → ⊥
+
+pub none_met_more : (m : DraftMachine) (way : Way) (calls : List Call) (i : ℕ) (d : Call) (yes : Bool) → i < length calls
+    → (IsTrue yes ↔ calls_by m way (get_or calls i d).item) → yes ≡ false → MeetsNone m way (take i calls) → MeetsNone m way (take (i + 1) calls)
+none_met_more m way calls i d yes lt same no h x listed called =
+    ⊎_elim
+    (λ was. h x (listed.0, was, listed.2) called)
+    (λ now. let is : x ≡ (get_or calls i d).item = (let e = listed.2 in cc (now, e)) in
+        let met : yes ≡ true = same.1 (subst (calls_by m way) is called) in
+        absurd (cc (met, no)))
+    (taken_cases calls i d listed.0 lt listed.1)

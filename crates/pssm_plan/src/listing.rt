@@ -289,7 +289,8 @@ impl Roster {
             (IsRestoredOf machine.now restored.now s) self.new.calls.items) }
     {
         for one in restored {
-            self.list_regions(machine, s, restored_mode(one.mode), one.state == s)?;
+            let wanted = is_of(*one, s);
+            self.list_regions(machine, s, restored_mode(one.mode), wanted)?;
         }
         Ok(())
     }
@@ -315,6 +316,7 @@ impl Roster {
     }
 
     /// Lists what an item calls once it has run, besides what it calls by its way.
+    #[tactic(auto, using(crate::proofs::Extending::extended_none, crate::proofs::Growing::longer_same))]
     pub fn list_entered(
         &mut self,
         machine: &Machine,
@@ -335,6 +337,13 @@ impl Roster {
             Item::Exit(_) | Item::Effect(_) | Item::Opened(_, _) | Item::Pick(_) => Ok(()),
         }
     }
+}
+
+// Whether this is the State that was restored.
+fn is_of(one: Restored, s: VertexId) -> bool
+    ensures { IsTrue result ↔ (one.state ≡ s) }
+{
+    one.state == s
 }
 
 // How the regions of a restored State open: by default after a shallow history, deeply after a deep one.
