@@ -195,10 +195,10 @@ OpenedAs m s one x = (one.state ≡ s) × IsOpeningOf m s (restored_mode one.mod
 
 -- what restored States call
 module _ (m : DraftMachine) (s : VertexId) where
-  pub of_restored : (was now : List Call) (mode opens : Mode) (yes ran : Bool) → IsTrue yes → ((x : Item) → IsMarked now x ↔ IsMarked was x)
+  pub of_restored : (was now : List Call) (mode opens : Mode) (first ran : Bool) → IsTrue first → ((x : Item) → IsMarked now x ↔ IsMarked was x)
       → opens ≡ restored_mode mode → (IsTrue ran ↔ IsMarked now (Enter s)) → (x : Item)
-      → ((IsTrue yes × (x ≡ Enter s)) ⊎ (IsTrue ran × IsOpeningOf m s opens x)) ↔ IsOfRestored m was mode s x
-  of_restored was now mode opens yes ran sure same e has x = (
+      → ((IsTrue first × (x ≡ Enter s)) ⊎ (IsTrue ran × IsOpeningOf m s opens x)) ↔ IsOfRestored m was mode s x
+  of_restored was now mode opens first ran sure same e has x = (
     λ h. ⊎_elim
         (λ enter. inl enter.1)
         (λ it. inr ((same (Enter s)).0 (has.0 it.0), subst (λ (k : Mode). IsOpeningOf m s k x) e it.1))
@@ -219,13 +219,13 @@ module _ (m : DraftMachine) (s : VertexId) where
   )
 
   -- one more of them
-  pub one_more_restored : (old : List Call) (restored : List Restored) (i : ℕ) (d : Restored) (calls new : List Call) (yes : Bool) (opens : Mode)
-      → i < length restored → (IsTrue yes ↔ ((get_or restored i d).state ≡ s)) → opens ≡ restored_mode (get_or restored i d).mode
+  pub one_more_restored : (old : List Call) (restored : List Restored) (i : ℕ) (d : Restored) (calls new : List Call) (wanted : Bool) (opens : Mode)
+      → i < length restored → (IsTrue wanted ↔ ((get_or restored i d).state ≡ s)) → opens ≡ restored_mode (get_or restored i d).mode
       → HasGrown m old (AddedBy (OpenedAs m s) (take i restored)) calls → IsLonger calls new
-      → IsExtended m calls (λ x. IsTrue yes × IsOpeningOf m s opens x) new
+      → IsExtended m calls (λ x. IsTrue wanted × IsOpeningOf m s opens x) new
       → HasGrown m old (AddedBy (OpenedAs m s) (take (i + 1) restored)) new
-  one_more_restored old restored i d calls new yes opens lt same e h more g =
-      grown_by_one m old (OpenedAs m s) (λ (x : Item). IsTrue yes × IsOpeningOf m s opens x) restored i d calls new lt
+  one_more_restored old restored i d calls new wanted opens lt same e h more g =
+      grown_by_one m old (OpenedAs m s) (λ (x : Item). IsTrue wanted × IsOpeningOf m s opens x) restored i d calls new lt
       (λ x. (
         λ q. (same.1 q.0, subst (λ (k : Mode). IsOpeningOf m s k x) (sym e) q.1),
         λ w. (same.0 w.0, subst (λ (k : Mode). IsOpeningOf m s k x) e w.1),
@@ -236,12 +236,12 @@ module _ (m : DraftMachine) (s : VertexId) where
 abbrev pub MeetsNone : DraftMachine → Way → List Call → Type 0
 MeetsNone m way calls = (x : Item) → IsListed calls x → calls_by m way x → ⊥
 
-pub none_met_more : (m : DraftMachine) (way : Way) (calls : List Call) (i : ℕ) (d : Call) (yes : Bool) → i < length calls
-    → (IsTrue yes ↔ calls_by m way (get_or calls i d).item) → yes ≡ false → MeetsNone m way (take i calls) → MeetsNone m way (take (i + 1) calls)
-none_met_more m way calls i d yes lt same no h x listed called =
+pub none_met_more : (m : DraftMachine) (way : Way) (calls : List Call) (i : ℕ) (d : Call) (found : Bool) → i < length calls
+    → (IsTrue found ↔ calls_by m way (get_or calls i d).item) → found ≡ false → MeetsNone m way (take i calls) → MeetsNone m way (take (i + 1) calls)
+none_met_more m way calls i d found lt same no h x listed called =
     ⊎_elim
     (λ was. h x (listed.0, was, listed.2) called)
     (λ now. let is : x ≡ (get_or calls i d).item = (let e = listed.2 in cc (now, e)) in
-        let met : yes ≡ true = same.1 (subst (calls_by m way) is called) in
+        let met : found ≡ true = same.1 (subst (calls_by m way) is called) in
         absurd (cc (met, no)))
     (taken_cases calls i d listed.0 lt listed.1)
