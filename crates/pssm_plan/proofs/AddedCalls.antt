@@ -1,5 +1,6 @@
 -- What the loops over numbers add to a roster: the items of one kind that a way calls.
-use Rattle.std.proofs.Common.{◌≡◌, ◌≤◌, ◌<◌, ◌↔◌, ◌⊎◌, ◌+◌, ℕ, Bool, true, false, IsTrue, Some, get_or, take, List, Contains, length, sym, subst, ap, refl, inl, inr, ⊎_elim, arith}
+use Rattle.std.proofs.Common.{◌≡◌, ◌≤◌, ◌<◌, ◌↔◌, ◌⊎◌, ◌+◌, ℕ, Bool, true, false, IsTrue, Some, List, Contains, length}
+use Rattle.std.proofs.Common.{get_or, take, sym, subst, ap, refl, inl, inr, ⊎_elim, arith}
 use Rattle.pssm_model.specs.declared.ids.VertexId.{VertexId}
 use Rattle.pssm_model.specs.declared.ids.RegionId.{RegionId}
 use Rattle.pssm_model.specs.declared.ids.TransId.{TransId}
@@ -113,9 +114,10 @@ module _ (m : DraftMachine) (calls : List Call) (way : Way) (r : RegionId) (s : 
   reopened_here = (
     λ h. let same : h.1 ≡ r = (let is = h.2 in cc) in
         let there : owner_of m (Region r) ≡ Some (State h.0) = subst (λ (k : RegionId). owner_of m (Region k) ≡ Some (State h.0)) same h.3 in
-        let one : h.0 ≡ s = cc (there, e) in
-        (subst (λ (q : VertexId). opens_by m way q r) one (subst (λ (k : RegionId). opens_by m way h.0 k) same h.5),
-            subst (λ (q : VertexId). IsMarked calls (Enter q)) one h.4),
+        let one : h.0 ≡ s = cc (there, e) in (
+          subst (λ (q : VertexId). opens_by m way q r) one (subst (λ (k : RegionId). opens_by m way h.0 k) same h.5),
+          subst (λ (q : VertexId). IsMarked calls (Enter q)) one h.4,
+        ),
     λ h. (s, r, refl, e, h.1, h.0),
   )
 
@@ -242,6 +244,6 @@ none_met_more m way calls i d found lt same missed h x listed called =
     ⊎_elim
     (λ was. h x (listed.0, was, listed.2) called)
     (λ now. let is : x ≡ (get_or calls i d).item = (let e = listed.2 in cc (now, e)) in
-        let met : found ≡ true = same.1 (subst (calls_by m way) is called) in
-        absurd (cc (met, missed)))
+    let met : found ≡ true = same.1 (subst (calls_by m way) is called) in
+    absurd (cc (met, missed)))
     (taken_cases calls i d listed.0 lt listed.1)

@@ -56,11 +56,11 @@ module _ (m : DraftMachine) (way : Way) where
   effect_there is t h =
       ⊎_elim
       (λ run. All-contains
-          (λ (w : TransId). w.0 < length m.transitions)
-          (transitions_of way.route.value)
-          t
-          is.route.in_range
-          (leg_ends_on m way.route.value h.0 t run))
+      (λ (w : TransId). w.0 < length m.transitions)
+      (transitions_of way.route.value)
+      t
+      is.route.in_range
+      (leg_ends_on m way.route.value h.0 t run))
       (λ e. ⊎_elim (λ b. absurd b) (λ b. absurd b) e)
       h.2
 
@@ -75,9 +75,9 @@ module _ (m : DraftMachine) (way : Way) where
   enter_there single s h =
       ⊎_elim
       (λ (run : LegEnters m way.route.value h.0 s). ⊎_elim
-          (λ lies. scope_there m s lies.0 lies.2)
-          (λ it. end_there single run.0 s it)
-          run.4)
+      (λ lies. scope_there m s lies.0 lies.2)
+      (λ it. end_there single run.0 s it)
+      run.4)
       (λ e. ⊎_elim (λ b. absurd b) (λ b. absurd b) e)
       h.2
 

@@ -162,7 +162,12 @@ impl Roster {
     }
 
     /// Lists what a way calls that fires.
-    pub fn list_fired(&mut self, machine: &Machine, config: &Config, way: &Way) -> Result<(), NoMemory>
+    pub fn list_fired(
+        &mut self,
+        machine: &Machine,
+        config: &Config,
+        way: &Way,
+    ) -> Result<(), NoMemory>
         requires single { HasSingleLegs machine.now }
         requires roster { IsRoster machine.now self.old.calls.items }
         requires fits { Fits machine.now config.now }
@@ -202,7 +207,11 @@ impl Roster {
     {
         for number in 0..machine.regions() {
             let reopened = self.is_reopened(machine, way, RegionId(number));
-            self.add(machine, Item::Opened(RegionId(number), Mode::Plain), reopened)?;
+            self.add(
+                machine,
+                Item::Opened(RegionId(number), Mode::Plain),
+                reopened,
+            )?;
         }
         Ok(())
     }
@@ -259,7 +268,12 @@ impl Roster {
     }
 
     // Lists the openings of a State's regions that open since one of the ways enters the State.
-    fn list_defaults(&mut self, machine: &Machine, ways: &[Way], s: VertexId) -> Result<(), NoMemory>
+    fn list_defaults(
+        &mut self,
+        machine: &Machine,
+        ways: &[Way],
+        s: VertexId,
+    ) -> Result<(), NoMemory>
         requires single { HasSingleLegs machine.now }
         requires roster { IsRoster machine.now self.old.calls.items }
         requires ways { AreWaysIn machine.now ways.now }

@@ -13,6 +13,7 @@ loop-call-preserved c =
 
 pub returns : goal.returns
 returns c =
-    let whole = take_all c.loop-call.call-index c.args.calls.now (omega (arith, c.loop-call-test.false)) in
-    (λ t. absurd (false≢true t),
-        λ h. absurd (c.loop-call.invariant h.0 (subst (λ (l : List Call). IsListed l h.0) (sym whole) h.1) h.2))
+    let whole = take_all c.loop-call.call-index c.args.calls.now (omega (arith, c.loop-call-test.false)) in (
+      λ t. absurd (false≢true t),
+      λ h. absurd (c.loop-call.invariant h.0 (subst (λ (l : List Call). IsListed l h.0) (sym whole) h.1) h.2),
+    )

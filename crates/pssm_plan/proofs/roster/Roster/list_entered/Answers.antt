@@ -9,5 +9,5 @@ returns-in-Enter-clause-added c =
     let m = c.args.machine.now in
     subst
     (λ (x : Item). OnOk c.list_opened.result
-        (IsExtended m c.args.self.now.calls.items (IsEntered m c.args.ways.now c.args.restored.now x) c.list_opened.new.self.calls.items))
+    (IsExtended m c.args.self.now.calls.items (IsEntered m c.args.ways.now c.args.restored.now x) c.list_opened.new.self.calls.items))
     (sym c.in-Enter.is) c.list_opened.ensures.added

@@ -15,7 +15,8 @@ returns-clause-added c =
     let old = c.args.self.now.calls.items in
     let mid = c.list_exits.new.self.calls.items in
     on_ok_weaker c.list_others.result
-    (λ added. extended_same m old _ (λ (x : Item). IsExitBy m (configuration_of c.args.config.now) way x ⊎ IsOtherBy m way x) (λ x. MayRun (configuration_of c.args.config.now) x × calls_by m way x)
+    (λ added. extended_same m old _ (λ (x : Item). IsExitBy m (configuration_of c.args.config.now) way x ⊎ IsOtherBy m way x)
+    (λ x. MayRun (configuration_of c.args.config.now) x × calls_by m way x)
     (fired_are m way (configuration_of c.args.config.now))
     (extended_further m old mid _ (IsExitBy m (configuration_of c.args.config.now) way) (IsOtherBy m way) c.in_ok-list_exits.ensures.added added))
     c.list_others.ensures.added

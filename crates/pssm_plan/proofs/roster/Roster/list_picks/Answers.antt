@@ -21,5 +21,5 @@ returns-clause-added c =
     let all : length m.vertices ≤ c.loop-number.number = let past = c.loop-number-test.false in omega (arith, past) in
     extended_same m _ _ (CalledBelow m way pick_of c.loop-number.number)
     (IsPickBy m way)
-    (λ x. picks_all m way c.loop-number.number x  all)
+    (λ x. picks_all m way c.loop-number.number x all)
     c.loop-number.invariant.extended

@@ -14,7 +14,8 @@ loop-r-preserved c =
     let d : RegionId = record { 0 = 0 } in
     let xs = c.regions_of-r-items.result.now in
     grown_by_one c.args.machine.now c.args.self.now.calls.items (OpenedIf c.args.mode (IsTrue c.args.wanted))
-    (λ (x : Item). IsTrue c.args.wanted × (x ≡ Opened (get_or c.regions_of-r-items.result.now c.loop-r.r-index d) c.args.mode)) xs c.loop-r.r-index d _ _ c.loop-r-test.true
+    (λ (x : Item). IsTrue c.args.wanted × (x ≡ Opened (get_or c.regions_of-r-items.result.now c.loop-r.r-index d) c.args.mode))
+    xs c.loop-r.r-index d _ _ c.loop-r-test.true
     (λ x. (λ q. q, λ h. h))
     c.loop-r.invariant c.add.ensures.calls c.in_ok-add.ensures.added
 

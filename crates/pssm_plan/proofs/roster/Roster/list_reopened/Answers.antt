@@ -12,7 +12,9 @@ loop-number-preserved c =
     let way = c.args.way.now in
     let Holds : ℕ → Type 0 = (λ k. IsReopened m c.args.self.now.calls.items way (opening_of Plain k)) in
     grown_by_next m c.args.self.now.calls.items (opening_of Plain) Holds c.loop-number.number _ _ _
-    (iff_further c.is_reopened-reopened.ensures (reopened_same m _ _ way c.loop-number.invariant.extended.marked (opening_of Plain c.loop-number.number))) c.loop-number.invariant c.add.ensures.calls c.in_ok-add.ensures.added
+    (iff_further c.is_reopened-reopened.ensures
+    (reopened_same m _ _ way c.loop-number.invariant.extended.marked (opening_of Plain c.loop-number.number)))
+    c.loop-number.invariant c.add.ensures.calls c.in_ok-add.ensures.added
 
 pub returns-clause-added : goal.returns-clause-added
 returns-clause-added c =

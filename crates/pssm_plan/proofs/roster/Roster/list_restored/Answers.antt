@@ -17,8 +17,11 @@ returns-clause-added c =
     let mid = c.add.new.self.calls.items in
     let ran = subst (λ (l : List Call). IsTrue c.has_run-ran.result ↔ IsMarked l (Enter s)) c.as_slice.ensures.value c.has_run-ran.ensures in
     on_ok_weaker c.list_regions.result
-    (λ added. extended_same m old _ (λ (x : Item). (IsTrue true × (x ≡ Enter s)) ⊎ (IsTrue c.has_run-ran.result × IsOpeningOf m s c.restored_mode.result x)) (IsOfRestored m old c.args.mode s)
-    (of_restored m s old mid c.args.mode c.restored_mode.result true c.has_run-ran.result refl c.in_ok-add.ensures.added.marked c.restored_mode.ensures ran)
-    (extended_further m old mid _ (λ (x : Item). IsTrue true × (x ≡ Enter s)) (λ (x : Item). IsTrue c.has_run-ran.result × IsOpeningOf m s c.restored_mode.result x)
+    (λ added. extended_same m old _ (λ (x : Item). (IsTrue true × (x ≡ Enter s)) ⊎ (IsTrue c.has_run-ran.result × IsOpeningOf m s c.restored_mode.result x))
+    (IsOfRestored m old c.args.mode s)
+    (of_restored m s old mid c.args.mode c.restored_mode.result true c.has_run-ran.result refl
+    c.in_ok-add.ensures.added.marked c.restored_mode.ensures ran)
+    (extended_further m old mid _ (λ (x : Item). IsTrue true × (x ≡ Enter s))
+    (λ (x : Item). IsTrue c.has_run-ran.result × IsOpeningOf m s c.restored_mode.result x)
     c.in_ok-add.ensures.added added))
     c.list_regions.ensures.added
