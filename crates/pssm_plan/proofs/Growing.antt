@@ -1,5 +1,6 @@
 -- A roster that grows in a loop: by what the numbers, or the elements of a list, so far have added.
-use Rattle.std.proofs.Common.{append_assoc, ◌++◌, ◌∙◌, ◌≡◌, ◌⊎◌, ◌↔◌, ◌+◌, ◌<◌, ℕ, Bool, IsTrue, List, [], length, get_or, take, Contains, arith, sym, subst, ap, inl, inr, ⊎_elim}
+use Rattle.std.proofs.Common.{append_assoc, ◌++◌, ◌∙◌, ◌≡◌, ◌⊎◌, ◌↔◌, ◌+◌, ◌<◌, ℕ, Bool, IsTrue, List, []}
+use Rattle.std.proofs.Common.{length, get_or, take, Contains, arith, sym, subst, ap, inl, inr, ⊎_elim}
 use Rattle.std.proofs.lemmas.List.{append-nil}
 use Rattle.std.proofs.lemmas.Bool.{cases_lt}
 use Rattle.pssm_model.specs.declared.elements.DraftMachine.{DraftMachine}

@@ -15,8 +15,8 @@ loop-r-preserved c =
     let d : RegionId = record { 0 = 0 } in
     let xs = c.regions_of-r-items.result.now in
     grown_by_one c.args.machine.now c.args.self.now.calls.items (OpenedBySome c.args.machine.now c.args.ways.now c.args.s)
-    (λ (x : Item). IsTrue c.some_way_opens-opens.result × (x ≡ Opened (get_or c.regions_of-r-items.result.now c.loop-r.r-index d) Plain)) xs c.loop-r.r-index d _ _
-    c.loop-r-test.true
+    (λ (x : Item). IsTrue c.some_way_opens-opens.result × (x ≡ Opened (get_or c.regions_of-r-items.result.now c.loop-r.r-index d) Plain))
+    xs c.loop-r.r-index d _ _ c.loop-r-test.true
     (λ x. (λ q. (c.some_way_opens-opens.ensures.1 q.1, q.0), λ h. (h.1, c.some_way_opens-opens.ensures.0 h.0)))
     c.loop-r.invariant c.add.ensures.calls c.in_ok-add.ensures.added
 
