@@ -18,7 +18,7 @@ returns-clause-added c =
     let shallow = c.list_openings-2.new.self.calls.items in
     let deep = c.list_openings-3.new.self.calls.items in
     let first = extended_further m old effects entries (IsEffectBy m way) (IsEntryBy m way)
-        c.in_ok-list_effects.ensures.added c.in_ok-list_entries.ensures.added in
+    c.in_ok-list_effects.ensures.added c.in_ok-list_entries.ensures.added in
     let second = extended_further m old entries plain _ (IsOpeningBy m way Plain) first c.in_ok-list_openings.ensures.added in
     let third = extended_further m old plain shallow _ (IsOpeningBy m way Shallow) second c.in_ok-list_openings-2.ensures.added in
     let fourth = extended_further m old shallow deep _ (IsOpeningBy m way Deep) third c.in_ok-list_openings-3.ensures.added in
