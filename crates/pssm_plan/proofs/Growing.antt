@@ -1,8 +1,8 @@
 -- A roster that grows in a loop: by what the numbers, or the elements of a list, so far have added.
-use Rattle.std.proofs.Common.{append_assoc, ◌++◌, ◌∙◌, ◌≡◌, ◌⊎◌, ◌↔◌, ◌+◌, ◌<◌, ℕ, List, [], length, get_or, take, Contains, arith, sym, subst, ap, inl, inr, ⊎_elim}
+use Rattle.std.proofs.Common.{append_assoc, ◌++◌, ◌∙◌, ◌≡◌, ◌⊎◌, ◌↔◌, ◌+◌, ◌<◌, ℕ, Bool, IsTrue, List, []}
+use Rattle.std.proofs.Common.{length, get_or, take, Contains, arith, sym, subst, ap, inl, inr, ⊎_elim}
 use Rattle.std.proofs.lemmas.List.{append-nil}
 use Rattle.std.proofs.lemmas.Bool.{cases_lt}
-use Rattle.pssm_model.specs.declared.ids.VertexId.{VertexId}
 use Rattle.pssm_model.specs.declared.elements.DraftMachine.{DraftMachine}
 use Rattle.pssm_model.specs.declared.steps.Item.{Item}
 use Rattle.pssm_plan.specs.declared.roster.Call.{Call}
@@ -58,34 +58,21 @@ module _ (m : DraftMachine) (old : List Call) where
     };
   }
 
--- what the vertices with lower numbers add
-abbrev pub AddedBelow : (VertexId → Item → Type 0) → ℕ → Item → Type 0
-AddedBelow Q n x = (s : VertexId) × (s.0 < n) × Q s x
-
-abbrev pub vertex_id : ℕ → VertexId
-vertex_id n = record { 0 = n }
-
-same_vertex : (s : VertexId) (n : ℕ) → s.0 ≡ n → s ≡ vertex_id n
-same_vertex s n e = ap (λ (k : ℕ). let v : VertexId = record { 0 = k } in v) e
-
 pub lower_or_same : (k n : ℕ) → k < n + 1 → (k < n) ⊎ (k ≡ n)
 lower_or_same k n lt = ⊎_elim (λ less. inl less) (λ more. inr (omega arith)) (cases_lt k n)
 
-pub none_below : (Q : VertexId → Item → Type 0) (x : Item) → AddedBelow Q 0 x → ⊥
+-- what the lower numbers add
+abbrev pub AddedBelow : (ℕ → Item → Type 0) → ℕ → Item → Type 0
+AddedBelow Q n x = (k : ℕ) × (k < n) × Q k x
+
+pub none_below : (Q : ℕ → Item → Type 0) (x : Item) → AddedBelow Q 0 x → ⊥
 none_below Q x h = absurd (omega (arith, h.1))
 
-pub below_more : (Q : VertexId → Item → Type 0) (n : ℕ) (x : Item) → AddedBelow Q (n + 1) x ↔ (AddedBelow Q n x ⊎ Q (vertex_id n) x)
+pub below_more : (Q : ℕ → Item → Type 0) (n : ℕ) (x : Item) → AddedBelow Q (n + 1) x ↔ (AddedBelow Q n x ⊎ Q n x)
 below_more Q n x = (
-  λ h. ⊎_elim
-      (λ lt. inl (h.0, lt, h.2))
-      (λ e. inr (subst (λ v. Q v x) (same_vertex h.0 n e) h.2))
-      (lower_or_same h.0.0 n h.1),
-  λ h. ⊎_elim (λ was. (was.0, omega (arith, was.1), was.2)) (λ now. (vertex_id n, omega arith, now)) h,
+  λ h. ⊎_elim (λ lt. inl (h.0, lt, h.2)) (λ e. inr (subst (λ k. Q k x) e h.2)) (lower_or_same h.0 n h.1),
+  λ h. ⊎_elim (λ was. (was.0, omega (arith, was.1), was.2)) (λ now. (n, omega arith, now)) h,
 )
-
-pub below_all : (Q : VertexId → Item → Type 0) (n : ℕ) → ((s : VertexId) (x : Item) → Q s x → s.0 < n) → (x : Item)
-    → AddedBelow Q n x ↔ ((s : VertexId) × Q s x)
-below_all Q n there x = (λ h. (h.0, h.2), λ h. (h.0, there h.0 x h.1, h.1))
 
 -- what the first few elements of a list add
 abbrev pub AddedBy : {X : Type 0} → (X → Item → Type 0) → List X → Item → Type 0
@@ -116,3 +103,19 @@ pub grown_by_one : {X : Type 0} (m : DraftMachine) (old : List Call) (Q : X → 
 grown_by_one m old Q P xs i d calls new lt same h more g =
     grown_more m old (AddedBy Q (take i xs)) P (AddedBy Q (take (i + 1) xs)) calls new
     (λ x. or_same (by_more Q xs i d x lt) (same x)) h more g
+
+-- the items of the lower numbers of which this holds
+abbrev pub AddedWhere : (ℕ → Item) → (ℕ → Type 0) → ℕ → Item → Type 0
+AddedWhere item Holds n x = AddedBelow (λ k y. (y ≡ item k) × Holds k) n x
+
+-- one more number adds its item where this is wanted
+pub grown_by_next : (m : DraftMachine) (old : List Call) (item : ℕ → Item) (Holds : ℕ → Type 0) (n : ℕ) (wanted : Bool) (calls new : List Call)
+    → (IsTrue wanted ↔ Holds n) → HasGrown m old (AddedWhere item Holds n) calls → IsLonger calls new
+    → IsExtended m calls (λ x. IsTrue wanted × (x ≡ item n)) new → HasGrown m old (AddedWhere item Holds (n + 1)) new
+grown_by_next m old item Holds n wanted calls new same h more g =
+    let Q : ℕ → Item → Type 0 = (λ k y. (y ≡ item k) × Holds k) in
+    grown_more m old (AddedBelow Q n) (λ x. IsTrue wanted × (x ≡ item n)) (AddedBelow Q (n + 1)) calls new
+    (λ x. or_same (below_more Q n x) (λ q. (same.1 q.1, q.0), λ w. (w.1, same.0 w.0))) h more g
+
+pub iff_further : {A B C : Type 0} → A ↔ B → B ↔ C → A ↔ C
+iff_further h g = (λ a. g.0 (h.0 a), λ c. h.1 (g.1 c))

@@ -33,3 +33,5 @@ pub mod SteadyRules
 pub mod WayLaws
 pub mod CalledNext
 pub mod Settled
+pub mod CalledPlaces
+pub mod AddedCalls

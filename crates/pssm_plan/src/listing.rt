@@ -34,6 +34,17 @@ pub fn meets(machine: &Machine, calls: &[Call], way: &Way) -> bool
     false
 }
 
+// Whether a vertex is active, and the way calls its exit.
+fn calls_exit(machine: &Machine, config: &Config, way: &Way, s: VertexId) -> bool
+    requires single { HasSingleLegs machine.now }
+    requires fits { Fits machine.now config.now }
+    requires way { IsWayIn machine.now way.now }
+    requires vertex { s.0 < length machine.now.vertices }
+    ensures { IsTrue result ↔ ((configuration_of config.now).Active s × calls_by machine.now way.now (Called.Exit s)) }
+{
+    config.is_active(s) && way_calls(machine, way, Item::Exit(s))
+}
+
 impl Roster {
     /// Lists the openings of the top regions.
     pub fn list_tops(&mut self, machine: &Machine) -> Result<(), NoMemory>
@@ -59,9 +70,8 @@ impl Roster {
             (IsExitBy machine.now (configuration_of config.now) way.now) self.new.calls.items) }
     {
         for number in 0..machine.vertices() {
-            let exit = Item::Exit(VertexId(number));
-            let wanted = config.is_active(VertexId(number)) && way_calls(machine, way, exit);
-            self.add(machine, exit, wanted)?;
+            let wanted = calls_exit(machine, config, way, VertexId(number));
+            self.add(machine, Item::Exit(VertexId(number)), wanted)?;
         }
         Ok(())
     }
@@ -152,7 +162,12 @@ impl Roster {
     }
 
     /// Lists what a way calls that fires.
-    pub fn list_fired(&mut self, machine: &Machine, config: &Config, way: &Way) -> Result<(), NoMemory>
+    pub fn list_fired(
+        &mut self,
+        machine: &Machine,
+        config: &Config,
+        way: &Way,
+    ) -> Result<(), NoMemory>
         requires single { HasSingleLegs machine.now }
         requires roster { IsRoster machine.now self.old.calls.items }
         requires fits { Fits machine.now config.now }
@@ -192,7 +207,11 @@ impl Roster {
     {
         for number in 0..machine.regions() {
             let reopened = self.is_reopened(machine, way, RegionId(number));
-            self.add(machine, Item::Opened(RegionId(number), Mode::Plain), reopened)?;
+            self.add(
+                machine,
+                Item::Opened(RegionId(number), Mode::Plain),
+                reopened,
+            )?;
         }
         Ok(())
     }
@@ -249,7 +268,12 @@ impl Roster {
     }
 
     // Lists the openings of a State's regions that open since one of the ways enters the State.
-    fn list_defaults(&mut self, machine: &Machine, ways: &[Way], s: VertexId) -> Result<(), NoMemory>
+    fn list_defaults(
+        &mut self,
+        machine: &Machine,
+        ways: &[Way],
+        s: VertexId,
+    ) -> Result<(), NoMemory>
         requires single { HasSingleLegs machine.now }
         requires roster { IsRoster machine.now self.old.calls.items }
         requires ways { AreWaysIn machine.now ways.now }
@@ -279,7 +303,8 @@ impl Roster {
             (IsRestoredOf machine.now restored.now s) self.new.calls.items) }
     {
         for one in restored {
-            self.list_regions(machine, s, restored_mode(one.mode), one.state == s)?;
+            let wanted = is_of(*one, s);
+            self.list_regions(machine, s, restored_mode(one.mode), wanted)?;
         }
         Ok(())
     }
@@ -305,6 +330,7 @@ impl Roster {
     }
 
     /// Lists what an item calls once it has run, besides what it calls by its way.
+    #[tactic(auto, using(crate::proofs::Extending::extended_none, crate::proofs::Growing::longer_same))]
     pub fn list_entered(
         &mut self,
         machine: &Machine,
@@ -325,6 +351,13 @@ impl Roster {
             Item::Exit(_) | Item::Effect(_) | Item::Opened(_, _) | Item::Pick(_) => Ok(()),
         }
     }
+}
+
+// Whether this is the State that was restored.
+fn is_of(one: Restored, s: VertexId) -> bool
+    ensures { IsTrue result ↔ (one.state ≡ s) }
+{
+    one.state == s
 }
 
 // How the regions of a restored State open: by default after a shallow history, deeply after a deep one.
