@@ -2,7 +2,10 @@ pub mod Taken
 pub mod Extending
 pub mod Growing
 pub mod Rewriting
+pub mod Forgetting
 pub mod Settling
+pub mod BetweenWays
+pub mod NearWays
 pub mod Telling
 pub mod StandingItems
 pub mod ReadyCalls
