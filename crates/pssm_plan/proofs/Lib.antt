@@ -4,6 +4,7 @@ pub mod Growing
 pub mod Rewriting
 pub mod Forgetting
 pub mod Settling
+pub mod Looking
 pub mod SomeWay
 pub mod BetweenWays
 pub mod NearWays

@@ -6,9 +6,9 @@ use Rattle.pssm_model.specs.declared.steps.Route.{Route}
 use Rattle.pssm_model.specs.declared.steps.Item.{Item}
 use Rattle.pssm_model.specs.Legs.{On, LaterLeg}
 use Rattle.pssm_model.specs.Legs.SameLeg.{itself}
-use Rattle.pssm_model.specs.Legs.LaterLeg as laters
+use Rattle.pssm_model.specs.Legs.LaterLeg.{next as next_leg, after as after_leg}
 use Rattle.pssm_model.specs.Items.{PathBefore}
-use Rattle.pssm_model.specs.Items.PathBefore as paths
+use Rattle.pssm_model.specs.Items.PathBefore.{next as next_step, after as after_step}
 use Rattle.pssm_model.proofs.OneLeg.{leg_ends_on}
 use Rattle.pssm_legs.specs.Calls.{IsOrderedInLeg, IsCalledBy}
 use Rattle.pssm_legs.specs.Calls.IsOrderedInLeg.{exit_effect, path, effect_enter, effect_end, enter_end, later}
@@ -20,12 +20,12 @@ use Rattle.pssm_plan.specs.inner.Sequence.{IsSequence}
 
 module _ (m : DraftMachine) (p : Route) where
   path_ends_on : (t u : TransId) → PathBefore m p t u → On p u
-  path_ends_on t u (paths.next first second v k e l) = second
-  path_ends_on t u (paths.after {u = w} first second) = path_ends_on w u second
+  path_ends_on t u (next_step first second v k e l) = second
+  path_ends_on t u (after_step {u = w} first second) = path_ends_on w u second
 
   later_is_on : (t u : TransId) → LaterLeg m p t u → On p u
-  later_is_on t u (laters.next h) = leg_ends_on m p h.1 u h.4
-  later_is_on t u (laters.after {u = w} h rest) = later_is_on w u rest
+  later_is_on t u (next_leg h) = leg_ends_on m p h.1 u h.4
+  later_is_on t u (after_leg {u = w} h rest) = later_is_on w u rest
 
   -- of two items that a leg orders, the route calls the second
   leg_calls_second : (fires : Bool) (x y : Item) (t : TransId) → On p t → IsOrderedInLeg m fires p t x y → IsCalledBy m fires p y
