@@ -1,4 +1,4 @@
--- A part of a list, from one place to another.
+-- The ways of a list between the first that calls an item and the last.
 use Rattle.std.proofs.Common.{◌≡◌, ◌+◌, ◌-◌, ◌<◌, ◌≤◌, ℕ, List, Some, length, take, drop, get_or, slice_get, Contains, arith, refl, sym, subst, ap, ⊎_elim, ◌∙◌}
 use Rattle.std.proofs.lemmas.Bool.{cases_lt}
 use Rattle.std.proofs.lemmas.List.{get_or-take, get_or-drop, length-take-le, length-drop, take-append-drop}
@@ -18,7 +18,7 @@ module _ {X : Type 0} (xs : List X) (first last : ℕ) where
         i - first,
         omega (arith, whole),
         get_or-take (last - first) (drop first xs) (i - first) y (omega arith)
-        ∙ get_or-drop first xs (i - first) y ∙ ap (λ (n : ℕ). get_or xs n y) place ∙ at,
+            ∙ get_or-drop first xs (i - first) y ∙ ap (λ (n : ℕ). get_or xs n y) place ∙ at,
       )
 
   pub of_part : (y : X) → Contains (take (last - first) (drop first xs)) y → Contains xs y

@@ -35,7 +35,7 @@ module _ (m : DraftMachine) (p : Route) where
   leg_calls_second fires x y t is (effect_enter first second a b) = (t, is, inl b)
   leg_calls_second fires x y t is (effect_end first a b) = (t, is, inr b)
   leg_calls_second fires x y t is (enter_end first a b) = (t, is, inr (inl b))
-  leg_calls_second fires x y t is (later next after a b) = (next, later_is_on t next after, b)
+  leg_calls_second fires x y t is (later next leads a b) = (next, later_is_on t next leads, b)
 
 -- of two items that a way orders, it calls the second
 pub way_calls_second : (m : DraftMachine) (way : Way) (x y : Item) → orders_by m way x y → calls_by m way y
@@ -84,6 +84,6 @@ pub near_settled : (m : DraftMachine) (ways near : List Way) (calls : List Call)
     → IsSettled (IsSequence m near) calls call new → IsSettled (IsSequence m ways) calls call new
 near_settled m ways near calls call new some all s =
     let same : (x : Item) → IsSequence m near x new.item ↔ IsSequence m ways x new.item =
-        λ x. subst (λ (i : Item). IsSequence m near x i ↔ IsSequence m ways x i) (sym s.item_is)
-        (let is = near_sequence m ways near some call.item all x in (is.1, is.0)) in
+    λ x. subst (λ (i : Item). IsSequence m near x i ↔ IsSequence m ways x i) (sym s.item_is)
+    (let is = near_sequence m ways near some call.item all x in (is.1, is.0)) in
     settled_same (IsSequence m near) (IsSequence m ways) calls call new same s

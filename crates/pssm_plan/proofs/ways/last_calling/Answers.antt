@@ -20,13 +20,13 @@ loop-k-preserved c =
           let is = subst Is (sym w.last-is) (none_from_here Q c.args.ways.now (k + 1)) in record { within = is.within; none = is.none }
       | else-way_calls w ↦
           let is = subst Is (sym w.last-is)
-            (none_from_next c.args.ways.now k c.index-ways-k.result c.loop-k-test.true c.index-ways-k.is Q c.loop-k.last
-            (λ h. absurd (let yes : c.way_calls.result ≡ true = c.way_calls.ensures.1 h in let no = w.if-way_calls.false in cc))
-            c.loop-k.invariant.within c.loop-k.invariant.none) in
+          (none_from_next c.args.ways.now k c.index-ways-k.result c.loop-k-test.true c.index-ways-k.is Q c.loop-k.last
+          (λ h. absurd (let yes : c.way_calls.result ≡ true = c.way_calls.ensures.1 h in let no = w.if-way_calls.false in cc))
+          c.loop-k.invariant.within c.loop-k.invariant.none) in
           record { within = is.within; none = is.none }
     ]
 
 pub returns-clause-none : goal.returns-clause-none
 returns-clause-none c =
     λ j way above at. c.loop-k.invariant.none j way above
-        (let inside = slice_get_within c.args.ways.now j way at in let last = c.loop-k-test.false in omega (arith, inside, last)) at
+    (let inside = slice_get_within c.args.ways.now j way at in let last = c.loop-k-test.false in omega (arith, inside, last)) at

@@ -10,5 +10,5 @@ returns-then-first-last-clause-all c =
 pub returns-else-first-last-clause-all : goal.returns-else-first-last-clause-all
 returns-else-first-last-clause-all c =
     λ way there called. absurd (none_between c.args.machine.now c.args.ways.now c.args.item c.first_calling-first.result c.last_calling-last.result
-        c.first_calling-first.ensures.none c.last_calling-last.ensures.none
-        (let over = c.if-first-last.false in omega (arith, over)) way there called)
+    c.first_calling-first.ensures.none c.last_calling-last.ensures.none
+    (let over = c.if-first-last.false in omega (arith, over)) way there called)
