@@ -1,8 +1,7 @@
 -- The ways of a list between the first that calls an item and the last.
-use Rattle.std.proofs.Common.{◌≡◌, ◌+◌, ◌-◌, ◌<◌, ◌≤◌, ℕ, List, Some, length, take, drop, get_or, slice_get, Contains, arith, refl, sym, subst, ap, ⊎_elim, ◌∙◌}
+use Rattle.std.proofs.Common.{◌≡◌, ◌+◌, ◌-◌, ◌<◌, ◌≤◌, ℕ, List, Some, length, take, drop, get_or, slice_get, Contains, arith, refl, sym, ap, ⊎_elim, ◌∙◌}
 use Rattle.std.proofs.lemmas.Bool.{cases_lt}
-use Rattle.std.proofs.lemmas.List.{get_or-take, get_or-drop, length-take-le, length-drop, take-append-drop}
-use Rattle.std.proofs.lemmas.List.Elements.{Contains-append_left, Contains-append_right}
+use Rattle.std.proofs.lemmas.List.{get_or-take, get_or-drop, length-take-le, length-drop}
 use Rattle.std.proofs.lemmas.Option.{slice_get_read}
 use Rattle.pssm_model.specs.declared.elements.DraftMachine.{DraftMachine}
 use Rattle.pssm_model.specs.declared.steps.Item.{Item}
@@ -20,13 +19,6 @@ module _ {X : Type 0} (xs : List X) (first last : ℕ) where
         get_or-take (last - first) (drop first xs) (i - first) y (omega arith)
             ∙ get_or-drop first xs (i - first) y ∙ ap (λ (n : ℕ). get_or xs n y) place ∙ at,
       )
-
-  pub of_part : (y : X) → Contains (take (last - first) (drop first xs)) y → Contains xs y
-  of_part y h =
-      let rest = drop first xs in
-      let inside = Contains-append_left (take (last - first) rest) (drop (last - first) rest) y h in
-      let of_rest = subst (λ (zs : List X). Contains zs y) (take-append-drop (last - first) rest) inside in
-      subst (λ (zs : List X). Contains zs y) (take-append-drop first xs) (Contains-append_right (take first xs) rest y of_rest)
 
 -- no way before the first place calls the item, and none from the last place on
 module _ (m : DraftMachine) (ways : List Way) (item : Item) (first last : ℕ)
