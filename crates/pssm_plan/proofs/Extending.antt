@@ -7,7 +7,8 @@ use Rattle.pssm_model.specs.declared.elements.DraftMachine.{DraftMachine}
 use Rattle.pssm_model.specs.declared.steps.Item.{Item}
 use Rattle.pssm_plan.specs.declared.roster.Call.{Call}
 use Rattle.pssm_plan.specs.inner.Marks.{IsListed, IsMarked, IsFresh}
-use Rattle.pssm_plan.specs.inner.Sequence.{IsItemOf, IsRoster, IsExtended}
+use Rattle.pssm_legs.specs.Calls.{IsItemIn}
+use Rattle.pssm_plan.specs.inner.Sequence.{IsRoster, IsExtended}
 
 -- a call that has not run
 abbrev pub fresh_call : Item → Call
@@ -43,17 +44,17 @@ module _ (old : List Call) (item : Item) where
   )
 
 module _ (m : DraftMachine) (old : List Call) (item : Item) where
-  pub roster_push : IsRoster m old → IsItemOf m item → (IsListed old item → ⊥) → IsRoster m (old ++ fresh_call item ∷ [])
+  pub roster_push : IsRoster m old → IsItemIn m item → (IsListed old item → ⊥) → IsRoster m (old ++ fresh_call item ∷ [])
   roster_push r there fresh = record { items = items; once = once }
     where
-      items : (x : Item) → IsListed (old ++ fresh_call item ∷ []) x → IsItemOf m x
-      items x h = ⊎_elim (λ was. r.items x was) (λ now. subst (IsItemOf m) (sym now) there) ((listed_push old item x).0 h)
+      items : (x : Item) → IsListed (old ++ fresh_call item ∷ []) x → IsItemIn m x
+      items x h = ⊎_elim (λ was. r.items x was) (λ now. subst (IsItemIn m) (sym now) there) ((listed_push old item x).0 h)
 
       once : AllPairs (λ (a b : Call). a.item ≢ b.item) (old ++ fresh_call item ∷ [])
       once = all_pairs_push (λ (a b : Call). a.item ≢ b.item) old (fresh_call item) r.once
           (λ k d lt e. fresh (get_or old k d, Contains-get_or old k d lt, e))
 
-  pub extended_push : IsRoster m old → IsItemOf m item → (IsListed old item → ⊥)
+  pub extended_push : IsRoster m old → IsItemIn m item → (IsListed old item → ⊥)
       → IsExtended m old (λ x. x ≡ item) (old ++ fresh_call item ∷ [])
   extended_push r there fresh = record {
     roster = roster_push r there fresh;

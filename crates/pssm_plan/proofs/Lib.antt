@@ -2,9 +2,14 @@ pub mod Taken
 pub mod Extending
 pub mod Growing
 pub mod Rewriting
+pub mod Forgetting
 pub mod Settling
 pub mod Firing
 pub mod Following
+pub mod Looking
+pub mod SomeWay
+pub mod BetweenWays
+pub mod NearWays
 pub mod Telling
 pub mod StandingItems
 pub mod ReadyCalls

@@ -33,9 +33,8 @@ fn is_up_to_date(calls: &[Call], call: Call) -> bool
     }
 }
 
-// The call once it has looked further, for the first call that holds it up. Of the ways, those that do not call its item
-// say nothing of it.
-fn look_on(machine: &Machine, ways: &[Way], calls: &[Call], call: Call) -> Call
+// The call once it has looked further, for the first call that holds it up.
+fn look_further(machine: &Machine, ways: &[Way], calls: &[Call], call: Call) -> Call
     requires single { HasSingleLegs machine.now }
     requires ways { AreWaysIn machine.now ways.now }
     requires items { AreItemsOf machine.now calls.now }
@@ -45,9 +44,8 @@ fn look_on(machine: &Machine, ways: &[Way], calls: &[Call], call: Call) -> Call
     ensures { IsSettled (IsSequence machine.now ways.now) calls.now call result }
 {
     let count = calls.len() as u32;
-    let near = ways_of(machine, ways, call.item);
     for place in call.seen..count {
-        if holds_up(machine, near, calls[place as usize], call.item) {
+        if holds_up(machine, ways, calls[place as usize], call.item) {
             return Call {
                 blocked: true,
                 seen: place,
@@ -60,6 +58,20 @@ fn look_on(machine: &Machine, ways: &[Way], calls: &[Call], call: Call) -> Call
         seen: count,
         ..call
     }
+}
+
+// The call once it has looked further. Of the ways, those that do not call its item say nothing of it.
+fn look_on(machine: &Machine, ways: &[Way], calls: &[Call], call: Call) -> Call
+    requires single { HasSingleLegs machine.now }
+    requires ways { AreWaysIn machine.now ways.now }
+    requires items { AreItemsOf machine.now calls.now }
+    requires item { IsItemIn machine.now call.item }
+    requires few { length calls.now < 2 ^ 32 }
+    requires seen { HasSeen (IsSequence machine.now ways.now) calls.now call }
+    ensures { IsSettled (IsSequence machine.now ways.now) calls.now call result }
+{
+    let near = ways_of(machine, ways, call.item);
+    look_further(machine, near, calls, call)
 }
 
 // Says of each call whether it waits, and for which one.

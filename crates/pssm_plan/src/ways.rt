@@ -182,5 +182,9 @@ pub fn ways_of<'a>(machine: &Machine, ways: &'a [Way], item: Item) -> &'a [Way]
 {
     let first = first_calling(machine, ways, item);
     let last = last_calling(machine, ways, item);
-    if first < last { &ways[first..last] } else { &ways[..0] }
+    if first < last {
+        &ways[first..last]
+    } else {
+        &ways[..0]
+    }
 }

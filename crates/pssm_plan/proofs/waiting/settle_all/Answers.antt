@@ -14,7 +14,7 @@ look_on-requires-clause-seen c =
     let d : Call = record { item = Exit (record { 0 = 0 }); ran = false; blocked = false; seen = 0 } in
     let old = c.args.calls.now in
     let lt : c.loop-k.k < length c.args.calls.now = omega (arith, c.loop-k.invariant.same_length, c.loop-k-test.true) in
-    settled_seen (IsSequence c.args.machine.now) old c.loop-k.calls c.loop-k.k c.loop-k.invariant d lt
+    settled_seen (IsSequence c.args.machine.now c.args.ways.now) old c.loop-k.calls c.loop-k.k c.loop-k.invariant d lt
     (c.requires.seen (get_or old c.loop-k.k d) (Contains-get_or old c.loop-k.k d lt))
 
 pub loop-k-preserved : goal.loop-k-preserved
@@ -25,12 +25,12 @@ loop-k-preserved c =
     let now = c.loop-k.calls in
     let k = c.loop-k.k in
     let lt : c.loop-k.k < length c.args.calls.now = omega (arith, c.loop-k.invariant.same_length, c.loop-k-test.true) in
-    let seen = settled_seen (IsSequence m) old now k c.loop-k.invariant d lt (c.requires.seen (get_or old k d) (Contains-get_or old k d lt)) in
-    let Is : List Call → Type 0 = (λ l. IsRewritten (IsSettled (IsSequence m) old) old l (k + 1)) in
+    let seen = settled_seen (IsSequence m c.args.ways.now) old now k c.loop-k.invariant d lt (c.requires.seen (get_or old k d) (Contains-get_or old k d lt)) in
+    let Is : List Call → Type 0 = (λ l. IsRewritten (IsSettled (IsSequence m c.args.ways.now) old) old l (k + 1)) in
     elim c.if-not-is_up_to_date.branch [
       | then-not-is_up_to_date w ↦ subst Is (sym w.calls-is)
-          (settled_more (IsSequence m) old now k c.loop-k.invariant d w.look_on.result lt w.look_on.ensures)
+          (settled_more (IsSequence m c.args.ways.now) old now k c.loop-k.invariant d w.look_on.result lt w.look_on.ensures)
       | else-not-is_up_to_date w ↦ subst Is (sym w.calls-is)
-          (settled_already (IsSequence m) old now k c.loop-k.invariant d lt seen
+          (settled_already (IsSequence m c.args.ways.now) old now k c.loop-k.invariant d lt seen
           (c.is_up_to_date.ensures w.if-not-is_up_to_date.false))
     ]

@@ -5,4 +5,4 @@ use Rattle.pssm_plan.proofs.waiting.settle_all.Given as goal
 
 -- the calls so far are settled
 abbrev pub invariant-loop-k : goal.invariant-loop-k
-invariant-loop-k l = IsRewritten (IsSettled (IsSequence l.machine) l.fn.calls) l.fn.calls l.calls l.k
+invariant-loop-k l = IsRewritten (IsSettled (IsSequence l.machine l.ways) l.fn.calls) l.fn.calls l.calls l.k

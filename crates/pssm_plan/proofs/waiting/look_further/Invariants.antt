@@ -2,9 +2,9 @@ use Rattle.std.proofs.Common.{◌<◌, ℕ, length, get_or}
 use Rattle.pssm_plan.specs.declared.roster.Call.{Call}
 use Rattle.pssm_plan.specs.Waiting.{HoldsUp}
 use Rattle.pssm_plan.specs.inner.Sequence.{IsSequence}
-use Rattle.pssm_plan.proofs.waiting.look_on.Given as goal
+use Rattle.pssm_plan.proofs.waiting.look_further.Given as goal
 
 -- none of the calls so far holds up the item
 abbrev pub invariant-loop-place : goal.invariant-loop-place
 invariant-loop-place l =
-    (k : ℕ) (d : Call) → k < l.place → k < length l.calls → HoldsUp (IsSequence l.machine) (get_or l.calls k d) l.call.item → ⊥
+    (k : ℕ) (d : Call) → k < l.place → k < length l.calls → HoldsUp (IsSequence l.machine l.ways) (get_or l.calls k d) l.call.item → ⊥

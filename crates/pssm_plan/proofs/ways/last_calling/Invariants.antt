@@ -1,0 +1,11 @@
+use Rattle.std.proofs.Common.{◌≡◌, ◌<◌, ◌≤◌, ℕ, Some, slice_get}
+use Rattle.pssm_plan.specs.declared.ways.Way.{Way}
+use Rattle.pssm_plan.specs.Ways.{calls_by}
+use Rattle.pssm_plan.proofs.ways.last_calling.Given as goal
+
+-- none of the ways so far after the last calls the item
+abbrev pub invariant-loop-k : goal.invariant-loop-k
+invariant-loop-k l = record {
+  within : l.last ≤ l.k;
+  none : (j : ℕ) (way : Way) → l.last ≤ j → j < l.k → slice_get l.ways j ≡ Some way → calls_by l.machine way l.item → ⊥;
+}
