@@ -1,5 +1,5 @@
 -- Routes that fire share no transition, so they have at most as many in all as the machine has.
-use Rattle.std.proofs.Common.{◌≡◌, ◌≢◌, ◌⊎◌, ◌<◌, ◌≤◌, ◌+◌, ◌++◌, ℕ, zero, suc, List, [], ◌∷◌, length, map, eqb, false, All, Contains, refl, sym, subst, inl, inr, ⊎_elim, arith}
+use Rattle.std.proofs.Common.{◌≡◌, ◌≢◌, ◌<◌, ◌≤◌, ◌++◌, ℕ, suc, List, [], ◌∷◌, length, map, eqb, false, All, Contains, refl, sym, subst, inl, inr, ⊎_elim, arith}
 use Rattle.std.specs.List.{AllByRecursion, IsDistinct, sum_by}
 use Rattle.std.proofs.lemmas.Bool.{eqb-true}
 use Rattle.std.proofs.lemmas.Bool.Decides.{eqb_tells}
@@ -25,7 +25,7 @@ use Rattle.pssm_model.specs.SingleLegs.{IsFrom}
 use Rattle.pssm_model.specs.Configuration.{Configuration}
 use Rattle.pssm_model.specs.Legs.{transitions_of, Leaves, Enters, Goes, On, Scope, LegScope, LiesInScope, Exits}
 use Rattle.pssm_model.specs.Legs.Scope.{Inside, Within}
-use Rattle.pssm_model.specs.Routes.{Truth, IsAscending, IsRoute, IsSource, IsStateRoute, IsEnabledBy, IsEnabled, Conflict}
+use Rattle.pssm_model.specs.Routes.{Truth, IsAscending, IsRoute, IsSource, IsEnabledBy, IsEnabled, Conflict}
 use Rattle.pssm_model.specs.FiringSets.{StartsBefore, IsListed, IsFiring}
 use Rattle.pssm_model.proofs.ElementLaws.{leaves_one, nothing_in_nil, same_transition}
 use Rattle.pssm_model.proofs.RouteLaws.{conflict_from_source}
@@ -34,7 +34,7 @@ use Rattle.pssm_model.proofs.NestedFrom.{nested_from_rules}
 use Rattle.pssm_model.proofs.OverJunctions.{single_legs}
 use Rattle.pssm_model.proofs.OneLeg.{start_or_rest, comes_from, rest_leaves_no_state, alone, of_rest, source_of_leg, target_of_leg}
 use Rattle.pssm_model.proofs.CommonRegions.{some_leg_scope}
-use Rattle.pssm_model.proofs.LegScopes.{IsAround, Touch, start_kind, scope_of_local, scope_of_external, exits_of, shared_touch}
+use Rattle.pssm_model.proofs.LegScopes.{IsAround, start_kind, scope_of_local, scope_of_external, exits_of, shared_touch}
 use Rattle.pssm_plan.proofs.SteadyPlaces.{local_ends}
 use Rattle.pssm_semantics.specs.Built.{IsBuiltRoute, IsBuiltFiring}
 use Rattle.pssm_semantics.proofs.Members.{first_in, later_in, in_cases}
@@ -57,7 +57,7 @@ once_ascending : (ts : List TransId) → IsAscending ts → ListsOnce ts
 once_ascending [] ascending = tt
 once_ascending (t ∷ ts) ascending = (
   λ inside.
-      (let above : All (λ u. t.0 < u.0) ts = λ k d lt. ascending 0 (suc k) d (omega arith) (omega (arith, lt)) in
+      (let above : All (λ (u : TransId). t.0 < u.0) ts = (λ k d lt. ascending 0 (suc k) d (omega arith) (omega (arith, lt))) in
       let less = All-contains (λ (u : TransId). t.0 < u.0) ts t above inside in
       omega (arith, less)),
   once_ascending ts (λ i j d before within. ascending (suc i) (suc j) d (omega (arith, before)) (omega (arith, within))),
@@ -124,8 +124,8 @@ ShareNone routes = (p q : Route) → Contains routes p → Contains routes q →
 
 -- a route with one start comes not again in a list in order
 first_differs : (p : Route) (routes : List Route) (t : TransId) → p.starts ≡ t ∷ [] → IsListed (p ∷ routes) → (q : Route) → Contains routes q → p ≢ q
-first_differs p routes t starts listed q inside same =
-    let before : All (StartsBefore p) routes = λ k d lt. listed 0 (suc k) d (omega arith) (omega (arith, lt)) in
+first_differs p routes t starts listed q inside = λ same.
+    let before : All (StartsBefore p) routes = (λ k d lt. listed 0 (suc k) d (omega arith) (omega (arith, lt))) in
     let less = All-contains (StartsBefore p) routes q before inside in
     let own : StartsBefore p p = subst (StartsBefore p) (sym same) less in
     let clash = own t t [] [] starts starts in
@@ -250,7 +250,7 @@ module _ {m : DraftMachine} (nested : IsPlainlyNested m) (shape : HasShape m) (n
   enabled_built p enabled =
       let from = state_route_from (single_legs nested) p enabled.route_of_states in
       let few = shape.limits.transitions in
-      let below : All (λ u. u.0 < 8192) (transitions_of p) =
+      let below : All (λ (u : TransId). u.0 < 8192) (transitions_of p) =
       λ k d lt. (let there = enabled.route_of_states.0.in_range k d lt in omega (arith, there, few)) in
       ((from.0, from.2.starts), recursion_from_All (λ (u : TransId). u.0 < 8192) (transitions_of p) below)
 

@@ -41,7 +41,7 @@ abbrev pub IsBuiltWay : How → Type 0
 IsBuiltWay how = (how ≡ Nothing) ⊎ ((t : TransId) × (how ≡ By (single_route t)))
 
 -- an entry of an object of a class that the code runs: at most 64 outputs, openings by default, by no way or by the route of one
--- transition, firings of such routes, and no completion, pick or do step (this profile's choice of entries)
+-- transition, firings of routes of one start each, with at most 8,192 transitions in all, and no completion, pick or do step (this profile's choice of entries)
 abbrev pub HasBuiltForm : Entry → Type 0
 HasBuiltForm (Post o signal args) = Unit {0}
 HasBuiltForm (Start o) = Unit {0}
