@@ -33,9 +33,9 @@ few_names_differ setting objects signals marks = record {
   marks = few_marks setting.classes (recursion_from_All (λ c. length c.program.marks ≤ 1) setting.classes marks);
 }
 
--- a route of one transition starts with it
+-- a route of one start has a start
 route_starts : (route : Route) → IsBuiltRoute route → HasStart route
-route_starts route is = subst HasStart (sym is.1) (omega arith)
+route_starts route is = subst (λ ts. 0 < length ts) (sym is.0.1) (omega arith)
 
 routes_start : (routes : List Route) → AllByRecursion IsBuiltRoute routes → AllByRecursion HasStart routes
 routes_start [] all = tt

@@ -1,8 +1,8 @@
 -- The line of an entry that the code runs so far is not longer than a line may be.
-use Rattle.std.proofs.Common.{◌≡◌, ℕ, ℤ, pos, negsuc, suc, ◌+◌, ◌*◌, map, ◌<◌, ◌≤◌, true, leb, List, [], ◌∷◌, ◌++◌, length, Some, All, refl, sym, ap, subst, arith, inl, inr}
+use Rattle.std.proofs.Common.{◌≡◌, ℕ, ℤ, pos, negsuc, suc, ◌+◌, ◌*◌, map, ◌<◌, ◌≤◌, true, leb, List, [], ◌∷◌, ◌++◌, length, Some, refl, sym, ap, subst, arith, inl, inr}
 use Rattle.std.specs.Prelude.{codes, FitsSigned}
 use Rattle.std.specs.Int.{w64}
-use Rattle.std.specs.List.{AllByRecursion, join_with_byte, sum_by}
+use Rattle.std.specs.List.{AllByRecursion, flat_map, join_with_byte, sum_by}
 use Rattle.std.specs.Fmt.{decimal, signed_decimal}
 use Rattle.std.proofs.lemmas.Bool.{leb-true}
 use Rattle.std.proofs.lemmas.List.{length-append}
@@ -15,7 +15,7 @@ use Rattle.pssm_model.specs.declared.steps.Route.{Route}
 use Rattle.pssm_model.specs.declared.steps.Firing.{Firing}
 use Rattle.pssm_model.specs.declared.steps.Mode.TheVariants.{Plain}
 use Rattle.pssm_model.specs.declared.steps.How.{How}
-use Rattle.pssm_model.specs.FiringSets.{IsListed}
+use Rattle.pssm_model.specs.Legs.{transitions_of}
 use Rattle.pssm_semantics.specs.declared.entry.ObjectId.{ObjectId}
 use Rattle.pssm_semantics.specs.declared.entry.Entry.{Entry}
 use Rattle.pssm_semantics.specs.declared.entry.Entry.TheVariants as entries
@@ -26,7 +26,7 @@ use Rattle.pssm_semantics.specs.declared.line.LineOut.TheVariants.{Mark, Send}
 use Rattle.pssm_semantics.specs.declared.setting.Setting.{Setting}
 use Rattle.pssm_semantics.specs.Built.{IsBuiltRoute, IsBuiltFiring, IsBuiltWay, HasBuiltForm, IsBuiltEntry}
 use Rattle.pssm_spelling.specs.Spelling.{IsName}
-use Rattle.pssm_lines.specs.LineText.{line_text, firing_text, route_text, routes_text, how_text, args_text, call_text, out_text, outs_text}
+use Rattle.pssm_lines.specs.LineText.{line_text, firing_text, transition_text, route_text, routes_text, how_text, args_text, call_text, out_text, outs_text}
 use Rattle.pssm_lines.specs.Grammar.{IsLine, IsSpelledHow, AreArgs, IsSpelledOut, AreSpelledOuts}
 use Rattle.pssm_lines.specs.Faults.{IsJournalLine}
 use Rattle.pssm_journal.specs.Entries.{object_named, outs_named, object_name, entry_at, entry_named, IsEntryOf}
@@ -88,44 +88,52 @@ sum_most P f most (x ∷ xs) each all =
 
 -- ---- firings
 
--- The route starts at this number or a higher one.
-abbrev StartsFrom : ℕ → Route → Type 0
-StartsFrom low route = (t : TransId) (ts : List TransId) → route.starts ≡ t ∷ ts → low ≤ t.0
+-- `t`, at most four digits and a mark
+short_start : (t : TransId) → t.0 < 8192 → length (transition_text t) + 1 ≤ 6
+short_start t small =
+    let digits = length-decimal-le 4 t.0 (omega arith) (omega (arith, small)) (omega (arith, small)) in
+    omega (arith, digits)
 
--- numbers that ascend from one up to a limit are not more than there is room for
-room_from : (low : ℕ) (routes : List Route) → low ≤ 8192 → AllByRecursion IsBuiltRoute routes → IsListed routes → All (StartsFrom low) routes → low + length routes ≤ 8192
-room_from low [] le all listed from = omega (arith, le)
-room_from low (r ∷ rs) le all listed from =
-    let t = all.0.0 in
-    let single : r.starts ≡ t ∷ [] = ap (λ (route : Route). route.starts) all.0.1 in
-    let first = from 0 r (omega arith) t [] single in
-    let below = all.0.2 in
-    let after : All (StartsFrom (t.0 + 1)) rs =
-    (λ k d lt u us is. let less = listed 0 (suc k) d (omega arith) (omega (arith, lt)) t u [] us single is in omega (arith, less)) in
-    let later : IsListed rs = (λ i j d before within. listed (suc i) (suc j) d (omega (arith, before)) (omega (arith, within))) in
-    let rest = room_from (t.0 + 1) rs (omega (arith, below)) all.1 later after in
-    omega (arith, rest, first)
+short_further : (t : TransId) → t.0 < 8192 → length (codes "," ++ transition_text t) ≤ 6
+short_further t small = let start = short_start t small in omega (arith, start)
 
-few_routes : (firing : Firing) → IsBuiltFiring firing → length firing.routes ≤ 8192
-few_routes firing built =
-    let room = room_from 0 firing.routes (omega arith) built.0 built.1 (λ k d lt t ts is. omega arith) in
-    omega (arith, room)
+short_rest : (rest : List TransId) → AllByRecursion (λ t. t.0 < 8192) rest → length (flat_map (λ t. codes "," ++ transition_text t) rest) ≤ length rest * 6
+short_rest rest small =
+    let most = sum_most (λ (t : TransId). t.0 < 8192) (λ t. length (codes "," ++ transition_text t)) 6 rest short_further small in
+    omega (arith, most, length-flat_map (λ t. codes "," ++ transition_text t) rest)
 
--- a blank, `t` and at most four digits
-short_route : (route : Route) → IsBuiltRoute route → length (route_text route) + 1 ≤ 6
-short_route route is =
-    let t = is.0 in
-    let digits = length-decimal-le 4 t.0 (omega arith) (omega (arith, is.2)) (omega (arith, is.2)) in
-    subst (λ x. length (route_text x) + 1 ≤ 6) (sym is.1) (omega (arith, digits, length-append (decimal t.0) []))
+-- a start, and the transitions after it
+short_both : (a b : List ℕ) (k : ℕ) → length a + 1 ≤ 6 → length b ≤ k * 6 → length (a ++ b) + 1 ≤ 6 * suc k
+short_both a b k first more = omega (arith, first, more, length-append a b)
 
-short_routes : (routes : List Route) → AllByRecursion IsBuiltRoute routes → length routes ≤ 8192 → IsShort 49152 (routes_text routes)
+short_parts : (starts rest : List TransId) → ((t : TransId) × (starts ≡ t ∷ [])) → AllByRecursion (λ t. t.0 < 8192) (starts ++ rest)
+    → length (join_with_byte 43 (map transition_text starts) ++ flat_map (λ t. codes "," ++ transition_text t) rest) + 1 ≤ 6 * length (starts ++ rest)
+short_parts [] rest one small = absurd (let is = one.1 in cc)
+short_parts (t ∷ []) rest one small =
+    short_both (transition_text t) (flat_map (λ u. codes "," ++ transition_text u) rest) (length rest) (short_start t small.0) (short_rest rest small.1)
+short_parts (t ∷ u ∷ ts) rest one small = absurd (let is = one.1 in cc)
+
+short_route : (route : Route) → IsBuiltRoute route → length (route_text route) + 1 ≤ 6 * length (transitions_of route)
+short_route route is = short_parts route.starts route.rest is.0 is.1
+
+-- each route with a mark before it
+joined_routes : (routes : List Route) → AllByRecursion IsBuiltRoute routes
+    → sum_by (λ route. length (route_text route) + 1) routes ≤ 6 * sum_by (λ route. length (transitions_of route)) routes
+joined_routes [] all = omega arith
+joined_routes (r ∷ rs) all =
+    let first = short_route r all.0 in
+    let rest = joined_routes rs all.1 in
+    omega (arith, first, rest, sum_by-cons (λ route. length (route_text route) + 1) r rs, sum_by-cons (λ route. length (transitions_of route)) r rs)
+
+short_routes : (routes : List Route) → AllByRecursion IsBuiltRoute routes → sum_by (λ route. length (transitions_of route)) routes ≤ 8192
+    → IsShort 49152 (routes_text routes)
 short_routes [] all few = short_more 16 49152 (codes "-") (omega arith) (short_word (codes "-") refl)
 short_routes (r ∷ rs) all few =
-    let most = sum_most IsBuiltRoute (λ route. length (route_text route) + 1) 6 (r ∷ rs) short_route all in
+    let most = joined_routes (r ∷ rs) all in
     record { few = omega (arith, joined_length 32 route_text (r ∷ rs), most, few) }
 
 short_firing : (firing : Firing) → IsBuiltFiring firing → IsShort 49152 (firing_text firing)
-short_firing firing built = short_routes firing.routes built.0 (few_routes firing built)
+short_firing firing built = short_routes firing.routes built.0 built.1
 
 -- ---- arguments and outputs
 

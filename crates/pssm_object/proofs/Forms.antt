@@ -22,7 +22,7 @@ use Rattle.pssm_object.specs.Following.{NamesSignal, KeepsRules}
 use Rattle.pssm_object.specs.inner.Firing.{IsDefaultWay, truth_at}
 use Rattle.pssm_object.specs.inner.Judging.{FiresHere, Judges}
 use Rattle.pssm_object.proofs.Accepted.{accepted}
-use Rattle.pssm_object.proofs.Fired.{built_firing}
+use Rattle.pssm_object.proofs.Unshared.{built_firing}
 use Rattle.pssm_object.proofs.Following.{ready_plain}
 
 -- what opens a region by default is nothing or one transition

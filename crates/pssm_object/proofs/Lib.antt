@@ -2,6 +2,7 @@ pub mod BuiltMachines
 pub mod PlanItems
 pub mod BuiltWays
 pub mod Fired
+pub mod Unshared
 pub mod KnownWays
 pub mod KnownJoiners
 pub mod SomeFiring

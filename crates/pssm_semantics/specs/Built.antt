@@ -1,7 +1,7 @@
 -- The premises of what is built: the classes and settings that the code runs, and the entries of the runs of these. Later work widens these premises; no
 -- definition changes with them.
-use Rattle.std.specs.Prelude.{◌≡◌, ◌⊎◌, ◌<◌, ◌≤◌, length, All}
-use Rattle.std.specs.List.{AllByRecursion}
+use Rattle.std.specs.Prelude.{◌≡◌, ◌⊎◌, ◌<◌, ◌≤◌, [], ◌∷◌, length, All}
+use Rattle.std.specs.List.{AllByRecursion, sum_by}
 use Rattle.pssm_model.specs.declared.ids.TransId.{TransId}
 use Rattle.pssm_model.specs.declared.steps.Route.{Route}
 use Rattle.pssm_model.specs.declared.steps.Firing.{Firing}
@@ -9,8 +9,8 @@ use Rattle.pssm_model.specs.declared.steps.Mode.TheVariants.{Plain}
 use Rattle.pssm_model.specs.declared.steps.How.{How}
 use Rattle.pssm_model.specs.declared.steps.How.TheVariants.{By, Nothing}
 use Rattle.pssm_model.specs.BuiltMachine.{IsBuiltMachine}
+use Rattle.pssm_model.specs.Legs.{transitions_of}
 use Rattle.pssm_model.specs.Routes.{single_route}
-use Rattle.pssm_model.specs.FiringSets.{IsListed}
 use Rattle.pssm_semantics.specs.declared.entry.Entry.{Entry}
 use Rattle.pssm_semantics.specs.declared.entry.Entry.TheVariants.{Post, Start, Take, Exit, Effect, Enter, Opened}
 use Rattle.pssm_semantics.specs.declared.setting.Class.{Class}
@@ -28,20 +28,20 @@ pub record IsBuilt (setting : Setting) : Type 0 where
   pub proper : IsProper setting
   pub machines : All (λ c. IsBuiltMachine c.machine) setting.classes
 
--- the route of one transition, which is one of the first 8,192
+-- a route of one start, each transition of which is one of the first 8,192
 abbrev pub IsBuiltRoute : Route → Type 0
-IsBuiltRoute route = (t : TransId) × (route ≡ single_route t) × (t.0 < 8192)
+IsBuiltRoute route = ((t : TransId) × (route.starts ≡ t ∷ [])) × AllByRecursion (λ u. u.0 < 8192) (transitions_of route)
 
--- routes of one transition each, listed in ascending number
+-- routes of one start each, with at most 8,192 transitions in all
 abbrev pub IsBuiltFiring : Firing → Type 0
-IsBuiltFiring firing = AllByRecursion IsBuiltRoute firing.routes × IsListed firing.routes
+IsBuiltFiring firing = AllByRecursion IsBuiltRoute firing.routes × (sum_by (λ route. length (transitions_of route)) firing.routes ≤ 8192)
 
 -- no way, or the route of one transition
 abbrev pub IsBuiltWay : How → Type 0
 IsBuiltWay how = (how ≡ Nothing) ⊎ ((t : TransId) × (how ≡ By (single_route t)))
 
 -- an entry of an object of a class that the code runs: at most 64 outputs, openings by default, by no way or by the route of one
--- transition, firings of such routes, and no completion, pick or do step (this profile's choice of entries)
+-- transition, firings of routes of one start each, with at most 8,192 transitions in all, and no completion, pick or do step (this profile's choice of entries)
 abbrev pub HasBuiltForm : Entry → Type 0
 HasBuiltForm (Post o signal args) = Unit {0}
 HasBuiltForm (Start o) = Unit {0}
