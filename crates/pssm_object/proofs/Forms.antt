@@ -34,7 +34,9 @@ plain_way m r (Restore s) h = absurd h
 module _ (class : Class) (b : IsBuiltClass class) {J : List Entry} {x : Standing} (s : StandsAfter class J x) where
   plain_take : (signal : Option Waiting) (number : ℕ) (firing : Firing) → IsSomeAnd signal (λ w. number ≡ w.number)
       → IfSome signal (FiresHere class x firing.routes) → IsBuiltFiring firing
-  plain_take signal number firing named fires = ?
+  plain_take None number firing named fires = absurd named
+  plain_take (Some w) number firing named fires =
+      built_firing b.machine (configuration_of x.config) (truth_at class x.store w) (Signal w.signal) firing fires
 
   form_of : (signal : Option Waiting) (e : Entry) → KeepsRules class x signal J e → NamesSignal signal e → Judges class x signal e None → HasBuiltForm e
   form_of signal (Post o g args) kept named h = tt
