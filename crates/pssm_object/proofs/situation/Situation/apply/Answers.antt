@@ -8,7 +8,7 @@ use Rattle.pssm_object.proofs.Going.{begins}
 use Rattle.pssm_object.proofs.situation.Situation.apply.Goals as goal
 
 pub of_start-requires : goal.of_start-requires
-of_start-requires c = single_legs (nested c.requires.class.machine)
+of_start-requires c = record { single = single_legs (nested c.requires.class.machine) }
 
 pub returns-in_ok-of_start-in-Start-clause-ok : goal.returns-in_ok-of_start-in-Start-clause-ok
 returns-in_ok-of_start-in-Start-clause-ok c =
