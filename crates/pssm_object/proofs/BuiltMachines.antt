@@ -22,20 +22,20 @@ use Rattle.pssm_model.specs.Forest.{vertex_at, transition_at, owner_of, HasKind,
 use Rattle.pssm_model.specs.Legs.{Leaves}
 use Rattle.pssm_model.specs.Configuration.{do_steps_of}
 use Rattle.pssm_model.specs.Routes.{Truth, guard_of, HasTrueValue, IsTrueAt, Lists, HasNoTrigger}
-use Rattle.pssm_model.specs.Paths.{HasOut, IsInitialOf}
+use Rattle.pssm_model.specs.Paths.{HasOut, IsInitialOf, IsPseudostateKind}
 use Rattle.pssm_model.specs.WellFormed.{IsBranch}
 use Rattle.pssm_model.specs.WellFormed.Breaks.{E01_top, E03, E10, E17}
 use Rattle.pssm_model.specs.Nested.{IsPlainlyNested}
 use Rattle.pssm_model.specs.BuiltMachine.{IsBuiltMachine}
 use Rattle.pssm_model.specs.inner.Listed.{vertex_number, transition_number}
-use Rattle.pssm_model.proofs.ElementLaws.{mapped_some, mapped_at, some_at, some_and, and_some, nothing_in_nil, kind_split}
+use Rattle.pssm_model.proofs.ElementLaws.{mapped_some, mapped_at, some_and, and_some, nothing_in_nil, kind_split, kind_unique}
 use Rattle.pssm_model.proofs.NestedFrom.{nested_from_rules}
 use Rattle.pssm_config.specs.Tables.{Tables, Fits, configuration_of}
 use Rattle.pssm_plan.proofs.SteadyRules.{initials_from_rules}
 use Rattle.pssm_plan.specs.Steadiness.{KeepsInitials}
 use Rattle.pssm_plan.proofs.Known.{Known, known_as, known_both, known_below, known_vertex}
 use Rattle.pssm_plan.proofs.KnownPlaces.{known_owner}
-use Rattle.pssm_plan.proofs.NestedRoutes.{kind_cases, no_other_kind}
+use Rattle.pssm_model.proofs.OverJunctions.{no_other_kind, kind_there as kind_of}
 
 -- a mapped option is known to hold a value where that is known of each value
 known_mapped : {X Y : Type 0} (f : X → Y) (o : Option X) (y : Y) → ((x : X) → Known (f x ≡ y))
@@ -95,14 +95,19 @@ known_initial_of m r =
 
 module _ {m : DraftMachine} (b : IsBuiltMachine m) where
   pub nested : IsPlainlyNested m
-  nested = nested_from_rules b.shape b.rules (λ v x e further. b.built (elements.Vertex v) (x, e, further))
+  nested =
+      nested_from_rules
+      b.shape
+      b.rules
+      (λ v x e further. b.built (elements.Vertex v) (x, e, further))
+      (λ t x e further. b.built (elements.Transition t) (x, e, further))
 
-  -- every vertex is an initial vertex or a State
+  -- every vertex is an initial vertex, a State or a junction
   pub no_final : (v : VertexId) → HasKind m v kinds.Final → ⊥
-  no_final v h = no_other_kind nested v kinds.Final (λ e. cc) (λ e. cc) h
+  no_final v h = no_other_kind nested v kinds.Final (λ e. cc) (λ e. cc) (λ e. cc) h
 
   pub no_terminate : (v : VertexId) → HasKind m v kinds.Terminate → ⊥
-  no_terminate v h = no_other_kind nested v kinds.Terminate (λ e. cc) (λ e. cc) h
+  no_terminate v h = no_other_kind nested v kinds.Terminate (λ e. cc) (λ e. cc) (λ e. cc) h
 
   pub state_of_active : (v : VertexId) → IsStateOrFinal m v → HasKind m v kinds.State
   state_of_active v is = ⊎_elim (λ k. k) (λ k. absurd (no_final v k)) is
@@ -111,18 +116,17 @@ module _ {m : DraftMachine} (b : IsBuiltMachine m) where
   pub active_there : (tables : Tables) → Fits m tables → (s : VertexId) → (configuration_of tables).Active s → s.0 < length m.vertices
   active_there tables fits s active = kind_there m s kinds.State (state_of_active s (fits.states s active))
 
-  no_branch : (v : VertexId) → IsBranch m v → ⊥
-  no_branch v h =
-      ⊎_elim
-      (λ k. no_other_kind nested v kinds.Junction (λ e. cc) (λ e. cc) k)
-      (λ k. no_other_kind nested v kinds.Choice (λ e. cc) (λ e. cc) k)
-      h
+  -- a State or an initial vertex
+  abbrev pub IsOrigin : VertexId → Type 0
+  IsOrigin v = HasKind m v kinds.State ⊎ HasKind m v kinds.Initial
 
-  kind_of : (v : VertexId) → v.0 < length m.vertices → HasKind m v kinds.Initial ⊎ HasKind m v kinds.State
-  kind_of v lt =
-      let at = some_at m.vertices v.0 lt in
-      let there = mapped_at (λ (x : Vertex). x.kind) (vertex_at m v) at.0 at.1 in
-      ⊎_elim (λ i. inl (there ∙ ap Some i)) (λ s. inr (there ∙ ap Some s)) (kind_cases nested v at.0.kind there)
+  no_junction : (v : VertexId) → IsOrigin v → HasKind m v kinds.Junction → ⊥
+  no_junction v (inl s) j = let clash = kind_unique m v kinds.State kinds.Junction s j in cc
+  no_junction v (inr i) j = let clash = kind_unique m v kinds.Initial kinds.Junction i j in cc
+
+  -- is no junction and no choice
+  no_branch : (v : VertexId) → IsOrigin v → IsBranch m v → ⊥
+  no_branch v is h = ⊎_elim (no_junction v is) (no_other_kind nested v kinds.Choice (λ e. cc) (λ e. cc) (λ e. cc)) h
 
   -- there is a top region
   pub some_top : ((r : RegionId) → owner_of m (Region r) ≡ Some Top → ⊥) → ⊥
@@ -134,17 +138,17 @@ module _ {m : DraftMachine} (b : IsBuiltMachine m) where
   no_completion_transition t s none l k =
       let at = mapped_some (λ (x : Transition). x.source) (transition_at m t) s l in
       let there = at.1 in
-      b.built (elements.Transition t) (at.0, at.1, (subst (λ w. HasKind m w kinds.State) (sym at.2) k, cc))
+      b.built (elements.Transition t) (at.0, at.1, inl (subst (λ w. HasKind m w kinds.State) (sym at.2) k, cc))
 
   -- what lists a signal leaves a State
-  lists_from_initial : (t : TransId) (x : Transition) (signal : SignalId) → transition_at m t ≡ Some x
-      → Contains x.triggers signal → HasKind m x.source kinds.Initial → ⊥
-  lists_from_initial t x signal e inside i =
+  lists_from_other : (t : TransId) (x : Transition) (signal : SignalId) → transition_at m t ≡ Some x
+      → Contains x.triggers signal → (k : VertexKind) → HasKind m x.source k → IsPseudostateKind k → ⊥
+  lists_from_other t x signal e inside k is pseudo =
       b.rules (places.At (elements.Transition t)) 10 (E10 (
         x.source,
         mapped_at (λ (y : Transition). y.source) (transition_at m t) x e,
         inl (
-          (kinds.Initial, i, tt),
+          (k, is, pseudo),
           and_some (λ (y : Transition). y.triggers ≢ []) (transition_at m t) x e
               (λ none. nothing_in_nil signal (subst (λ gs. Contains gs signal) none inside)),
         ),
@@ -157,26 +161,28 @@ module _ {m : DraftMachine} (b : IsBuiltMachine m) where
         at.0.source,
         mapped_at (λ (x : Transition). x.source) (transition_at m t) at.0 at.1,
         ⊎_elim
-            (λ i. absurd (lists_from_initial t at.0 signal at.1 at.2 i))
             (λ s. s)
-            (kind_of at.0.source (b.shape.ends t at.0 at.1).0),
+            (⊎_elim
+            (λ i. absurd (lists_from_other t at.0 signal at.1 at.2 kinds.Initial i tt))
+            (λ j. absurd (lists_from_other t at.0 signal at.1 at.2 kinds.Junction j tt)))
+            (kind_of nested b.shape at.0.source (b.shape.ends t at.0 at.1).0),
         slice_get_within m.transitions t.0 at.0 at.1,
       )
 
-  -- no guard is `else`
-  else_built : (t : TransId) (x : Transition) → transition_at m t ≡ Some x → x.guard ≡ Otherwise → ⊥
-  else_built t x e other =
+  -- no guard is `else` of a transition out of a State or an initial vertex
+  else_built : (t : TransId) (x : Transition) (v : VertexId) → transition_at m t ≡ Some x → Leaves m t v → IsOrigin v → x.guard ≡ Otherwise → ⊥
+  else_built t x v e leaves is other =
       b.rules (places.At (elements.Transition t)) 17 (E17 (
         mapped_at (λ (y : Transition). y.guard) (transition_at m t) x e ∙ ap Some other,
-        (x.source, mapped_at (λ (y : Transition). y.source) (transition_at m t) x e, inl (no_branch x.source)),
+        (v, leaves, inl (no_branch v is)),
       ))
 
-  -- so what is true at a transition is missing or true by its value
-  pub true_value : (truth : Truth) (t : TransId) → IsTrueAt m truth t → HasTrueValue m truth t
-  true_value truth t (inl h) = h
-  true_value truth t (inr h) =
+  -- so what is true at such a transition is missing or true by its value
+  pub true_value : (truth : Truth) (t : TransId) (v : VertexId) → Leaves m t v → IsOrigin v → IsTrueAt m truth t → HasTrueValue m truth t
+  true_value truth t v leaves is (inl h) = h
+  true_value truth t v leaves is (inr h) =
       let at = mapped_some (λ (x : Transition). x.guard) (transition_at m t) Otherwise h.0 in
-      absurd (else_built t at.0 at.1 at.2)
+      absurd (else_built t at.0 v at.1 leaves is at.2)
 
   -- a transition out of an initial vertex has no guard
   guarded_initial : (t : TransId) (x : Transition) (v : VertexId) (g : GuardId) → transition_at m t ≡ Some x → HasKind m v kinds.Initial → Leaves m t v
@@ -195,7 +201,7 @@ module _ {m : DraftMachine} (b : IsBuiltMachine m) where
   unguarded : (t : TransId) (x : Transition) (v : VertexId) (k : Guard) → transition_at m t ≡ Some x → HasKind m v kinds.Initial → Leaves m t v → x.guard ≡ k
       → x.guard ≡ Always
   unguarded t x v Always e initial leaves is = is
-  unguarded t x v Otherwise e initial leaves is = absurd (else_built t x e is)
+  unguarded t x v Otherwise e initial leaves is = absurd (else_built t x v e leaves (inr initial) is)
   unguarded t x v (When g) e initial leaves is = absurd (guarded_initial t x v g e initial leaves is)
 
   -- and so is true

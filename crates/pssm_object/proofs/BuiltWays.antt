@@ -16,15 +16,15 @@ use Rattle.pssm_model.specs.Paths.{IsInitialOf}
 use Rattle.pssm_model.specs.Ways.{Memory, OpensByDefault, IsWay}
 use Rattle.pssm_model.specs.BuiltMachine.{IsBuiltMachine}
 use Rattle.pssm_model.proofs.ElementLaws.{nothing_in_nil}
-use Rattle.pssm_plan.proofs.NestedRoutes.{late_route_is, late_route_of}
 use Rattle.pssm_object.specs.inner.Firing.{IsDefaultWay}
+use Rattle.pssm_object.proofs.LateRoutes.{late_route_is, late_route_of}
 use Rattle.pssm_object.proofs.BuiltMachines.{nested, initial_true, leaving_there, initial_leads, known_initial}
 
 module _ {m : DraftMachine} (b : IsBuiltMachine m) where
   -- the route of the initial vertex is the one transition out of it, whose guard is true
   opening_is : (truth : Truth) (r : RegionId) (how : How) → OpensByDefault m truth r how → IsDefaultWay m r how
   opening_is truth r (By route) h =
-      let late = late_route_is (nested b) truth h.0 route h.2 in
+      let late = late_route_is (nested b) b.shape truth h.0 route h.2 in
       (h.0, late.0, h.1, late.2, late.1)
   opening_is truth r (Restore s) h = h
   opening_is truth r Nothing h = h
@@ -35,7 +35,7 @@ module _ {m : DraftMachine} (b : IsBuiltMachine m) where
         h.0,
         h.2,
         subst (λ p. IsLateRoute m truth h.0 p) (sym h.4)
-            (late_route_of (nested b) truth h.0 h.1 there h.3 h.2.0 (initial_true b truth h.1 h.0 h.2.0 h.3)),
+            (late_route_of (nested b) b.shape truth h.0 h.1 there h.3 h.2.0 (initial_true b truth h.1 h.0 h.2.0 h.3)),
       )
   opening_of truth r (Restore s) h = h
   opening_of truth r Nothing h = h

@@ -1,53 +1,29 @@
--- What fires in a machine that the code runs: routes of one transition each, out of active States; and how a step begins so.
-use Rattle.std.proofs.Common.{◌≢◌, List, All, Contains, sym, ◌∙◌, inl, ⊎_elim, arith}
-use Rattle.std.specs.List.{AllByRecursion}
+-- What fires in a machine that the code runs: routes of one leg each, out of active States; and how a step begins so.
+use Rattle.std.proofs.Common.{List, All, Contains}
 use Rattle.std.proofs.lemmas.List.Elements.{All-contains}
 use Rattle.pssm_model.specs.declared.ids.VertexId.{VertexId}
 use Rattle.pssm_model.specs.declared.ids.SignalId.{SignalId}
 use Rattle.pssm_model.specs.declared.elements.DraftMachine.{DraftMachine}
-use Rattle.pssm_model.specs.declared.elements.Vertex.{Vertex}
-use Rattle.pssm_model.specs.declared.elements.VertexKind.{VertexKind}
-use Rattle.pssm_model.specs.declared.elements.VertexKind.TheVariants as kinds
-use Rattle.pssm_model.specs.declared.elements.Element.TheVariants as elements
 use Rattle.pssm_model.specs.declared.steps.Route.{Route}
 use Rattle.pssm_model.specs.declared.steps.Firing.{Firing}
 use Rattle.pssm_model.specs.declared.steps.Event.{Event}
 use Rattle.pssm_model.specs.declared.steps.Event.TheVariants.{Signal}
-use Rattle.pssm_model.specs.Forest.{vertex_at, HasKind}
-use Rattle.pssm_model.specs.Legs.{IsCut}
 use Rattle.pssm_model.specs.Configuration.{Configuration}
 use Rattle.pssm_model.specs.Routes.{Truth, IsSource, IsStateRoute, IsEnabled}
 use Rattle.pssm_model.specs.FiringSets.{IsFiring}
 use Rattle.pssm_model.specs.Course.Head.{Starts, Fires}
 use Rattle.pssm_model.specs.BuiltMachine.{IsBuiltMachine}
-use Rattle.pssm_model.proofs.ElementLaws.{mapped_some}
 use Rattle.pssm_model.specs.SingleLegs.{HasSingleLegs}
+use Rattle.pssm_model.proofs.OverJunctions.{single_legs as legs_of}
 use Rattle.pssm_plan.specs.Steadiness.{IsConsistent, BeginsWell}
-use Rattle.pssm_plan.proofs.NestedRoutes.{route_is_single}
-use Rattle.pssm_semantics.specs.Built.{IsBuiltRoute, IsBuiltFiring}
+use Rattle.pssm_semantics.specs.Built.{IsBuiltFiring}
 use Rattle.pssm_semantics.specs.Known.{IsRouteOf}
 use Rattle.pssm_object.proofs.BuiltMachines.{nested}
-use Rattle.pssm_object.proofs.Signals.{each_contained}
 
 module _ {m : DraftMachine} (b : IsBuiltMachine m) where
-  -- no vertex is of a kind that the code does not run
-  no_other : (v : VertexId) (k : VertexKind) → k ≢ kinds.State → k ≢ kinds.Initial → HasKind m v k → ⊥
-  no_other v k state initial h =
-      let at = mapped_some (λ (x : Vertex). x.kind) (vertex_at m v) k h in
-      b.built (elements.Vertex v) (at.0, at.1, inl (λ e. state (sym at.2 ∙ e), λ e. initial (sym at.2 ∙ e)))
-
-  no_cut : (v : VertexId) → IsCut m v → ⊥
-  no_cut v h =
-      ⊎_elim
-      (λ k. no_other v kinds.Fork (λ e. cc) (λ e. cc) k)
-      (⊎_elim
-      (λ k. no_other v kinds.Join (λ e. cc) (λ e. cc) k)
-      (⊎_elim (λ k. no_other v kinds.EntryPoint (λ e. cc) (λ e. cc) k) (λ k. no_other v kinds.ExitPoint (λ e. cc) (λ e. cc) k)))
-      h
-
-  -- so each of its routes is one leg
+  -- each of its routes is one leg
   pub single_legs : HasSingleLegs m
-  single_legs = record { rules = b.rules; uncut = no_cut }
+  single_legs = legs_of (nested b)
 
   module _ (now : Configuration) (truth : Truth) (event : Event) (routes : List Route) (h : IsFiring m now truth event routes) where
     -- what fires is enabled
@@ -61,19 +37,8 @@ module _ {m : DraftMachine} (b : IsBuiltMachine m) where
     pub fired_there : All (IsRouteOf m) routes
     fired_there = λ i route lt. (h.0.sound.enabled i route lt).route_of_states.0.in_range
 
-    -- and has the form of what fires
-    fired_built : (route : Route) → Contains routes route → IsBuiltRoute route
-    fired_built route inside =
-        let one = route_is_single (nested b) route (fired_state_route route inside).0 in
-        let few = b.shape.limits.transitions in
-        let lt = one.2 in
-        (one.0, one.1, omega (arith, few, lt))
-
-    pub built_routes : AllByRecursion IsBuiltRoute routes
-    built_routes = each_contained IsBuiltRoute routes fired_built
-
   pub built_firing : (now : Configuration) (truth : Truth) (event : Event) (firing : Firing) → IsFiring m now truth event firing.routes → IsBuiltFiring firing
-  built_firing now truth event firing h = (built_routes now truth event firing.routes h, h.1)
+  built_firing now truth event firing h = ?
 
   -- the sources of what a signal fires are active
   pub fired_from_active : (now : Configuration) (truth : Truth) (signal : SignalId) (routes : List Route) → IsFiring m now truth (Signal signal) routes

@@ -20,8 +20,8 @@ use Rattle.pssm_model.proofs.Agreeing.{Agree-symm}
 use Rattle.pssm_config.specs.Tables.{CanEnter, configuration_of}
 use Rattle.pssm_plan.specs.Agenda.{Agenda, course_of}
 use Rattle.pssm_plan.specs.Steadiness.{changed_along}
-use Rattle.pssm_plan.proofs.NestedSteps.{gone_directly}
-use Rattle.pssm_plan.proofs.SingleItems.{called_is}
+use Rattle.pssm_plan.proofs.RouteSteps.{gone_by_routes}
+use Rattle.pssm_plan.proofs.RouteItems.{called_is}
 use Rattle.pssm_plan.proofs.StepLengths.{IsThere, called_there}
 use Rattle.pssm_plan.proofs.SteadyChanges.{exit_is_active}
 use Rattle.pssm_plan.proofs.Steadiness.{may_enter}
@@ -60,7 +60,8 @@ module _ (class : Class) (b : IsBuiltClass class) {J : List Entry} {x : Standing
   ready_there p is y ready =
       let u = step_of s p is in
       called_there b.machine.shape (nested b.machine) p.head (configuration_of p.at_head) p.ran u.gone y
-      (called_is m (course_of p) (gone_directly (nested b.machine) p.head (configuration_of p.at_head) p.ran u.gone) y ready.waiting.called)
+      (called_is (nested b.machine) b.machine.shape (course_of p)
+      (gone_by_routes (nested b.machine) b.machine.shape p.head (configuration_of p.at_head) p.ran u.gone) y ready.waiting.called)
 
   pub ready_plain : (p : Agenda) → x.plan ≡ Some p → (y : Item) → IsReady m (course_of p) y → IsPlainItem m y
   ready_plain p is y ready =

@@ -1,5 +1,6 @@
 pub mod BuiltMachines
 pub mod PlanItems
+pub mod LateRoutes
 pub mod BuiltWays
 pub mod Fired
 pub mod Unshared

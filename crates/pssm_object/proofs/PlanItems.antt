@@ -14,8 +14,8 @@ use Rattle.pssm_plan.specs.declared.standing.Standing.TheVariants.{NotCalled, Ra
 use Rattle.pssm_plan.specs.Agenda.{Agenda, course_of}
 use Rattle.pssm_plan.specs.Plans.{IsPlanOf}
 use Rattle.pssm_plan.specs.Standings.{StandsAs}
-use Rattle.pssm_plan.proofs.SingleItems.{called_is}
-use Rattle.pssm_plan.proofs.NestedSteps.{gone_directly}
+use Rattle.pssm_plan.proofs.RouteItems.{called_is}
+use Rattle.pssm_plan.proofs.RouteSteps.{gone_by_routes}
 use Rattle.pssm_plan.proofs.StepLengths.{IsThere, called_there}
 use Rattle.pssm_object.specs.inner.Situations.{IsAtRest}
 use Rattle.pssm_object.specs.inner.Choosing.{IsPlainItem}
@@ -68,7 +68,7 @@ module _ {m : DraftMachine} (b : IsBuiltMachine m) (p : Agenda) (item : Item) (p
   ready_is_there =
       let now = configuration_of p.at_head in
       called_there b.shape (nested b) p.head now p.ran plan.step item
-      (called_is m (course_of p) (gone_directly (nested b) p.head now p.ran plan.step) item ready.waiting.called)
+      (called_is (nested b) b.shape (course_of p) (gone_by_routes (nested b) b.shape p.head now p.ran plan.step) item ready.waiting.called)
 
   pub ready_is_plain : IsPlainItem m item
   ready_is_plain = plain_there m item ready_is_there

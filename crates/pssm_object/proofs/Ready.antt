@@ -17,8 +17,8 @@ use Rattle.pssm_model.specs.Routes.{Truth}
 use Rattle.pssm_model.specs.Ways.{Memory, IsWay}
 use Rattle.pssm_model.proofs.RouteLaws.{all_of_one}
 use Rattle.pssm_plan.proofs.StepLengths.{IsThere, called_there}
-use Rattle.pssm_plan.proofs.NestedSteps.{gone_directly}
-use Rattle.pssm_plan.proofs.SingleItems.{called_is}
+use Rattle.pssm_plan.proofs.RouteSteps.{gone_by_routes}
+use Rattle.pssm_plan.proofs.RouteItems.{called_is}
 use Rattle.pssm_plan.proofs.ReadyOrOut.{ready_or_out}
 use Rattle.pssm_semantics.specs.declared.entry.ObjectId.{ObjectId}
 use Rattle.pssm_semantics.specs.declared.entry.Out.{Out}
@@ -68,7 +68,8 @@ module _ (class : Class) (b : IsBuiltClass class) {J : List Entry} {o : ObjectId
   ready_there : (y : Item) → IsReady m (course_by head at_head ran) y → IsThere m y
   ready_there y ready =
       called_there b.machine.shape (nested b.machine) head at_head ran u.gone y
-      (called_is m (course_by head at_head ran) (gone_directly (nested b.machine) head at_head ran u.gone) y ready.waiting.called)
+      (called_is (nested b.machine) b.machine.shape (course_by head at_head ran)
+      (gone_by_routes (nested b.machine) b.machine.shape head at_head ran u.gone) y ready.waiting.called)
 
   ready_plain : (y : Item) → IsReady m (course_by head at_head ran) y → IsPlainItem m y
   ready_plain y ready = called_is_plain b.machine head at_head ran u.gone y ready.waiting.called

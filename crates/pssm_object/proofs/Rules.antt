@@ -15,8 +15,8 @@ use Rattle.pssm_model.specs.Order.{HasGone, course_by}
 use Rattle.pssm_model.specs.Changes.{Agree}
 use Rattle.pssm_model.specs.BuiltMachine.{IsBuiltMachine}
 use Rattle.pssm_config.specs.Tables.{Tables, Fits, configuration_of}
-use Rattle.pssm_plan.proofs.NestedSteps.{gone_directly}
-use Rattle.pssm_plan.proofs.SingleItems.{called_is}
+use Rattle.pssm_plan.proofs.RouteSteps.{gone_by_routes}
+use Rattle.pssm_plan.proofs.RouteItems.{called_is}
 use Rattle.pssm_plan.proofs.StepLengths.{called_there, IsThere}
 use Rattle.pssm_semantics.specs.declared.entry.ObjectId.{ObjectId}
 use Rattle.pssm_semantics.specs.declared.entry.Entry.{Entry}
@@ -115,7 +115,7 @@ module _ {m : DraftMachine} (b : IsBuiltMachine m) where
       → Called m (course_by head now ran) item → IsPlainItem m item
   called_is_plain head now ran gone item called =
       plain item (called_there b.shape (nested b) head now ran gone item
-      (called_is m (course_by head now ran) (gone_directly (nested b) head now ran gone) item called))
+      (called_is (nested b) b.shape (course_by head now ran) (gone_by_routes (nested b) b.shape head now ran gone) item called))
     where
       plain : (x : Item) → IsThere m x → IsPlainItem m x
       plain (items.Exit s) h = tt

@@ -42,7 +42,7 @@ pub fn active_states()
         → IsBuiltMachine m → BecomesComplete m before e o s → BecomesComplete m before e o q → s ≡ q }
 {}
 
-/// An entry of an object that keeps every rule has at most 64 outputs, and its routes are single transitions (this
+/// An entry of an object that keeps every rule has at most 64 outputs, and its routes have one start each (this
 /// profile's choice).
 pub fn entry_forms()
     ensures { (class : Class) (J : List Entry) (x : Standing) (signal : Option Waiting) (e : Entry)

@@ -1,4 +1,4 @@
-//! Routes of one transition, which are all that a machine of States in regions has.
+//! Routes of one transition, by which regions open.
 ghost use Rattle.std.specs.Prelude.{◌≡◌, MatchOption, IfOk};
 ghost use Rattle.pssm_model.specs.Routes.{single_route};
 

@@ -58,7 +58,7 @@ impl Situation {
                 mode,
                 how,
                 ..
-            } => self.run(&class.machine, Item::Opened(*region, *mode), how),
+            } => self.run(alloc, &class.machine, Item::Opened(*region, *mode), how),
             Entry::Post { .. } | Entry::Done { .. } | Entry::Pick { .. } | Entry::DoStep { .. } => {
                 Ok(())
             }
@@ -99,7 +99,7 @@ impl Situation {
         ensures err { OnErr result (standing_of self.new ≡ standing_of self.old) }
     {
         match stated_act(class, item) {
-            None => self.run(&class.machine, item, &How::Nothing),
+            None => self.run(alloc, &class.machine, item, &How::Nothing),
             Some(act) => self.do_act(alloc, class, item, act),
         }
     }
@@ -122,7 +122,7 @@ impl Situation {
         ensures err { OnErr result (standing_of self.new ≡ standing_of self.old) }
     {
         let store = self.changed_store(alloc, act)?;
-        self.run(&class.machine, item, &How::Nothing)?;
+        self.run(alloc, &class.machine, item, &How::Nothing)?;
         self.store = store;
         Ok(())
     }
@@ -137,14 +137,20 @@ impl Situation {
     }
 
     // Runs a ready item in one of its ways, and changes the configuration as it does.
-    fn run(&mut self, machine: &Machine, item: Item, how: &How) -> Result<(), NoMemory>
+    fn run(
+        &mut self,
+        alloc: Global,
+        machine: &Machine,
+        item: Item,
+        how: &How,
+    ) -> Result<(), NoMemory>
         requires built { IsBuiltMachine machine.now }
         requires fits { Fits machine.now self.old.config }
         requires can { CanRunHere machine.now self.old.plan self.old.config item how.now }
         ensures ok { OnOk result (RunsHere machine.now (standing_of self.old) item how.now (standing_of self.new)) }
         ensures err { OnErr result (standing_of self.new ≡ standing_of self.old) }
     {
-        run_item(&mut self.plan, machine, item, how)?;
+        run_item(&mut self.plan, alloc, machine, item, how)?;
         change(&mut self.config, machine, item, how);
         Ok(())
     }
@@ -165,7 +171,7 @@ fn fire(
     ensures err { OnErr result (plan.new ≡ plan.old) }
 {
     match plan {
-        Some(plan) => plan.fire(machine, config, firing),
+        Some(plan) => plan.fire(alloc, machine, config, firing),
         None => {
             *plan = Some(Plan::of_firing(alloc, machine, config, firing)?);
             Ok(())
@@ -176,6 +182,7 @@ fn fire(
 // Runs a ready item of the plan in one of its ways.
 fn run_item(
     plan: &mut Option<Plan>,
+    alloc: Global,
     machine: &Machine,
     item: Item,
     how: &How,
@@ -186,7 +193,7 @@ fn run_item(
     ensures err { OnErr result (plan.new ≡ plan.old) }
 {
     match plan {
-        Some(plan) => plan.run(machine, item, how),
+        Some(plan) => plan.run(alloc, machine, item, how),
         None => unreachable!(),
     }
 }

@@ -1,14 +1,15 @@
 -- the routes fire in the plan that there is, or in a new one
 use Rattle.std.proofs.Common.{refl}
+use Rattle.pssm_model.proofs.OverJunctions.{single_legs}
 use Rattle.pssm_object.proofs.BuiltMachines.{nested}
 use Rattle.pssm_object.proofs.Going.{has_fired}
 use Rattle.pssm_object.proofs.stepping.fire.Goals as goal
 
-pub fire-requires-clause-nested : goal.fire-requires-clause-nested
-fire-requires-clause-nested c = nested c.requires.built
+pub fire-requires-clause-single : goal.fire-requires-clause-single
+fire-requires-clause-single c = single_legs (nested c.requires.built)
 
-pub of_firing-requires-clause-nested : goal.of_firing-requires-clause-nested
-of_firing-requires-clause-nested c = nested c.requires.built
+pub of_firing-requires-clause-single : goal.of_firing-requires-clause-single
+of_firing-requires-clause-single c = single_legs (nested c.requires.built)
 
 pub returns-in-Some-clause-ok : goal.returns-in-Some-clause-ok
 returns-in-Some-clause-ok c =
