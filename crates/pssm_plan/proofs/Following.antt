@@ -1,5 +1,5 @@
 -- The progress of a step as an item runs: what is listed is a roster, and what each call has seen.
-use Rattle.std.proofs.Common.{◌≡◌, ◌⊎◌, ◌<◌, ◌≤◌, ◌++◌, ℕ, Bool, List, [], ◌∷◌, length, get_or, take, Contains, IsTrue, arith, inl, inr, refl, sym, subst, ap, ⊎_elim, ◌∙◌}
+use Rattle.std.proofs.Common.{◌≡◌, ◌⊎◌, ◌<◌, ◌≤◌, ◌++◌, ◌^◌, ℕ, Bool, List, [], ◌∷◌, length, get_or, take, Contains, IsTrue, arith, inl, inr, refl, sym, subst, ap, ⊎_elim, ◌∙◌}
 use Rattle.std.proofs.lemmas.List.{get_or_append_left, take_at}
 use Rattle.std.proofs.lemmas.List.Elements.{Contains-push_cases, Contains-append_left, Contains-get_or}
 use Rattle.pssm_model.specs.declared.ids.TransId.{TransId}
@@ -8,6 +8,7 @@ use Rattle.pssm_model.specs.declared.steps.Route.{Route}
 use Rattle.pssm_model.specs.declared.steps.How.{How}
 use Rattle.pssm_model.specs.declared.steps.How.TheVariants.{By, Restore, Nothing}
 use Rattle.pssm_model.specs.declared.steps.Item.{Item}
+use Rattle.pssm_model.specs.Configuration.{Configuration}
 use Rattle.pssm_model.specs.Legs.{On}
 use Rattle.pssm_legs.specs.Calls.{IsCalledInLeg, IsOrderedInLeg}
 use Rattle.pssm_legs.specs.Calls.IsOrderedInLeg.{exit_effect, path, effect_enter, effect_end, enter_end, later}
@@ -16,10 +17,11 @@ use Rattle.pssm_plan.specs.declared.roster.Call.{Call}
 use Rattle.pssm_plan.specs.declared.progress.Progress.{Progress}
 use Rattle.pssm_plan.specs.Waiting.{IsExact}
 use Rattle.pssm_plan.specs.Ways.{AreWaysIn, calls_by, orders_by}
-use Rattle.pssm_plan.specs.inner.Marks.{IsListed, IsLonger, IsFresh, IsTold, IsForgotten, IsNoted, HasSeen, ArePairwise}
-use Rattle.pssm_plan.specs.inner.Sequence.{IsSequence, AreItemsOf, IsRoster}
-use Rattle.pssm_plan.specs.inner.Going.{KeepsOrder, IsFollowedSo}
-use Rattle.pssm_plan.proofs.Firing.{one_more_way}
+use Rattle.pssm_plan.specs.inner.Marks.{IsListed, IsLonger, IsFresh, IsTold, IsForgotten, IsNoted, IsSettled, HasSeen, ArePairwise}
+use Rattle.pssm_plan.specs.inner.Sequence.{IsSequence, AreItemsOf, IsRoster, IsExtended}
+use Rattle.pssm_plan.specs.inner.Calling.{IsTopOpening, IsOfWays}
+use Rattle.pssm_plan.specs.inner.Going.{IsMadeOf, KeepsOrder, IsLongerProgress, IsFollowedSo, IsFinished, IsRunSo, IsUnchanged}
+use Rattle.pssm_plan.proofs.Firing.{nothing_among, one_more_way}
 use Rattle.pssm_plan.proofs.Rewriting.{listed_along}
 use Rattle.pssm_plan.proofs.Settling.{seen_fresh, seen_within, seen_longer, seen_told}
 
@@ -153,3 +155,61 @@ noted_items m item a b h were x listed =
 -- a list that is cut back to its length before it grew
 pub cut_back : {X : Type 0} (old new : List X) (n : ℕ) → IsLonger old new → n ≡ length old → take n new ≡ old
 cut_back {X} old new n longer same = ap (λ (l : List X). take n l) longer.1 ∙ take_at old longer.0 n (sym same)
+
+-- what is listed where nothing was has not looked at the others yet
+pub from_nothing : (m : DraftMachine) (old new : List Call) (Added : Item → Type 0) → old ≡ [] → IsExtended m old Added new
+    → (call : Call) → Contains new call → IsFresh call
+from_nothing m old new Added none h call inside =
+    ⊎_elim
+    (λ was. absurd (nothing_among old call none was))
+    (λ fresh. fresh)
+    (h.fresh call inside)
+
+-- a list that is made where nothing was, of what the ways call
+pub made_by_ways : (m : DraftMachine) (now : Configuration) (said ways : List Way) (old first calls : List Call) → old ≡ [] → said ≡ ways
+    → IsExtended m old (IsOfWays m now said) first → ArePairwise (IsSettled (IsSequence m said) first) first calls
+    → IsMadeOf m ways (IsOfWays m now ways) calls
+made_by_ways m now said ways old first calls none same extended settled =
+    subst (λ (l : List Way). IsMadeOf m l (IsOfWays m now l) calls) same (record {
+      first = first;
+      extended = subst (λ (l : List Call). IsExtended m l (IsOfWays m now said) first) none extended;
+      settled = settled;
+    })
+
+-- the same of the openings of a start
+pub made_by_tops : (m : DraftMachine) (said : List Way) (old first calls : List Call) → old ≡ [] → said ≡ []
+    → IsExtended m old (IsTopOpening m) first → ArePairwise (IsSettled (IsSequence m said) first) first calls
+    → IsMadeOf m [] (IsTopOpening m) calls
+made_by_tops m said old first calls none same extended settled =
+    subst (λ (l : List Way). IsMadeOf m l (IsTopOpening m) calls) same (record {
+      first = first;
+      extended = subst (λ (l : List Call). IsExtended m l (IsTopOpening m) first) none extended;
+      settled = settled;
+    })
+
+-- progress that is cut back to what it was before it grew
+pub back_again : (old grown new : Progress) (calls ways restored : ℕ) → IsLongerProgress old grown → calls ≡ length old.roster.calls.items
+    → ways ≡ length old.ways.items → restored ≡ length old.restored.items → new.roster.calls.items ≡ take calls grown.roster.calls.items
+    → new.ways.items ≡ take ways grown.ways.items → new.restored.items ≡ take restored grown.restored.items → IsUnchanged old new
+back_again old grown new calls ways restored longer a b c x y z = record {
+  calls = x ∙ cut_back old.roster.calls.items grown.roster.calls.items calls longer.calls a;
+  ways = y ∙ cut_back old.ways.items grown.ways.items ways longer.ways b;
+  restored = z ∙ cut_back old.restored.items grown.restored.items restored longer.restored c;
+}
+
+-- the progress once an item has run, from what is followed and what is finished
+pub run_so : (m : DraftMachine) (old grown new : Progress) (item : Item) (how : How) (said : List Way) → IsFollowedSo m old item how grown
+    → said ≡ grown.ways.items → new.ways.items ≡ grown.ways.items → new.restored.items ≡ grown.restored.items
+    → IsFinished m said item grown.roster.calls.items new.roster.calls.items → IsRunSo m old item how new
+run_so m old grown new item how said followed same ways restored finished = record {
+  grown = grown;
+  followed = followed;
+  ways = ways;
+  restored = restored;
+  finished = subst (λ (l : List Way). IsFinished m l item grown.roster.calls.items new.roster.calls.items) (same ∙ sym ways) finished;
+}
+
+-- what is finished is as long as it was
+pub finished_few : (m : DraftMachine) (ways : List Way) (item : Item) (grown calls : List Call) → IsFinished m ways item grown calls
+    → length grown < 2 ^ 32 → length calls < 2 ^ 32
+finished_few m ways item grown calls h few = subst (λ (n : ℕ). n < 2 ^ 32) (sym (h.settled.0 ∙ h.noted.0)) few

@@ -2,6 +2,7 @@
 ghost use Rattle.std.specs.Prelude.{◌^◌, ◌≡◌, ◌≢◌, ◌<◌, [], length, take, AllPairs, Contains};
 ghost use Rattle.std.specs.Prelude.{OnOk, OnErr, IfOk, IsTrue};
 ghost use Rattle.pssm_model.specs.declared.steps.Route.{Route as TheRoute};
+ghost use Rattle.pssm_model.specs.declared.steps.How.TheVariants.{Restore};
 ghost use Rattle.pssm_model.specs.Routes.{IsRoute};
 ghost use Rattle.pssm_model.specs.SingleLegs.{HasSingleLegs};
 ghost use Rattle.pssm_config.specs.Tables.{Fits, configuration_of};
@@ -169,8 +170,10 @@ impl Progress {
         self.ways.clear();
         self.restored.clear();
         add_ways(alloc, &mut self.ways, machine, routes)?;
-        list_all_fired(&mut self.roster, machine, config, self.ways.as_slice())?;
-        settle_first(&mut self.roster, machine, self.ways.as_slice())
+        let ways = self.ways.as_slice();
+        list_all_fired(&mut self.roster, machine, config, ways)?;
+        settle_first(&mut self.roster, machine, ways)?;
+        Ok(())
     }
 
     // Gives up what was listed, gone by and restored beyond these numbers.
@@ -221,6 +224,19 @@ impl Progress {
         Ok(())
     }
 
+    // Restores a State as the item says, which is an opening, and lists what this calls.
+    fn follow_opening(&mut self, machine: &Machine, item: Item, s: VertexId) -> Result<(), NoMemory>
+        requires roster { IsRoster machine.now self.old.roster.calls.items }
+        requires way { CanRunSo machine.now item (Restore s) }
+        ensures longer { IsLongerProgress self.old self.new }
+        ensures followed { OnOk result (IsFollowedSo machine.now self.old item (Restore s) self.new) }
+    {
+        match item {
+            Item::Opened(_, mode) => self.follow_restore(machine, mode, s),
+            _ => unreachable!(),
+        }
+    }
+
     // Lists what an item calls that runs without a way.
     #[tactic(auto, using(crate::proofs::Growing::longer_same))]
     fn follow_plainly(&mut self, machine: &Machine, item: Item) -> Result<(), NoMemory>
@@ -237,7 +253,7 @@ impl Progress {
     }
 
     // Lists what an item calls that runs in this way. It is true where none may rely on what it has seen.
-    #[tactic(auto, using(crate::proofs::Following::order_same, crate::proofs::Growing::longer_same))]
+    #[tactic(auto, using(crate::proofs::Following::order_same))]
     fn follow(
         &mut self,
         alloc: Global,
@@ -255,18 +271,48 @@ impl Progress {
         ensures kept { IfOk result (λ anew. (IsTrue anew → ⊥)
             → KeepsOrder machine.now self.old.roster.calls.items self.old.ways.items self.new.ways.items) }
     {
-        match (how, item) {
-            (How::By(route), _) => return self.follow_route(alloc, machine, route),
-            (How::Restore(s), Item::Opened(_, mode)) => self.follow_restore(machine, mode, *s)?,
-            (How::Restore(_), _) => unreachable!(),
-            (How::Nothing, _) => self.follow_plainly(machine, item)?,
+        match how {
+            How::By(route) => self.follow_route(alloc, machine, route),
+            How::Restore(s) => {
+                self.follow_opening(machine, item, *s)?;
+                Ok(false)
+            }
+            How::Nothing => {
+                self.follow_plainly(machine, item)?;
+                Ok(false)
+            }
         }
-        Ok(false)
+    }
+
+    // Lists what an item calls that runs in this way, where this is not too much. It is true where none may rely on what
+    // it has seen.
+    fn follow_few(
+        &mut self,
+        alloc: Global,
+        machine: &Machine,
+        item: Item,
+        how: &How,
+    ) -> Result<bool, NoMemory>
+        requires single { HasSingleLegs machine.now }
+        requires roster { IsRoster machine.now self.old.roster.calls.items }
+        requires ways { AreWaysIn machine.now self.old.ways.items }
+        requires item { IsItemIn machine.now item }
+        requires way { CanRunSo machine.now item how.now }
+        ensures longer { IsLongerProgress self.old self.new }
+        ensures followed { OnOk result (IsFollowedSo machine.now self.old item how.now self.new) }
+        ensures kept { IfOk result (λ anew. (IsTrue anew → ⊥)
+            → KeepsOrder machine.now self.old.roster.calls.items self.old.ways.items self.new.ways.items) }
+        ensures few { OnOk result (length self.new.roster.calls.items < 2 ^ 32) }
+    {
+        let anew = self.follow(alloc, machine, item, how)?;
+        if self.roster.calls.as_slice().len() > MOST_CALLS {
+            return Err(NoMemory);
+        }
+        Ok(anew)
     }
 
     // Lists what an item calls that runs in this way, all of it or nothing. It is true where none may rely on what it has
     // seen.
-    #[tactic(auto, using(crate::proofs::Following::cut_back))]
     fn follow_whole(
         &mut self,
         alloc: Global,
@@ -289,17 +335,15 @@ impl Progress {
         let calls = self.roster.calls.len();
         let ways = self.ways.len();
         let restored = self.restored.len();
-        let outcome = self.follow(alloc, machine, item, how);
-        if outcome.is_ok() && self.roster.calls.as_slice().len() <= MOST_CALLS {
-            return outcome;
+        let outcome = self.follow_few(alloc, machine, item, how);
+        if outcome.is_err() {
+            self.undo(calls, ways, restored);
         }
-        self.undo(calls, ways, restored);
-        Err(NoMemory)
+        outcome
     }
 
     /// Notes that a listed item runs in this way, and lists what it calls, all of it or nothing. The item is looked for
     /// from the hint on first.
-    #[tactic(auto, using(crate::proofs::Following::followed_roster, crate::proofs::Following::followed_ways, crate::proofs::Following::followed_fresh, crate::proofs::Following::all_seen_over_ways))]
     pub fn run(
         &mut self,
         alloc: Global,
