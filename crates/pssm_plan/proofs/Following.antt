@@ -1,5 +1,6 @@
 -- The progress of a step as an item runs: what is listed is a roster, and what each call has seen.
-use Rattle.std.proofs.Common.{◌≡◌, ◌⊎◌, ◌<◌, ◌≤◌, ◌++◌, ◌^◌, ℕ, Bool, List, [], ◌∷◌, length, get_or, take, Contains, IsTrue, arith, inl, inr, refl, sym, subst, ap, ⊎_elim, ◌∙◌}
+use Rattle.std.proofs.Common.{◌≡◌, ◌⊎◌, ◌<◌, ◌≤◌, ◌++◌, ◌^◌, ℕ, Bool, List, [], ◌∷◌, length, get_or, take, Contains, IsTrue}
+use Rattle.std.proofs.Common.{arith, inl, inr, refl, sym, subst, ap, ⊎_elim, ◌∙◌}
 use Rattle.std.proofs.lemmas.List.{get_or_append_left, take_at}
 use Rattle.std.proofs.lemmas.List.Elements.{Contains-push_cases, Contains-append_left, Contains-get_or}
 use Rattle.pssm_model.specs.declared.ids.TransId.{TransId}
@@ -15,12 +16,14 @@ use Rattle.pssm_legs.specs.Calls.IsOrderedInLeg.{exit_effect, path, effect_enter
 use Rattle.pssm_plan.specs.declared.ways.Way.{Way}
 use Rattle.pssm_plan.specs.declared.roster.Call.{Call}
 use Rattle.pssm_plan.specs.declared.progress.Progress.{Progress}
+use Rattle.pssm_plan.specs.declared.progress.Restored.{Restored}
 use Rattle.pssm_plan.specs.Waiting.{IsExact}
 use Rattle.pssm_plan.specs.Ways.{AreWaysIn, calls_by, orders_by}
 use Rattle.pssm_plan.specs.inner.Marks.{IsListed, IsLonger, IsFresh, IsTold, IsForgotten, IsNoted, IsSettled, HasSeen, ArePairwise}
 use Rattle.pssm_plan.specs.inner.Sequence.{IsSequence, AreItemsOf, IsRoster, IsExtended}
-use Rattle.pssm_plan.specs.inner.Calling.{IsTopOpening, IsOfWays}
-use Rattle.pssm_plan.specs.inner.Going.{IsMadeOf, KeepsOrder, IsLongerProgress, IsFollowedSo, IsFinished, IsRunSo, IsUnchanged}
+use Rattle.pssm_plan.specs.inner.Calling.{IsTopOpening, IsOfWays, IsEntered}
+use Rattle.pssm_plan.specs.inner.Going.{IsMadeOf, KeepsOrder, IsLongerProgress, IsFollowedPlainly, IsFollowedSo, IsFinished, IsRunSo, IsUnchanged}
+use Rattle.pssm_plan.proofs.Growing.{longer_same}
 use Rattle.pssm_plan.proofs.Firing.{nothing_among, one_more_way}
 use Rattle.pssm_plan.proofs.Rewriting.{listed_along}
 use Rattle.pssm_plan.proofs.Settling.{seen_fresh, seen_within, seen_longer, seen_told}
@@ -213,3 +216,26 @@ run_so m old grown new item how said followed same ways restored finished = reco
 pub finished_few : (m : DraftMachine) (ways : List Way) (item : Item) (grown calls : List Call) → IsFinished m ways item grown calls
     → length grown < 2 ^ 32 → length calls < 2 ^ 32
 finished_few m ways item grown calls h few = subst (λ (n : ℕ). n < 2 ^ 32) (sym (h.settled.0 ∙ h.noted.0)) few
+
+-- what is longer, list by list
+pub longer_progress : (old new : Progress) → IsLonger old.roster.calls.items new.roster.calls.items → IsLonger old.ways.items new.ways.items
+    → IsLonger old.restored.items new.restored.items → IsLongerProgress old new
+longer_progress old new calls ways restored = record { calls = calls; ways = ways; restored = restored }
+
+pub longer_kept : {X : Type 0} (xs ys : List X) → ys ≡ xs → IsLonger xs ys
+longer_kept {X} xs ys same = subst (λ (l : List X). IsLonger xs l) (sym same) (longer_same xs)
+
+pub longer_by : {X : Type 0} (xs ys : List X) (x : X) → ys ≡ xs ++ x ∷ [] → IsLonger xs ys
+longer_by xs ys x more = (x ∷ [], more)
+
+-- what is listed without a way, from the same ways and restored States
+pub plainly_followed : (m : DraftMachine) (old new : Progress) (item : Item) (said : List Way) (back : List Restored) → said ≡ old.ways.items
+    → back ≡ old.restored.items → new.ways.items ≡ old.ways.items → new.restored.items ≡ old.restored.items
+    → IsExtended m old.roster.calls.items (IsEntered m said back item) new.roster.calls.items → IsFollowedPlainly m old item new
+plainly_followed m old new item said back a b ways restored extended = record {
+  ways = ways;
+  restored = restored;
+  extended =
+      subst (λ (l : List Restored). IsExtended m old.roster.calls.items (IsEntered m old.ways.items l item) new.roster.calls.items) b
+      (subst (λ (l : List Way). IsExtended m old.roster.calls.items (IsEntered m l back item) new.roster.calls.items) a extended);
+}

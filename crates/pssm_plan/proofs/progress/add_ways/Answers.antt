@@ -5,8 +5,9 @@ use Rattle.pssm_plan.proofs.progress.add_ways.Goals as goal
 
 pub loop-route-preserved : goal.loop-route-preserved
 loop-route-preserved c =
-    fired_more c.args.machine.now c.args.routes.now c.loop-route.route-index c.route-item.result _ _ c.loop-route-test.true
-    (c.in_ok-way_of.ensures.route ∙ c.route-item.is) c.in_ok-way_of.ensures.fires c.loop-route.invariant c.in_ok-way_of.ensures.way
+    rw c.in_ok-push.ensures.items
+    (fired_more c.args.machine.now c.args.routes.now c.loop-route.route-index c.route-item.result c.loop-route.ways.items c.in_ok-way.way
+    c.loop-route-test.true (c.in_ok-way.ensures.route ∙ c.route-item.is) c.in_ok-way.ensures.fires c.loop-route.invariant c.in_ok-way.ensures.way)
 
 pub returns-clause-fired : goal.returns-clause-fired
 returns-clause-fired c =

@@ -4,6 +4,10 @@ use Rattle.pssm_plan.specs.inner.Going.{CanRunSo, IsFollowedSo}
 use Rattle.pssm_plan.proofs.Following.{order_same}
 use Rattle.pssm_plan.proofs.progress.Progress.follow.Goals as goal
 
+pub follow_route-requires-clause-route : goal.follow_route-requires-clause-route
+follow_route-requires-clause-route c =
+    subst (λ (h : How). CanRunSo c.args.machine.now c.args.item h) c.in-By.is c.requires.way
+
 pub follow_opening-requires-clause-way : goal.follow_opening-requires-clause-way
 follow_opening-requires-clause-way c =
     subst (λ (h : How). CanRunSo c.args.machine.now c.args.item h) c.in-Restore.is c.requires.way
