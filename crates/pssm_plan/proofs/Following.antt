@@ -3,16 +3,11 @@ use Rattle.std.proofs.Common.{◌≡◌, ◌⊎◌, ◌<◌, ◌≤◌, ◌++◌
 use Rattle.std.proofs.Common.{arith, inl, inr, refl, sym, subst, ap, ⊎_elim, ◌∙◌}
 use Rattle.std.proofs.lemmas.List.{get_or_append_left, take_at}
 use Rattle.std.proofs.lemmas.List.Elements.{Contains-push_cases, Contains-append_left, Contains-get_or}
-use Rattle.pssm_model.specs.declared.ids.TransId.{TransId}
 use Rattle.pssm_model.specs.declared.elements.DraftMachine.{DraftMachine}
-use Rattle.pssm_model.specs.declared.steps.Route.{Route}
 use Rattle.pssm_model.specs.declared.steps.How.{How}
 use Rattle.pssm_model.specs.declared.steps.How.TheVariants.{By, Restore, Nothing}
 use Rattle.pssm_model.specs.declared.steps.Item.{Item}
 use Rattle.pssm_model.specs.Configuration.{Configuration}
-use Rattle.pssm_model.specs.Legs.{On}
-use Rattle.pssm_legs.specs.Calls.{IsCalledInLeg, IsOrderedInLeg}
-use Rattle.pssm_legs.specs.Calls.IsOrderedInLeg.{exit_effect, path, effect_enter, effect_end, enter_end, later}
 use Rattle.pssm_plan.specs.declared.ways.Way.{Way}
 use Rattle.pssm_plan.specs.declared.roster.Call.{Call}
 use Rattle.pssm_plan.specs.declared.progress.Progress.{Progress}
@@ -25,20 +20,9 @@ use Rattle.pssm_plan.specs.inner.Calling.{IsTopOpening, IsOfWays, IsEntered}
 use Rattle.pssm_plan.specs.inner.Going.{IsMadeOf, KeepsOrder, IsLongerProgress, IsFollowedPlainly, IsFollowedSo, IsFinished, IsRunSo, IsUnchanged}
 use Rattle.pssm_plan.proofs.Growing.{longer_same}
 use Rattle.pssm_plan.proofs.Firing.{nothing_among, one_more_way}
+use Rattle.pssm_plan.proofs.NearWays.{way_calls_second}
 use Rattle.pssm_plan.proofs.Rewriting.{listed_along}
 use Rattle.pssm_plan.proofs.Settling.{seen_fresh, seen_within, seen_longer, seen_told}
-
--- a leg calls what it orders before something
-ordered_called : (m : DraftMachine) (fires : Bool) (p : Route) (t : TransId) (x y : Item) → IsOrderedInLeg m fires p t x y → IsCalledInLeg m fires p t x
-ordered_called m fires p t x y (exit_effect is then first second) = first
-ordered_called m fires p t _ _ (path same before) = same
-ordered_called m fires p t x y (effect_enter is then first second) = first
-ordered_called m fires p t x y (effect_end is first last) = first
-ordered_called m fires p t x y (enter_end is first last) = first
-ordered_called m fires p t x y (later next further first second) = first
-
-pub way_calls_first : (m : DraftMachine) (way : Way) (x y : Item) → orders_by m way x y → calls_by m way x
-way_calls_first m way x y h = (h.0, h.1, inl (ordered_called m way.fires way.route.value h.0 x y h.2))
 
 -- a way that calls no listed item orders none of them
 pub order_kept : (m : DraftMachine) (calls : List Call) (ways : List Way) (way : Way) → ((x : Item) × IsListed calls x × calls_by m way x → ⊥)
@@ -48,7 +32,7 @@ order_kept m calls ways way none x y first second h =
     (λ nested. inl nested)
     (λ ordered. ⊎_elim
     (λ was. inr (ordered.0, was, ordered.2))
-    (λ this. absurd (none (x, first, way_calls_first m way x y (subst (λ (w : Way). orders_by m w x y) (sym this) ordered.2))))
+    (λ this. absurd (none (y, second, way_calls_second m way x y (subst (λ (w : Way). orders_by m w x y) (sym this) ordered.2))))
     (Contains-push_cases ways way ordered.0 ordered.1))
     h
 
