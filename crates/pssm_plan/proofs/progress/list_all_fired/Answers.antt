@@ -7,7 +7,12 @@ use Rattle.pssm_plan.specs.Ways.{calls_by}
 use Rattle.pssm_plan.specs.inner.Calling.{MayRun, IsOfWays}
 use Rattle.pssm_plan.proofs.Extending.{extended_same}
 use Rattle.pssm_plan.proofs.Growing.{AddedBy, grown_by_one}
+use Rattle.pssm_plan.proofs.SomeWay.{is_there}
 use Rattle.pssm_plan.proofs.progress.list_all_fired.Goals as goal
+
+pub list_fired-requires-clause-way : goal.list_fired-requires-clause-way
+list_fired-requires-clause-way c =
+    c.requires.ways c.way-item.result (is_there c.args.ways.now c.loop-way.way-index c.way-item.result c.loop-way-test.true c.way-item.is)
 
 pub loop-way-preserved : goal.loop-way-preserved
 loop-way-preserved c =

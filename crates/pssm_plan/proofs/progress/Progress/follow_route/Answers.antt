@@ -7,8 +7,8 @@ use Rattle.pssm_plan.proofs.Growing.{longer_same}
 use Rattle.pssm_plan.proofs.Following.{order_kept, longer_progress, longer_kept, longer_by}
 use Rattle.pssm_plan.proofs.progress.Progress.follow_route.Goals as goal
 
-pub meets-requires-clause-items : goal.meets-requires-clause-items
-meets-requires-clause-items c = rw c.as_slice.ensures.value c.requires.roster.items
+pub meets-anew-requires-clause-items : goal.meets-anew-requires-clause-items
+meets-anew-requires-clause-items c = rw c.as_slice.ensures.value c.requires.roster.items
 
 pub returns-in_err-way-clause-longer : goal.returns-in_err-way-clause-longer
 returns-in_err-way-clause-longer c = longer_progress _ _ (longer_same _) (longer_same _) (longer_same _)
