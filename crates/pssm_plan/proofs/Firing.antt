@@ -1,8 +1,9 @@
 -- The ways of routes that fire, one after another.
-use Rattle.std.proofs.Common.{◌≡◌, ◌↔◌, ◌⊎◌, ◌+◌, ◌<◌, ◌++◌, ℕ, List, [], ◌∷◌, length, get_or, take, Contains, IsTrue, true, sym, subst, ap, refl, ◌∙◌, ⊎_elim}
+use Rattle.std.proofs.Common.{◌≡◌, ◌⊎◌, ◌+◌, ◌<◌, ◌++◌, ℕ, List, [], ◌∷◌, length, get_or, take, Contains, IsTrue, true, sym, subst, ap, refl, ◌∙◌, ⊎_elim}
 use Rattle.std.proofs.lemmas.List.Elements.{Contains-push, Contains-push_cases, Contains-append_left}
 use Rattle.pssm_model.specs.declared.elements.DraftMachine.{DraftMachine}
 use Rattle.pssm_model.specs.declared.steps.Route.{Route}
+use Rattle.pssm_model.proofs.ElementLaws.{nothing_in_nil}
 use Rattle.pssm_plan.specs.declared.ways.Way.{Way}
 use Rattle.pssm_plan.specs.Ways.{IsWayIn, AreWaysIn, IsWayTaken, IsWayFired}
 use Rattle.pssm_plan.specs.inner.Going.{AreFired}
@@ -10,7 +11,7 @@ use Rattle.pssm_plan.proofs.Taken.{none_taken, taken_cases, taken_more, taken_he
 
 -- no element is among none
 pub nothing_among : {X : Type 0} (xs : List X) (y : X) → xs ≡ [] → Contains xs y → ⊥
-nothing_among {X} xs y none h = absurd (let h : Contains [] y = subst (λ (l : List X). Contains l y) none h in none_taken [] y h)
+nothing_among {X} xs y none h = nothing_in_nil y (subst (λ (l : List X). Contains l y) none h)
 
 pub none_are_ways : (m : DraftMachine) (ways : List Way) → ways ≡ [] → AreWaysIn m ways
 none_are_ways m ways none way inside = absurd (nothing_among ways way none inside)

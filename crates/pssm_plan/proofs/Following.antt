@@ -1,39 +1,28 @@
 -- The progress of a step as an item runs: what is listed is a roster, and what each call has seen.
-use Rattle.std.proofs.Common.{◌≡◌, ◌⊎◌, ◌<◌, ◌≤◌, ◌++◌, ℕ, Bool, List, [], ◌∷◌, length, get_or, take, Contains, IsTrue, arith, inl, inr, refl, sym, subst, ap, ⊎_elim, ◌∙◌}
+use Rattle.std.proofs.Common.{◌≡◌, ◌⊎◌, ◌<◌, ◌++◌, ◌^◌, ℕ, Bool, List, [], ◌∷◌, length, get_or, take, Contains, IsTrue}
+use Rattle.std.proofs.Common.{arith, inl, inr, refl, sym, subst, ap, ⊎_elim, ◌∙◌}
 use Rattle.std.proofs.lemmas.List.{get_or_append_left, take_at}
 use Rattle.std.proofs.lemmas.List.Elements.{Contains-push_cases, Contains-append_left, Contains-get_or}
-use Rattle.pssm_model.specs.declared.ids.TransId.{TransId}
 use Rattle.pssm_model.specs.declared.elements.DraftMachine.{DraftMachine}
-use Rattle.pssm_model.specs.declared.steps.Route.{Route}
 use Rattle.pssm_model.specs.declared.steps.How.{How}
 use Rattle.pssm_model.specs.declared.steps.How.TheVariants.{By, Restore, Nothing}
 use Rattle.pssm_model.specs.declared.steps.Item.{Item}
-use Rattle.pssm_model.specs.Legs.{On}
-use Rattle.pssm_legs.specs.Calls.{IsCalledInLeg, IsOrderedInLeg}
-use Rattle.pssm_legs.specs.Calls.IsOrderedInLeg.{exit_effect, path, effect_enter, effect_end, enter_end, later}
+use Rattle.pssm_model.specs.Configuration.{Configuration}
 use Rattle.pssm_plan.specs.declared.ways.Way.{Way}
 use Rattle.pssm_plan.specs.declared.roster.Call.{Call}
 use Rattle.pssm_plan.specs.declared.progress.Progress.{Progress}
+use Rattle.pssm_plan.specs.declared.progress.Restored.{Restored}
 use Rattle.pssm_plan.specs.Waiting.{IsExact}
 use Rattle.pssm_plan.specs.Ways.{AreWaysIn, calls_by, orders_by}
-use Rattle.pssm_plan.specs.inner.Marks.{IsListed, IsLonger, IsFresh, IsTold, IsForgotten, IsNoted, HasSeen, ArePairwise}
-use Rattle.pssm_plan.specs.inner.Sequence.{IsSequence, AreItemsOf, IsRoster}
-use Rattle.pssm_plan.specs.inner.Going.{KeepsOrder, IsFollowedSo}
-use Rattle.pssm_plan.proofs.Firing.{one_more_way}
+use Rattle.pssm_plan.specs.inner.Marks.{IsListed, IsLonger, IsFresh, IsTold, IsForgotten, IsNoted, IsSettled, HasSeen, ArePairwise}
+use Rattle.pssm_plan.specs.inner.Sequence.{IsSequence, AreItemsOf, IsRoster, IsExtended}
+use Rattle.pssm_plan.specs.inner.Calling.{IsTopOpening, IsOfWays, IsEntered}
+use Rattle.pssm_plan.specs.inner.Going.{IsMadeOf, KeepsOrder, IsLongerProgress, IsFollowedPlainly, IsFollowedSo, IsFinished, IsRunSo, IsUnchanged}
+use Rattle.pssm_plan.proofs.Growing.{longer_same}
+use Rattle.pssm_plan.proofs.Firing.{nothing_among, one_more_way}
+use Rattle.pssm_plan.proofs.NearWays.{way_calls_second}
 use Rattle.pssm_plan.proofs.Rewriting.{listed_along}
 use Rattle.pssm_plan.proofs.Settling.{seen_fresh, seen_within, seen_longer, seen_told}
-
--- a leg calls what it orders before something
-ordered_called : (m : DraftMachine) (fires : Bool) (p : Route) (t : TransId) (x y : Item) → IsOrderedInLeg m fires p t x y → IsCalledInLeg m fires p t x
-ordered_called m fires p t x y (exit_effect is then first second) = first
-ordered_called m fires p t _ _ (path same before) = same
-ordered_called m fires p t x y (effect_enter is then first second) = first
-ordered_called m fires p t x y (effect_end is first last) = first
-ordered_called m fires p t x y (enter_end is first last) = first
-ordered_called m fires p t x y (later next further first second) = first
-
-pub way_calls_first : (m : DraftMachine) (way : Way) (x y : Item) → orders_by m way x y → calls_by m way x
-way_calls_first m way x y h = (h.0, h.1, inl (ordered_called m way.fires way.route.value h.0 x y h.2))
 
 -- a way that calls no listed item orders none of them
 pub order_kept : (m : DraftMachine) (calls : List Call) (ways : List Way) (way : Way) → ((x : Item) × IsListed calls x × calls_by m way x → ⊥)
@@ -43,7 +32,7 @@ order_kept m calls ways way none x y first second h =
     (λ nested. inl nested)
     (λ ordered. ⊎_elim
     (λ was. inr (ordered.0, was, ordered.2))
-    (λ this. absurd (none (x, first, way_calls_first m way x y (subst (λ (w : Way). orders_by m w x y) (sym this) ordered.2))))
+    (λ this. absurd (none (y, second, way_calls_second m way x y (subst (λ (w : Way). orders_by m w x y) (sym this) ordered.2))))
     (Contains-push_cases ways way ordered.0 ordered.1))
     h
 
@@ -153,3 +142,84 @@ noted_items m item a b h were x listed =
 -- a list that is cut back to its length before it grew
 pub cut_back : {X : Type 0} (old new : List X) (n : ℕ) → IsLonger old new → n ≡ length old → take n new ≡ old
 cut_back {X} old new n longer same = ap (λ (l : List X). take n l) longer.1 ∙ take_at old longer.0 n (sym same)
+
+-- what is listed where nothing was has not looked at the others yet
+pub from_nothing : (m : DraftMachine) (old new : List Call) (Added : Item → Type 0) → old ≡ [] → IsExtended m old Added new
+    → (call : Call) → Contains new call → IsFresh call
+from_nothing m old new Added none h call inside =
+    ⊎_elim
+    (λ was. absurd (nothing_among old call none was))
+    (λ fresh. fresh)
+    (h.fresh call inside)
+
+-- a list that is made where nothing was, of what the ways call
+pub made_by_ways : (m : DraftMachine) (now : Configuration) (said ways : List Way) (old first calls : List Call) → old ≡ [] → said ≡ ways
+    → IsExtended m old (IsOfWays m now said) first → ArePairwise (IsSettled (IsSequence m said) first) first calls
+    → IsMadeOf m ways (IsOfWays m now ways) calls
+made_by_ways m now said ways old first calls none same extended settled =
+    subst (λ (l : List Way). IsMadeOf m l (IsOfWays m now l) calls) same (record {
+      first = first;
+      extended = subst (λ (l : List Call). IsExtended m l (IsOfWays m now said) first) none extended;
+      settled = settled;
+    })
+
+-- the same of the openings of a start
+pub made_by_tops : (m : DraftMachine) (said : List Way) (old first calls : List Call) → old ≡ [] → said ≡ []
+    → IsExtended m old (IsTopOpening m) first → ArePairwise (IsSettled (IsSequence m said) first) first calls
+    → IsMadeOf m [] (IsTopOpening m) calls
+made_by_tops m said old first calls none same extended settled =
+    subst (λ (l : List Way). IsMadeOf m l (IsTopOpening m) calls) same (record {
+      first = first;
+      extended = subst (λ (l : List Call). IsExtended m l (IsTopOpening m) first) none extended;
+      settled = settled;
+    })
+
+-- progress that is cut back to what it was before it grew
+pub back_again : (old grown new : Progress) (calls ways restored : ℕ) → IsLongerProgress old grown → calls ≡ length old.roster.calls.items
+    → ways ≡ length old.ways.items → restored ≡ length old.restored.items → new.roster.calls.items ≡ take calls grown.roster.calls.items
+    → new.ways.items ≡ take ways grown.ways.items → new.restored.items ≡ take restored grown.restored.items → IsUnchanged old new
+back_again old grown new calls ways restored longer a b c x y z = record {
+  calls = x ∙ cut_back old.roster.calls.items grown.roster.calls.items calls longer.calls a;
+  ways = y ∙ cut_back old.ways.items grown.ways.items ways longer.ways b;
+  restored = z ∙ cut_back old.restored.items grown.restored.items restored longer.restored c;
+}
+
+-- the progress once an item has run, from what is followed and what is finished
+pub run_so : (m : DraftMachine) (old grown new : Progress) (item : Item) (how : How) (said : List Way) → IsFollowedSo m old item how grown
+    → said ≡ grown.ways.items → new.ways.items ≡ grown.ways.items → new.restored.items ≡ grown.restored.items
+    → IsFinished m said item grown.roster.calls.items new.roster.calls.items → IsRunSo m old item how new
+run_so m old grown new item how said followed same ways restored finished = record {
+  grown = grown;
+  followed = followed;
+  ways = ways;
+  restored = restored;
+  finished = subst (λ (l : List Way). IsFinished m l item grown.roster.calls.items new.roster.calls.items) (same ∙ sym ways) finished;
+}
+
+-- what is finished is as long as it was
+pub finished_few : (m : DraftMachine) (ways : List Way) (item : Item) (grown calls : List Call) → IsFinished m ways item grown calls
+    → length grown < 2 ^ 32 → length calls < 2 ^ 32
+finished_few m ways item grown calls h few = subst (λ (n : ℕ). n < 2 ^ 32) (sym (h.settled.0 ∙ h.noted.0)) few
+
+-- what is longer, list by list
+pub longer_progress : (old new : Progress) → IsLonger old.roster.calls.items new.roster.calls.items → IsLonger old.ways.items new.ways.items
+    → IsLonger old.restored.items new.restored.items → IsLongerProgress old new
+longer_progress old new calls ways restored = record { calls = calls; ways = ways; restored = restored }
+
+pub longer_kept : {X : Type 0} (xs ys : List X) → ys ≡ xs → IsLonger xs ys
+longer_kept {X} xs ys same = subst (λ (l : List X). IsLonger xs l) (sym same) (longer_same xs)
+
+pub longer_by : {X : Type 0} (xs ys : List X) (x : X) → ys ≡ xs ++ x ∷ [] → IsLonger xs ys
+longer_by xs ys x more = (x ∷ [], more)
+
+-- what is listed without a way, from the same ways and restored States
+pub plainly_followed : (m : DraftMachine) (old new : Progress) (item : Item) (said : List Way) (back : List Restored) → said ≡ old.ways.items
+    → back ≡ old.restored.items → new.ways.items ≡ old.ways.items → new.restored.items ≡ old.restored.items
+    → IsExtended m old.roster.calls.items (IsEntered m said back item) new.roster.calls.items → IsFollowedPlainly m old item new
+plainly_followed m old new item said back a b ways restored extended = record {
+  ways = ways;
+  restored = restored;
+  extended =
+      subst (λ (l : List Restored). IsExtended m old.roster.calls.items (IsEntered m old.ways.items l item) new.roster.calls.items) b
+      (subst (λ (l : List Way). IsExtended m old.roster.calls.items (IsEntered m l back item) new.roster.calls.items) a extended);
+}

@@ -1,7 +1,8 @@
-//! How far a step has come: the items that it calls, the routes by which it goes, and what it has restored.
+//! How far a step has come: what it calls, the routes by which it goes, and what it has restored.
 ghost use Rattle.std.specs.Prelude.{◌^◌, ◌≡◌, ◌≢◌, ◌<◌, [], length, take, AllPairs, Contains};
 ghost use Rattle.std.specs.Prelude.{OnOk, OnErr, IfOk, IsTrue};
 ghost use Rattle.pssm_model.specs.declared.steps.Route.{Route as TheRoute};
+ghost use Rattle.pssm_model.specs.declared.steps.How.TheVariants.{Restore};
 ghost use Rattle.pssm_model.specs.Routes.{IsRoute};
 ghost use Rattle.pssm_model.specs.SingleLegs.{HasSingleLegs};
 ghost use Rattle.pssm_config.specs.Tables.{Fits, configuration_of};
@@ -12,9 +13,10 @@ ghost use Rattle.pssm_plan.specs.Ways.{AreWaysIn};
 ghost use Rattle.pssm_plan.specs.inner.Marks.{IsFresh, HasSeen, IsNoted, IsSettled, ArePairwise};
 ghost use Rattle.pssm_plan.specs.inner.Sequence.{IsSequence, AreItemsOf, IsRoster, IsExtended};
 ghost use Rattle.pssm_plan.specs.inner.Calling.{IsTopOpening, IsOfWays};
-ghost use Rattle.pssm_plan.specs.inner.Going.{IsMadeOf, AreFired, CanRunSo, KeepsOrder, IsLongerProgress};
-ghost use Rattle.pssm_plan.specs.inner.Going.{IsFollowedBy, IsFollowedRestoring, IsFollowedPlainly, IsFollowedSo};
-ghost use Rattle.pssm_plan.specs.inner.Going.{IsFinished, IsRunSo, IsUnchanged};
+ghost use Rattle.pssm_plan.specs.inner.Going.{IsMadeOf, AreFired, CanRunSo, KeepsOrder};
+ghost use Rattle.pssm_plan.specs.inner.Going.{IsFollowedBy, IsFollowedRestoring};
+ghost use Rattle.pssm_plan.specs.inner.Going.{IsFollowedPlainly, IsFollowedSo};
+ghost use Rattle.pssm_plan.specs.inner.Going.{IsLongerProgress, IsFinished, IsRunSo, IsUnchanged};
 
 use crate::listing::meets;
 use crate::roster::Roster;
@@ -81,14 +83,15 @@ fn add_ways(
     Ok(())
 }
 
-// Settles a roster of items of which none has looked at the others yet, where they are not too many.
+// Settles a roster of items of which none has looked at the others yet, if they are not too many.
 fn settle_first(roster: &mut Roster, machine: &Machine, ways: &[Way]) -> Result<(), NoMemory>
     requires single { HasSingleLegs machine.now }
     requires ways { AreWaysIn machine.now ways.now }
     requires items { AreItemsOf machine.now roster.old.calls.items }
     requires fresh { (call : Call) → Contains roster.old.calls.items call → IsFresh call }
     ensures few { OnOk result (length roster.new.calls.items < 2 ^ 32) }
-    ensures settled { OnOk result (ArePairwise (IsSettled (IsSequence machine.now ways.now) roster.old.calls.items)
+    ensures settled { OnOk result (ArePairwise
+        (IsSettled (IsSequence machine.now ways.now) roster.old.calls.items)
         roster.old.calls.items roster.new.calls.items) }
 {
     if roster.calls.as_slice().len() > MOST_CALLS {
@@ -119,7 +122,8 @@ impl Progress {
         ensures few { IfOk result (λ progress. length progress.roster.calls.items < 2 ^ 32) }
         ensures ways { IfOk result (λ progress. progress.ways.items ≡ []) }
         ensures restored { IfOk result (λ progress. progress.restored.items ≡ []) }
-        ensures made { IfOk result (λ progress. IsMadeOf machine.now [] (IsTopOpening machine.now) progress.roster.calls.items) }
+        ensures made { IfOk result (λ progress.
+            IsMadeOf machine.now [] (IsTopOpening machine.now) progress.roster.calls.items) }
     {
         let mut progress = Progress::new(alloc);
         progress.roster.list_tops(machine)?;
@@ -138,10 +142,12 @@ impl Progress {
         requires fits { Fits machine.now config.now }
         requires routes { (p : TheRoute) → Contains routes.now p → IsRoute machine.now p }
         ensures few { IfOk result (λ progress. length progress.roster.calls.items < 2 ^ 32) }
-        ensures ways { IfOk result (λ progress. AreFired machine.now routes.now progress.ways.items) }
+        ensures ways { IfOk result (λ progress.
+            AreFired machine.now routes.now progress.ways.items) }
         ensures restored { IfOk result (λ progress. progress.restored.items ≡ []) }
         ensures made { IfOk result (λ progress. IsMadeOf machine.now progress.ways.items
-            (IsOfWays machine.now (configuration_of config.now) progress.ways.items) progress.roster.calls.items) }
+            (IsOfWays machine.now (configuration_of config.now) progress.ways.items)
+            progress.roster.calls.items) }
     {
         let mut progress = Progress::new(alloc);
         progress.renew(alloc, machine, config, routes)?;
@@ -163,14 +169,17 @@ impl Progress {
         ensures ways { OnOk result (AreFired machine.now routes.now self.new.ways.items) }
         ensures restored { OnOk result (self.new.restored.items ≡ []) }
         ensures made { OnOk result (IsMadeOf machine.now self.new.ways.items
-            (IsOfWays machine.now (configuration_of config.now) self.new.ways.items) self.new.roster.calls.items) }
+            (IsOfWays machine.now (configuration_of config.now) self.new.ways.items)
+            self.new.roster.calls.items) }
     {
         self.roster.calls.clear();
         self.ways.clear();
         self.restored.clear();
         add_ways(alloc, &mut self.ways, machine, routes)?;
-        list_all_fired(&mut self.roster, machine, config, self.ways.as_slice())?;
-        settle_first(&mut self.roster, machine, self.ways.as_slice())
+        let ways = self.ways.as_slice();
+        list_all_fired(&mut self.roster, machine, config, ways)?;
+        settle_first(&mut self.roster, machine, ways)?;
+        Ok(())
     }
 
     // Gives up what was listed, gone by and restored beyond these numbers.
@@ -184,9 +193,8 @@ impl Progress {
         self.restored.truncate(restored);
     }
 
-    // Goes by a late route, and lists what this calls. It is true where the route calls something that was listed
-    // already, so that none may rely on what it has seen.
-    #[tactic(auto, using(crate::proofs::Growing::longer_same, crate::proofs::Following::order_kept))]
+    // Goes by a late route, and lists what this calls. It is true where the route calls something
+    // that was listed already, so that none may rely on what it has seen.
     fn follow_route(
         &mut self,
         alloc: Global,
@@ -199,7 +207,8 @@ impl Progress {
         ensures longer { IsLongerProgress self.old self.new }
         ensures followed { OnOk result (IsFollowedBy machine.now self.old route.now self.new) }
         ensures kept { IfOk result (λ anew. (IsTrue anew → ⊥)
-            → KeepsOrder machine.now self.old.roster.calls.items self.old.ways.items self.new.ways.items) }
+            → KeepsOrder machine.now self.old.roster.calls.items self.old.ways.items
+                self.new.ways.items) }
     {
         let way = way_of(alloc, machine, route, false)?;
         let anew = meets(machine, self.roster.calls.as_slice(), &way);
@@ -209,7 +218,6 @@ impl Progress {
     }
 
     // Restores a State, and lists what this calls.
-    #[tactic(auto, using(crate::proofs::Growing::longer_same))]
     fn follow_restore(&mut self, machine: &Machine, mode: Mode, s: VertexId) -> Result<(), NoMemory>
         requires roster { IsRoster machine.now self.old.roster.calls.items }
         requires state { s.0 < length machine.now.vertices }
@@ -221,8 +229,21 @@ impl Progress {
         Ok(())
     }
 
+    // Restores a State as the item says, which is an opening, and lists what this calls.
+    fn follow_opening(&mut self, machine: &Machine, item: Item, s: VertexId) -> Result<(), NoMemory>
+        requires roster { IsRoster machine.now self.old.roster.calls.items }
+        requires way { CanRunSo machine.now item (Restore s) }
+        ensures longer { IsLongerProgress self.old self.new }
+        ensures followed { OnOk result
+            (IsFollowedSo machine.now self.old item (Restore s) self.new) }
+    {
+        match item {
+            Item::Opened(_, mode) => self.follow_restore(machine, mode, s),
+            _ => unreachable!(),
+        }
+    }
+
     // Lists what an item calls that runs without a way.
-    #[tactic(auto, using(crate::proofs::Growing::longer_same))]
     fn follow_plainly(&mut self, machine: &Machine, item: Item) -> Result<(), NoMemory>
         requires single { HasSingleLegs machine.now }
         requires roster { IsRoster machine.now self.old.roster.calls.items }
@@ -236,8 +257,8 @@ impl Progress {
         self.roster.list_entered(machine, ways, restored, item)
     }
 
-    // Lists what an item calls that runs in this way. It is true where none may rely on what it has seen.
-    #[tactic(auto, using(crate::proofs::Following::order_same, crate::proofs::Growing::longer_same))]
+    // Lists what an item calls that runs in this way. It is true where none may rely on what it
+    // has seen.
     fn follow(
         &mut self,
         alloc: Global,
@@ -253,20 +274,52 @@ impl Progress {
         ensures longer { IsLongerProgress self.old self.new }
         ensures followed { OnOk result (IsFollowedSo machine.now self.old item how.now self.new) }
         ensures kept { IfOk result (λ anew. (IsTrue anew → ⊥)
-            → KeepsOrder machine.now self.old.roster.calls.items self.old.ways.items self.new.ways.items) }
+            → KeepsOrder machine.now self.old.roster.calls.items self.old.ways.items
+                self.new.ways.items) }
     {
-        match (how, item) {
-            (How::By(route), _) => return self.follow_route(alloc, machine, route),
-            (How::Restore(s), Item::Opened(_, mode)) => self.follow_restore(machine, mode, *s)?,
-            (How::Restore(_), _) => unreachable!(),
-            (How::Nothing, _) => self.follow_plainly(machine, item)?,
+        match how {
+            How::By(route) => self.follow_route(alloc, machine, route),
+            How::Restore(s) => {
+                self.follow_opening(machine, item, *s)?;
+                Ok(false)
+            }
+            How::Nothing => {
+                self.follow_plainly(machine, item)?;
+                Ok(false)
+            }
         }
-        Ok(false)
     }
 
-    // Lists what an item calls that runs in this way, all of it or nothing. It is true where none may rely on what it has
-    // seen.
-    #[tactic(auto, using(crate::proofs::Following::cut_back))]
+    // Lists what an item calls that runs in this way, if this is not too much. It is true where
+    // none may rely on what it has seen.
+    fn follow_few(
+        &mut self,
+        alloc: Global,
+        machine: &Machine,
+        item: Item,
+        how: &How,
+    ) -> Result<bool, NoMemory>
+        requires single { HasSingleLegs machine.now }
+        requires roster { IsRoster machine.now self.old.roster.calls.items }
+        requires ways { AreWaysIn machine.now self.old.ways.items }
+        requires item { IsItemIn machine.now item }
+        requires way { CanRunSo machine.now item how.now }
+        ensures longer { IsLongerProgress self.old self.new }
+        ensures followed { OnOk result (IsFollowedSo machine.now self.old item how.now self.new) }
+        ensures kept { IfOk result (λ anew. (IsTrue anew → ⊥)
+            → KeepsOrder machine.now self.old.roster.calls.items self.old.ways.items
+                self.new.ways.items) }
+        ensures few { OnOk result (length self.new.roster.calls.items < 2 ^ 32) }
+    {
+        let anew = self.follow(alloc, machine, item, how)?;
+        if self.roster.calls.as_slice().len() > MOST_CALLS {
+            return Err(NoMemory);
+        }
+        Ok(anew)
+    }
+
+    // Lists what an item calls that runs in this way, all of it or nothing. It is true where none
+    // may rely on what it has seen.
     fn follow_whole(
         &mut self,
         alloc: Global,
@@ -281,7 +334,8 @@ impl Progress {
         requires way { CanRunSo machine.now item how.now }
         ensures followed { OnOk result (IsFollowedSo machine.now self.old item how.now self.new) }
         ensures kept { IfOk result (λ anew. (IsTrue anew → ⊥)
-            → KeepsOrder machine.now self.old.roster.calls.items self.old.ways.items self.new.ways.items) }
+            → KeepsOrder machine.now self.old.roster.calls.items self.old.ways.items
+                self.new.ways.items) }
         ensures longer { OnOk result (IsLongerProgress self.old self.new) }
         ensures few { OnOk result (length self.new.roster.calls.items < 2 ^ 32) }
         ensures refused { OnErr result (IsUnchanged self.old self.new) }
@@ -289,17 +343,15 @@ impl Progress {
         let calls = self.roster.calls.len();
         let ways = self.ways.len();
         let restored = self.restored.len();
-        let outcome = self.follow(alloc, machine, item, how);
-        if outcome.is_ok() && self.roster.calls.as_slice().len() <= MOST_CALLS {
-            return outcome;
+        let outcome = self.follow_few(alloc, machine, item, how);
+        if outcome.is_err() {
+            self.undo(calls, ways, restored);
         }
-        self.undo(calls, ways, restored);
-        Err(NoMemory)
+        outcome
     }
 
-    /// Notes that a listed item runs in this way, and lists what it calls, all of it or nothing. The item is looked for
-    /// from the hint on first.
-    #[tactic(auto, using(crate::proofs::Following::followed_roster, crate::proofs::Following::followed_ways, crate::proofs::Following::followed_fresh, crate::proofs::Following::all_seen_over_ways))]
+    /// Notes that a listed item runs in this way, and lists what it calls, all of it or nothing.
+    /// The item is looked for from the hint on first.
     pub fn run(
         &mut self,
         alloc: Global,
@@ -313,7 +365,8 @@ impl Progress {
         requires ways { AreWaysIn machine.now self.old.ways.items }
         requires item { IsItemIn machine.now item }
         requires exact { (call : Call) → Contains self.old.roster.calls.items call
-            → IsExact (IsSequence machine.now self.old.ways.items) self.old.roster.calls.items call }
+            → IsExact (IsSequence machine.now self.old.ways.items) self.old.roster.calls.items
+                call }
         requires way { CanRunSo machine.now item how.now }
         ensures ran { OnOk result (IsRunSo machine.now self.old item how.now self.new) }
         ensures few { OnOk result (length self.new.roster.calls.items < 2 ^ 32) }
@@ -360,8 +413,8 @@ fn note(
     }
 }
 
-// Notes that an item has run, and says of each call once more for which one it waits; `anew` where none may rely on what
-// it has seen.
+// Notes that an item has run, and says of each call once more for which one it waits; `anew` where
+// none may rely on what it has seen.
 #[tactic(auto, using(crate::proofs::Following::noted_items))]
 fn finish(
     roster: &mut Roster,

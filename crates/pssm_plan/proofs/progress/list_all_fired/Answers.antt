@@ -7,7 +7,12 @@ use Rattle.pssm_plan.specs.Ways.{calls_by}
 use Rattle.pssm_plan.specs.inner.Calling.{MayRun, IsOfWays}
 use Rattle.pssm_plan.proofs.Extending.{extended_same}
 use Rattle.pssm_plan.proofs.Growing.{AddedBy, grown_by_one}
+use Rattle.pssm_plan.proofs.SomeWay.{is_there}
 use Rattle.pssm_plan.proofs.progress.list_all_fired.Goals as goal
+
+pub list_fired-requires-clause-way : goal.list_fired-requires-clause-way
+list_fired-requires-clause-way c =
+    c.requires.ways c.way-item.result (is_there c.args.ways.now c.loop-way.way-index c.way-item.result c.loop-way-test.true c.way-item.is)
 
 pub loop-way-preserved : goal.loop-way-preserved
 loop-way-preserved c =
@@ -30,5 +35,5 @@ returns-clause-added c =
     let Q : Way → Item → Type 0 = (λ way x. MayRun now x × calls_by m way x) in
     let whole = take_all c.loop-way.way-index c.args.ways.now (omega (arith, c.loop-way-test.false)) in
     extended_same m _ _ (AddedBy Q c.args.ways.now) (IsOfWays m now c.args.ways.now)
-    (λ x. (λ h. (h.0, h.1, h.2), λ h. (h.0, h.1, h.2)))
+    (λ x. (λ h. (h.0, h.1, h.2.0, h.2.1), λ h. (h.0, h.1, (h.2, h.3))))
     (rw whole at c.loop-way.invariant.extended)

@@ -1,0 +1,40 @@
+use Rattle.std.proofs.Common.{List, Contains, subst, sym, refl}
+use Rattle.pssm_plan.specs.declared.roster.Call.{Call}
+use Rattle.pssm_plan.specs.declared.ways.Way.{Way}
+use Rattle.pssm_plan.specs.Ways.{AreWaysIn}
+use Rattle.pssm_plan.specs.inner.Marks.{HasSeen}
+use Rattle.pssm_plan.specs.inner.Sequence.{IsSequence}
+use Rattle.pssm_plan.proofs.Following.{followed_roster, followed_ways, followed_fresh, all_seen_over_ways, run_so, finished_few}
+use Rattle.pssm_plan.proofs.progress.Progress.run.Goals as goal
+
+pub finish-requires-clause-ways : goal.finish-requires-clause-ways
+finish-requires-clause-ways c =
+    subst (AreWaysIn c.args.machine.now) (sym c.as_slice.ensures.value)
+    (followed_ways c.args.machine.now c.args.self.now c.args.item c.args.how.now c.follow_whole.new.self
+    c.in_ok-anew.ensures.followed c.requires.ways)
+
+pub finish-requires-clause-roster : goal.finish-requires-clause-roster
+finish-requires-clause-roster c =
+    followed_roster c.args.machine.now c.args.self.now c.args.item c.args.how.now c.follow_whole.new.self c.in_ok-anew.ensures.followed
+
+pub finish-requires-clause-seen : goal.finish-requires-clause-seen
+finish-requires-clause-seen c = λ free.
+    let m = c.args.machine.now in
+    let old = c.args.self.now in
+    let grown = c.follow_whole.new.self in
+    subst
+    (λ (l : List Way). (call : Call) → Contains grown.roster.calls.items call → HasSeen (IsSequence m l) grown.roster.calls.items call)
+    (sym c.as_slice.ensures.value)
+    (all_seen_over_ways m old.roster.calls.items grown.roster.calls.items old.ways.items grown.ways.items
+    c.in_ok-anew.ensures.longer.calls c.in_ok-anew.ensures.longer.ways (c.in_ok-anew.ensures.kept free) c.requires.exact
+    (followed_fresh m old c.args.item c.args.how.now grown c.in_ok-anew.ensures.followed))
+
+pub returns-clause-ran : goal.returns-clause-ran
+returns-clause-ran c =
+    run_so c.args.machine.now c.args.self.now c.follow_whole.new.self _ c.args.item c.args.how.now c.as_slice.result.now
+    c.in_ok-anew.ensures.followed c.as_slice.ensures.value refl refl c.finish.ensures
+
+pub returns-clause-few : goal.returns-clause-few
+returns-clause-few c =
+    finished_few c.args.machine.now c.as_slice.result.now c.args.item c.follow_whole.new.self.roster.calls.items _
+    c.finish.ensures c.in_ok-anew.ensures.few

@@ -1,0 +1,12 @@
+use Rattle.pssm_plan.proofs.Following.{noted_items}
+use Rattle.pssm_plan.proofs.progress.finish.Goals as goal
+
+pub settle-requires-clause-items : goal.settle-requires-clause-items
+settle-requires-clause-items c =
+    noted_items c.args.machine.now c.args.item c.args.roster.now.calls.items c.note.new.roster.calls.items c.note.ensures.noted c.requires.roster.items
+
+pub settle-requires-clause-few : goal.settle-requires-clause-few
+settle-requires-clause-few c = rw c.note.ensures.noted.0 c.requires.few
+
+pub returns : goal.returns
+returns c = record { now = c.note.new.roster.calls.items; noted = c.note.ensures.noted; settled = c.settle.ensures }
