@@ -73,9 +73,12 @@ module _ {m : DraftMachine} (b : HasSingleLegs m) (shape : HasShape m) where
   local_leaves_state t v goes l =
       ⊎_elim
       (λ s. s)
-      (λ other. absurd (b.rules _ 14 (E14 (goes, inl (λ s. ⊎_elim
-      (λ h. other (subst (λ x. HasKind m x kinds.State) (leaves_one m t s v h.0 l) h.1))
-      (λ h. b.uncut h.0 (inr (inr (inl h.2)))))))))
+      (λ other. absurd (b.rules _ 14 (E14 (
+        goes,
+        inl (λ s. ⊎_elim
+            (λ h. other (subst (λ x. HasKind m x kinds.State) (leaves_one m t s v h.0 l) h.1))
+            (λ h. b.uncut h.0 (inr (inr (inl h.2))))),
+      ))))
       (leaves_state_or_not t v l)
 
 -- the route begins with the transition and goes on over junctions alone

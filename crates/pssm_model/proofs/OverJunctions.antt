@@ -93,9 +93,12 @@ module _ {m : DraftMachine} (b : IsPlainlyNested m) where
     local_leaves t v goes l =
         ⊎_elim
         (λ s. s)
-        (λ other. absurd (b.rules _ 14 (E14 (goes, inl (λ s. ⊎_elim
-        (λ h. other (subst (λ x. HasKind m x kinds.State) (leaves_one m t s v h.0 l) h.1))
-        (λ h. no_other_kind h.0 kinds.EntryPoint (λ e. cc) (λ e. cc) (λ e. cc) h.2))))))
+        (λ other. absurd (b.rules _ 14 (E14 (
+          goes,
+          inl (λ s. ⊎_elim
+              (λ h. other (subst (λ x. HasKind m x kinds.State) (leaves_one m t s v h.0 l) h.1))
+              (λ h. no_other_kind h.0 kinds.EntryPoint (λ e. cc) (λ e. cc) (λ e. cc) h.2)),
+        ))))
         (state_or_not t v l)
 
     -- one out of an initial vertex ends on a State
