@@ -15,7 +15,7 @@ loop-route-preserved c =
     (fired_more c.args.machine.now c.args.routes.now c.loop-route.route-index c.route-item.result _ _
     c.loop-route-test.true (c.in_ok-way.ensures.route ∙ c.route-item.is) c.in_ok-way.ensures.fires c.loop-route.invariant c.in_ok-way.ensures.way)
 
-pub returns-clause-fired : goal.returns-clause-fired
-returns-clause-fired c =
+pub returns : goal.returns
+returns c =
     let whole = take_all c.loop-route.route-index c.args.routes.now (omega (arith, c.loop-route-test.false)) in
-    rw whole at c.loop-route.invariant
+    record { fired = (rw whole at c.loop-route.invariant) }

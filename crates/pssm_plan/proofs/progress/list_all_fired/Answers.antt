@@ -28,12 +28,15 @@ loop-way-preserved c =
     ))
     c.loop-way.invariant c.list_fired.ensures.calls c.in_ok-list_fired.ensures.added
 
-pub returns-clause-added : goal.returns-clause-added
-returns-clause-added c =
+pub returns : goal.returns
+returns c =
     let m = c.args.machine.now in
     let now = configuration_of c.args.config.now in
     let Q : Way → Item → Type 0 = (λ way x. MayRun now x × calls_by m way x) in
     let whole = take_all c.loop-way.way-index c.args.ways.now (omega (arith, c.loop-way-test.false)) in
-    extended_same m _ _ (AddedBy Q c.args.ways.now) (IsOfWays m now c.args.ways.now)
-    (λ x. (λ h. (h.0, h.1, h.2.0, h.2.1), λ h. (h.0, h.1, (h.2, h.3))))
-    (rw whole at c.loop-way.invariant.extended)
+    record {
+      added =
+          extended_same m _ _ (AddedBy Q c.args.ways.now) (IsOfWays m now c.args.ways.now)
+          (λ x. (λ h. (h.0, h.1, h.2.0, h.2.1), λ h. (h.0, h.1, (h.2, h.3))))
+          (rw whole at c.loop-way.invariant.extended);
+    }
