@@ -17,22 +17,22 @@ returns-in-By-clause-followed c =
     subst (λ (h : How). OnOk c.follow_route.result (IsFollowedSo c.args.machine.now c.args.self.now c.args.item h c.follow_route.new.self))
     (sym c.in-By.is) c.follow_route.ensures.followed
 
-pub returns-in-Restore-clause-followed : goal.returns-in-Restore-clause-followed
-returns-in-Restore-clause-followed c =
+pub returns-in_ok-follow_opening-in-Restore-clause-followed : goal.returns-in_ok-follow_opening-in-Restore-clause-followed
+returns-in_ok-follow_opening-in-Restore-clause-followed c =
     subst (λ (h : How). IsFollowedSo c.args.machine.now c.args.self.now c.args.item h c.follow_opening.new.self)
-    (sym c.in-Restore.is) c.in_ok-follow_opening.ensures.followed
+    (sym c.in-Restore.is) c.in_ok-follow_opening-in-Restore.ensures.followed
 
-pub returns-in-Restore-clause-kept : goal.returns-in-Restore-clause-kept
-returns-in-Restore-clause-kept c = λ free.
+pub returns-in_ok-follow_opening-in-Restore-clause-kept : goal.returns-in_ok-follow_opening-in-Restore-clause-kept
+returns-in_ok-follow_opening-in-Restore-clause-kept c = λ free.
     order_same c.args.machine.now c.args.self.now.roster.calls.items c.args.self.now.ways.items c.follow_opening.new.self.ways.items
-    c.in_ok-follow_opening.ensures.followed.3.ways
+    c.in_ok-follow_opening-in-Restore.ensures.followed.3.ways
 
-pub returns-in-Nothing-clause-followed : goal.returns-in-Nothing-clause-followed
-returns-in-Nothing-clause-followed c =
+pub returns-in_ok-follow_plainly-in-Nothing-clause-followed : goal.returns-in_ok-follow_plainly-in-Nothing-clause-followed
+returns-in_ok-follow_plainly-in-Nothing-clause-followed c =
     subst (λ (h : How). IsFollowedSo c.args.machine.now c.args.self.now c.args.item h c.follow_plainly.new.self)
-    (sym c.in-Nothing.is) c.in_ok-follow_plainly.ensures.followed
+    (sym c.in-Nothing.is) c.in_ok-follow_plainly-in-Nothing.ensures.followed
 
-pub returns-in-Nothing-clause-kept : goal.returns-in-Nothing-clause-kept
-returns-in-Nothing-clause-kept c = λ free.
+pub returns-in_ok-follow_plainly-in-Nothing-clause-kept : goal.returns-in_ok-follow_plainly-in-Nothing-clause-kept
+returns-in_ok-follow_plainly-in-Nothing-clause-kept c = λ free.
     order_same c.args.machine.now c.args.self.now.roster.calls.items c.args.self.now.ways.items c.follow_plainly.new.self.ways.items
-    c.in_ok-follow_plainly.ensures.followed.ways
+    c.in_ok-follow_plainly-in-Nothing.ensures.followed.ways
