@@ -120,73 +120,73 @@ module _ (m : DraftMachine) (p : Route) where
       b.rules (places.At (elements.Vertex round.first)) 19 (E19 (then_leads m round.first round.last round.first round.leads step))
 
 module _ {m : DraftMachine} (b : HasSingleLegs m) (shape : HasShape m) (p : Route) (route : IsRoute m p) (t : TransId) (starts : p.starts ≡ t ∷ [])
-    where
-  -- one transition goes on from a junction
-  one_next : (u v w : TransId) → On p u → GoesOn m p u v → GoesOn m p u w → v ≡ w
-  one_next u v w is first second =
-      let at = enters_one m u second.junction first.junction second.enters first.enters in
-      let one = route.goes_on u first.junction kinds.Junction is first.enters first.kind in
-      one.3 v first.there first.leaves ∙ sym (one.3 w second.there (subst (Leaves m w) at second.leaves))
+  where
+    -- one transition goes on from a junction
+    one_next : (u v w : TransId) → On p u → GoesOn m p u v → GoesOn m p u w → v ≡ w
+    one_next u v w is first second =
+        let at = enters_one m u second.junction first.junction second.enters first.enters in
+        let one = route.goes_on u first.junction kinds.Junction is first.enters first.kind in
+        one.3 v first.there first.leaves ∙ sym (one.3 w second.there (subst (Leaves m w) at second.leaves))
 
-  steps_to : (u w : TransId) (v : VertexId) → On p u → Enters m u v → Leaves m w v → Contains p.rest w → PathBefore m p u w
-  steps_to u w v is e l further =
-      next is (of_rest b shape p route t starts w further) v (passes_junction b shape p route t starts w u v is e l further) e l
+    steps_to : (u w : TransId) (v : VertexId) → On p u → Enters m u v → Leaves m w v → Contains p.rest w → PathBefore m p u w
+    steps_to u w v is e l further =
+        next is (of_rest b shape p route t starts w further) v (passes_junction b shape p route t starts w u v is e l further) e l
 
-  -- its start comes before all others
-  start_before : (u : TransId) → IsReached m p u → (u ≡ t) ⊎ PathBefore m p t u
-  start_before u (reached_first h) = inl (is_start b shape p route t starts u h)
-  start_before u (reached_after {u = w} {v = v} r e l h) =
-      let step = steps_to w u v (reached_is_on m p w r) e l h in
-      ⊎_elim
-      (λ same. inr (subst (λ x. PathBefore m p x u) same step))
-      (λ before. inr (after before step))
-      (start_before w r)
+    -- its start comes before all others
+    start_before : (u : TransId) → IsReached m p u → (u ≡ t) ⊎ PathBefore m p t u
+    start_before u (reached_first h) = inl (is_start b shape p route t starts u h)
+    start_before u (reached_after {u = w} {v = v} r e l h) =
+        let step = steps_to w u v (reached_is_on m p w r) e l h in
+        ⊎_elim
+        (λ same. inr (subst (λ x. PathBefore m p x u) same step))
+        (λ before. inr (after before step))
+        (start_before w r)
 
-  -- of two transitions of it that are not one, one comes before the other
-  in_order : (u w : TransId) → On p u → IsReached m p w → (u ≡ w) ⊎ PathBefore m p u w ⊎ PathBefore m p w u
-  in_order u w is (reached_first h) =
-      let same = is_start b shape p route t starts w h in
-      ⊎_elim
-      (λ first. inl (first ∙ sym same))
-      (λ before. inr (inr (subst (λ x. PathBefore m p x u) (sym same) before)))
-      (start_before u (route.reached u is))
-  in_order u w is (reached_after {u = k} {v = v} r e l h) =
-      let before = reached_is_on m p k r in
-      let step = steps_to k w v before e l h in
-      ⊎_elim
-      (λ same. inr (inl (subst (λ x. PathBefore m p x w) (sym same) step)))
-      (⊎_elim
-      (λ earlier. inr (inl (after earlier step)))
-      (λ later.
-      let first = first_step m p k u later in
-      let second = first_step m p k w step in
-      let same : first.second ≡ w = one_next k first.second w before first.step (record {
-        junction = v;
-        kind = passes_junction b shape p route t starts w k v before e l h;
-        enters = e;
-        leaves = l;
-        there = of_rest b shape p route t starts w h;
-      }) in
-      ⊎_elim
-      (λ here. inl (sym here ∙ same))
-      (λ more. inr (inr (subst (λ x. PathBefore m p x u) same more)))
-      first.further))
-      (in_order u k is r)
+    -- of two transitions of it that are not one, one comes before the other
+    in_order : (u w : TransId) → On p u → IsReached m p w → (u ≡ w) ⊎ PathBefore m p u w ⊎ PathBefore m p w u
+    in_order u w is (reached_first h) =
+        let same = is_start b shape p route t starts w h in
+        ⊎_elim
+        (λ first. inl (first ∙ sym same))
+        (λ before. inr (inr (subst (λ x. PathBefore m p x u) (sym same) before)))
+        (start_before u (route.reached u is))
+    in_order u w is (reached_after {u = k} {v = v} r e l h) =
+        let before = reached_is_on m p k r in
+        let step = steps_to k w v before e l h in
+        ⊎_elim
+        (λ same. inr (inl (subst (λ x. PathBefore m p x w) (sym same) step)))
+        (⊎_elim
+        (λ earlier. inr (inl (after earlier step)))
+        (λ later.
+        let first = first_step m p k u later in
+        let second = first_step m p k w step in
+        let same : first.second ≡ w = one_next k first.second w before first.step (record {
+          junction = v;
+          kind = passes_junction b shape p route t starts w k v before e l h;
+          enters = e;
+          leaves = l;
+          there = of_rest b shape p route t starts w h;
+        }) in
+        ⊎_elim
+        (λ here. inl (sym here ∙ same))
+        (λ more. inr (inr (subst (λ x. PathBefore m p x u) same more)))
+        first.further))
+        (in_order u k is r)
 
-  pub path_order : (u w : TransId) → On p u → On p w → (u ≡ w) ⊎ PathBefore m p u w ⊎ PathBefore m p w u
-  path_order u w first second = in_order u w first (route.reached w second)
+    pub path_order : (u w : TransId) → On p u → On p w → (u ≡ w) ⊎ PathBefore m p u w ⊎ PathBefore m p w u
+    path_order u w first second = in_order u w first (route.reached w second)
 
-  -- from the last transition no path goes on, so the route ends on one vertex
-  last_is_last : (u w : TransId) (v : VertexId) → Enters m u v → (HasKind m v kinds.Junction → ⊥) → PathBefore m p u w → ⊥
-  last_is_last u w v e ends h =
-      let first = first_step m p u w h in
-      ends (subst (λ x. HasKind m x kinds.Junction) (enters_one m u first.step.junction v first.step.enters e) first.step.kind)
+    -- from the last transition no path goes on, so the route ends on one vertex
+    last_is_last : (u w : TransId) (v : VertexId) → Enters m u v → (HasKind m v kinds.Junction → ⊥) → PathBefore m p u w → ⊥
+    last_is_last u w v e ends h =
+        let first = first_step m p u w h in
+        ends (subst (λ x. HasKind m x kinds.Junction) (enters_one m u first.step.junction v first.step.enters e) first.step.kind)
 
-  pub one_last : (v w : VertexId) → EndsOn m p v → EndsOn m p w → v ≡ w
-  one_last v w first second =
-      ⊎_elim
-      (λ same. enters_one m second.0 v w (subst (λ x. Enters m x v) same first.2) second.2)
-      (⊎_elim
-      (λ before. absurd (last_is_last first.0 second.0 v first.2 first.3 before))
-      (λ before. absurd (last_is_last second.0 first.0 w second.2 second.3 before)))
-      (path_order first.0 second.0 first.1 second.1)
+    pub one_last : (v w : VertexId) → EndsOn m p v → EndsOn m p w → v ≡ w
+    one_last v w first second =
+        ⊎_elim
+        (λ same. enters_one m second.0 v w (subst (λ x. Enters m x v) same first.2) second.2)
+        (⊎_elim
+        (λ before. absurd (last_is_last first.0 second.0 v first.2 first.3 before))
+        (λ before. absurd (last_is_last second.0 first.0 w second.2 second.3 before)))
+        (path_order first.0 second.0 first.1 second.1)

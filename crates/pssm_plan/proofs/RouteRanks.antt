@@ -188,8 +188,7 @@ module _ {m : DraftMachine} (nested : IsPlainlyNested m) (shape : HasShape m) wh
       let le : d ≤ length m.vertices = rank.2 in
       let one = further_back m p t u [] path none in
       let above : 0 < length one.0 = one.2 in
-      let within : length one.0 ≤ d = rank.3 one.0 one.1 in
-      (
+      let within : length one.0 ≤ d = rank.3 one.0 one.1 in (
         33 + (d - 1),
         (
           d - 1,

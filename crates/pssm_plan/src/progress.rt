@@ -208,7 +208,7 @@ impl Progress {
         ensures followed { OnOk result (IsFollowedBy machine.now self.old route.now self.new) }
         ensures kept { IfOk result (λ anew. (IsTrue anew → ⊥)
             → KeepsOrder machine.now self.old.roster.calls.items self.old.ways.items
-                self.new.ways.items) }
+            self.new.ways.items) }
     {
         let way = way_of(alloc, machine, route, false)?;
         let anew = meets(machine, self.roster.calls.as_slice(), &way);
@@ -275,7 +275,7 @@ impl Progress {
         ensures followed { OnOk result (IsFollowedSo machine.now self.old item how.now self.new) }
         ensures kept { IfOk result (λ anew. (IsTrue anew → ⊥)
             → KeepsOrder machine.now self.old.roster.calls.items self.old.ways.items
-                self.new.ways.items) }
+            self.new.ways.items) }
     {
         match how {
             How::By(route) => self.follow_route(alloc, machine, route),
@@ -308,7 +308,7 @@ impl Progress {
         ensures followed { OnOk result (IsFollowedSo machine.now self.old item how.now self.new) }
         ensures kept { IfOk result (λ anew. (IsTrue anew → ⊥)
             → KeepsOrder machine.now self.old.roster.calls.items self.old.ways.items
-                self.new.ways.items) }
+            self.new.ways.items) }
         ensures few { OnOk result (length self.new.roster.calls.items < 2 ^ 32) }
     {
         let anew = self.follow(alloc, machine, item, how)?;
@@ -335,7 +335,7 @@ impl Progress {
         ensures followed { OnOk result (IsFollowedSo machine.now self.old item how.now self.new) }
         ensures kept { IfOk result (λ anew. (IsTrue anew → ⊥)
             → KeepsOrder machine.now self.old.roster.calls.items self.old.ways.items
-                self.new.ways.items) }
+            self.new.ways.items) }
         ensures longer { OnOk result (IsLongerProgress self.old self.new) }
         ensures few { OnOk result (length self.new.roster.calls.items < 2 ^ 32) }
         ensures refused { OnErr result (IsUnchanged self.old self.new) }
@@ -366,14 +366,21 @@ impl Progress {
         requires item { IsItemIn machine.now item }
         requires exact { (call : Call) → Contains self.old.roster.calls.items call
             → IsExact (IsSequence machine.now self.old.ways.items) self.old.roster.calls.items
-                call }
+            call }
         requires way { CanRunSo machine.now item how.now }
         ensures ran { OnOk result (IsRunSo machine.now self.old item how.now self.new) }
         ensures few { OnOk result (length self.new.roster.calls.items < 2 ^ 32) }
         ensures refused { OnErr result (IsUnchanged self.old self.new) }
     {
         let anew = self.follow_whole(alloc, machine, item, how)?;
-        finish(&mut self.roster, machine, self.ways.as_slice(), item, hint, anew);
+        finish(
+            &mut self.roster,
+            machine,
+            self.ways.as_slice(),
+            item,
+            hint,
+            anew,
+        );
         Ok(())
     }
 }
@@ -391,14 +398,7 @@ fn note_anew(roster: &mut Roster, item: Item, hint: usize)
 
 // Notes that an item has run; `anew` where none may rely on what it has seen.
 #[tactic(auto, using(crate::proofs::Following::told_noted))]
-fn note(
-    roster: &mut Roster,
-    machine: &Machine,
-    ways: &[Way],
-    item: Item,
-    hint: usize,
-    anew: bool,
-)
+fn note(roster: &mut Roster, machine: &Machine, ways: &[Way], item: Item, hint: usize, anew: bool)
     requires roster { IsRoster machine.now roster.old.calls.items }
     requires seen { (IsTrue anew → ⊥) → (call : Call) → Contains roster.old.calls.items call
         → HasSeen (IsSequence machine.now ways.now) roster.old.calls.items call }
@@ -416,14 +416,7 @@ fn note(
 // Notes that an item has run, and says of each call once more for which one it waits; `anew` where
 // none may rely on what it has seen.
 #[tactic(auto, using(crate::proofs::Following::noted_items))]
-fn finish(
-    roster: &mut Roster,
-    machine: &Machine,
-    ways: &[Way],
-    item: Item,
-    hint: usize,
-    anew: bool,
-)
+fn finish(roster: &mut Roster, machine: &Machine, ways: &[Way], item: Item, hint: usize, anew: bool)
     requires single { HasSingleLegs machine.now }
     requires ways { AreWaysIn machine.now ways.now }
     requires roster { IsRoster machine.now roster.old.calls.items }
