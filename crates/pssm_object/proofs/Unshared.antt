@@ -166,22 +166,22 @@ module _ {m : DraftMachine} (nested : IsPlainlyNested m) (shape : HasShape m) wh
         absurd (route.apart t (subst (Contains p.starts) (sym same) (start_inside p a from.starts)) in_rest)
     covers_by Local goes t w x in_rest on enters = record {
       scope = Inside s;
-      leg = scope_of_local (single_legs nested) shape p route a from.starts s from.leaves from.state goes;
+      leg = scope_of_local (single_legs nested) shape p route a from.starts s from.leaves goes;
       around = refl;
       lies = local_ends shape nested p route a from.starts s w x goes from.leaves on enters;
     }
     covers_by External goes t w x in_rest on enters =
-        let found = some_leg_scope (single_legs nested) shape p route a from.starts s from.leaves from.state in
+        let found = some_leg_scope (single_legs nested) shape p route a from.starts s from.leaves in
         record {
           scope = Within found.0;
-          leg = scope_of_external (single_legs nested) shape p route a from.starts s from.leaves from.state found.0 goes found.1;
+          leg = scope_of_external (single_legs nested) shape p route a from.starts s from.leaves found.0 goes found.1;
           around = found.1.common s (source_of_leg (single_legs nested) shape p route a from.starts s from.leaves);
           lies = found.1.common x (target_of_leg (single_legs nested) shape p route a from.starts w x on enters);
         }
 
     covers : (t w : TransId) (x : VertexId) → Contains p.rest t → On p w → Enters m w x → Covers m p a s x
     covers t w x in_rest on enters =
-        let kind = start_kind (single_legs nested) shape p route a from.starts s from.leaves from.state in
+        let kind = start_kind (single_legs nested) shape p route a from.starts s from.leaves in
         covers_by kind.0 kind.1 t w x in_rest on enters
 
     is_source : IsSource m p s
@@ -196,7 +196,7 @@ module _ {m : DraftMachine} (nested : IsPlainlyNested m) (shape : HasShape m) wh
 
     exits_there : (Active : VertexId → Type 0) (x r : VertexId) (here : Covers m p a s x) → Active r → LiesInScope m r here.scope → Exits m Active p r
     exits_there Active x r here active lies =
-        exits_of (single_legs nested) shape p route a from.starts s from.leaves from.state Active here.scope r here.leg active lies
+        exits_of (single_legs nested) shape p route a from.starts s from.leaves Active here.scope r here.leg active lies
 
   module _ (Active : VertexId → Type 0) (p q : Route) (first : IsRoute m p) (second : IsRoute m q) (a c : TransId) (s r : VertexId)
       (from : IsFrom m p a s) (other : IsFrom m q c r) (active : Active s) (also : Active r) (apart : p ≢ q) where
