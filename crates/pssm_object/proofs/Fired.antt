@@ -5,7 +5,6 @@ use Rattle.pssm_model.specs.declared.ids.VertexId.{VertexId}
 use Rattle.pssm_model.specs.declared.ids.SignalId.{SignalId}
 use Rattle.pssm_model.specs.declared.elements.DraftMachine.{DraftMachine}
 use Rattle.pssm_model.specs.declared.steps.Route.{Route}
-use Rattle.pssm_model.specs.declared.steps.Firing.{Firing}
 use Rattle.pssm_model.specs.declared.steps.Event.{Event}
 use Rattle.pssm_model.specs.declared.steps.Event.TheVariants.{Signal}
 use Rattle.pssm_model.specs.Configuration.{Configuration}
@@ -16,7 +15,6 @@ use Rattle.pssm_model.specs.BuiltMachine.{IsBuiltMachine}
 use Rattle.pssm_model.specs.SingleLegs.{HasSingleLegs}
 use Rattle.pssm_model.proofs.OverJunctions.{single_legs as legs_of}
 use Rattle.pssm_plan.specs.Steadiness.{IsConsistent, BeginsWell}
-use Rattle.pssm_semantics.specs.Built.{IsBuiltFiring}
 use Rattle.pssm_semantics.specs.Known.{IsRouteOf}
 use Rattle.pssm_object.proofs.BuiltMachines.{nested}
 
