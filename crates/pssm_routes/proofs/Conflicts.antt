@@ -15,11 +15,12 @@ use Rattle.pssm_model.specs.Legs.Scope.{Nowhere as nowhere, Inside as inside, Wi
 use Rattle.pssm_model.specs.Routes.{IsRoute, IsSource, IsStateRoute, HasStarts, Conflict}
 use Rattle.pssm_model.proofs.ElementLaws.{leaves_one}
 use Rattle.pssm_model.proofs.RouteLaws.{in_one, is_one}
-use Rattle.pssm_routes.specs.declared.areas.Area.{Area}
-use Rattle.pssm_routes.specs.declared.areas.Area.TheVariants.{Nowhere, Inside, Within}
+use Rattle.pssm_legs.specs.declared.areas.Area.{Area}
+use Rattle.pssm_legs.specs.declared.areas.Area.TheVariants.{Nowhere, Inside, Within}
 use Rattle.pssm_routes.specs.declared.areas.Footprint.{Footprint}
 use Rattle.pssm_model.specs.SingleLegs.{HasSingleLegs}
-use Rattle.pssm_routes.specs.inner.Footprints.{scope_of, IsFootprintOf, Clash}
+use Rattle.pssm_legs.specs.Areas.{scope_of}
+use Rattle.pssm_routes.specs.inner.Footprints.{IsFootprintOf, Clash}
 use Rattle.pssm_model.proofs.RegionChains.{on_one_chain}
 use Rattle.pssm_model.proofs.OneLeg.{source_of, source_of_leg, target_of_leg, of_leg_cases, on_start}
 use Rattle.pssm_model.proofs.LegScopes.{IsAround, IsScopeBy, start_kind, scope_by, some_leg, one_leg_scope, exits_is, exits_of, shared_touch}
