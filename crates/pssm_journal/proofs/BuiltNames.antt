@@ -1,5 +1,5 @@
 -- The names of a setting with at most one of each kind differ, and the entries of the runs of settings that the code runs are spelled.
-use Rattle.std.proofs.Common.{ℕ, ◌≤◌, List, [], ◌∷◌, length, map, All, sym, subst, arith, inl, inr}
+use Rattle.std.proofs.Common.{◌<◌, ℕ, ◌≤◌, List, [], ◌∷◌, length, map, All, sym, subst, arith, inl, inr}
 use Rattle.std.specs.Prelude.{◌≢◌, AllPairs}
 use Rattle.std.specs.List.{AllByRecursion}
 use Rattle.std.proofs.lemmas.List.{length-map}
