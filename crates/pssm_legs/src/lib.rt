@@ -10,6 +10,6 @@ mod asking;
 mod legs;
 mod path;
 
-pub use areas::{Area, covers};
+pub use areas::{Area, area_of, covers};
 pub use asking::{calls, opens_for, orders};
 pub use legs::{Legs, legs_of};

@@ -105,9 +105,6 @@ module _ {m : DraftMachine} (b : HasSingleLegs m) (shape : HasShape m) (p : Rout
           let found = some_leg_scope b shape p route t starts s l in
           (Within found.0, scope_of_external found.0 goes found.1)
 
-  pub some_leg : HasKind m s kinds.State → (scope : Scope) × LegScope m p t scope
-  some_leg state = some_scope
-
   -- a leg has one scope
   pub one_leg_scope : (x y : Scope) → LegScope m p t x → LegScope m p t y → x ≡ y
   one_leg_scope x y first second =

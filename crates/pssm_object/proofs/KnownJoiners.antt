@@ -27,7 +27,7 @@ use Rattle.pssm_model.proofs.ElementLaws.{some_at, mapped_some, lists_at, extern
 use Rattle.pssm_model.proofs.OwnerChains.{top_lies_nowhere}
 use Rattle.pssm_model.proofs.Nesting.{under_cases}
 use Rattle.pssm_routes.specs.declared.areas.Footprint.{Footprint}
-use Rattle.pssm_routes.specs.inner.Footprints.{scope_of}
+use Rattle.pssm_legs.specs.Areas.{scope_of}
 use Rattle.pssm_routes.specs.inner.Ways.{IsWayOut}
 use Rattle.pssm_routes.specs.inner.Rooms.{IsOpenRoom}
 use Rattle.pssm_routes.specs.inner.Starts.{IsStarted, Reacts, IsOutranked}

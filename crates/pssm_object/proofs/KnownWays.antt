@@ -1,19 +1,12 @@
 -- A way over junctions leads out of a transition, or it is known that none does.
-use Rattle.std.proofs.Common.{◌≡◌, ◌≢◌, ◌⊎◌, ◌+◌, ◌≤◌, ◌<◌, ℕ, zero, suc, List, [], ◌∷◌, ◌++◌, length, true, Option, Some, None, Contains, refl, sym, subst, ◌∙◌, inl, inr, ⊎_elim, arith, eqb}
-use Rattle.std.specs.List.{list_any, IsDistinct}
-use Rattle.std.proofs.lemmas.Bool.{eqb-true, cases_Bool, cases_lt}
-use Rattle.std.proofs.lemmas.Cmp.{nat_eq_equiv}
+use Rattle.std.proofs.Common.{◌≡◌, ◌≢◌, ◌⊎◌, ◌+◌, ◌≤◌, ◌<◌, ℕ, zero, suc, List, [], ◌∷◌, ◌++◌, length, true, Option, Some, None, Contains, refl, sym, subst, ◌∙◌, inl, inr, ⊎_elim, arith}
+use Rattle.std.proofs.lemmas.Bool.{cases_lt}
 use Rattle.std.proofs.lemmas.List.{length_push}
-use Rattle.std.proofs.lemmas.List.Elements.{Contains-push, Contains-push_cases, Contains-append_left}
-use Rattle.std.proofs.lemmas.Map.Keys.{IsDistinct-push}
-use Rattle.std.proofs.lemmas.Map.Steps.{length-le_from_distinct_below}
-use Rattle.std.proofs.lemmas.Map.Views.{Contains-from_any}
+use Rattle.std.proofs.lemmas.List.Elements.{Contains-push, Contains-append_left}
 use Rattle.pssm_model.specs.declared.ids.VertexId.{VertexId}
 use Rattle.pssm_model.specs.declared.ids.RegionId.{RegionId}
 use Rattle.pssm_model.specs.declared.ids.TransId.{TransId}
 use Rattle.pssm_model.specs.declared.elements.DraftMachine.{DraftMachine}
-use Rattle.pssm_model.specs.declared.elements.Element.TheVariants as elements
-use Rattle.pssm_model.specs.declared.elements.FaultPlace.TheVariants as places
 use Rattle.pssm_model.specs.declared.elements.Transition.{Transition}
 use Rattle.pssm_model.specs.declared.elements.Guard.{Guard}
 use Rattle.pssm_model.specs.declared.elements.Guard.TheVariants.{Always, Otherwise, When}
@@ -21,18 +14,15 @@ use Rattle.pssm_model.specs.declared.elements.VertexKind.TheVariants as kinds
 use Rattle.pssm_model.specs.Forest.{transition_at, HasKind}
 use Rattle.pssm_model.specs.Shapes.{HasShape}
 use Rattle.pssm_model.specs.Legs.{Leaves, Enters}
-use Rattle.pssm_model.specs.Paths.{LeadsOn}
-use Rattle.pssm_model.specs.Paths.LeadsOn.{next, after}
 use Rattle.pssm_model.specs.Routes.{Truth, guard_of, HasTrueValue, IsTrueAt}
-use Rattle.pssm_model.specs.WellFormed.Breaks.{E19}
 use Rattle.pssm_model.specs.SingleLegs.{HasSingleLegs}
 use Rattle.pssm_model.specs.inner.Listed.{transition_number}
-use Rattle.pssm_model.proofs.ElementLaws.{some_at, mapped_at, leaves_at, leaves_one, enters_one, same_vertex, kind_unique, nothing_in_nil}
+use Rattle.pssm_model.proofs.ElementLaws.{some_at, mapped_at, leaves_at, leaves_one, enters_one, kind_unique, nothing_in_nil}
 use Rattle.pssm_routes.specs.inner.Ways.{IsAllowed, IsOpen, LeadsOut, IsWay, IsWayOut}
 use Rattle.pssm_routes.specs.inner.Ways.LeadsOut.{ends, on}
 use Rattle.pssm_routes.specs.inner.Ways.IsWay.{begins, goes_on}
 use Rattle.pssm_routes.proofs.Members.{front_or_rest}
-use Rattle.pssm_routes.proofs.Leading.{junction_split, junction_is_there, ends_somewhere}
+use Rattle.pssm_routes.proofs.Leading.{junction_split, ends_somewhere, IsPassed, passed_none, not_passed, few_passed, passed_next}
 use Rattle.pssm_plan.proofs.Known.{Known, known_as, known_both, known_either, known_not, known_below, known_transition, known_vertex}
 use Rattle.pssm_plan.proofs.KnownPlaces.{known_in_region}
 use Rattle.pssm_plan.proofs.KnownItems.{known_true}
@@ -136,65 +126,25 @@ module _ {m : DraftMachine} (shape : HasShape m) (truth : Truth) (within : Optio
   out_is_open (ends opened enters none) = opened
   out_is_open (on opened enters kind leaves out) = opened
 
--- the junctions that lead on to this one all differ
+-- these junctions, with their numbers, lead on to this one
 module _ {m : DraftMachine} (b : HasSingleLegs m) where
   record ArePassed (v : VertexId) (junctions : List VertexId) (numbers : List ℕ) : Type 0 where
-    pub distinct : IsDistinct eqb numbers
+    pub passed : IsPassed b v numbers
     pub told : (q : VertexId) → Contains junctions q → Contains numbers q.0
-    pub lead : (n : ℕ) → Contains numbers n → (q : VertexId) × (q.0 ≡ n) × HasKind m q kinds.Junction × LeadsOn m q v
 
   none_passed : (v : VertexId) → ArePassed v [] []
-  unfolding IsDistinct
-  none_passed v = record {
-    distinct = tt;
-    told = λ q inside. absurd (nothing_in_nil q inside);
-    lead = λ n inside. absurd (nothing_in_nil n inside);
-  }
-
-  not_again : (v : VertexId) (junctions : List VertexId) (numbers : List ℕ) → ArePassed v junctions numbers → Contains numbers v.0 → ⊥
-  not_again v junctions numbers h inside =
-      let at = h.lead v.0 inside in
-      b.rules (places.At (elements.Vertex v)) 19 (E19 (subst (λ q. LeadsOn m q v) (same_vertex at.0 v at.1) at.3))
-
-  distinct_with : (v : VertexId) (junctions : List VertexId) (numbers : List ℕ) → ArePassed v junctions numbers → IsDistinct eqb (numbers ++ v.0 ∷ [])
-  distinct_with v junctions numbers h =
-      IsDistinct-push nat_eq_equiv numbers v.0 h.distinct
-      (⊎_elim
-      (λ there. absurd (not_again v junctions numbers h (Contains-from_any eqb-true v.0 numbers there)))
-      (λ none. none)
-      (cases_Bool (list_any (eqb v.0) numbers)))
-
-  -- so they are fewer than the vertices of the machine
-  few_passed : (v : VertexId) (junctions : List VertexId) (numbers : List ℕ) → HasKind m v kinds.Junction → ArePassed v junctions numbers
-      → length numbers < length m.vertices
-  few_passed v junctions numbers kind h =
-      let few = length-le_from_distinct_below (numbers ++ v.0 ∷ []) (length m.vertices) (distinct_with v junctions numbers h)
-      (λ n found. below n (Contains-from_any eqb-true n (numbers ++ v.0 ∷ []) found)) in
-      let long = length_push numbers v.0 in omega (arith, few, long)
-    where
-      below : (n : ℕ) → Contains (numbers ++ v.0 ∷ []) n → n < length m.vertices
-      below n inside =
-          ⊎_elim
-          (λ before. (let at = h.lead n before in subst (λ k. k < length m.vertices) at.1 (junction_is_there m at.0 at.2)))
-          (λ same. subst (λ k. k < length m.vertices) same (junction_is_there m v kind))
-          (Contains-push_cases numbers v.0 n inside)
+  none_passed v = record { passed = passed_none b v; told = λ q inside. absurd (nothing_in_nil q inside) }
 
   one_more_passed : (v w : VertexId) (u : TransId) (junctions : List VertexId) (numbers : List ℕ) → HasKind m v kinds.Junction
       → HasKind m w kinds.Junction → Leaves m u v → Enters m u w → ArePassed v junctions numbers
       → ArePassed w (v ∷ junctions) (numbers ++ v.0 ∷ [])
-  one_more_passed v w u junctions numbers first second leaves enters h =
-      let step : LeadsOn m v w = next (kinds.Junction, first, tt) (kinds.Junction, second, tt) (inl (u, leaves, enters)) in
-      record {
-        distinct = distinct_with v junctions numbers h;
-        told = λ q inside. ⊎_elim
-            (λ same. subst (λ (x : VertexId). Contains (numbers ++ v.0 ∷ []) x.0) same (Contains-push numbers v.0))
-            (λ before. Contains-append_left numbers (v.0 ∷ []) q.0 (h.told q before))
-            (front_or_rest v q junctions inside);
-        lead = λ n inside. ⊎_elim
-            (λ before. (let at = h.lead n before in (at.0, at.1, at.2, after at.3 step)))
-            (λ same. (v, same, first, step))
-            (Contains-push_cases numbers v.0 n inside);
-      }
+  one_more_passed v w u junctions numbers first second leaves enters h = record {
+    passed = passed_next b v w u numbers first second leaves enters h.passed;
+    told = λ q inside. ⊎_elim
+        (λ same. subst (λ (x : VertexId). Contains (numbers ++ v.0 ∷ []) x.0) same (Contains-push numbers v.0))
+        (λ before. Contains-append_left numbers (v.0 ∷ []) q.0 (h.told q before))
+        (front_or_rest v q junctions inside);
+  }
 
 module _ {m : DraftMachine} (b : HasSingleLegs m) (shape : HasShape m) (truth : Truth) (within : Option RegionId) (start : TransId) where
   -- a way out from the start
@@ -232,7 +182,7 @@ module _ {m : DraftMachine} (b : HasSingleLegs m) (shape : HasShape m) (truth : 
           (λ some. inl some)
           (λ none. inr (λ same. none))
           (further (transition_number k) leaves
-          (goes_on way enters kind (λ again. not_again b v junctions numbers passed (passed.told v again)) leaves opened)))
+          (goes_on way enters kind (λ again. not_passed b v numbers passed.passed (passed.told v again)) leaves opened)))
           (λ shut. inr (λ same out. shut (out_is_open shape truth within out)))
           (known_open shape truth within (transition_number k) (leaving_there m (transition_number k) v leaves)))
           (λ other. inr (λ leaves. absurd (other leaves)))
@@ -261,7 +211,7 @@ module _ {m : DraftMachine} (b : HasSingleLegs m) (shape : HasShape m) (truth : 
       → length m.vertices ≤ fuel + length numbers → IsWay m truth within start t junctions path → Enters m t v → HasKind m v kinds.Junction
       → ArePassed b v junctions numbers → EndsOrNot t
   way_from zero t v junctions numbers path fits way enters kind passed =
-      absurd (let few = few_passed b v junctions numbers kind passed in omega (arith, few, fits))
+      absurd (let few = few_passed b v numbers kind passed.passed in omega (arith, few, fits))
   way_from (suc fuel) t v junctions numbers path fits way enters kind passed =
       from_each t v junctions numbers path way enters kind passed
       (λ u leaves longer. way_by u (v ∷ junctions) (path ++ u ∷ []) (leaving_there m u v leaves) longer

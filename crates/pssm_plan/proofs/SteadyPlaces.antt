@@ -37,7 +37,7 @@ use Rattle.pssm_model.proofs.Scopes.{one_scope}
 use Rattle.pssm_model.proofs.StateRoutes.{is_start as start_inside, source_is_left, state_route_from}
 use Rattle.pssm_model.proofs.OverJunctions.{single_legs, internal_leaves, local_leaves}
 use Rattle.pssm_model.proofs.OneLeg.{is_start, passes_junction}
-use Rattle.pssm_model.proofs.LegScopes.{some_leg}
+use Rattle.pssm_model.proofs.LegScopes.{some_scope}
 use Rattle.pssm_plan.proofs.KnownPlaces.{known_in_state}
 use Rattle.pssm_plan.proofs.Depths.{owner_under, depth_under, state_down_region}
 use Rattle.pssm_plan.proofs.RouteLegs.{leg_scope_is}
@@ -385,7 +385,7 @@ module _ {m : DraftMachine} (shape : HasShape m) (nested : IsPlainlyNested m) wh
   state_area : (p : Route) → IsStateRoute m p → (area : Scope) × IsArea m p area
   state_area p is =
       let from = state_route_from (single_legs nested) p is in
-      let leg = some_leg (single_legs nested) shape p is.0 from.0 from.2.starts from.1 from.2.leaves from.2.state in
+      let leg = some_scope (single_legs nested) shape p is.0 from.0 from.2.starts from.1 from.2.leaves in
       (leg.0, (leg_scope_is nested shape p is.0 from.0 from.2.starts from.0 leg.0 leg.1).1)
 
   -- a region owns each initial vertex

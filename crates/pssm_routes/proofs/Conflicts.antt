@@ -15,14 +15,15 @@ use Rattle.pssm_model.specs.Legs.Scope.{Nowhere as nowhere, Inside as inside, Wi
 use Rattle.pssm_model.specs.Routes.{IsRoute, IsSource, IsStateRoute, HasStarts, Conflict}
 use Rattle.pssm_model.proofs.ElementLaws.{leaves_one}
 use Rattle.pssm_model.proofs.RouteLaws.{in_one, is_one}
-use Rattle.pssm_routes.specs.declared.areas.Area.{Area}
-use Rattle.pssm_routes.specs.declared.areas.Area.TheVariants.{Nowhere, Inside, Within}
+use Rattle.pssm_legs.specs.declared.areas.Area.{Area}
+use Rattle.pssm_legs.specs.declared.areas.Area.TheVariants.{Nowhere, Inside, Within}
 use Rattle.pssm_routes.specs.declared.areas.Footprint.{Footprint}
 use Rattle.pssm_model.specs.SingleLegs.{HasSingleLegs}
-use Rattle.pssm_routes.specs.inner.Footprints.{scope_of, IsFootprintOf, Clash}
+use Rattle.pssm_legs.specs.Areas.{scope_of}
+use Rattle.pssm_routes.specs.inner.Footprints.{IsFootprintOf, Clash}
 use Rattle.pssm_model.proofs.RegionChains.{on_one_chain}
 use Rattle.pssm_model.proofs.OneLeg.{source_of, source_of_leg, target_of_leg, of_leg_cases, on_start}
-use Rattle.pssm_model.proofs.LegScopes.{IsAround, IsScopeBy, start_kind, scope_by, some_leg, one_leg_scope, exits_is, exits_of, shared_touch}
+use Rattle.pssm_model.proofs.LegScopes.{IsAround, IsScopeBy, start_kind, scope_by, some_scope, one_leg_scope, exits_is, exits_of, shared_touch}
 
 -- the area of a scope
 abbrev area_of : Scope → Area
@@ -61,7 +62,7 @@ module _ {m : DraftMachine} (b : HasSingleLegs m) (shape : HasShape m) where
       let first = one_start p route.0 in
       let source = source_of b shape p route.0 first.0 first.1 first.0 (on_start b shape p route.0 first.0 first.1) in
       let state = route.1 source.0 (first.0, subst (λ ts. Contains ts first.0) (sym first.1) (in_one first.0), source.1) in
-      let leg = some_leg b shape p route.0 first.0 first.1 source.0 source.1 state in (
+      let leg = some_scope b shape p route.0 first.0 first.1 source.0 source.1 in (
         record { source = source.0; area = area_of leg.0 },
         record {
           start = first.0;

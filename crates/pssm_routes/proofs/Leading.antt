@@ -70,15 +70,15 @@ module _ {m : DraftMachine} (b : HasSingleLegs m) where
   no_cycle v cycle = b.rules (places.At (elements.Vertex v)) 19 (E19 cycle)
 
   -- different numbers of junctions that lead on to this one
-  record IsPassed (v : VertexId) (ns : List ℕ) : Type 0 where
+  pub record IsPassed (v : VertexId) (ns : List ℕ) : Type 0 where
     pub distinct : IsDistinct eqb ns
     pub lead : (n : ℕ) → Contains ns n → (w : VertexId) × (w.0 ≡ n) × HasKind m w kinds.Junction × LeadsOn m w v
 
-  passed_none : (v : VertexId) → IsPassed v []
+  pub passed_none : (v : VertexId) → IsPassed v []
   unfolding IsDistinct
   passed_none v = record { distinct = tt; lead = λ n inside. absurd (nothing_in_nil n inside) }
 
-  not_passed : (v : VertexId) (ns : List ℕ) → IsPassed v ns → Contains ns v.0 → ⊥
+  pub not_passed : (v : VertexId) (ns : List ℕ) → IsPassed v ns → Contains ns v.0 → ⊥
   not_passed v ns h inside =
       let at = h.lead v.0 inside in
       no_cycle v (subst (λ w. LeadsOn m w v) (same_vertex at.0 v at.1) at.3)
@@ -95,7 +95,7 @@ module _ {m : DraftMachine} (b : HasSingleLegs m) where
       (λ same. subst (λ k. k < length m.vertices) same (junction_is_there m v kind))
       (Contains-push_cases ns v.0 n inside)
 
-  few_passed : (v : VertexId) (ns : List ℕ) → HasKind m v kinds.Junction → IsPassed v ns → length ns < length m.vertices
+  pub few_passed : (v : VertexId) (ns : List ℕ) → HasKind m v kinds.Junction → IsPassed v ns → length ns < length m.vertices
   few_passed v ns kind h =
       let few = length-le_from_distinct_below (ns ++ v.0 ∷ []) (length m.vertices) (distinct_with v ns h)
       (λ q found. below_with v ns kind h q (Contains-from_any eqb-true q (ns ++ v.0 ∷ []) found)) in
@@ -104,7 +104,7 @@ module _ {m : DraftMachine} (b : HasSingleLegs m) where
   is_pseudostate : (v : VertexId) → HasKind m v kinds.Junction → IsPseudostate m v
   is_pseudostate v kind = (kinds.Junction, kind, tt)
 
-  passed_next : (v w : VertexId) (u : TransId) (ns : List ℕ) → HasKind m v kinds.Junction → HasKind m w kinds.Junction → Leaves m u v → Enters m u w
+  pub passed_next : (v w : VertexId) (u : TransId) (ns : List ℕ) → HasKind m v kinds.Junction → HasKind m w kinds.Junction → Leaves m u v → Enters m u w
       → IsPassed v ns → IsPassed w (ns ++ v.0 ∷ [])
   passed_next v w u ns first second leaves enters h =
       let step : LeadsOn m v w = next (is_pseudostate v first) (is_pseudostate w second) (inl (u, leaves, enters)) in

@@ -4,7 +4,6 @@ pub mod Routed
 pub mod Conflicts
 pub mod Settling
 pub mod Sought
-pub mod Unmet
 pub mod Ceilings
 pub mod Rooms
 pub mod JoiningSteps

@@ -14,11 +14,12 @@ use Rattle.pssm_model.specs.Legs.{Leaves, Goes, LiesInScope}
 use Rattle.pssm_model.specs.Routes.{IsStateRoute}
 use Rattle.pssm_model.proofs.ElementLaws.{leaves_one, mapped_at}
 use Rattle.pssm_model.proofs.Nesting.{lies_within}
-use Rattle.pssm_routes.specs.declared.areas.Area.{Area}
-use Rattle.pssm_routes.specs.declared.areas.Area.TheVariants.{Within}
+use Rattle.pssm_legs.specs.declared.areas.Area.{Area}
+use Rattle.pssm_legs.specs.declared.areas.Area.TheVariants.{Within}
 use Rattle.pssm_routes.specs.declared.areas.Footprint.{Footprint}
 use Rattle.pssm_model.specs.SingleLegs.{HasSingleLegs}
-use Rattle.pssm_routes.specs.inner.Footprints.{scope_of, IsFootprintOf, Clash, ClashesWithSome}
+use Rattle.pssm_legs.specs.Areas.{scope_of}
+use Rattle.pssm_routes.specs.inner.Footprints.{IsFootprintOf, Clash, ClashesWithSome}
 use Rattle.pssm_routes.specs.inner.Rooms.{Touches, IsShut, IsOpenRoom}
 use Rattle.pssm_routes.specs.inner.Sets.{IsTouched, HoldsSource, IsCeiling}
 use Rattle.pssm_routes.proofs.Conflicts.{area_of_internal, area_of_local, area_of_external}

@@ -14,8 +14,9 @@ ghost use Rattle.pssm_routes.specs.inner.Steps.{IsJoiningStep};
 ghost use Rattle.pssm_routes.specs.inner.Sets.{HasFreeRoute, IsTouched, HoldsSource, IsCeiling};
 ghost use Rattle.pssm_routes.specs.inner.Rooms.{Touches, IsNextOut, IsRoomFor, IsRoomIn};
 
-use crate::areas::{Footprint, are_on_one_chain, covers};
+use crate::areas::{Footprint, are_on_one_chain};
 use crate::seeking::{Search, Step, find_way};
+use pssm_legs::covers;
 use pssm_model::{GuardId, Machine, Owner, RegionId, TransId, TransKind, VertexId};
 
 // Whether the State is on one owner chain with the source of the footprint, or lies in its area.

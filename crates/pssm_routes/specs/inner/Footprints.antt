@@ -5,17 +5,9 @@ use Rattle.pssm_model.specs.declared.elements.DraftMachine.{DraftMachine}
 use Rattle.pssm_model.specs.declared.steps.Route.{Route}
 use Rattle.pssm_model.specs.SingleLegs.{IsFrom}
 use Rattle.pssm_model.specs.Forest.{IsOrLiesIn}
-use Rattle.pssm_model.specs.Legs.{Scope, LegScope, LiesInScope}
-use Rattle.pssm_model.specs.Legs.Scope.{Nowhere as nowhere, Inside as inside, Within as within}
-use Rattle.pssm_routes.specs.declared.areas.Area.{Area}
-use Rattle.pssm_routes.specs.declared.areas.Area.TheVariants.{Nowhere, Inside, Within}
+use Rattle.pssm_model.specs.Legs.{LegScope, LiesInScope}
+use Rattle.pssm_legs.specs.Areas.{scope_of, IsAreaIn}
 use Rattle.pssm_routes.specs.declared.areas.Footprint.{Footprint}
-
--- the scope that an area names
-abbrev pub scope_of : Area → Scope
-scope_of Nowhere = nowhere
-scope_of (Inside s) = inside s
-scope_of (Within r) = within r
 
 -- the source of the route, and the scope of its one leg
 pub record IsFootprintOf (m : DraftMachine) (p : Route) (footprint : Footprint) : Type 0 where
@@ -37,12 +29,6 @@ Clash m a b =
 -- Some footprint among them clashes with it.
 abbrev pub ClashesWithSome : DraftMachine → List Footprint → Footprint → Type 0
 ClashesWithSome m footprints b = (a : Footprint) × Contains footprints a × Clash m a b
-
--- The area names a place of the machine.
-abbrev pub IsAreaIn : DraftMachine → Area → Type 0
-IsAreaIn m Nowhere = Unit {0}
-IsAreaIn m (Inside s) = s.0 < length m.vertices
-IsAreaIn m (Within r) = r.0 < length m.regions
 
 -- The footprint names places of the machine.
 pub record IsFootprintIn (m : DraftMachine) (footprint : Footprint) : Type 0 where

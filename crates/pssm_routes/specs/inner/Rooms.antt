@@ -12,7 +12,8 @@ use Rattle.pssm_model.specs.Routes.{IsStateRoute}
 use Rattle.pssm_routes.specs.declared.areas.Footprint.{Footprint}
 use Rattle.pssm_routes.specs.declared.joining.Room.{Room}
 use Rattle.pssm_routes.specs.declared.joining.Room.TheVariants.{Shut, Open}
-use Rattle.pssm_routes.specs.inner.Footprints.{scope_of, IsFootprintOf, ClashesWithSome}
+use Rattle.pssm_legs.specs.Areas.{scope_of}
+use Rattle.pssm_routes.specs.inner.Footprints.{IsFootprintOf, ClashesWithSome}
 use Rattle.pssm_routes.specs.inner.Ways.{IsAllowed}
 
 -- The State, or one that it lies in or that lies in it, is the source of the footprint, or its area covers the State.

@@ -11,7 +11,8 @@ use Rattle.pssm_model.specs.Legs.{On, LiesInScope}
 use Rattle.pssm_model.specs.Configuration.{Configuration}
 use Rattle.pssm_model.specs.Routes.{Truth, IsStateRoute, IsTrueAt, IsEnabled, IsSource, Conflict}
 use Rattle.pssm_routes.specs.declared.areas.Footprint.{Footprint}
-use Rattle.pssm_routes.specs.inner.Footprints.{scope_of, IsFootprintOf, ClashesWithSome}
+use Rattle.pssm_legs.specs.Areas.{scope_of}
+use Rattle.pssm_routes.specs.inner.Footprints.{IsFootprintOf, ClashesWithSome}
 use Rattle.pssm_routes.specs.inner.Starts.{IsStarted, IsOutranked}
 
 -- The route could join the others: it is enabled, is none of them, conflicts with none, and no enabled route starts in its source.

@@ -1,7 +1,7 @@
 use Rattle.std.proofs.lemmas.Bool.{false≢true}
 use Rattle.pssm_model.specs.Forest.{LiesInRegion}
 use Rattle.pssm_routes.specs.declared.areas.Footprint.{Footprint}
-use Rattle.pssm_routes.proofs.Unmet.{none_more, none_at_all}
+use Rattle.pssm_legs.proofs.NoneSoFar.{none_more, none_at_all}
 use Rattle.pssm_routes.proofs.joining.holds_source.Goals as goal
 
 pub loop-footprint-preserved : goal.loop-footprint-preserved

@@ -1,6 +1,6 @@
 use Rattle.std.proofs.lemmas.Bool.{false≢true}
 use Rattle.pssm_routes.specs.inner.Rooms.{Touches}
-use Rattle.pssm_routes.proofs.Unmet.{none_more, none_at_all}
+use Rattle.pssm_legs.proofs.NoneSoFar.{none_more, none_at_all}
 use Rattle.pssm_routes.proofs.joining.is_touched.Goals as goal
 
 pub loop-footprint-preserved : goal.loop-footprint-preserved

@@ -1,7 +1,7 @@
 -- each turn looks at one footprint more
 use Rattle.std.proofs.Common.{◌<◌, ◌≤◌, length, get_or, refl, arith}
 use Rattle.std.proofs.lemmas.List.Elements.{Contains-get_or}
-use Rattle.pssm_routes.specs.declared.areas.Area.TheVariants.{Nowhere}
+use Rattle.pssm_legs.specs.declared.areas.Area.TheVariants.{Nowhere}
 use Rattle.pssm_routes.specs.declared.areas.Footprint.{Footprint}
 use Rattle.pssm_routes.specs.inner.Footprints.{Clash}
 use Rattle.pssm_routes.proofs.Scanning.{holds_of_more, holds_of_all, refuted}

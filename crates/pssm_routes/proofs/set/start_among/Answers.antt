@@ -1,6 +1,6 @@
 -- each turn looks at one footprint more
 use Rattle.std.proofs.Common.{◌<◌, ◌≤◌, length, refl, arith, Contains}
-use Rattle.pssm_routes.specs.declared.areas.Area.TheVariants.{Nowhere}
+use Rattle.pssm_legs.specs.declared.areas.Area.TheVariants.{Nowhere}
 use Rattle.pssm_routes.specs.declared.areas.Footprint.{Footprint}
 use Rattle.pssm_routes.proofs.Members.{all_of_members}
 use Rattle.pssm_routes.proofs.Scanning.{holds_of_more, holds_of_all, refuted}

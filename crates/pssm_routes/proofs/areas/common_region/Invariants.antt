@@ -1,9 +1,0 @@
-use Rattle.std.proofs.Common.{◌<◌, length}
-use Rattle.pssm_model.specs.Forest.{IsScope}
-use Rattle.pssm_model.proofs.CommonRegions.{IsMet}
-use Rattle.pssm_routes.proofs.areas.common_region.Given as goal
-
--- the innermost region of the source and the targets so far
-abbrev pub invariant-loop-t : goal.invariant-loop-t
-invariant-loop-t l =
-    IsScope l.fn.machine (IsMet l.fn.machine l.fn.start l.fn.route.rest l.t-index) l.common × (l.common.0 < length l.fn.machine.regions)
