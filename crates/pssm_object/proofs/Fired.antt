@@ -35,7 +35,6 @@ module _ {m : DraftMachine} (b : IsBuiltMachine m) where
     pub fired_there : All (IsRouteOf m) routes
     fired_there = λ i route lt. (h.0.sound.enabled i route lt).route_of_states.0.in_range
 
-
   -- the sources of what a signal fires are active
   pub fired_from_active : (now : Configuration) (truth : Truth) (signal : SignalId) (routes : List Route) → IsFiring m now truth (Signal signal) routes
       → (p : Route) (s : VertexId) → Contains routes p → IsSource m p s → now.Active s
