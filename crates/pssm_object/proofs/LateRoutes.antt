@@ -1,5 +1,5 @@
 -- The late routes of a machine of initial vertices, States and junctions: each is one transition out of an initial vertex, with a true guard.
-use Rattle.std.proofs.Common.{◌≡◌, ◌<◌, [], ◌∷◌, length, Contains, refl, sym, subst, inl, inr, ⊎_elim}
+use Rattle.std.proofs.Common.{◌≡◌, ◌<◌, [], ◌∷◌, length, Contains, refl, sym, subst, inl, ⊎_elim}
 use Rattle.std.proofs.lemmas.List.Elements.{Contains-append_right}
 use Rattle.pssm_model.specs.declared.ids.VertexId.{VertexId}
 use Rattle.pssm_model.specs.declared.ids.TransId.{TransId}
@@ -8,13 +8,13 @@ use Rattle.pssm_model.specs.declared.elements.VertexKind.TheVariants as kinds
 use Rattle.pssm_model.specs.declared.steps.Route.{Route}
 use Rattle.pssm_model.specs.Shapes.{HasShape}
 use Rattle.pssm_model.specs.Forest.{HasKind}
-use Rattle.pssm_model.specs.Legs.{Leaves, Enters, On}
+use Rattle.pssm_model.specs.Legs.{Leaves, Enters}
 use Rattle.pssm_model.specs.Routes.{Truth, single_route, IsTrueAt, GoesOnAt, IsReached, IsRoute}
 use Rattle.pssm_model.specs.Routes.IsReached.{start, on}
 use Rattle.pssm_model.specs.FiringSets.{IsLateOrigin, IsLateRoute}
 use Rattle.pssm_model.specs.Nested.{IsPlainlyNested}
 use Rattle.pssm_model.proofs.ElementLaws.{kind_unique, nothing_in_nil}
-use Rattle.pssm_model.proofs.RouteLaws.{in_one, is_one, nil_from_nothing, one_in_order, none_in_order, all_of_one, same_route, on_single, on_single_is, reached_is_on}
+use Rattle.pssm_model.proofs.RouteLaws.{in_one, is_one, nil_from_nothing, one_in_order, none_in_order, all_of_one, same_route, on_single_is, reached_is_on}
 use Rattle.pssm_model.proofs.OverJunctions.{single_legs, no_other_kind, late_target}
 use Rattle.pssm_model.proofs.OneLeg.{on_start, start_or_rest, passes_junction}
 
