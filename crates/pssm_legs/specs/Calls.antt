@@ -34,7 +34,8 @@ IsCalledBy m fires p item = (t : TransId) × On p t × IsItemOfLeg m fires p t i
 abbrev pub IsOpenedFor : DraftMachine → Route → VertexId → RegionId → Type 0
 IsOpenedFor m p s r = (t : TransId) × On p t × LegEnters m p t s × (IsAimedAt m p t r → ⊥)
 
--- the cases in which one item of a leg comes before another (UML 2.5.1 14.2.3.9, transition execution sequence; for legs this profile's choice)
+-- the cases in which one item of a leg comes before another; that exits go from within and entries from without holds of all items, whatever leg
+-- calls them, and stands with the order of a step (UML 2.5.1 14.2.3.9, transition execution sequence; for legs this profile's choice)
 pub data IsOrderedInLeg (m : DraftMachine) (fires : Bool) (p : Route) (t : TransId) : Item → Item → Type 0 where
   exit_effect : {x y : Item} → IsExit x → IsEffect y → IsCalledInLeg m fires p t x → IsCalledInLeg m fires p t y → IsOrderedInLeg m fires p t x y
   path : {u w : TransId} → SameLeg m p t u → PathBefore m p u w → IsOrderedInLeg m fires p t (Effect u) (Effect w)

@@ -14,7 +14,7 @@ use Rattle.pssm_legs.specs.Areas.{scope_of, IsAreaIn}
 abbrev pub StandsBefore : List TransId → TransId → TransId → Type 0
 StandsBefore ts t u = (i j : ℕ) × (i < j) × (slice_get ts i ≡ Some t) × (slice_get ts j ≡ Some u)
 
--- What the legs name is there.
+-- The area of the legs and the vertex on which they end are of the machine.
 pub record AreLegsIn (m : DraftMachine) (legs : Legs) : Type 0 where
   pub area : IsAreaIn m legs.area
   pub last : legs.last.0 < length m.vertices

@@ -236,8 +236,8 @@ pub fn opens_for(machine: &Machine, legs: &Legs, s: VertexId, r: RegionId) -> bo
     is_left_to_open(machine, legs, s, r)
 }
 
-/// Whether the first of two items comes before the second by a leg of a route that calls both (UML 2.5.1, 14.2.3.9,
-/// transition execution sequence).
+/// Whether a route puts the first of two items before the second, since one of its legs calls both, or a later leg the
+/// second (UML 2.5.1, 14.2.3.9, transition execution sequence).
 pub fn orders(machine: &Machine, legs: &Legs, fires: bool, first: Item, second: Item) -> bool
     requires single { HasSingleLegs machine.now }
     requires legs { AreLegsIn machine.now legs.now }

@@ -24,7 +24,7 @@ StandsAs m course item (Waits on) = IsWaiting m course item × IsWaiting m cours
 abbrev pub stands_ready : Call → Bool
 stands_ready call = not call.ran && not call.blocked
 
--- the calls of the plan that stand so, in the order in which they were made (UML 2.5.1 14.2.3.9, transition execution sequence)
+-- the calls of the plan that stand so, in the order of its list (UML 2.5.1 14.2.3.9, transition execution sequence)
 abbrev pub ready_calls : Agenda → List Call
 ready_calls plan = filter stands_ready plan.calls
 

@@ -32,11 +32,11 @@ opens_by m way s r = IsOpenedFor m way.route.value s r
 abbrev pub orders_by : DraftMachine → Way → Item → Item → Type 0
 orders_by m way x y = IsOrderedBy m way.fires way.route.value x y
 
--- one of the ways is that of the route
+-- One of the ways is that of the route.
 abbrev pub IsWayTaken : List Way → Route → Type 0
 IsWayTaken ways p = (way : Way) × Contains ways way × (way.route.value ≡ p)
 
--- and it is one that fires
+-- One of the ways is that of the route, and fires.
 abbrev pub IsWayFired : List Way → Route → Type 0
 IsWayFired ways p = (way : Way) × Contains ways way × (way.route.value ≡ p) × IsTrue way.fires
 

@@ -8,8 +8,9 @@ ghost use Rattle.pssm_model.specs.Items.{IsWaiting, HasRunOut};
 ghost use Rattle.pssm_model.specs.Order.{KnownConfiguration, known_course, IsReady};
 ghost use Rattle.pssm_model.specs.Order.{HasReadyAtOrBefore, IsNestedStep, entries_at_most};
 
-/// In a step of a machine of States in regions, a called item that has not run has a ready item at or before it; so
-/// where no item is ready, everything called has run (UML 2.5.1, 14.2.3.9, transition execution sequence).
+/// In a step of a machine of initial vertices, States and junctions, a called item that has not run has a ready item
+/// at or before it; so where no item is ready, everything called has run (UML 2.5.1, 14.2.3.9, transition execution
+/// sequence).
 pub fn ready_items()
     ensures waiting { (m : DraftMachine) (head : Head) (now : KnownConfiguration) (ran : List (Item × How))
         (item : Item) → IsNestedStep m (known_course head now ran) → IsWaiting m (known_course head now ran) item
@@ -19,8 +20,8 @@ pub fn ready_items()
         → HasRunOut m (known_course head now ran) }
 {}
 
-/// A step of a machine of States in regions has at most an exit and an entry for each vertex, an opening for each
-/// region and an effect for each transition (UML 2.5.1, 14.2.3.9, run to completion).
+/// A step of such a machine has at most an exit and an entry for each vertex, an opening for each region and an effect
+/// for each transition (UML 2.5.1, 14.2.3.9, run to completion).
 pub fn step_length()
     ensures { (m : DraftMachine) (head : Head) (now : KnownConfiguration) (ran : List (Item × How))
         → IsNestedStep m (known_course head now ran) → length ran ≤ entries_at_most m }

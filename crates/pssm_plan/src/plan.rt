@@ -101,7 +101,7 @@ impl Plan {
         count_ready(self.progress.roster.calls.as_slice())
     }
 
-    /// The ready item with a number, in the order in which they were called.
+    /// The ready item with a number, in the order of the plan's list.
     pub fn ready_at(&self, i: u32) -> Item
         requires { i < length (ready_calls self.now) }
         ensures listed { IsItemAt (ready_calls self.now) i result }

@@ -32,7 +32,7 @@ pub fn count_ready(calls: &[Call]) -> u32
     count
 }
 
-/// The ready item with a number, in the order in which they were called.
+/// The ready item with a number, in the order of the list.
 pub fn ready_item(calls: &[Call], i: u32) -> Item
     requires { i < length (filter stands_ready calls.now) }
     ensures { IsItemAt (filter stands_ready calls.now) i result }

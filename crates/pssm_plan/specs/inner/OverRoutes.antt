@@ -68,10 +68,6 @@ LeavesOwner m p r = (s : VertexId) × IsSource m p s × (owner_of m (Region r) �
 abbrev pub OpensBeside : DraftMachine → Route → RegionId → Type 0
 OpensBeside m p r = GoesAs m p Local × LeavesOwner m p r × (EndsIn m p r → ⊥)
 
--- the outermost region in which the route enters States: its span, or where it is local that of the State that it leaves in which it ends
-abbrev pub IsOutermost : DraftMachine → Route → RegionId → Type 0
-IsOutermost m p r = (GoesAs m p External × IsSpan m p r) ⊎ (GoesAs m p Local × LeavesOwner m p r × EndsIn m p r)
-
 -- The step goes by the route.
 abbrev pub GoesBy : Course → Route → Type 0
 GoesBy course p = FiresBy course.head p ⊎ HasGoneBy course p

@@ -9,12 +9,8 @@ use Rattle.pssm_model.specs.Forest.{LiesInState}
 use Rattle.pssm_legs.specs.Calls.{IsItemIn}
 use Rattle.pssm_plan.specs.declared.ways.Way.{Way}
 use Rattle.pssm_plan.specs.declared.roster.Call.{Call}
-use Rattle.pssm_plan.specs.Ways.{calls_by, opens_by, orders_by}
+use Rattle.pssm_plan.specs.Ways.{opens_by, orders_by}
 use Rattle.pssm_plan.specs.inner.Marks.{IsListed, IsMarked, IsFresh}
-
--- One of the ways calls the item.
-abbrev pub IsCalledBySome : DraftMachine → List Way → Item → Type 0
-IsCalledBySome m ways x = (way : Way) × Contains ways way × calls_by m way x
 
 -- One of the ways opens the region of the State.
 abbrev pub IsOpenedBySome : DraftMachine → List Way → VertexId → RegionId → Type 0
