@@ -1,4 +1,4 @@
--- What a closure tells of waiting signals, and the first of which it does not hold.
+-- What a closure may be asked of waiting signals, and the first for which it may answer false.
 use Rattle.std.specs.Prelude.{◌≡◌, ◌<◌, ℕ, List, Bool, true, false, Some, slice_get, Contains}
 use denote.Ref.{Bor}
 use Rattle.pssm_pool.specs.declared.pools.Waiting.{Waiting}
@@ -7,11 +7,8 @@ use Rattle.pssm_pool.specs.declared.pools.Waiting.{Waiting}
 abbrev pub CanBeAsked : List Waiting → (Bor Waiting → Type 0) → Type 0
 CanBeAsked waiting MayAsk = (shown : Bor Waiting) → Contains waiting shown.now → MayAsk shown
 
--- Whatever is answered for a signal is its value (this profile's choice).
-abbrev pub Tells : (Bor Waiting → Bool → Type 0) → (Waiting → Bool) → Type 0
-Tells Answers values = (shown : Bor Waiting) (answer : Bool) → Answers shown answer → answer ≡ values shown.now
-
--- The signal at the place is the first of the signals that has the value false.
-pub record IsFirstNot (values : Waiting → Bool) (waiting : List Waiting) (k : ℕ) : Type 0 where
-  pub before : (j : ℕ) (w : Waiting) → j < k → slice_get waiting j ≡ Some w → values w ≡ true
-  pub here : (w : Waiting) × (slice_get waiting k ≡ Some w) × (values w ≡ false)
+-- The signal at the place is the first for which the answer is false: it may be false for it, and true for each before it
+-- (this profile's choice).
+pub record IsFirstNot (Answers : Waiting → Bool → Type 0) (waiting : List Waiting) (k : ℕ) : Type 0 where
+  pub before : (j : ℕ) (w : Waiting) → j < k → slice_get waiting j ≡ Some w → Answers w true
+  pub here : (w : Waiting) × (slice_get waiting k ≡ Some w) × Answers w false

@@ -1,8 +1,9 @@
 //! The pool of one object.
 ghost use Rattle.std.specs.Prelude.{◌≡◌, ◌≤◌, ◌<◌, ◌+◌, ◌++◌, ◌∷◌, [], length, slice_get};
-ghost use Rattle.std.specs.Prelude.{Some, OnOk, All, IfSome, IsNone, ◌↔◌, Bool, true};
-ghost use Rattle.std.specs.List.{remove};
-ghost use Rattle.pssm_pool.specs.Telling.{CanBeAsked, Tells, IsFirstNot};
+ghost use Rattle.std.specs.Prelude.{Some, OnOk, IfSome, IfNone, true};
+ghost use Rattle.std.specs.Fn.{FnReturnsAt};
+ghost use Rattle.std.specs.List.{remove, AllByRecursion};
+ghost use Rattle.pssm_pool.specs.Telling.{CanBeAsked, IsFirstNot};
 
 use crate::pools::Waiting;
 use std::alloc::{AllocError as NoMemory, Global};
@@ -26,8 +27,6 @@ impl Model for Pool {
 }
 
 impl Pool {
-    ghost use Rattle.pssm_pool.specs.declared.pools.Waiting.{Waiting as Signal};
-
     /// A pool in which no signal waits.
     pub fn new(alloc: Global) -> Pool
         ensures { result.waiting ≡ [] }
@@ -82,14 +81,12 @@ impl Pool {
         }
     }
 
-    /// The place of the first signal of which `held` does not hold.
+    /// The place of the first signal for which `held` answers false.
     pub fn first_not<T: Fn(&Waiting) -> bool>(&self, held: &T) -> Option<usize>
         requires { CanBeAsked self.now.waiting (T.pre held.now) }
         ensures there { IfSome result (λ k. k < length self.now.waiting) }
-        ensures first { (values : Signal → Bool) → Tells (T.post held.now) values
-            → IfSome result (IsFirstNot values self.now.waiting) }
-        ensures none { (values : Signal → Bool) → Tells (T.post held.now) values
-            → (IsNone result ↔ All (λ w. values w ≡ true) self.now.waiting) }
+        ensures first { IfSome result (IsFirstNot (FnReturnsAt T.Fn held.now) self.now.waiting) }
+        ensures none { IfNone result (AllByRecursion (λ w. FnReturnsAt T.Fn held.now w true) self.now.waiting) }
     {
         for k in 0..self.len() {
             if !held(self.at(k)) {

@@ -1,9 +1,11 @@
 //! `Pools`: the pools of all objects.
-ghost use Rattle.std.specs.Prelude.{◌≡◌, ◌≤◌, ◌<◌, ◌+◌, ◌↔◌, ℕ, [], length};
-ghost use Rattle.std.specs.Prelude.{replicate, All, Bool, true, IfOk, OnOk, IfSome, IsNone};
+ghost use Rattle.std.specs.Prelude.{◌≡◌, ◌≤◌, ◌<◌, ◌+◌, ℕ, [], length};
+ghost use Rattle.std.specs.Prelude.{replicate, true, IfOk, OnOk, IfSome, IfNone};
+ghost use Rattle.std.specs.Fn.{FnReturnsAt};
+ghost use Rattle.std.specs.List.{AllByRecursion};
 ghost use Rattle.pssm_semantics.specs.declared.entry.ObjectId.{ObjectId as Object};
 ghost use Rattle.pssm_pool.specs.Waits.{waiting_for, held_in, with_arrived, without, IsSlotOf, IsSlot, StandsAt};
-ghost use Rattle.pssm_pool.specs.Telling.{CanBeAsked, Tells, IsFirstNot};
+ghost use Rattle.pssm_pool.specs.Telling.{CanBeAsked, IsFirstNot};
 ghost use Rattle.pssm_pool.specs.inner.Rooms.{waiting_in, spare_in};
 
 use crate::pool::Pool;
@@ -48,8 +50,6 @@ impl Model for Pools {
 }
 
 impl Pools {
-    ghost use Rattle.pssm_pool.specs.declared.pools.Waiting.{Waiting as Signal};
-
     /// The pools of so many objects, in which no signal waits.
     ///
     /// `NoMemory`: memory ran out.
@@ -86,18 +86,17 @@ impl Pools {
         arrive_at(self.pools.as_mut_slice(), object, waiting);
     }
 
-    /// The slot of the first signal of the object of which `held` does not hold, if there is one.
+    /// The slot of the first signal of the object for which `held` answers false, if there is one.
     ///
-    /// `held` may be asked of each signal that waits for the object. What is promised of its answers is promised for
-    /// each function `values` that says what it answers.
+    /// `held` may be asked of each signal that waits for the object. The answers are ones that it may give: false for
+    /// the signal of the slot, and true for each before it; true for all of them where there is no slot.
     pub fn first_not<T: Fn(&Waiting) -> bool>(&self, object: ObjectId, held: &T) -> Option<SlotId>
         requires { CanBeAsked (waiting_for self.now.waiting object) (T.pre held.now) }
         ensures slot { IfSome result (IsSlot self.now.waiting) }
-        ensures first { (values : Signal → Bool) → Tells (T.post held.now) values
-            → IfSome result (λ slot. (k : ℕ) × IsSlotOf self.now.waiting slot object k
-            × IsFirstNot values (waiting_for self.now.waiting object) k) }
-        ensures none { (values : Signal → Bool) → Tells (T.post held.now) values
-            → (IsNone result ↔ All (λ w. values w ≡ true) (waiting_for self.now.waiting object)) }
+        ensures first { IfSome result (λ slot. (k : ℕ) × IsSlotOf self.now.waiting slot object k
+            × IsFirstNot (FnReturnsAt T.Fn held.now) (waiting_for self.now.waiting object) k) }
+        ensures none { IfNone result
+            (AllByRecursion (λ w. FnReturnsAt T.Fn held.now w true) (waiting_for self.now.waiting object)) }
     {
         let place = self.pools.get(usize::from(object.0))?.first_not(held)?;
         Some(SlotId { object, place })
