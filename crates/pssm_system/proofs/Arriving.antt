@@ -15,7 +15,7 @@ use Rattle.pssm_semantics.specs.Pool.{signals_of_entry, signals_of, takes, pool_
 use Rattle.pssm_semantics.proofs.Members.{first_in, later_in}
 use Rattle.pssm_semantics.proofs.Objects.{same_object}
 use Rattle.pssm_semantics.proofs.Waiting.{waits_in, arrivals, pool_of-grows, pool_of-take, filter-all}
-use Rattle.pssm_object.specs.declared.object.Waiting.{Waiting}
+use Rattle.pssm_pool.specs.declared.pools.Waiting.{Waiting}
 use Rattle.pssm_object.specs.Standing.{HasSignalsTaken}
 use Rattle.pssm_object.specs.Following.{stimulus_of}
 use Rattle.pssm_system.specs.inner.Pooling.{without_number, waiting_as, with_arrived, delivered, left_by, arriving, numbered_for}

@@ -16,7 +16,7 @@ use Rattle.pssm_semantics.specs.Pool.{told_by}
 use Rattle.pssm_semantics.specs.Tasks.{IsReadyTask}
 use Rattle.pssm_semantics.specs.Admissible.{MayFollow, IsQuiet}
 use Rattle.pssm_semantics.specs.Built.{IsBuiltClass, IsBuilt}
-use Rattle.pssm_object.specs.declared.object.Waiting.{Waiting}
+use Rattle.pssm_pool.specs.declared.pools.Waiting.{Waiting}
 use Rattle.pssm_object.specs.Standing.{Standing, StandsAfter}
 use Rattle.pssm_object.specs.Following.{NamesPlaces, KeepsRules, IsCandidate, IsMove, IsHandedIn, stimulus_for}
 use Rattle.pssm_object.specs.Following as objects

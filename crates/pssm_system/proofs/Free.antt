@@ -1,7 +1,7 @@
 -- The first signal of a pool that its object does not defer, as a look through the pool finds it.
 use Rattle.std.proofs.Common.{◌≡◌, ◌+◌, ℕ, suc, List, take, drop, true, false, Some, slice_get}
 use Rattle.pssm_semantics.specs.declared.setting.Class.{Class}
-use Rattle.pssm_object.specs.declared.object.Waiting.{Waiting}
+use Rattle.pssm_pool.specs.declared.pools.Waiting.{Waiting}
 use Rattle.pssm_object.specs.Standing.{Standing}
 use Rattle.pssm_object.specs.Following.{Defers}
 use Rattle.pssm_system.specs.inner.Deferring.{AreDeferred, ComesFirst}

@@ -19,7 +19,7 @@ use Rattle.pssm_semantics.specs.Verdict.{number_of}
 use Rattle.pssm_semantics.specs.Proper.{ClassFits}
 use Rattle.pssm_semantics.specs.Built.{IsBuiltClass, IsBuilt}
 use Rattle.pssm_semantics.proofs.BuiltSettings.{built_class}
-use Rattle.pssm_object.specs.declared.object.Waiting.{Waiting}
+use Rattle.pssm_pool.specs.declared.pools.Waiting.{Waiting}
 use Rattle.pssm_object.specs.Standing.{Standing}
 use Rattle.pssm_object.specs.Following.{NamesPlaces, NamesSignal, IsTold, KeepsRule, stimulus_for}
 use Rattle.pssm_system.specs.inner.Pooling.{Queue, signal_taken}

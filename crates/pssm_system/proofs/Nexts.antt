@@ -17,7 +17,7 @@ use Rattle.pssm_semantics.specs.Rules.{IsFirstWaiting, KeepsPool, KeepsOwn, take
 use Rattle.pssm_semantics.specs.Admissible.{MayFollow}
 use Rattle.pssm_semantics.specs.Built.{IsBuilt}
 use Rattle.pssm_semantics.proofs.Outcomes.{known_outs}
-use Rattle.pssm_object.specs.declared.object.Waiting.{Waiting}
+use Rattle.pssm_pool.specs.declared.pools.Waiting.{Waiting}
 use Rattle.pssm_object.specs.Standing.{Standing}
 use Rattle.pssm_object.specs.Following.{NamesPlaces, NamesSignal, IsCandidate, IsTold, KeepsRules, stimulus_of, stimulus_for}
 use Rattle.pssm_system.specs.declared.situation.Situation.{Situation}

@@ -3,7 +3,7 @@ use Rattle.std.proofs.Common.{◌≡◌, ◌≢◌, ◌+◌, ◌==◌, ℕ, zero
 use Rattle.std.specs.List.{remove}
 use Rattle.std.proofs.lemmas.Bool.Decides.{eqb_tells}
 use Rattle.std.proofs.lemmas.Option.{slice_get_within}
-use Rattle.pssm_object.specs.declared.object.Waiting.{Waiting}
+use Rattle.pssm_pool.specs.declared.pools.Waiting.{Waiting}
 use Rattle.pssm_system.proofs.Places.{all-more}
 use Rattle.pssm_system.specs.inner.Pooling.{with_number, without_number, HasNoNumber, IsPlaceOf}
 

@@ -13,7 +13,7 @@ use Rattle.pssm_semantics.specs.declared.entry.Entry.{Entry}
 use Rattle.pssm_semantics.specs.declared.entry.Entry.TheVariants.{Post, Start, Take, Done, Exit, Effect, Enter, Opened, Pick, DoStep}
 use Rattle.pssm_semantics.specs.declared.stimulus.Stimulus.{Stimulus}
 use Rattle.pssm_semantics.proofs.Appending.{every_push}
-use Rattle.pssm_object.specs.declared.object.Waiting.{Waiting}
+use Rattle.pssm_pool.specs.declared.pools.Waiting.{Waiting}
 use Rattle.pssm_system.specs.inner.Pooling.{Queue, waiting_in, with_number, without_number, signal_taken, waiting_as, with_arrived, delivered, left_by, HasRoomAt, HasRoom, HavePools, KeepsRoom}
 use Rattle.pssm_system.proofs.Places.{get-set_same, get-set_other}
 

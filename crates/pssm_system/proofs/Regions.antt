@@ -15,7 +15,7 @@ use Rattle.pssm_semantics.specs.Admissible.{MayFollow}
 use Rattle.pssm_semantics.specs.Laws.{KeepsRegions}
 use Rattle.pssm_semantics.specs.Built.{IsBuilt}
 use Rattle.pssm_semantics.proofs.BuiltSettings.{built_class}
-use Rattle.pssm_object.specs.declared.object.Waiting.{Waiting}
+use Rattle.pssm_pool.specs.declared.pools.Waiting.{Waiting}
 use Rattle.pssm_object.specs.Following.{IsTold, NamesSignal, stimulus_of, stimulus_for}
 use Rattle.pssm_object.proofs.Regions.{consistent_after, one_becomes}
 use Rattle.pssm_object.proofs.Forms.{has_built_form}

@@ -14,7 +14,7 @@ use Rattle.pssm_semantics.specs.Rules.{IsFirstWaiting}
 use Rattle.pssm_semantics.specs.Deferral.{IsDeferred}
 use Rattle.pssm_semantics.proofs.Appended.{AllByRecursion-back}
 use Rattle.pssm_semantics.proofs.Takes.{pool_of-waits}
-use Rattle.pssm_object.specs.declared.object.Waiting.{Waiting}
+use Rattle.pssm_pool.specs.declared.pools.Waiting.{Waiting}
 use Rattle.pssm_object.specs.Standing.{Standing}
 use Rattle.pssm_object.specs.Following.{stimulus_of, Defers}
 use Rattle.pssm_system.specs.inner.Pooling.{Queue, with_number, numbered_for}

@@ -26,7 +26,7 @@ use Rattle.pssm_semantics.specs.Admissible.{MayFollow}
 use Rattle.pssm_semantics.specs.Built.{IsBuilt}
 use Rattle.pssm_semantics.proofs.BuiltSettings.{all_there}
 use Rattle.pssm_semantics.proofs.Waiting.{signals_of-append}
-use Rattle.pssm_object.specs.declared.object.Waiting.{Waiting}
+use Rattle.pssm_pool.specs.declared.pools.Waiting.{Waiting}
 use Rattle.pssm_object.specs.Standing.{Standing, HasSignalsTaken}
 use Rattle.pssm_system.specs.declared.situation.Situation.{Situation}
 use Rattle.pssm_system.specs.inner.Pooling.{Queue, waiting_in, with_number, signal_taken, delivered, left_by, HavePools, numbered_for}

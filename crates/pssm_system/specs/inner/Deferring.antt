@@ -7,7 +7,7 @@ use Rattle.pssm_semantics.specs.declared.entry.Entry.TheVariants.{Take}
 use Rattle.pssm_semantics.specs.declared.setting.Class.{Class}
 use Rattle.pssm_semantics.specs.declared.setting.Setting.{Setting}
 use Rattle.pssm_semantics.specs.Settings.{class_of}
-use Rattle.pssm_object.specs.declared.object.Waiting.{Waiting}
+use Rattle.pssm_pool.specs.declared.pools.Waiting.{Waiting}
 use Rattle.pssm_object.specs.Standing.{Standing}
 use Rattle.pssm_object.specs.Following.{Defers}
 use Rattle.pssm_system.specs.declared.situation.Situation.{Situation}
