@@ -1,0 +1,20 @@
+-- the signal of the slot has the number, or none has it
+use Rattle.std.proofs.Common.{rules}
+use Rattle.std.proofs.lemmas.Option.{IfSome_then}
+use Rattle.pssm_system.proofs.Places.{none_then}
+use Rattle.pssm_system.proofs.Numbers.{first-numbered, none-numbered}
+use Rattle.pssm_system.proofs.pooling.numbered.Goals as goal
+
+pub returns-clause-there : goal.returns-clause-there
+returns-clause-there c =
+    IfSome_then c.first_not.result c.first_not.ensures.first
+    (λ slot first. (
+      first.0,
+      first.1,
+      first-numbered c.args.number _ first.0 _ (λ w said. let met = said.says.met in let shows = said.shows in search rules)
+          (λ w said. let met = said.says.met in let shows = said.shows in search rules) first.2,
+    ))
+
+pub returns-clause-none : goal.returns-clause-none
+returns-clause-none c =
+    none_then c.first_not.result c.first_not.ensures.none (none-numbered c.args.number _ _ (λ w said. let met = said.says.met in let shows = said.shows in search rules))
