@@ -1,11 +1,11 @@
 -- The signal with a number among those that wait.
-use Rattle.std.proofs.Common.{◌≡◌, ◌≢◌, ◌+◌, ◌==◌, ℕ, zero, suc, List, [], ◌∷◌, take, Bool, true, false, Some, None, slice_get, refl, sym, ap, ◌∙◌, ⊎_elim, eq-eqb}
+use Rattle.std.proofs.Common.{◌≡◌, ◌≢◌, ◌<◌, ◌==◌, ℕ, zero, suc, List, [], ◌∷◌, take, Bool, true, false, Some, None, slice_get, refl, sym, ap, ◌∙◌, ⊎_elim, eq-eqb}
 use Rattle.std.proofs.lemmas.Bool.Decides.{eqb_tells}
 use Rattle.std.proofs.lemmas.Option.{slice_get_within}
-use Rattle.std.specs.List.{AllByRecursion, remove}
+use Rattle.std.specs.List.{remove}
 use Rattle.pssm_pool.specs.declared.pools.Waiting.{Waiting}
 use Rattle.pssm_pool.specs.Telling.{IsFirstNot}
-use Rattle.pssm_system.proofs.Places.{all-before, all-so}
+use Rattle.pssm_system.proofs.Places.{all-before}
 use Rattle.pssm_system.specs.inner.Pooling.{with_number, without_number, HasNoNumber, IsPlaceOf}
 
 -- two numbers that differ
@@ -57,13 +57,9 @@ module _ (n : ℕ) where
     others = first-without waiting k w at same before;
   }
 
-  -- the first of which it is not said that it has another number
-  pub first-numbered : (waiting : List Waiting) (k : ℕ) (Answers : Waiting → Bool → Type 0) → ((w : Waiting) → Answers w true → w.number ≢ n)
-      → ((w : Waiting) → Answers w false → w.number ≡ n) → IsFirstNot Answers waiting k → IsPlaceOf n waiting k
-  first-numbered waiting k Answers others one first =
+  -- the first for which it is not answered that it has another number
+  pub first-numbered : (waiting : List Waiting) (k : ℕ) (Answers : Waiting → Bool → Type 0) → IsFirstNot Answers waiting k
+      → ((w : Waiting) → Answers w true → w.number ≢ n) → ((w : Waiting) → Answers w false → w.number ≡ n) → IsPlaceOf n waiting k
+  first-numbered waiting k Answers first others one =
       place-found waiting k first.here.0 first.here.1 (one first.here.0 first.here.2)
       (all-before (λ (v : Waiting). v.number ≢ n) waiting k (λ j w lt at. others w (first.before j w lt at)))
-
-  pub none-numbered : (waiting : List Waiting) (Answers : Waiting → Bool → Type 0) → ((w : Waiting) → Answers w true → w.number ≢ n)
-      → AllByRecursion (λ w. Answers w true) waiting → HasNoNumber n waiting
-  none-numbered waiting Answers others all = all-so (λ w. Answers w true) (λ w. w.number ≢ n) waiting others all

@@ -40,9 +40,10 @@ all-before P (x ∷ xs) zero each = tt
 all-before P (x ∷ xs) (suc k) each =
     (each 0 x (omega arith) refl, all-before P xs k (λ j y lt at. each (suc j) y (omega arith) at))
 
-pub all-so : {X : Type 0} (P Q : X → Type 0) (xs : List X) → ((x : X) → P x → Q x) → AllByRecursion P xs → AllByRecursion Q xs
-all-so P Q [] so all = tt
-all-so P Q (x ∷ xs) so all = (so x all.0, all-so P Q xs so all.1)
+-- what follows from what holds of each element
+pub all-so : {X : Type 0} {P Q : X → Type 0} (xs : List X) → AllByRecursion P xs → ((x : X) → P x → Q x) → AllByRecursion Q xs
+all-so [] all so = tt
+all-so (x ∷ xs) all so = (so x all.0, all-so xs all.1 so)
 
 -- what holds where there is nothing
 pub none_then : {X : Type 0} {P Q : Type 0} (found : Option X) → IfNone found P → (P → Q) → IfNone found Q

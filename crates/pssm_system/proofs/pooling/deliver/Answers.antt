@@ -23,5 +23,5 @@ loop-signal-preserved c =
       finite = tt;
       left = one-comes c.args.pools.now c.loop-signal.pools c.args.told c.args.signals.items c.loop-signal.number c.in-Some.signal
           (into_iter_items c.loop-signal.signal-iterator) (into_iter_items c.next.new.self) next.steps.0 c.loop-signal.invariant.left
-          c.arrive.new.pools c.arrive.ensures.waiting c.arrive.ensures.spare;
+          c.arrive.new.self c.arrive.ensures.waiting c.arrive.ensures.spare;
     }
