@@ -1,5 +1,5 @@
 -- The signal with a number among those that wait.
-use Rattle.std.proofs.Common.{◌≡◌, ◌≢◌, ◌<◌, ◌==◌, ℕ, zero, suc, List, [], ◌∷◌, take, Bool, true, false, Some, None, slice_get, refl, sym, ap, ◌∙◌, ⊎_elim, eq-eqb}
+use Rattle.std.proofs.Common.{◌≡◌, ◌≢◌, ◌==◌, ℕ, zero, suc, List, [], ◌∷◌, take, Bool, true, false, Some, None, slice_get, refl, sym, ap, ◌∙◌, ⊎_elim, eq-eqb}
 use Rattle.std.proofs.lemmas.Bool.Decides.{eqb_tells}
 use Rattle.std.proofs.lemmas.Option.{slice_get_within}
 use Rattle.std.specs.List.{remove}

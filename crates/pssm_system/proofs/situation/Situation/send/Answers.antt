@@ -1,5 +1,5 @@
 -- everything that can fail comes before the object goes on, and what is kept is so of the longer journal
-use Rattle.std.proofs.Common.{◌≡◌, ◌≤◌, ◌<◌, ◌+◌, List, length, ap, subst, sym, ◌∙◌, arith}
+use Rattle.std.proofs.Common.{◌+◌, List, length, ap, subst, sym, ◌∙◌, arith}
 use Rattle.std.proofs.lemmas.List.{with_items_is}
 use Rattle.std.specs.Option.{option_copied}
 use Rattle.pssm_semantics.specs.declared.stimulus.Stimulus.{Stimulus}
