@@ -23,7 +23,7 @@ use Rattle.pssm_semantics.specs.Completion.{IsStepFinished}
 use Rattle.pssm_semantics.specs.Behaviours.{guards_at}
 use Rattle.pssm_semantics.specs.Rules.{IsCalledItem, IsClearedItem}
 use Rattle.pssm_semantics.specs.Built.{IsBuiltClass}
-use Rattle.pssm_object.specs.declared.object.Waiting.{Waiting}
+use Rattle.pssm_pool.specs.declared.pools.Waiting.{Waiting}
 use Rattle.pssm_object.specs.Standing.{Standing, StandsAfter}
 use Rattle.pssm_object.specs.Following.{stimulus_of, KeepsRule, KeepsRules}
 use Rattle.pssm_object.specs.inner.Firing.{IsDefaultWay}

@@ -47,7 +47,7 @@ use Rattle.pssm_semantics.proofs.LastStep.{last_head-goes_on}
 use Rattle.pssm_semantics.proofs.Objects.{same_object}
 use Rattle.pssm_semantics.proofs.Configurations.{configuration-changed, configuration-other}
 use Rattle.pssm_semantics.proofs.Stores.{head_own, told_by-more, store_of-own, store_of-other, params_of-begins, params_of-goes_on}
-use Rattle.pssm_object.specs.declared.object.Waiting.{Waiting}
+use Rattle.pssm_pool.specs.declared.pools.Waiting.{Waiting}
 use Rattle.pssm_object.specs.Standing.{Standing, IsUnderWay, IsStepOf, StandsAfter}
 use Rattle.pssm_object.specs.Following.{stimulus_of, stimulus_for, NamesSignal, IsTold}
 use Rattle.pssm_object.specs.inner.Firing.{truth_at, IsDefaultWay}

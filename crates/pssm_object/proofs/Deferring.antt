@@ -12,7 +12,7 @@ use Rattle.pssm_semantics.specs.Pool.{told_by}
 use Rattle.pssm_semantics.specs.Values.{Store, eight_of}
 use Rattle.pssm_semantics.specs.Behaviours.{guards_under}
 use Rattle.pssm_semantics.specs.Deferral.{IsDeferred}
-use Rattle.pssm_object.specs.declared.object.Waiting.{Waiting}
+use Rattle.pssm_pool.specs.declared.pools.Waiting.{Waiting}
 use Rattle.pssm_object.specs.Standing.{Standing, StandsAfter}
 use Rattle.pssm_object.specs.Following.{stimulus_of}
 use Rattle.pssm_object.specs.inner.Firing.{truth_at, OverridesThere}

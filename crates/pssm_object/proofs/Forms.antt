@@ -16,7 +16,7 @@ use Rattle.pssm_semantics.specs.Journal.{object_of}
 use Rattle.pssm_semantics.specs.Pool.{told_by}
 use Rattle.pssm_semantics.specs.Built.{IsBuiltClass, IsBuiltFiring, IsBuiltWay, HasBuiltForm}
 use Rattle.pssm_semantics.proofs.Outcomes.{few_outs}
-use Rattle.pssm_object.specs.declared.object.Waiting.{Waiting}
+use Rattle.pssm_pool.specs.declared.pools.Waiting.{Waiting}
 use Rattle.pssm_object.specs.Standing.{Standing, StandsAfter}
 use Rattle.pssm_object.specs.Following.{NamesSignal, KeepsRules}
 use Rattle.pssm_object.specs.inner.Firing.{IsDefaultWay, truth_at}

@@ -10,7 +10,7 @@ use Rattle.pssm_config.specs.Tables.{Tables, configuration_of}
 use Rattle.pssm_plan.specs.Agenda.{Agenda}
 use Rattle.pssm_plan.specs.Plans.{IsPlanOf}
 use Rattle.pssm_semantics.specs.Values.{eight_of}
-use Rattle.pssm_object.specs.declared.object.Waiting.{Waiting}
+use Rattle.pssm_pool.specs.declared.pools.Waiting.{Waiting}
 use Rattle.pssm_object.specs.Standing.{Standing}
 use Rattle.pssm_object.specs.inner.Advancing.{HasRunOn, HasFired, Begins, Takes}
 

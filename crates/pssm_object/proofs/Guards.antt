@@ -6,7 +6,7 @@ use Rattle.pssm_semantics.specs.declared.tree.Cond.{Cond}
 use Rattle.pssm_semantics.specs.declared.setting.Class.{Class}
 use Rattle.pssm_semantics.specs.Values.{Store, eight_of, truth_of}
 use Rattle.pssm_semantics.proofs.EightParameters.{truth_eight}
-use Rattle.pssm_object.specs.declared.object.Waiting.{Waiting}
+use Rattle.pssm_pool.specs.declared.pools.Waiting.{Waiting}
 use Rattle.pssm_object.specs.inner.Firing.{truth_at}
 
 module _ (class : Class) (store : Store) (signal : Waiting) (guard : GuardId) where

@@ -41,7 +41,7 @@ use Rattle.pssm_semantics.specs.Behaviours.{store_of, params_of, outcome_at, gua
 use Rattle.pssm_semantics.specs.Rules.{IsCalledItem, IsClearedItem, IsWhatFires}
 use Rattle.pssm_semantics.specs.Verdict.{number_of, IsFirstBroken}
 use Rattle.pssm_semantics.specs.Built.{IsBuiltClass}
-use Rattle.pssm_object.specs.declared.object.Waiting.{Waiting}
+use Rattle.pssm_pool.specs.declared.pools.Waiting.{Waiting}
 use Rattle.pssm_object.specs.Standing.{Standing, StandsAfter}
 use Rattle.pssm_object.specs.Following.{stimulus_of, stimulus_for, KeepsRule, KeepsRules}
 use Rattle.pssm_object.specs.inner.Firing.{truth_at}

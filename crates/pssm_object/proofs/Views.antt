@@ -18,7 +18,7 @@ use Rattle.pssm_semantics.specs.Behaviours.{first_store}
 use Rattle.pssm_semantics.specs.Verdict.{IsFirstBroken}
 use Rattle.pssm_semantics.specs.Built.{IsBuiltClass}
 use Rattle.pssm_semantics.proofs.Configurations.{configuration-nil}
-use Rattle.pssm_object.specs.declared.object.Waiting.{Waiting}
+use Rattle.pssm_pool.specs.declared.pools.Waiting.{Waiting}
 use Rattle.pssm_object.specs.declared.situation.Situation.{Situation}
 use Rattle.pssm_object.specs.Standing.{Standing, StandsAfter, Stands}
 use Rattle.pssm_object.specs.Following.{NamesPlaces, KeepsRule, KeepsRules, IsCandidate, IsMove, IsQuiet, HasNext, IsHandedIn, IsTold, CanCome, Defers, stimulus_for}

@@ -13,7 +13,7 @@ use Rattle.pssm_semantics.specs.Known.{IsFiringOf, IsRouteOf, IsVertexOf, IsWayO
 use Rattle.pssm_semantics.specs.Rules.{KeepsOwn}
 use Rattle.pssm_semantics.specs.Deferral.{IsDeferred}
 use Rattle.pssm_semantics.specs.Verdict.{IsFirstBroken}
-use Rattle.pssm_object.specs.declared.object.Waiting.{Waiting}
+use Rattle.pssm_pool.specs.declared.pools.Waiting.{Waiting}
 use Rattle.pssm_object.specs.Standing.{Standing, StandsAfter}
 
 -- The vertices, transitions and regions that the entry names are those of the machine (this profile's choice).

@@ -14,12 +14,12 @@ ghost use Rattle.pssm_object.specs.inner.Working.{HasPlace, Makes, MakesBy};
 ghost use Rattle.pssm_object.specs.inner.Choosing.{IsReadyOpening, OpensNothing, OpensPlainly, TakesSignal, Chooses, DoesTask, LacksOpenings, IsDeferredHere};
 
 use crate::firing::{is_deferred, pick_firing};
-use crate::object::Waiting;
 use crate::opening::default_way;
 use crate::situation::Situation;
 use crate::working::stated_act;
 use pssm_model::{Duplicate, Item, Machine, Mode, RegionId, Row};
 use pssm_plan::Plan;
+use pssm_pool::Waiting;
 use pssm_semantics::{Act, Class, Entry, ObjectId, Out, Task};
 use std::alloc::{AllocError as NoMemory, Global};
 

@@ -6,9 +6,9 @@ ghost use Rattle.pssm_config.specs.Tables.{Fits};
 ghost use Rattle.pssm_semantics.specs.Deferral.{Defers};
 ghost use Rattle.pssm_object.specs.inner.Firing.{truth_at, Fires, OverridesThere, StateDefers, IsDeferredThere};
 
-use crate::object::Waiting;
 use pssm_config::Config;
 use pssm_model::{Event, Firing, GuardId, Machine, SignalId, VertexId};
+use pssm_pool::Waiting;
 use pssm_routes::{is_firing_set, overrides, pick_firing_set};
 use pssm_semantics::{Class, Cond, truth};
 use std::alloc::{AllocError as NoMemory, Global};

@@ -13,12 +13,12 @@ ghost use Rattle.pssm_object.specs.inner.Working.{HasPlace, Makes, MakesBy};
 ghost use Rattle.pssm_object.specs.inner.Judging.{JudgesRest, JudgesStart, JudgesFiring, JudgesTake, JudgesDone, JudgesItem, JudgesWork, JudgesOpened, JudgesNever, Judges};
 
 use crate::firing::fires;
-use crate::object::Waiting;
 use crate::opening::opens_by;
 use crate::situation::Situation;
 use crate::working::stated_act;
 use pssm_model::{Firing, How, Item, Machine, Mode, RegionId, Row, Same};
 use pssm_plan::Standing;
+use pssm_pool::Waiting;
 use pssm_semantics::{Act, Class, Entry, Out, Rule};
 use std::alloc::{AllocError as NoMemory, Global};
 

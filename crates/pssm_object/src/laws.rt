@@ -11,7 +11,7 @@ ghost use Rattle.pssm_semantics.specs.declared.setting.Class.{Class};
 ghost use Rattle.pssm_semantics.specs.Journal.{IsPost, object_of, configuration_after};
 ghost use Rattle.pssm_semantics.specs.Completion.{BecomesComplete, IsStepFinished};
 ghost use Rattle.pssm_semantics.specs.Built.{IsBuiltClass, HasBuiltForm};
-ghost use Rattle.pssm_object.specs.declared.object.Waiting.{Waiting};
+ghost use Rattle.pssm_pool.specs.declared.pools.Waiting.{Waiting};
 ghost use Rattle.pssm_object.specs.Standing.{Standing, StandsAfter};
 ghost use Rattle.pssm_object.specs.Following.{NamesSignal, KeepsRules};
 ghost use Rattle.pssm_object.specs.Laws.{Finishes};

@@ -18,4 +18,4 @@ mod tasks;
 mod working;
 
 pub use laws::{active_states, entry_forms, open_steps, other_entries};
-pub use object::{Object, Waiting};
+pub use object::Object;

@@ -9,18 +9,10 @@ ghost use Rattle.pssm_semantics.specs.Built.{IsBuiltClass};
 use crate::situation::Situation;
 use crate::tasks::{count_tasks, nth_task};
 use pssm_config::Config;
-use pssm_model::SignalId;
+use pssm_pool::Waiting;
 use pssm_semantics::{Args, Class, Entry, ObjectId, Rule, Task, VarDecl};
 use std::alloc::{AllocError as NoMemory, Global};
 use std::marker::Model;
-
-/// A signal that waits in an object's pool, with its number in the journal (UML 2.5.1, 14.2.3.9, event pool).
-#[derive(Drop)]
-pub struct Waiting {
-    pub number: u32,
-    pub signal: SignalId,
-    pub args: Args,
-}
 
 /// One object of a run, of a class that is handed in at each call.
 ///
@@ -43,7 +35,7 @@ impl Model for Object {
 }
 
 impl Object {
-    ghost use Rattle.pssm_object.specs.declared.object.Waiting.{Waiting as Signal};
+    ghost use Rattle.pssm_pool.specs.declared.pools.Waiting.{Waiting as Signal};
     ghost use Rattle.pssm_object.specs.Standing.{StandsAfter, Stands};
     ghost use Rattle.pssm_object.specs.Following.{NamesPlaces, IsCandidate, IsMove, IsQuiet, HasNext, IsHandedIn, CanCome, MayCome, BreaksFirst, HasNoMove, Brings, Defers};
     ghost use Rattle.pssm_object.specs.Tasks.{ready_tasks, AreReadyTasks, Does};

@@ -14,12 +14,12 @@ ghost use Rattle.pssm_object.specs.inner.Working.{act_for};
 ghost use Rattle.pssm_object.specs.inner.Situations.{standing_of};
 ghost use Rattle.pssm_object.specs.inner.Advancing.{CanRun, HasRunOn, HasFired, CanChange, CanTake, CanFollow, CanRunHere, RunsHere, WorksHere, Takes, Advances};
 
-use crate::object::Waiting;
 use crate::situation::Situation;
 use crate::working::{renew_params, stated_act};
 use pssm_config::Config;
 use pssm_model::{Firing, How, Item, Machine};
 use pssm_plan::Plan;
+use pssm_pool::Waiting;
 use pssm_semantics::{Act, Class, Entry};
 use std::alloc::{AllocError as NoMemory, Global};
 

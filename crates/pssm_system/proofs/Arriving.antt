@@ -15,10 +15,11 @@ use Rattle.pssm_semantics.specs.Pool.{signals_of_entry, signals_of, takes, pool_
 use Rattle.pssm_semantics.proofs.Members.{first_in, later_in}
 use Rattle.pssm_semantics.proofs.Objects.{same_object}
 use Rattle.pssm_semantics.proofs.Waiting.{waits_in, arrivals, pool_of-grows, pool_of-take, filter-all}
-use Rattle.pssm_object.specs.declared.object.Waiting.{Waiting}
+use Rattle.pssm_pool.specs.declared.pools.Waiting.{Waiting}
+use Rattle.pssm_pool.specs.Waits.{with_arrived}
 use Rattle.pssm_object.specs.Standing.{HasSignalsTaken}
 use Rattle.pssm_object.specs.Following.{stimulus_of}
-use Rattle.pssm_system.specs.inner.Pooling.{without_number, waiting_as, with_arrived, delivered, left_by, arriving, numbered_for}
+use Rattle.pssm_system.specs.inner.Pooling.{without_number, waiting_as, delivered, left_by, arriving, numbered_for}
 use Rattle.pssm_system.proofs.Places.{get-set_same, get-set_other}
 use Rattle.pssm_system.proofs.Numbers.{differ, without-here, without-later}
 use Rattle.pssm_system.proofs.Following.{IsNoTake}
@@ -161,17 +162,17 @@ arriving-are J o (x ∷ rest) n later =
 delivered-at : (o : ObjectId) (xs : List Stimulus) (n : ℕ) (pools : List (List Waiting)) (waiting : List Waiting) → slice_get pools o.0 ≡ Some waiting
     → slice_get (delivered n xs pools) o.0 ≡ Some (waiting ++ arriving o n xs)
 delivered-at o [] n pools waiting at = at ∙ ap Some (sym (append-nil waiting))
-delivered-at o (x ∷ rest) n pools waiting at = by (x.object.0 == o.0) refl (delivered-at o rest (n + 1) (with_arrived pools x.object.0 (waiting_as n x)))
+delivered-at o (x ∷ rest) n pools waiting at = by (x.object.0 == o.0) refl (delivered-at o rest (n + 1) (with_arrived pools x.object (waiting_as n x)))
   where
     by : (a : Bool) → (x.object.0 == o.0) ≡ a
-        → ((ws : List Waiting) → slice_get (with_arrived pools x.object.0 (waiting_as n x)) o.0 ≡ Some ws
-        → slice_get (delivered (n + 1) rest (with_arrived pools x.object.0 (waiting_as n x))) o.0 ≡ Some (ws ++ arriving o (n + 1) rest))
-        → slice_get (delivered (n + 1) rest (with_arrived pools x.object.0 (waiting_as n x))) o.0
+        → ((ws : List Waiting) → slice_get (with_arrived pools x.object (waiting_as n x)) o.0 ≡ Some ws
+        → slice_get (delivered (n + 1) rest (with_arrived pools x.object (waiting_as n x))) o.0 ≡ Some (ws ++ arriving o (n + 1) rest))
+        → slice_get (delivered (n + 1) rest (with_arrived pools x.object (waiting_as n x))) o.0
         ≡ Some (waiting ++ cond a (waiting_as n x ∷ arriving o (n + 1) rest) (arriving o (n + 1) rest))
     by true is further =
         let own = same_object x.object o is in
         let old : slice_index_or pools x.object.0 [] ≡ waiting = ap (λ (p : ObjectId). slice_index_or pools p.0 []) own ∙ get_or_from_slice_get pools o.0 waiting [] at in
-        let more : slice_get (with_arrived pools x.object.0 (waiting_as n x)) o.0 ≡ Some (waiting ++ waiting_as n x ∷ []) =
+        let more : slice_get (with_arrived pools x.object (waiting_as n x)) o.0 ≡ Some (waiting ++ waiting_as n x ∷ []) =
         subst (λ (p : ObjectId). slice_get (set pools p.0 (slice_index_or pools x.object.0 [] ++ waiting_as n x ∷ [])) o.0 ≡ Some (waiting ++ waiting_as n x ∷ [])) (sym own)
         (get-set_same pools o.0 (slice_index_or pools x.object.0 [] ++ waiting_as n x ∷ []) (slice_get_within pools o.0 waiting at)
         ∙ ap (λ ws. Some (ws ++ waiting_as n x ∷ [])) old) in

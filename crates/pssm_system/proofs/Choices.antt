@@ -16,7 +16,7 @@ use Rattle.pssm_semantics.specs.Pool.{told_by}
 use Rattle.pssm_semantics.specs.Tasks.{IsReadyTask}
 use Rattle.pssm_semantics.specs.Admissible.{MayFollow, IsQuiet}
 use Rattle.pssm_semantics.specs.Built.{IsBuiltClass, IsBuilt}
-use Rattle.pssm_object.specs.declared.object.Waiting.{Waiting}
+use Rattle.pssm_pool.specs.declared.pools.Waiting.{Waiting}
 use Rattle.pssm_object.specs.Standing.{Standing, StandsAfter}
 use Rattle.pssm_object.specs.Following.{NamesPlaces, KeepsRules, IsCandidate, IsMove, IsHandedIn, stimulus_for}
 use Rattle.pssm_object.specs.Following as objects
@@ -112,10 +112,10 @@ module _ (class : Class) (b : IsBuiltClass class) {J : List Entry} {x : Standing
 module _ {setting : Setting} (b : IsBuilt setting) {s : Situation} {J : List Entry} (stands : StandsSo setting J s) (o : ObjectId) (class : Class)
     (x : Standing) (is : class_of setting o ≡ Some class) (at : slice_get s.objects.items o.0 ≡ Some x) (first : Option Waiting)
     (f : IsFirstFor setting s o first) where
-  pub part : IsPart setting J s.pools.items o class x
+  pub part : IsPart setting J s.pools.waiting o class x
   part = is_part b stands.objects stands.pools o class x is at
 
-  first_is : IsFirst s.pools.items o class x first
+  first_is : IsFirst s.pools.waiting o class x first
   first_is = first_in stands o class x is at first f
 
   own_is : x.own ≡ o

@@ -1,11 +1,15 @@
 -- What is kept of the journal without entries.
-use Rattle.std.proofs.Common.{◌≡◌, ◌+◌, ◌++◌, ◌⊎◌, ℕ, zero, suc, List, [], ◌∷◌, length, Some, None, slice_get, inl, inr, refl, sym, ap, subst, ◌∙◌, ⊎_elim, arith, length-append}
+use Rattle.std.proofs.Common.{◌≡◌, ◌+◌, ◌++◌, ◌⊎◌, ℕ, zero, suc, List, [], ◌∷◌, length, replicate, Some, None, slice_get, inl, inr, refl, sym, ap, subst, ◌∙◌, ⊎_elim, arith, length-append}
+use Rattle.std.proofs.lemmas.List.{length-replicate}
+use Rattle.std.proofs.lemmas.List.Sums.{sum_by-cons}
 use Rattle.pssm_semantics.specs.declared.entry.ObjectId.{ObjectId}
 use Rattle.pssm_semantics.specs.declared.setting.Class.{Class}
 use Rattle.pssm_semantics.specs.declared.setting.Setting.{Setting}
 use Rattle.pssm_semantics.specs.Settings.{class_of}
 use Rattle.pssm_object.specs.Standing.{Standing, StandsAfter}
-use Rattle.pssm_system.specs.inner.Pooling.{Queue, numbered_for}
+use Rattle.pssm_pool.specs.declared.pools.Waiting.{Waiting}
+use Rattle.pssm_pool.specs.Waits.{held_in}
+use Rattle.pssm_system.specs.inner.Pooling.{numbered_for}
 use Rattle.pssm_system.specs.inner.Keeping.{IsObject, AreObjects, ArePools}
 use Rattle.pssm_system.proofs.Following.{one_class}
 
@@ -46,18 +50,22 @@ pub all-fresh : (setting : Setting) (n : ℕ) (objects : List Standing) → n �
 all-fresh setting n objects all h = record { count = h.count ∙ all; each = h.each }
 
 -- so many pools in which nothing waits
-pub record AreEmpty (n : ℕ) (pools : List Queue) : Type 0 where
-  pub count : length pools ≡ n
-  pub each : (k : ℕ) (p : Queue) → slice_get pools k ≡ Some p → p.waiting ≡ []
+nothing-at : (n k : ℕ) (ws : List Waiting) → slice_get (replicate n []) k ≡ Some ws → ws ≡ []
+nothing-at zero k ws at = let clash : None ≡ Some ws = at in absurd (cc)
+nothing-at (suc n) zero ws at = let one : Some [] ≡ Some ws = at in cc
+nothing-at (suc n) (suc k) ws at = nothing-at n k ws at
 
-pub empty-none : AreEmpty 0 []
-empty-none = record { count = refl; each = λ k p at. let clash : None ≡ Some p = at in absurd (cc) }
-
-pub empty-more : (n : ℕ) (pools : List Queue) (p : Queue) → p.waiting ≡ [] → AreEmpty n pools → AreEmpty (n + 1) (pools ++ p ∷ [])
-empty-more n pools p none h = record {
-  count = let all = h.count in omega (arith, length-append pools (p ∷ []), all);
-  each = λ k q at. ⊎_elim (λ was. h.each k q was) (λ now. ap (λ (r : Queue). r.waiting) now.1 ∙ none) (push-cases pools p q k at);
+pub all-empty : (setting : Setting) (pools : List (List Waiting)) → pools ≡ replicate (length setting.objects) [] → ArePools setting [] pools
+all-empty setting pools is = record {
+  count = ap (λ (ws : List (List Waiting)). length ws) is ∙ length-replicate (length setting.objects) [];
+  each = λ o ws at.
+      sym (ap (numbered_for o) (nothing-at (length setting.objects) o.0 ws (subst (λ ps. slice_get ps o.0 ≡ Some ws) is at)));
 }
 
-pub all-empty : (setting : Setting) (n : ℕ) (pools : List Queue) → n ≡ length setting.objects → AreEmpty n pools → ArePools setting [] pools
-all-empty setting n pools all h = record { count = h.count ∙ all; each = λ o p at. sym (ap (numbered_for o) (h.each o.0 p at)) }
+none-held : (n : ℕ) → held_in (replicate n []) ≡ 0
+none-held zero = refl
+none-held (suc n) =
+    let sum = sum_by-cons (λ (xs : List Waiting). length xs) [] (replicate n []) in let rest = none-held n in omega (arith, sum, rest)
+
+pub nothing-held : (n : ℕ) (pools : List (List Waiting)) → pools ≡ replicate n [] → held_in pools ≡ 0
+nothing-held n pools is = ap held_in is ∙ none-held n

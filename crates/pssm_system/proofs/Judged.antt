@@ -19,10 +19,10 @@ use Rattle.pssm_semantics.specs.Verdict.{number_of}
 use Rattle.pssm_semantics.specs.Proper.{ClassFits}
 use Rattle.pssm_semantics.specs.Built.{IsBuiltClass, IsBuilt}
 use Rattle.pssm_semantics.proofs.BuiltSettings.{built_class}
-use Rattle.pssm_object.specs.declared.object.Waiting.{Waiting}
+use Rattle.pssm_pool.specs.declared.pools.Waiting.{Waiting}
 use Rattle.pssm_object.specs.Standing.{Standing}
 use Rattle.pssm_object.specs.Following.{NamesPlaces, NamesSignal, IsTold, KeepsRule, stimulus_for}
-use Rattle.pssm_system.specs.inner.Pooling.{Queue, signal_taken}
+use Rattle.pssm_system.specs.inner.Pooling.{signal_taken}
 use Rattle.pssm_system.specs.inner.Deferring.{ComesWith}
 use Rattle.pssm_system.specs.declared.situation.Situation.{Situation}
 use Rattle.pssm_system.specs.inner.Keeping.{IsObject, AreObjects, ArePools}
@@ -59,7 +59,7 @@ no_pool class J (Opened o r mode how) free = tt
 no_pool class J (Pick o v route) free = tt
 no_pool class J (DoStep o v k outs) free = tt
 
-pub no_signal : (pools : List Queue) (e : Entry) → IsNoTake e → signal_taken pools e ≡ None
+pub no_signal : (pools : List (List Waiting)) (e : Entry) → IsNoTake e → signal_taken pools e ≡ None
 no_signal pools (Take o number firing) free = absurd free
 no_signal pools (Post o g args) free = refl
 no_signal pools (Start o) free = refl
@@ -148,14 +148,14 @@ places_of setting class (Pick o v route) known = known
 places_of setting class (DoStep o v k outs) known = known.0
 
 -- an object of a setting that the code runs, with what is kept of a journal
-pub record IsPart (setting : Setting) (J : List Entry) (pools : List Queue) (o : ObjectId) (class : Class) (x : Standing) : Type 0 where
+pub record IsPart (setting : Setting) (J : List Entry) (pools : List (List Waiting)) (o : ObjectId) (class : Class) (x : Standing) : Type 0 where
   pub built : IsBuiltClass class
   pub fits : ClassFits setting class
   pub class_is : class_of setting o ≡ Some class
   pub object : IsObject class J o x
   pub pools_are : ArePools setting J pools
 
-pub is_part : {setting : Setting} (b : IsBuilt setting) {J : List Entry} {objects : List Standing} {pools : List Queue} → AreObjects setting J objects
+pub is_part : {setting : Setting} (b : IsBuilt setting) {J : List Entry} {objects : List Standing} {pools : List (List Waiting)} → AreObjects setting J objects
     → ArePools setting J pools → (o : ObjectId) (class : Class) (x : Standing) → class_of setting o ≡ Some class → slice_get objects o.0 ≡ Some x
     → IsPart setting J pools o class x
 is_part {setting = setting} b ao pools o class x is at = record {
@@ -166,7 +166,7 @@ is_part {setting = setting} b ao pools o class x is at = record {
   pools_are = pools;
 }
 
-module _ {setting : Setting} {J : List Entry} {pools : List Queue} {o : ObjectId} {class : Class} {x : Standing} (p : IsPart setting J pools o class x) where
+module _ {setting : Setting} {J : List Entry} {pools : List (List Waiting)} {o : ObjectId} {class : Class} {x : Standing} (p : IsPart setting J pools o class x) where
   -- the rules as the object shows them
   stimulus_is : (signal : Option Waiting) → stimulus_for x.own signal ≡ stimulus_for o signal
   stimulus_is signal = ap (λ q. stimulus_for q signal) p.object.own

@@ -1,5 +1,6 @@
 -- What an object may do next is what may follow in the setting.
-use Rattle.std.proofs.Common.{◌≡◌, ◌<◌, ◌⊎◌, ℕ, List, length, Option, Some, None, IsSomeAnd, unwrap_or, slice_get, refl, sym, ap, subst, ◌∙◌, inl, inr, ⊎_elim}
+use Rattle.std.proofs.Common.{◌≡◌, ◌<◌, ◌⊎◌, ℕ, List, [], length, Option, Some, None, IsSomeAnd, unwrap_or, slice_get, refl, sym, ap, subst, ◌∙◌, inl, inr, ⊎_elim}
+use Rattle.std.proofs.lemmas.Option.{get_or_from_slice_get}
 use Rattle.pssm_model.proofs.ElementLaws.{some_at, some_and}
 use Rattle.pssm_model.specs.declared.steps.Firing.{Firing}
 use Rattle.pssm_semantics.specs.declared.entry.ObjectId.{ObjectId}
@@ -17,11 +18,10 @@ use Rattle.pssm_semantics.specs.Rules.{IsFirstWaiting, KeepsPool, KeepsOwn, take
 use Rattle.pssm_semantics.specs.Admissible.{MayFollow}
 use Rattle.pssm_semantics.specs.Built.{IsBuilt}
 use Rattle.pssm_semantics.proofs.Outcomes.{known_outs}
-use Rattle.pssm_object.specs.declared.object.Waiting.{Waiting}
+use Rattle.pssm_pool.specs.declared.pools.Waiting.{Waiting}
 use Rattle.pssm_object.specs.Standing.{Standing}
 use Rattle.pssm_object.specs.Following.{NamesPlaces, NamesSignal, IsCandidate, IsTold, KeepsRules, stimulus_of, stimulus_for}
 use Rattle.pssm_system.specs.declared.situation.Situation.{Situation}
-use Rattle.pssm_system.specs.inner.Pooling.{Queue}
 use Rattle.pssm_system.specs.inner.Deferring.{ComesFirst, IsFirstFree, IsFirstFor, if_numbered, ComesWith}
 use Rattle.pssm_system.specs.inner.Keeping.{StandsSo}
 use Rattle.pssm_system.specs.inner.Judging.{IsKnown, Says, IsVerdict}
@@ -36,7 +36,7 @@ pub record HasSignal (J : List Entry) (class : Class) (o : ObjectId) (e : Entry)
   pub names : NamesSignal signal e
   pub told : IsTold J (stimulus_for o signal) e
 
-module _ {setting : Setting} {J : List Entry} {pools : List Queue} {o : ObjectId} {class : Class} {x : Standing} (p : IsPart setting J pools o class x) where
+module _ {setting : Setting} {J : List Entry} {pools : List (List Waiting)} {o : ObjectId} {class : Class} {x : Standing} (p : IsPart setting J pools o class x) where
   pub no_take-has : (e : Entry) (signal : Option Waiting) → IsNoTake e → signal ≡ None → HasSignal J class o e signal
   no_take-has e signal free none = record {
     pool = no_pool class J e free;
@@ -49,7 +49,7 @@ module _ {setting : Setting} {J : List Entry} {pools : List Queue} {o : ObjectId
   module _ {first : Option Waiting} (f : IsFirst pools o class x first) where
     take-has : (number : ℕ) (firing : Firing) (w : Waiting) → first ≡ Some w → number ≡ w.number → HasSignal J class o (Take o number firing) (Some w)
     take-has number firing w is same =
-        let comes : ComesFirst class x f.pool.waiting w = subst (IsFirstFree class x f.pool.waiting) is f.first_is in
+        let comes : ComesFirst class x f.pool w = subst (IsFirstFree class x f.pool) is f.first_is in
         let told : told_by J number ≡ Some (stimulus_of o w) = ap (told_by J) same ∙ first-told p.pools_are o f.pool f.there class x p.object w comes in
         record {
           pool = subst (IsFirstWaiting class J o) (sym same) (may-take p.pools_are o f.pool f.there class x p.object w comes);
@@ -134,10 +134,14 @@ module _ {setting : Setting} {J : List Entry} {pools : List Queue} {o : ObjectId
 -- The first signal of an object of the setting is the first of its pool.
 pub first_in : {setting : Setting} {s : Situation} {J : List Entry} → StandsSo setting J s → (o : ObjectId) (class : Class) (x : Standing)
     → class_of setting o ≡ Some class → slice_get s.objects.items o.0 ≡ Some x → (first : Option Waiting) → IsFirstFor setting s o first
-    → IsFirst s.pools.items o class x first
+    → IsFirst s.pools.waiting o class x first
 first_in {setting = setting} {s = s} stands o class x is at first f =
-    let pool = some_at s.pools.items o.0 (subst (λ n. o.0 < n) (sym stands.pools.count) (object_there setting o class is)) in
-    record { pool = pool.0; there = pool.1; first_is = f class x pool.0 is at pool.1 }
+    let pool = some_at s.pools.waiting o.0 (subst (λ n. o.0 < n) (sym stands.pools.count) (object_there setting o class is)) in
+    record {
+      pool = pool.0;
+      there = pool.1;
+      first_is = subst (λ (ws : List Waiting). IsFirstFree class x ws first) (get_or_from_slice_get s.pools.waiting o.0 pool.0 [] pool.1) (f class x is at);
+    }
 
 -- The verdict, where what the object says is known.
 module _ {setting : Setting} (b : IsBuilt setting) {J : List Entry} {s : Situation} (stands : StandsSo setting J s) (e : Entry) (known : IsKnown setting e)
@@ -148,7 +152,7 @@ module _ {setting : Setting} (b : IsBuilt setting) {J : List Entry} {s : Situati
   at = some_at s.objects.items (object_of e).0
       (subst (λ n. (object_of e).0 < n) (sym stands.objects.count) (object_there setting (object_of e) known.0 known.1))
 
-  part : IsPart setting J s.pools.items (object_of e) known.0 at.0
+  part : IsPart setting J s.pools.waiting (object_of e) known.0 at.0
   part = is_part b stands.objects stands.pools (object_of e) known.0 at.0 known.1 at.1
 
   says_here : Says known.0 at.0 signal e answer

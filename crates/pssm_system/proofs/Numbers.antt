@@ -1,10 +1,11 @@
 -- The signal with a number among those that wait.
-use Rattle.std.proofs.Common.{◌≡◌, ◌≢◌, ◌+◌, ◌==◌, ℕ, zero, suc, List, [], ◌∷◌, take, false, Some, None, slice_get, refl, sym, ap, ◌∙◌, ⊎_elim, eq-eqb}
-use Rattle.std.specs.List.{remove}
+use Rattle.std.proofs.Common.{◌≡◌, ◌≢◌, ◌==◌, ℕ, zero, suc, List, [], ◌∷◌, take, Bool, true, false, Some, None, slice_get, refl, sym, ap, ◌∙◌, ⊎_elim, eq-eqb}
 use Rattle.std.proofs.lemmas.Bool.Decides.{eqb_tells}
 use Rattle.std.proofs.lemmas.Option.{slice_get_within}
-use Rattle.pssm_object.specs.declared.object.Waiting.{Waiting}
-use Rattle.pssm_system.proofs.Places.{all-more}
+use Rattle.std.specs.List.{remove}
+use Rattle.pssm_pool.specs.declared.pools.Waiting.{Waiting}
+use Rattle.pssm_pool.specs.Telling.{IsFirstNot}
+use Rattle.pssm_system.proofs.Places.{all-before}
 use Rattle.pssm_system.specs.inner.Pooling.{with_number, without_number, HasNoNumber, IsPlaceOf}
 
 -- two numbers that differ
@@ -33,11 +34,6 @@ module _ (n : ℕ) where
   without-none [] none = refl
   without-none (w ∷ rest) none = without-later w rest none.0 ∙ ap (λ ws. w ∷ ws) (without-none rest none.1)
 
-  -- one signal more that has another number
-  pub none-more : (waiting : List Waiting) (k : ℕ) (w : Waiting) → slice_get waiting k ≡ Some w → w.number ≢ n → HasNoNumber n (take k waiting)
-      → HasNoNumber n (take (k + 1) waiting)
-  none-more waiting k w at apart before = all-more (λ (v : Waiting). v.number ≢ n) waiting k w at apart before
-
   -- the first that has it
   first-with : (waiting : List Waiting) (k : ℕ) (w : Waiting) → slice_get waiting k ≡ Some w → w.number ≡ n → HasNoNumber n (take k waiting)
       → with_number n waiting ≡ Some w
@@ -60,3 +56,10 @@ module _ (n : ℕ) where
     signal = first-with waiting k w at same before ∙ sym at;
     others = first-without waiting k w at same before;
   }
+
+  -- the first for which it is not answered that it has another number
+  pub first-numbered : (waiting : List Waiting) (k : ℕ) (Answers : Waiting → Bool → Type 0) → IsFirstNot Answers waiting k
+      → ((w : Waiting) → Answers w true → w.number ≢ n) → ((w : Waiting) → Answers w false → w.number ≡ n) → IsPlaceOf n waiting k
+  first-numbered waiting k Answers first others one =
+      place-found waiting k first.here.0 first.here.1 (one first.here.0 first.here.2)
+      (all-before (λ (v : Waiting). v.number ≢ n) waiting k (λ j w lt at. others w (first.before j w lt at)))

@@ -1,10 +1,7 @@
 -- What stands at a place of a list once one place of it has been written, and of two lists one after the other.
-use Rattle.std.proofs.Common.{◌≡◌, ◌<◌, ◌+◌, ◌++◌, ℕ, zero, suc, List, [], ◌∷◌, length, take, drop, Some, None, slice_get, get_or, refl, sym, ap, subst, ◌∙◌, arith, add-one}
+use Rattle.std.proofs.Common.{◌≡◌, ◌<◌, ◌+◌, ◌++◌, ℕ, zero, suc, List, [], ◌∷◌, length, take, drop, Option, Some, None, IfNone, slice_get, refl, ap, ◌∙◌, arith}
 use Rattle.std.specs.List.{AllByRecursion}
 use Rattle.std.proofs.Math.ListN.{set}
-use Rattle.std.proofs.Math.Seq.{take-suc}
-use Rattle.std.proofs.lemmas.Option.{slice_get-get_or, slice_get_within}
-use Rattle.pssm_semantics.proofs.Appending.{every_push}
 
 pub get-set_same : {X : Type 0} (xs : List X) (k : ℕ) (y : X) → k < length xs → slice_get (set xs k y) k ≡ Some y
 get-set_same [] k y lt = absurd (omega arith)
@@ -34,13 +31,21 @@ split-at [] k x at = let none : None ≡ Some x = at in absurd (cc)
 split-at (y ∷ ys) zero x at = let same : y ≡ x = cc in ap (λ z. z ∷ ys) same
 split-at (y ∷ ys) (suc k) x at = ap (λ zs. y ∷ zs) (split-at ys k x at)
 
--- what holds before a place and there holds before the next place
-pub all-more : {X : Type 0} (P : X → Type 0) (xs : List X) (k : ℕ) (x : X) → slice_get xs k ≡ Some x → P x → AllByRecursion P (take k xs)
-    → AllByRecursion P (take (k + 1) xs)
-all-more P xs k x at here before =
-    let lt = slice_get_within xs k x at in
-    let there = slice_get-get_or xs k x lt in
-    let same : x ≡ get_or xs k x = let both : Some x ≡ Some (get_or xs k x) = sym at ∙ there in cc in
-    let more : take (k + 1) xs ≡ take k xs ++ x ∷ [] =
-    ap (λ i. take i xs) (add-one k) ∙ take-suc xs k x lt ∙ ap (λ y. take k xs ++ y ∷ []) (sym same) in
-    subst (AllByRecursion P) (sym more) (every_push P (take k xs) x before here)
+-- what holds of each element before a place
+pub all-before : {X : Type 0} (P : X → Type 0) (xs : List X) (k : ℕ) → ((j : ℕ) (x : X) → j < k → slice_get xs j ≡ Some x → P x)
+    → AllByRecursion P (take k xs)
+all-before P [] zero each = tt
+all-before P [] (suc k) each = tt
+all-before P (x ∷ xs) zero each = tt
+all-before P (x ∷ xs) (suc k) each =
+    (each 0 x (omega arith) refl, all-before P xs k (λ j y lt at. each (suc j) y (omega arith) at))
+
+-- what follows from what holds of each element
+pub all-so : {X : Type 0} {P Q : X → Type 0} (xs : List X) → AllByRecursion P xs → ((x : X) → P x → Q x) → AllByRecursion Q xs
+all-so [] all so = tt
+all-so (x ∷ xs) all so = (so x all.0, all-so xs all.1 so)
+
+-- what holds where there is nothing
+pub none_then : {X : Type 0} {P Q : Type 0} (found : Option X) → IfNone found P → (P → Q) → IfNone found Q
+none_then None holds so = so holds
+none_then (Some x) holds so = tt

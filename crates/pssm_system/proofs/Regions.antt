@@ -15,7 +15,7 @@ use Rattle.pssm_semantics.specs.Admissible.{MayFollow}
 use Rattle.pssm_semantics.specs.Laws.{KeepsRegions}
 use Rattle.pssm_semantics.specs.Built.{IsBuilt}
 use Rattle.pssm_semantics.proofs.BuiltSettings.{built_class}
-use Rattle.pssm_object.specs.declared.object.Waiting.{Waiting}
+use Rattle.pssm_pool.specs.declared.pools.Waiting.{Waiting}
 use Rattle.pssm_object.specs.Following.{IsTold, NamesSignal, stimulus_of, stimulus_for}
 use Rattle.pssm_object.proofs.Regions.{consistent_after, one_becomes}
 use Rattle.pssm_object.proofs.Forms.{has_built_form}
@@ -76,7 +76,7 @@ is_built_entry {setting = setting} b {J = J} {s = s} stands e may =
     let part = part_here b stands e may in
     let has = signal_here b stands e may in
     record {
-      form = has_built_form (may A1).0 part.built part.object.stands (signal_taken s.pools.items e) e (sym part.object.own) has.names
-          (λ rule. shown part (signal_taken s.pools.items e) e refl (names_of setting J e (may A1).0 (may A1).1 (may A1)) has.pool has.signal_is rule (may rule));
-      numbered = counts J (object_of e) (signal_taken s.pools.items e) e has.names has.told;
+      form = has_built_form (may A1).0 part.built part.object.stands (signal_taken s.pools.waiting e) e (sym part.object.own) has.names
+          (λ rule. shown part (signal_taken s.pools.waiting e) e refl (names_of setting J e (may A1).0 (may A1).1 (may A1)) has.pool has.signal_is rule (may rule));
+      numbered = counts J (object_of e) (signal_taken s.pools.waiting e) e has.names has.told;
     }

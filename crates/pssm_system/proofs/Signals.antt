@@ -14,20 +14,20 @@ use Rattle.pssm_semantics.specs.Rules.{IsFirstWaiting}
 use Rattle.pssm_semantics.specs.Deferral.{IsDeferred}
 use Rattle.pssm_semantics.proofs.Appended.{AllByRecursion-back}
 use Rattle.pssm_semantics.proofs.Takes.{pool_of-waits}
-use Rattle.pssm_object.specs.declared.object.Waiting.{Waiting}
+use Rattle.pssm_pool.specs.declared.pools.Waiting.{Waiting}
 use Rattle.pssm_object.specs.Standing.{Standing}
 use Rattle.pssm_object.specs.Following.{stimulus_of, Defers}
-use Rattle.pssm_system.specs.inner.Pooling.{Queue, with_number, numbered_for}
+use Rattle.pssm_system.specs.inner.Pooling.{with_number, numbered_for}
 use Rattle.pssm_system.specs.inner.Deferring.{AreDeferred, ComesFirst, IsFirstFree, if_numbered}
 use Rattle.pssm_system.specs.inner.Keeping.{IsObject, ArePools}
 use Rattle.pssm_system.proofs.Numbers.{with-here, with-later}
 use Rattle.pssm_system.proofs.Arriving.{Ascends, pool-ascends}
 
 -- the first signal that waits for an object and that it does not defer
-pub record IsFirst (pools : List Queue) (o : ObjectId) (class : Class) (x : Standing) (first : Option Waiting) : Type 0 where
-  pub pool : Queue
+pub record IsFirst (pools : List (List Waiting)) (o : ObjectId) (class : Class) (x : Standing) (first : Option Waiting) : Type 0 where
+  pub pool : List Waiting
   pub there : slice_get pools o.0 ≡ Some pool
-  pub first_is : IsFirstFree class x pool.waiting first
+  pub first_is : IsFirstFree class x pool first
 
 -- the first element of a list that has not a property is one
 first-alike : {X : Type 0} (P : X → Type 0) (held rest before behind : List X) (y z : X) → held ++ y ∷ rest ≡ before ++ z ∷ behind → AllByRecursion P held
@@ -66,16 +66,16 @@ found-there o number y rest (w ∷ waiting) (h ∷ held) is over =
       },
     )
 
-module _ {setting : Setting} {J : List Entry} {pools : List Queue} (are : ArePools setting J pools) (o : ObjectId) (p : Queue) (there : slice_get pools o.0 ≡ Some p) where
+module _ {setting : Setting} {J : List Entry} {pools : List (List Waiting)} (are : ArePools setting J pools) (o : ObjectId) (p : List Waiting) (there : slice_get pools o.0 ≡ Some p) where
   -- the pool of the journal is the one that is kept
-  pool-is : pool_of J o ≡ numbered_for o p.waiting
+  pool-is : pool_of J o ≡ numbered_for o p
   pool-is = are.each o p there
 
   -- a signal that may be taken is found by its number
   pub numbered-there : (class : Class) (number : ℕ) → IsFirstWaiting class J o number
-      → (w : Waiting) × (with_number number p.waiting ≡ Some w) × (number ≡ w.number) × (told_by J number ≡ Some (stimulus_of o w))
+      → (w : Waiting) × (with_number number p ≡ Some w) × (number ≡ w.number) × (told_by J number ≡ Some (stimulus_of o w))
   numbered-there class number (held, rest, y, is, deferred, kept) =
-      let at = found-there o number y rest p.waiting held (sym pool-is ∙ is) (subst (λ ws. Ascends ws) pool-is (pool-ascends J o)) in
+      let at = found-there o number y rest p held (sym pool-is ∙ is) (subst (λ ws. Ascends ws) pool-is (pool-ascends J o)) in
       (at.0, at.1.found, at.1.number_is, (pool_of-waits J o held rest number y is).told ∙ ap Some at.1.stimulus_is)
 
   module _ (class : Class) (x : Standing) (object : IsObject class J o x) where
@@ -95,25 +95,25 @@ module _ {setting : Setting} {J : List Entry} {pools : List Queue} (are : ArePoo
     all-deferred (w ∷ rest) all = (deferred-here w all.0, all-deferred rest all.1)
 
     -- the pool of the journal up to the first signal that is not deferred
-    pool-split : (w : Waiting) (f : ComesFirst class x p.waiting w)
+    pool-split : (w : Waiting) (f : ComesFirst class x p w)
         → pool_of J o ≡ numbered_for o f.held ++ (w.number, stimulus_of o w) ∷ numbered_for o f.behind
     pool-split w f =
         pool-is ∙ ap (numbered_for o) f.waiting_is ∙ map-append (λ (v : Waiting). (v.number, stimulus_of o v)) f.held (w ∷ f.behind)
 
     -- the journal has told it
-    pub first-told : (w : Waiting) → ComesFirst class x p.waiting w → told_by J w.number ≡ Some (stimulus_of o w)
+    pub first-told : (w : Waiting) → ComesFirst class x p w → told_by J w.number ≡ Some (stimulus_of o w)
     first-told w f = (pool_of-waits J o (numbered_for o f.held) (numbered_for o f.behind) w.number (stimulus_of o w) (pool-split w f)).told
 
     -- it may be taken
-    pub may-take : (w : Waiting) → ComesFirst class x p.waiting w → IsFirstWaiting class J o w.number
+    pub may-take : (w : Waiting) → ComesFirst class x p w → IsFirstWaiting class J o w.number
     may-take w f =
         (numbered_for o f.held, numbered_for o f.behind, stimulus_of o w, pool-split w f, all-deferred f.held f.deferred, free-here w f.free)
 
     -- and no other
-    pub taken-first : (first : Option Waiting) → IsFirstFree class x p.waiting first → (number : ℕ) → IsFirstWaiting class J o number
+    pub taken-first : (first : Option Waiting) → IsFirstFree class x p first → (number : ℕ) → IsFirstWaiting class J o number
         → (w : Waiting) × (first ≡ Some w) × (number ≡ w.number)
     taken-first None all number (held, rest, y, is, deferred, kept) =
-        let each : AllByRecursion IsHeld (held ++ (number, y) ∷ rest) = subst (AllByRecursion IsHeld) (sym pool-is ∙ is) (all-deferred p.waiting all) in
+        let each : AllByRecursion IsHeld (held ++ (number, y) ∷ rest) = subst (AllByRecursion IsHeld) (sym pool-is ∙ is) (all-deferred p all) in
         absurd (kept (AllByRecursion-back IsHeld held ((number, y) ∷ rest) each).0)
     taken-first (Some w) f number (held, rest, y, is, deferred, kept) =
         let one : (number, y) ≡ (w.number, stimulus_of o w) =

@@ -10,7 +10,8 @@ ghost use Rattle.pssm_system.specs.inner.Choosing.{IsNextAlways, Finds};
 
 use crate::entries::class_of;
 use crate::situation::Situation;
-use pssm_object::{Object, Waiting};
+use pssm_object::Object;
+use pssm_pool::Waiting;
 use pssm_semantics::{Class, Entry, ObjectId, Setting};
 use std::alloc::{AllocError as NoMemory, Global};
 

@@ -2,13 +2,14 @@
 ghost use Rattle.std.specs.Prelude.{◌<◌, length};
 ghost use Rattle.std.specs.Option.{option_copied};
 ghost use Rattle.pssm_semantics.specs.Built.{IsBuiltClass, IsBuilt};
+ghost use Rattle.pssm_pool.specs.Waits.{waiting_for};
 ghost use Rattle.pssm_object.specs.Standing.{Stands as ObjectStands};
 ghost use Rattle.pssm_system.specs.inner.Deferring.{IsFirstFree};
 
 use crate::entries::class_of;
-use crate::pool::Pool;
 use crate::situation::Situation;
-use pssm_object::{Object, Waiting};
+use pssm_object::Object;
+use pssm_pool::{Pools, Waiting};
 use pssm_semantics::{Class, ObjectId, Setting};
 
 impl Situation {
@@ -23,25 +24,21 @@ impl Situation {
         ensures { IsFirstFor setting.now self.now own (option_copied result) }
     {
         let object = &self.objects[usize::from(own.0)];
-        first_free(
-            object,
-            class_of(setting, own),
-            &self.pools[usize::from(own.0)],
-        )
+        first_free(object, class_of(setting, own), &self.pools, own)
     }
 }
 
-// The first signal of a pool that the object does not defer, if there is one.
-fn first_free<'a>(object: &Object, class: &Class, pool: &'a Pool) -> Option<&'a Waiting>
+// The first signal of the pool with this number that the object does not defer, if there is one.
+fn first_free<'a>(
+    object: &Object,
+    class: &Class,
+    pools: &'a Pools,
+    own: ObjectId,
+) -> Option<&'a Waiting>
     requires class { IsBuiltClass class.now }
     requires stands { ObjectStands class.now object.now }
-    ensures { IsFirstFree class.now object.now pool.now.waiting (option_copied result) }
+    ensures { IsFirstFree class.now object.now (waiting_for pools.now.waiting own) (option_copied result) }
 {
-    for k in 0..pool.len() {
-        let waiting = pool.at(k);
-        if !object.defers(class, waiting) {
-            return Some(waiting);
-        }
-    }
-    None
+    let slot = pools.first_not(own, &|waiting: &Waiting| object.defers(class, waiting))?;
+    Some(pools.at(slot))
 }

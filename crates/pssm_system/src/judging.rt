@@ -6,7 +6,7 @@ ghost use Rattle.pssm_system.specs.inner.Deferring.{if_numbered as numbered_so};
 
 use crate::entries::{class_of, object_of};
 use crate::situation::Situation;
-use pssm_object::Waiting;
+use pssm_pool::Waiting;
 use pssm_semantics::{Entry, Rule, Setting};
 use std::alloc::AllocError as NoMemory;
 

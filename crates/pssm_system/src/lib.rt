@@ -12,7 +12,6 @@ mod deferring;
 mod entries;
 mod follower;
 mod judging;
-mod pool;
 mod pooling;
 mod situation;
 mod stepping;

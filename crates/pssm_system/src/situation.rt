@@ -1,11 +1,12 @@
 //! What is kept of a journal beside its entries.
 ghost use Rattle.std.specs.Prelude.{◌≡◌, [], length, IfOk};
 ghost use Rattle.pssm_semantics.specs.Built.{IsBuilt};
+ghost use Rattle.pssm_pool.specs.Waits.{held_in};
 ghost use Rattle.pssm_system.specs.inner.Keeping.{AreObjects, ArePools};
 
 use crate::entries::class_of;
-use crate::pool::Pool;
 use pssm_object::Object;
+use pssm_pool::Pools;
 use pssm_semantics::{ObjectId, Setting};
 use std::alloc::{AllocError as NoMemory, Global};
 
@@ -15,7 +16,7 @@ pub struct Situation {
     /// Where each object of the setting stands.
     pub objects: Vec<Object>,
     /// For each object of the setting the signals that wait.
-    pub pools: Vec<Pool>,
+    pub pools: Pools,
     /// How many signals the journal has: posts and sends together.
     pub told: u32,
 }
@@ -51,13 +52,11 @@ fn new_objects(alloc: Global, setting: &Setting) -> Result<Vec<Object>, NoMemory
 }
 
 // The pools of the objects of the setting, in which nothing waits.
-fn new_pools(alloc: Global, setting: &Setting) -> Result<Vec<Pool>, NoMemory>
-    ensures { IfOk result (λ pools. ArePools setting.now [] pools.items) }
+fn new_pools(alloc: Global, setting: &Setting) -> Result<Pools, NoMemory>
+    requires { IsBuilt setting.now }
+    ensures pools { IfOk result (λ pools. ArePools setting.now [] pools.waiting) }
+    ensures held { IfOk result (λ pools. held_in pools.waiting ≡ 0) }
 {
-    let count = setting.objects.as_slice().len();
-    let mut pools = Vec::with_capacity(alloc, count)?;
-    for _ in 0..count {
-        pools.push(Pool::new(alloc))?;
-    }
-    Ok(pools)
+    let count = setting.objects.as_slice().len() as u8;
+    Pools::new(alloc, count)
 }

@@ -1,19 +1,18 @@
 //! What is kept of the journal once one more entry has come that may follow.
-ghost use Rattle.std.specs.Prelude.{◌≡◌, ◌<◌, ◌+◌, ◌^◌, [], length, OnOk, OnErr};
+ghost use Rattle.std.specs.Prelude.{◌≡◌, ◌≤◌, ◌<◌, ◌+◌, [], length, OnOk, OnErr};
 ghost use Rattle.std.specs.Option.{option_copied};
-ghost use Rattle.pssm_semantics.specs.Journal.{object_of as object_in};
 ghost use Rattle.pssm_semantics.specs.Pool.{signals_of_entry};
 ghost use Rattle.pssm_semantics.specs.Built.{IsBuilt};
-ghost use Rattle.pssm_system.specs.inner.Pooling.{waiting_in, left_by, KeepsRoom};
+ghost use Rattle.pssm_pool.specs.Waits.{held_in};
 ghost use Rattle.pssm_system.specs.inner.Stepping.{CanStep, HaveStepped};
 
 use crate::entries::{class_of, object_of, sends_nothing, signals_of};
-use crate::pool::Pool;
-use crate::pooling::{arrive, deliver, make_room, make_room_for, taken_signal};
+use crate::pooling::{deliver, leave, taken_signal};
 use crate::situation::Situation;
 use pssm_model::{Duplicate, SignalId};
-use pssm_object::{Object, Waiting};
-use pssm_semantics::{Args, Entry, ObjectId, Setting, Stimulus};
+use pssm_object::Object;
+use pssm_pool::Waiting;
+use pssm_semantics::{Args, Entry, ObjectId, Setting};
 use std::alloc::{AllocError as NoMemory, Global};
 
 impl Situation {
@@ -48,19 +47,21 @@ impl Situation {
         signal: SignalId,
         args: &Args,
     ) -> Result<(), NoMemory>
-        requires pool { object.0 < length self.old.pools.items }
-        requires few { self.old.told + 1 < 2 ^ 32 }
+        requires pool { object.0 < length self.old.pools.waiting }
+        requires held { held_in self.old.pools.waiting ≤ self.old.told }
+        requires few { self.old.told + 1 < 4_294_967_295 }
         ensures ok { OnOk result (HasPosted self.old (posted object signal args.now) self.new) }
         ensures err { OnErr result (IsUnchanged self.old self.new) }
     {
-        let stimulus = Stimulus {
-            object,
-            signal,
-            args: args.duplicate(alloc)?,
-        };
-        make_room_for(self.pools.as_mut_slice(), object)?;
+        let args = args.duplicate(alloc)?;
+        self.pools.reserve(1)?;
         self.told += 1;
-        arrive(self.pools.as_mut_slice(), self.told, stimulus);
+        let waiting = Waiting {
+            number: self.told,
+            signal,
+            args,
+        };
+        self.pools.arrive(object, waiting);
         Ok(())
     }
 
@@ -72,9 +73,9 @@ impl Situation {
         ensures ok { OnOk result (Brings setting.now self.old entry.now self.new) }
         ensures err { OnErr result (IsUnchanged self.old self.new) }
     {
-        let taken = taken_signal(self.pools.as_slice(), entry);
+        let taken = taken_signal(&self.pools, entry);
         step(self.objects.as_mut_slice(), setting, entry, taken)?;
-        leave(self.pools.as_mut_slice(), entry);
+        leave(&mut self.pools, entry);
         Ok(())
     }
 
@@ -88,11 +89,11 @@ impl Situation {
     {
         let signals = signals_of(alloc, entry)?;
         let count = signals.as_slice().len() as u32;
-        make_room(self.pools.as_mut_slice(), signals.as_slice())?;
-        let taken = taken_signal(self.pools.as_slice(), entry);
+        self.pools.reserve(count)?;
+        let taken = taken_signal(&self.pools, entry);
         step(self.objects.as_mut_slice(), setting, entry, taken)?;
-        leave(self.pools.as_mut_slice(), entry);
-        deliver(self.pools.as_mut_slice(), self.told, signals);
+        leave(&mut self.pools, entry);
+        deliver(&mut self.pools, self.told, signals);
         self.told += count;
         Ok(())
     }
@@ -113,16 +114,4 @@ fn step(
     let own = object_of(entry);
     let object = &mut objects[usize::from(own.0)];
     object.apply(class_of(setting, own), entry, signal)
-}
-
-// The signal that a take takes leaves its pool, wherever it stands there.
-fn leave(pools: &mut [Pool], entry: &Entry)
-    requires { (object_in entry.now).0 < length pools.old }
-    ensures waiting { waiting_in pools.new ≡ left_by entry.now (waiting_in pools.old) }
-    ensures room { KeepsRoom pools.old pools.new }
-{
-    if let Entry::Take { object, number, .. } = entry {
-        let pool = &mut pools[usize::from(object.0)];
-        pool.take(*number);
-    }
 }

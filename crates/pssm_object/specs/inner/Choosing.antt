@@ -16,7 +16,7 @@ use Rattle.pssm_semantics.specs.declared.entry.Entry.TheVariants.{Start, Take, E
 use Rattle.pssm_semantics.specs.declared.setting.Class.{Class}
 use Rattle.pssm_semantics.specs.declared.stimulus.Task.{Task}
 use Rattle.pssm_semantics.specs.declared.stimulus.Task.TheVariants as tasks
-use Rattle.pssm_object.specs.declared.object.Waiting.{Waiting}
+use Rattle.pssm_pool.specs.declared.pools.Waiting.{Waiting}
 use Rattle.pssm_object.specs.Standing.{Standing}
 use Rattle.pssm_object.specs.inner.Firing.{IsDeferredThere, IsDefaultWay}
 use Rattle.pssm_object.specs.inner.Situations.{IsAtRest}

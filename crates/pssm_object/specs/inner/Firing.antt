@@ -17,7 +17,7 @@ use Rattle.pssm_semantics.specs.declared.setting.Class.{Class}
 use Rattle.pssm_semantics.specs.Values.{Store, eight_of}
 use Rattle.pssm_semantics.specs.Behaviours.{guards_under}
 use Rattle.pssm_semantics.specs.Deferral.{Defers}
-use Rattle.pssm_object.specs.declared.object.Waiting.{Waiting}
+use Rattle.pssm_pool.specs.declared.pools.Waiting.{Waiting}
 
 -- the values of the guards at a take of the signal, where the variables have these values
 abbrev pub truth_at : Class → Store → Waiting → Truth

@@ -16,7 +16,7 @@ use Rattle.pssm_semantics.specs.declared.entry.Entry.TheVariants.{Post, Start, T
 use Rattle.pssm_semantics.specs.declared.entry.Rule.{Rule}
 use Rattle.pssm_semantics.specs.declared.entry.Rule.TheVariants.{A3, A4, A5, A7, A8, A9, A10, A11, A12}
 use Rattle.pssm_semantics.specs.declared.setting.Class.{Class}
-use Rattle.pssm_object.specs.declared.object.Waiting.{Waiting}
+use Rattle.pssm_pool.specs.declared.pools.Waiting.{Waiting}
 use Rattle.pssm_object.specs.Standing.{Standing}
 use Rattle.pssm_object.specs.inner.Firing.{Fires, IsDefaultWay}
 use Rattle.pssm_object.specs.inner.Situations.{IsAtRest}

@@ -7,11 +7,11 @@ use Rattle.pssm_semantics.specs.declared.entry.Entry.TheVariants.{Take}
 use Rattle.pssm_semantics.specs.declared.setting.Class.{Class}
 use Rattle.pssm_semantics.specs.declared.setting.Setting.{Setting}
 use Rattle.pssm_semantics.specs.Settings.{class_of}
-use Rattle.pssm_object.specs.declared.object.Waiting.{Waiting}
+use Rattle.pssm_pool.specs.declared.pools.Waiting.{Waiting}
+use Rattle.pssm_pool.specs.Waits.{waiting_for}
 use Rattle.pssm_object.specs.Standing.{Standing}
 use Rattle.pssm_object.specs.Following.{Defers}
 use Rattle.pssm_system.specs.declared.situation.Situation.{Situation}
-use Rattle.pssm_system.specs.inner.Pooling.{Queue}
 
 -- The object defers each of the signals (UML 2.5.1 14.2.3.4, deferred events).
 abbrev pub AreDeferred : Class → Standing → List Waiting → Type 0
@@ -39,8 +39,8 @@ if_numbered n (Some w) = if w.number == n then Some w else None
 -- the first signal that waits for an object of the setting and that it does not defer, or none where there is none
 abbrev pub IsFirstFor : Setting → Situation → ObjectId → Option Waiting → Type 0
 IsFirstFor setting s o signal =
-    (class : Class) (x : Standing) (p : Queue) → class_of setting o ≡ Some class → slice_get s.objects.items o.0 ≡ Some x
-    → slice_get s.pools.items o.0 ≡ Some p → IsFirstFree class x p.waiting signal
+    (class : Class) (x : Standing) → class_of setting o ≡ Some class → slice_get s.objects.items o.0 ≡ Some x
+    → IsFirstFree class x (waiting_for s.pools.waiting o) signal
 
 -- the signal with which an entry comes: a take with the first that is not deferred, if it has the number that the take names
 abbrev pub ComesWith : Setting → Situation → Entry → Option Waiting → Type 0

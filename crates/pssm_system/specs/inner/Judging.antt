@@ -10,7 +10,7 @@ use Rattle.pssm_semantics.specs.Known.{NamesKnown}
 use Rattle.pssm_semantics.specs.Rules.{Holds}
 use Rattle.pssm_semantics.specs.Verdict.{IsFirstBroken}
 use Rattle.pssm_semantics.specs.Admissible.{MayFollow}
-use Rattle.pssm_object.specs.declared.object.Waiting.{Waiting}
+use Rattle.pssm_pool.specs.declared.pools.Waiting.{Waiting}
 use Rattle.pssm_object.specs.Standing.{Standing, StandsAfter}
 use Rattle.pssm_object.specs.Following.{KeepsRule, KeepsRules}
 use Rattle.pssm_system.specs.declared.situation.Situation.{Situation}

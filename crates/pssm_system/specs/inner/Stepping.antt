@@ -11,12 +11,13 @@ use Rattle.pssm_semantics.specs.Settings.{class_of}
 use Rattle.pssm_semantics.specs.Journal.{object_of}
 use Rattle.pssm_semantics.specs.Pool.{told_by}
 use Rattle.pssm_semantics.specs.Rules.{KeepsOwn}
-use Rattle.pssm_object.specs.declared.object.Waiting.{Waiting}
+use Rattle.pssm_pool.specs.declared.pools.Waiting.{Waiting}
+use Rattle.pssm_pool.specs.Waits.{with_arrived}
 use Rattle.pssm_object.specs.Standing.{Standing}
 use Rattle.pssm_object.specs.Following.{NamesSignal, IsTold, stimulus_for}
 use Rattle.pssm_semantics.specs.Admissible.{MayFollow}
 use Rattle.pssm_system.specs.declared.situation.Situation.{Situation}
-use Rattle.pssm_system.specs.inner.Pooling.{waiting_in, waiting_as, with_arrived}
+use Rattle.pssm_system.specs.inner.Pooling.{waiting_as}
 use Rattle.pssm_system.specs.inner.Keeping.{AreObjects, StandsSo}
 
 -- an entry that one of the objects may go on by under this signal
@@ -42,7 +43,7 @@ posted object signal args = record { object = object; signal = signal; args = ar
 -- A signal that was posted is the last of its object's pool, and nothing else has changed.
 pub record HasPosted (old : Situation) (x : Stimulus) (new : Situation) : Type 0 where
   pub objects : new.objects.items ≡ old.objects.items
-  pub pools : waiting_in new.pools.items ≡ with_arrived (waiting_in old.pools.items) x.object.0 (waiting_as (old.told + 1) x)
+  pub pools : new.pools.waiting ≡ with_arrived old.pools.waiting x.object (waiting_as (old.told + 1) x)
   pub told : new.told ≡ old.told + 1
 
 -- After each journal of which the first was kept and after which the entry may follow, the second is kept of the longer one.

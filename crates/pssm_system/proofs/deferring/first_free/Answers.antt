@@ -1,13 +1,27 @@
--- the signal at the index is not deferred, or one signal more is
-use Rattle.pssm_system.proofs.Free.{free-found, deferred-more}
+-- all signals are deferred, or the one of the slot is the first that is not
+use Rattle.std.proofs.Common.{rules, true, false, sym, ap, subst}
+use Rattle.std.specs.Option.{option_copied}
+use Rattle.pssm_pool.specs.Waits.{waiting_for}
+use Rattle.pssm_object.specs.Following.{Defers}
+use Rattle.pssm_system.specs.inner.Deferring.{IsFirstFree}
+use Rattle.pssm_system.proofs.Places.{all-so}
+use Rattle.pssm_system.proofs.Free.{free-found}
 use Rattle.pssm_system.proofs.deferring.first_free.Goals as goal
 
-pub returns-then-not-defers : goal.returns-then-not-defers
-returns-then-not-defers c =
-    free-found c.args.class.now c.args.object.now c.args.pool.now.waiting c.loop-k.k c.at-waiting.result.now c.at-waiting.ensures c.loop-k.invariant
-    c.if-not-defers.ensures
+pub returns-in_err-slot : goal.returns-in_err-slot
+returns-in_err-slot c =
+    let found = c.in_err-slot.ensures in
+    subst (IsFirstFree c.args.class.now c.args.object.now (waiting_for c.args.pools.now.waiting c.args.own))
+    (sym (ap option_copied c.from_residual.ensures))
+    (all-so (waiting_for c.args.pools.now.waiting c.args.own) found.none
+    (λ w said. let met = said.says.met in
+    subst (λ v. Defers c.args.class.now c.args.object.now v true) said.shows (search rules)))
 
-pub loop-k-preserved : goal.loop-k-preserved
-loop-k-preserved c =
-    deferred-more c.args.class.now c.args.object.now c.args.pool.now.waiting c.loop-k.k c.at-waiting.result.now c.at-waiting.ensures c.loop-k.invariant
-    c.if-not-defers.ensures
+pub returns : goal.returns
+returns c =
+    let found = c.in_ok-slot.ensures in
+    let first = found.first in
+    free-found c.args.class.now c.args.object.now (waiting_for c.args.pools.now.waiting c.args.own) _ first.0 first.2 c.at.result.now
+    (c.at.ensures c.args.own first.0 first.1)
+    (λ w said. let met = said.says.met in subst (λ v. Defers c.args.class.now c.args.object.now v true) said.shows (search rules))
+    (λ w said. let met = said.says.met in subst (λ v. Defers c.args.class.now c.args.object.now v false) said.shows (search rules))

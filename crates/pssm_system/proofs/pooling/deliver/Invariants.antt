@@ -7,5 +7,5 @@ abbrev pub invariant-loop-signal : goal.invariant-loop-signal
 invariant-loop-signal l = record {
   can : (goal.iterator-loop-signal).can_next l.signal-iterator;
   finite : (goal.iterator-loop-signal).is_finite l.signal-iterator;
-  left : AreToCome l.fn.pools l.fn.told l.fn.signals.items l.number (into_iter_items l.signal-iterator) l.pools;
+  left : AreToCome l.initial.pools l.fn.told l.fn.signals.items l.number (into_iter_items l.signal-iterator) l.pools;
 }

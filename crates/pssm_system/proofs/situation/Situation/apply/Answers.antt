@@ -9,7 +9,7 @@ use Rattle.pssm_system.proofs.situation.Situation.apply.Goals as goal
 
 pub post-requires-clause-pool : goal.post-requires-clause-pool
 post-requires-clause-pool c =
-    (subst (λ e. HavePools (signals_of_entry e) (length c.args.self.now.pools.items)) c.in-Post.is (pools_there c.requires.built c.requires.can)).0
+    (subst (λ e. HavePools (signals_of_entry e) (length c.args.self.now.pools.waiting)) c.in-Post.is (pools_there c.requires.built c.requires.can)).0
 
 pub returns-in-Post-clause-ok : goal.returns-in-Post-clause-ok
 returns-in-Post-clause-ok c =

@@ -1,42 +1,32 @@
 -- the object goes on, a take leaves its pool, and what is kept is so of the longer journal
-use Rattle.std.proofs.Common.{◌≡◌, ◌<◌, ◌+◌, ℕ, List, length, ap, subst, sym, ◌∙◌, arith}
+use Rattle.std.proofs.Common.{◌≡◌, ◌+◌, ℕ, List, length, refl, ap, subst, sym, ◌∙◌, arith}
 use Rattle.std.proofs.lemmas.List.{with_items_is}
 use Rattle.std.specs.Option.{option_copied}
 use Rattle.pssm_semantics.specs.declared.stimulus.Stimulus.{Stimulus}
-use Rattle.pssm_semantics.specs.Journal.{object_of}
 use Rattle.pssm_semantics.specs.Pool.{signals_of_entry}
-use Rattle.pssm_system.specs.inner.Pooling.{Queue, waiting_in, delivered, left_by, signal_taken}
+use Rattle.pssm_system.specs.inner.Pooling.{delivered, left_by, signal_taken}
 use Rattle.pssm_system.specs.inner.Stepping.{CanStep, HaveStepped}
-use Rattle.pssm_system.proofs.Pools.{taken-alike}
-use Rattle.pssm_system.proofs.Stepped.{pool_there, can_step_now, stands_after}
+use Rattle.pssm_system.proofs.Stepped.{can_step_now, stands_after}
 use Rattle.pssm_system.proofs.situation.Situation.go_on.Goals as goal
 
 pub step-requires-clause-can : goal.step-requires-clause-can
 step-requires-clause-can c =
     subst (λ xs. CanStep c.args.setting.now xs (option_copied c.taken_signal-taken.result) c.args.entry.now) (sym c.as_mut_slice.ensures.value)
-    (can_step_now c.requires.built c.requires.can c.as_slice.result.now (ap waiting_in c.as_slice.ensures.value)
-    (option_copied c.taken_signal-taken.result) c.taken_signal-taken.ensures)
-
-pub leave-requires : goal.leave-requires
-leave-requires c =
-    subst (λ n. (object_of c.args.entry.now).0 < n) (sym (ap (λ (ps : List Queue). length ps) c.as_mut_slice-2.ensures.value))
-    (pool_there c.requires.built c.requires.can)
+    (can_step_now c.requires.built c.requires.can c.args.self.now.pools.waiting refl (option_copied c.taken_signal-taken.result)
+    c.taken_signal-taken.ensures)
 
 pub returns-clause-ok : goal.returns-clause-ok
 returns-clause-ok c = λ J stands may.
     let step = c.in_ok-step.ensures in
     let e = c.args.entry.now in
-    let pools = c.args.self.now.pools.items in
+    let pools = c.args.self.now.pools.waiting in
     let told : ℕ = c.args.self.now.told in
-    let left = with_items_is c.args.self.now.pools c.leave.new.pools (c.leave.auto.pools ∙ c.as_mut_slice-2.ensures.len) in
     let objects = with_items_is c.args.self.now.objects c.step.new.objects (c.step.auto.objects ∙ c.as_mut_slice.ensures.len) in
-    let taken = c.taken_signal-taken.ensures ∙ taken-alike pools c.as_slice.result.now e (ap waiting_in c.as_slice.ensures.value) in
     let stepped : HaveStepped c.args.setting.now c.args.self.now.objects.items (signal_taken pools e) e c.step.new.objects =
-    subst (λ g. HaveStepped c.args.setting.now c.args.self.now.objects.items g e c.step.new.objects) taken
+    subst (λ g. HaveStepped c.args.setting.now c.args.self.now.objects.items g e c.step.new.objects) c.taken_signal-taken.ensures
     (subst (λ xs. HaveStepped c.args.setting.now xs (option_copied c.taken_signal-taken.result) e c.step.new.objects) c.as_mut_slice.ensures.value step.ok) in
     let none : length (signals_of_entry e) ≡ 0 = ap (λ (xs : List Stimulus). length xs) c.requires.silent in
     stands_after c.requires.built stands e may _
     (subst (HaveStepped c.args.setting.now c.args.self.now.objects.items (signal_taken pools e) e) (sym objects) stepped)
-    (ap waiting_in left ∙ c.leave.ensures.waiting ∙ ap (left_by e) (ap waiting_in c.as_mut_slice-2.ensures.value)
-    ∙ sym (ap (λ xs. delivered (told + 1) xs (left_by e (waiting_in pools))) c.requires.silent))
+    (c.leave.ensures.waiting ∙ sym (ap (λ xs. delivered (told + 1) xs (left_by e pools)) c.requires.silent))
     (omega arith)
