@@ -41,6 +41,8 @@ fn kind(byte: u8) -> VertexKind {
         b'u' => VertexKind::Junction,
         b'c' => VertexKind::Choice,
         b'n' => VertexKind::EntryPoint,
+        b'x' => VertexKind::ExitPoint,
+        b't' => VertexKind::Terminate,
         _ => VertexKind::State,
     }
 }

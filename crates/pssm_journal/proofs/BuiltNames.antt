@@ -4,9 +4,12 @@ use Rattle.std.specs.Prelude.{◌≢◌, AllPairs}
 use Rattle.std.specs.List.{AllByRecursion}
 use Rattle.std.proofs.lemmas.List.{length-map}
 use Rattle.std.proofs.lemmas.List.Elements.{recursion_from_All}
+use Rattle.pssm_model.specs.declared.ids.RegionId.{RegionId}
+use Rattle.pssm_model.specs.declared.steps.Mode.{Mode}
 use Rattle.pssm_model.specs.declared.steps.Route.{Route}
 use Rattle.pssm_model.specs.declared.steps.How.{How}
 use Rattle.pssm_model.specs.declared.steps.Firing.{Firing}
+use Rattle.pssm_semantics.specs.declared.entry.ObjectId.{ObjectId}
 use Rattle.pssm_semantics.specs.declared.entry.Entry.{Entry}
 use Rattle.pssm_semantics.specs.declared.entry.Entry.TheVariants.{Post, Start, Take, Done, Exit, Effect, Enter, Opened, Pick, DoStep}
 use Rattle.pssm_semantics.specs.declared.setting.SignalDecl.{SignalDecl}
@@ -14,7 +17,7 @@ use Rattle.pssm_semantics.specs.declared.setting.ObjectDecl.{ObjectDecl}
 use Rattle.pssm_semantics.specs.declared.setting.Class.{Class}
 use Rattle.pssm_semantics.specs.declared.setting.Setting.{Setting}
 use Rattle.pssm_semantics.specs.Names.{AreApart, NamesDiffer}
-use Rattle.pssm_semantics.specs.Built.{IsBuiltRoute, IsBuiltFiring, IsBuiltEntry}
+use Rattle.pssm_semantics.specs.Built.{IsBuiltRoute, IsBuiltFiring, IsBuiltWay, IsBuiltEntry}
 use Rattle.pssm_journal.specs.Naming.{HasStart, HaveStarts, IsSpelledEntry}
 
 -- one name, or none, is apart from all others
@@ -44,19 +47,22 @@ routes_start (r ∷ rs) all = (route_starts r all.0, routes_start rs all.1)
 firing_starts : (firing : Firing) → IsBuiltFiring firing → HaveStarts firing
 firing_starts firing built = routes_start firing.routes built.0
 
+-- an opening by no way, or by a route that has a start
+module _ (o : ObjectId) (region : RegionId) (mode : Mode) where
+  opening_starts : (how : How) → IsBuiltWay how → IsSpelledEntry (Opened o region mode how)
+  opening_starts how (inl none) = subst (λ (h : How). IsSpelledEntry (Opened o region mode h)) (sym none) tt
+  opening_starts how (inr one) =
+      subst (λ (h : How). IsSpelledEntry (Opened o region mode h)) (sym one.1) (route_starts one.0 one.2.0)
+
 -- the entries of their runs
 pub built_is_spelled : (e : Entry) → IsBuiltEntry e → IsSpelledEntry e
 built_is_spelled (Post o s args) is = tt
 built_is_spelled (Start o) is = tt
 built_is_spelled (Take o number firing) is = (is.numbered, firing_starts firing is.form)
-built_is_spelled (Done o state firing) is = absurd is.form
+built_is_spelled (Done o state firing) is = firing_starts firing is.form
 built_is_spelled (Exit o state xs) is = is.form
 built_is_spelled (Effect o t xs) is = is.form
 built_is_spelled (Enter o state xs) is = is.form
-built_is_spelled (Opened o region mode how) is =
-    elim is.form.1 [
-      | inl none ↦ subst (λ (h : How). IsSpelledEntry (Opened o region mode h)) (sym none) tt
-      | inr one ↦ subst (λ (h : How). IsSpelledEntry (Opened o region mode h)) (sym one.1) (omega arith)
-    ]
-built_is_spelled (Pick o choice route) is = absurd is.form
-built_is_spelled (DoStep o state step xs) is = absurd is.form
+built_is_spelled (Opened o region mode how) is = opening_starts o region mode how is.form.1
+built_is_spelled (Pick o choice route) is = route_starts route is.form.0
+built_is_spelled (DoStep o state step xs) is = is.form

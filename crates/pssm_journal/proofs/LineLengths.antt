@@ -1,4 +1,4 @@
--- The line of an entry that the code runs so far is not longer than a line may be.
+-- The line of an entry of a run of a setting that the code runs is not longer than a line may be.
 use Rattle.std.proofs.Common.{◌≡◌, ℕ, ℤ, pos, negsuc, suc, ◌+◌, ◌*◌, map, ◌<◌, ◌≤◌, true, leb, List, [], ◌∷◌, ◌++◌, length, Some, refl, sym, subst, arith, inl, inr}
 use Rattle.std.specs.Prelude.{codes, FitsSigned}
 use Rattle.std.specs.Int.{w64}
@@ -24,12 +24,12 @@ use Rattle.pssm_semantics.specs.declared.line.Line.TheVariants.{Post, Start, Tak
 use Rattle.pssm_semantics.specs.declared.line.LineOut.{LineOut}
 use Rattle.pssm_semantics.specs.declared.line.LineOut.TheVariants.{Mark, Send}
 use Rattle.pssm_semantics.specs.declared.setting.Setting.{Setting}
-use Rattle.pssm_semantics.specs.Built.{IsBuiltRoute, IsBuiltFiring, IsBuiltWay, HasBuiltForm, IsBuiltEntry}
+use Rattle.pssm_semantics.specs.Built.{IsBuiltRoute, IsBuiltFiring, IsShortRoute, IsBuiltWay, HasBuiltForm, IsBuiltEntry}
 use Rattle.pssm_spelling.specs.Spelling.{IsName}
 use Rattle.pssm_lines.specs.LineText.{line_text, firing_text, transition_text, route_text, routes_text, how_text, args_text, call_text, out_text, outs_text}
-use Rattle.pssm_lines.specs.Grammar.{IsLine, IsSpelledHow, AreArgs, IsSpelledOut, AreSpelledOuts}
+use Rattle.pssm_lines.specs.Grammar.{IsLine, AreArgs, IsSpelledOut, AreSpelledOuts}
 use Rattle.pssm_lines.specs.Faults.{IsJournalLine}
-use Rattle.pssm_journal.specs.Entries.{object_named, outs_named, object_name, entry_at, entry_named, IsEntryOf}
+use Rattle.pssm_journal.specs.Entries.{object_named, object_name, entry_at, entry_named, IsEntryOf}
 use Rattle.pssm_journal.proofs.OutputCounts.{step_some}
 
 -- ---- lengths
@@ -53,20 +53,6 @@ short_number n small = record { few = length-decimal-le 10 n (omega arith) (omeg
 -- a word of the grammar
 short_word : (word : List ℕ) → leb (length word) 16 ≡ true → IsShort 16 word
 short_word word few = record { few = leb-true (length word) 16 few }
-
-short_nothing : IsShort 16 []
-short_nothing = short_word [] refl
-
--- a number at the end of a line
-short_last : (n : ℕ) → n < 65536 → IsShort 26 (decimal n ++ [])
-short_last n small = short_append 10 16 (decimal n) [] (short_number n (omega arith)) short_nothing
-
-short_way : (how : How) → IsBuiltWay how → IsSpelledHow how → IsShort 42 (codes " default " ++ how_text how)
-short_way how (inl none) spelled = subst (λ h. IsShort 42 (codes " default " ++ how_text h)) (sym none) (short_more 16 42 (codes " default none") (omega arith) (short_word (codes " default none") refl))
-short_way how (inr one) spelled =
-    let t = one.0 in
-    let here = subst IsSpelledHow one.1 spelled in
-    subst (λ h. IsShort 42 (codes " default " ++ how_text h)) (sym one.1) (short_append 16 26 (codes " default by t") (decimal t.0 ++ []) (short_word (codes " default by t") refl) (short_last t.0 here.1.0))
 
 -- ---- lists
 
@@ -135,6 +121,18 @@ short_routes (r ∷ rs) all few =
 short_firing : (firing : Firing) → IsBuiltFiring firing → IsShort 49152 (firing_text firing)
 short_firing firing built = short_routes firing.routes built.0 built.1
 
+-- a route by itself
+short_only : (route : Route) → IsShortRoute route → IsShort 49152 (route_text route)
+short_only route is = let each = short_route route is.0 in let few = is.1 in record { few = omega (arith, each, few) }
+
+-- no way, or a route by itself
+short_way : (how : How) → IsBuiltWay how → IsShort 49168 (how_text how)
+short_way how (inl none) =
+    subst (λ h. IsShort 49168 (how_text h)) (sym none) (short_more 16 49168 (codes "none") (omega arith) (short_word (codes "none") refl))
+short_way how (inr one) =
+    subst (λ h. IsShort 49168 (how_text h)) (sym one.1)
+    (short_append 16 49152 (codes "by ") (route_text one.0) (short_word (codes "by ") refl) (short_only one.0 one.2))
+
 -- ---- arguments and outputs
 
 short_signed : (z : ℤ) → FitsSigned w64 z → length (signed_decimal z) ≤ 20
@@ -171,25 +169,46 @@ short_outs outs are =
 -- ---- lines
 
 -- a kind, an object, a letter, a number, and what follows
-short_place : (kind letter object more : List ℕ) (n : ℕ) → IsShort 16 kind → IsShort 16 letter → IsName object → n < 65536 → IsShort 24064 more
-    → IsShort 49300 (kind ++ (object ++ (letter ++ (decimal n ++ more))))
-short_place kind letter object more n kind_short letter_short name small more_short =
-    short_more 24170 49300 (kind ++ (object ++ (letter ++ (decimal n ++ more)))) (omega arith)
-    (short_append 16 24154 kind (object ++ (letter ++ (decimal n ++ more))) kind_short
-    (short_append 64 24090 object (letter ++ (decimal n ++ more)) (short_name object name)
-    (short_append 16 24074 letter (decimal n ++ more) letter_short
-    (short_append 10 24064 (decimal n) more (short_number n (omega (arith, small))) more_short))))
+module _ (kind letter object : List ℕ) (n : ℕ) (kind_few : leb (length kind) 16 ≡ true) (letter_few : leb (length letter) 16 ≡ true) (name : IsName object)
+    (small : n < 65536) where
+  short_place : (more : List ℕ) → IsShort 49194 more → IsShort 49300 (kind ++ (object ++ (letter ++ (decimal n ++ more))))
+  short_place more more_short =
+      short_append 16 49284 kind (object ++ (letter ++ (decimal n ++ more))) (short_word kind kind_few)
+      (short_append 64 49220 object (letter ++ (decimal n ++ more)) (short_name object name)
+      (short_append 16 49204 letter (decimal n ++ more) (short_word letter letter_few)
+      (short_append 10 49194 (decimal n) more (short_number n (omega (arith, small))) more_short)))
 
--- a line of a form that entries which the code runs so far write
+  -- outputs behind a place
+  short_outputs : (outs : List LineOut) → AreSpelledOuts outs → IsShort 49300 (kind ++ (object ++ (letter ++ (decimal n ++ outs_text outs))))
+  short_outputs outs are = short_place (outs_text outs) (short_more 24064 49194 (outs_text outs) (omega arith) (short_outs outs are))
+
+  -- a number and outputs behind a place
+  short_step : (step : ℕ) (outs : List LineOut) → step < 65536 → AreSpelledOuts outs
+      → IsShort 49300 (kind ++ (object ++ (letter ++ (decimal n ++ (codes " " ++ (decimal step ++ outs_text outs))))))
+  short_step step outs below are =
+      short_place (codes " " ++ (decimal step ++ outs_text outs))
+      (short_more 24090 49194 (codes " " ++ (decimal step ++ outs_text outs)) (omega arith)
+      (short_append 16 24074 (codes " ") (decimal step ++ outs_text outs) (short_word (codes " ") refl)
+      (short_append 10 24064 (decimal step) (outs_text outs) (short_number step (omega (arith, below))) (short_outs outs are))))
+
+  -- routes behind a place
+  short_behind : (routes : List ℕ) → IsShort 49152 routes → IsShort 49300 (kind ++ (object ++ (letter ++ (decimal n ++ (codes " " ++ routes)))))
+  short_behind routes few =
+      short_place (codes " " ++ routes)
+      (short_more 49168 49194 (codes " " ++ routes) (omega arith) (short_append 16 49152 (codes " ") routes (short_word (codes " ") refl) few))
+
+-- a line of a form that the entries of runs of settings that the code runs write
 abbrev pub IsBuiltLine : Line → Type 0
 IsBuiltLine (Post object signal args) = Unit {0}
 IsBuiltLine (Start object) = Unit {0}
 IsBuiltLine (Take object number firing) = IsBuiltFiring firing
+IsBuiltLine (Done object state firing) = IsBuiltFiring firing
 IsBuiltLine (Exit object state outs) = Unit {0}
 IsBuiltLine (Effect object transition outs) = Unit {0}
 IsBuiltLine (Enter object state outs) = Unit {0}
 IsBuiltLine (Opened object region mode how) = (mode ≡ Plain) × IsBuiltWay how
-IsBuiltLine _ = ⊥
+IsBuiltLine (Pick object choice route) = IsShortRoute route
+IsBuiltLine (DoStep object state step outs) = Unit {0}
 
 -- each such line of the grammar
 pub short_line : (l : Line) → IsBuiltLine l × IsLine l → IsShort 49300 (line_text l)
@@ -205,24 +224,20 @@ short_line (Take object number firing) h =
     (short_append 16 49178 (codes " ") (decimal number ++ (codes " " ++ firing_text firing)) (short_word (codes " ") refl)
     (short_append 10 49168 (decimal number) (codes " " ++ firing_text firing) (short_number number h.1.2)
     (short_append 16 49152 (codes " ") (firing_text firing) (short_word (codes " ") refl) (short_firing firing h.0))))))
-short_line (Exit object state outs) h =
-    short_place (codes "exit ") (codes " v") object (outs_text outs) state.0 (short_word (codes "exit ") refl) (short_word (codes " v") refl) h.1.0 h.1.1 (short_outs outs h.1.2)
-short_line (Effect object t outs) h =
-    short_place (codes "effect ") (codes " t") object (outs_text outs) t.0 (short_word (codes "effect ") refl) (short_word (codes " t") refl) h.1.0 h.1.1 (short_outs outs h.1.2)
-short_line (Enter object state outs) h =
-    short_place (codes "enter ") (codes " v") object (outs_text outs) state.0 (short_word (codes "enter ") refl) (short_word (codes " v") refl) h.1.0 h.1.1 (short_outs outs h.1.2)
+short_line (Exit object state outs) h = short_outputs (codes "exit ") (codes " v") object state.0 refl refl h.1.0 h.1.1 outs h.1.2
+short_line (Effect object t outs) h = short_outputs (codes "effect ") (codes " t") object t.0 refl refl h.1.0 h.1.1 outs h.1.2
+short_line (Enter object state outs) h = short_outputs (codes "enter ") (codes " v") object state.0 refl refl h.1.0 h.1.1 outs h.1.2
 short_line (Opened object r mode how) h =
+    let way = short_append 16 49168 (codes " default ") (how_text how) (short_word (codes " default ") refl) (short_way how h.0.1) in
     let tail = codes " default " ++ how_text how in
     subst (λ x. IsShort 49300 (line_text (Opened object r x how))) (sym h.0.0)
-    (short_more 148 49300 (codes "open " ++ (object ++ (codes " r" ++ (decimal r.0 ++ tail)))) (omega arith)
-    (short_append 16 132 (codes "open ") (object ++ (codes " r" ++ (decimal r.0 ++ tail))) (short_word (codes "open ") refl)
-    (short_append 64 68 object (codes " r" ++ (decimal r.0 ++ tail)) (short_name object h.1.0)
-    (short_append 16 52 (codes " r") (decimal r.0 ++ tail) (short_word (codes " r") refl)
-    (short_append 10 42 (decimal r.0) tail (short_number r.0 (omega (arith, h.1.1)))
-    (short_way how h.0.1 h.1.2))))))
-short_line (Done object state firing) h = absurd h.0
-short_line (Pick object choice route) h = absurd h.0
-short_line (DoStep object state step outs) h = absurd h.0
+    (short_place (codes "open ") (codes " r") object r.0 refl refl h.1.0 h.1.1 tail (short_more 49184 49194 tail (omega arith) way))
+short_line (Done object state firing) h =
+    short_behind (codes "done ") (codes " v") object state.0 refl refl h.1.0 h.1.1 (firing_text firing) (short_firing firing h.0)
+short_line (Pick object choice route) h =
+    short_behind (codes "pick ") (codes " v") object choice.0 refl refl h.1.0 h.1.1 (route_text route) (short_only route h.0)
+short_line (DoStep object state step outs) h =
+    short_step (codes "do ") (codes " v") object state.0 refl refl h.1.0 h.1.1 step outs h.1.2 h.1.3
 
 -- ---- the forms of lines
 
@@ -238,9 +253,7 @@ form_at setting o (Effect object t outs) e is built = tt
 form_at setting o (Enter object state outs) e is built = tt
 form_at setting o (Opened object region mode how) e is built = subst HasBuiltForm (sym (same_Some (entries.Opened o region mode how) e is)) built
 form_at setting o (Pick object choice route) e is built = subst HasBuiltForm (sym (same_Some (entries.Pick o choice route) e is)) built
-form_at setting o (DoStep object state step outs) e is built =
-    let xs = step_some (outs_named setting o outs) (λ xs. Some (entries.DoStep o state step xs)) e is in
-    subst HasBuiltForm (sym (same_Some (entries.DoStep o state step xs.0) e xs.2)) built
+form_at setting o (DoStep object state step outs) e is built = tt
 
 built_form : (setting : Setting) (line : Line) (e : Entry) → IsEntryOf setting line e → HasBuiltForm e → IsBuiltLine line
 unfolding entry_named

@@ -64,7 +64,7 @@ configuration_by known = record {
 abbrev pub known_course : Head → KnownConfiguration → List (Item × How) → Course
 known_course head known ran = course_by head (configuration_by known) ran
 
--- A step of a machine of States in regions has come so far (UML 2.5.1 14.2.3.9, run to completion).
+-- A step of a machine without forks, joins, entry, exit and history points has come so far (UML 2.5.1 14.2.3.9, run to completion).
 pub record IsNestedStep (m : DraftMachine) (course : Course) : Type 0 where
   pub shape : HasShape m
   pub nested : IsPlainlyNested m

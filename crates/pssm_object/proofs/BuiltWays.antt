@@ -1,59 +1,39 @@
 -- How the regions of a machine that the code runs open by default.
-use Rattle.std.proofs.Common.{◌≡◌, ◌↔◌, List, [], ◌∷◌, length, Bool, IsTrue, Contains, refl, sym, subst, ⊎_elim, arith}
+use Rattle.std.proofs.Common.{◌≡◌, ◌↔◌, List, [], ◌∷◌, length, Bool, IsTrue, Contains, refl, sym, subst, inl, inr, ⊎_elim, arith}
 use Rattle.std.specs.Bool.{◌==◌}
 use Rattle.std.proofs.lemmas.Bool.{eqb-true}
 use Rattle.std.proofs.lemmas.List.Elements.{Contains-get_or}
 use Rattle.pssm_model.specs.declared.ids.VertexId.{VertexId}
 use Rattle.pssm_model.specs.declared.ids.RegionId.{RegionId}
 use Rattle.pssm_model.specs.declared.elements.DraftMachine.{DraftMachine}
-use Rattle.pssm_model.specs.declared.steps.Mode.TheVariants.{Plain}
 use Rattle.pssm_model.specs.declared.steps.How.{How}
 use Rattle.pssm_model.specs.declared.steps.How.TheVariants.{By, Restore, Nothing}
-use Rattle.pssm_model.specs.declared.steps.Item.TheVariants as items
-use Rattle.pssm_model.specs.Routes.{Truth, single_route}
-use Rattle.pssm_model.specs.FiringSets.{IsLateRoute}
+use Rattle.pssm_model.specs.Routes.{Truth}
 use Rattle.pssm_model.specs.Paths.{IsInitialOf}
-use Rattle.pssm_model.specs.Ways.{Memory, OpensByDefault, IsWay}
+use Rattle.pssm_model.specs.Ways.{OpensByDefault}
 use Rattle.pssm_model.specs.BuiltMachine.{IsBuiltMachine}
 use Rattle.pssm_model.proofs.ElementLaws.{nothing_in_nil}
+use Rattle.pssm_semantics.specs.declared.setting.Class.{Class}
+use Rattle.pssm_semantics.specs.Values.{Store, Params}
+use Rattle.pssm_semantics.specs.Built.{IsBuiltWay}
 use Rattle.pssm_object.specs.inner.Firing.{IsDefaultWay}
-use Rattle.pssm_object.proofs.LateRoutes.{late_route_is, late_route_of}
-use Rattle.pssm_object.proofs.BuiltMachines.{nested, initial_true, leaving_there, initial_leads, known_initial}
+use Rattle.pssm_object.proofs.BuiltMachines.{known_initial}
+use Rattle.pssm_object.proofs.LateRoutes.{from_initial, late_is_short}
 
-module _ {m : DraftMachine} (b : IsBuiltMachine m) where
-  -- the route of the initial vertex is the one transition out of it, whose guard is true
-  opening_is : (truth : Truth) (r : RegionId) (how : How) → OpensByDefault m truth r how → IsDefaultWay m r how
-  opening_is truth r (By route) h =
-      let late = late_route_is (nested b) b.shape truth h.0 route h.2 in
-      (h.0, late.0, h.1, late.2, late.1)
-  opening_is truth r (Restore s) h = h
-  opening_is truth r Nothing h = h
-
-  opening_of : (truth : Truth) (r : RegionId) (how : How) → IsDefaultWay m r how → OpensByDefault m truth r how
-  opening_of truth r (By route) h =
-      let there = leaving_there m h.1 h.0 h.3 in (
-        h.0,
-        h.2,
-        subst (λ p. IsLateRoute m truth h.0 p) (sym h.4)
-            (late_route_of (nested b) b.shape truth h.0 h.1 there h.3 h.2.0 (initial_true b truth h.1 h.0 h.2.0 h.3)),
-      )
-  opening_of truth r (Restore s) h = h
-  opening_of truth r Nothing h = h
-
-  pub opens_is : (truth : Truth) (r : RegionId) (how : How) → OpensByDefault m truth r how ↔ IsDefaultWay m r how
-  opens_is truth r how = (opening_is truth r how, opening_of truth r how)
-
-  pub way_is : (truth : Truth) (memory : Memory) (r : RegionId) (how : How)
-      → IsWay m truth memory (items.Opened r Plain) how ↔ IsDefaultWay m r how
-  way_is truth memory r how = opens_is truth r how
-
+module _ {m : DraftMachine} (b : IsBuiltMachine m) (truth : Truth) (r : RegionId) where
   -- there always is a way
-  pub default_way : (r : RegionId) → (how : How) × IsDefaultWay m r how
-  default_way r =
+  pub some_default_way : (how : How) × OpensByDefault m truth r how
+  some_default_way =
       ⊎_elim
-      (λ i. let out = initial_leads b i.0 i.1.0 in (By (single_route out.0), (i.0, out.0, i.1, out.1, refl)))
-      (λ none. (Nothing, λ v i. none (v, i)))
-      (known_initial b r)
+      (λ (v, is). let (route, late) = from_initial b truth v is.0 in (By route, (v, is, late)))
+      (λ none. (Nothing, λ v is. none (v, is)))
+      (known_initial m r)
+
+  -- and each is short
+  pub default_way_is_short : (how : How) → OpensByDefault m truth r how → IsBuiltWay how
+  default_way_is_short (By route) (v, is, late) = inr (route, refl, late_is_short b truth v route late)
+  default_way_is_short (Restore s) opens = absurd opens
+  default_way_is_short Nothing opens = inl refl
 
 -- a region without initial vertices
 no_initial : (m : DraftMachine) (r : RegionId) (initials : List VertexId)
@@ -66,9 +46,9 @@ no_initial m r (v ∷ vs) are = (
 )
 
 -- opens by none
-pub opens_by_none : (m : DraftMachine) (r : RegionId) (how : How) (initials : List VertexId) (empty : Bool) → how ≡ Nothing
-    → ((v : VertexId) → Contains initials v ↔ IsInitialOf m r v) → empty ≡ (length initials == 0)
-    → IsTrue empty ↔ IsDefaultWay m r how
-opens_by_none m r how initials empty is are e =
-    subst (λ h. IsTrue empty ↔ IsDefaultWay m r h) (sym is)
-    (subst (λ b. IsTrue b ↔ IsDefaultWay m r Nothing) (sym e) (no_initial m r initials are))
+pub opens_by_none : (class : Class) (store : Store) (params : Params) (r : RegionId) (how : How) (initials : List VertexId) (empty : Bool) → how ≡ Nothing
+    → ((v : VertexId) → Contains initials v ↔ IsInitialOf class.machine r v) → empty ≡ (length initials == 0)
+    → IsTrue empty ↔ IsDefaultWay class store params r how
+opens_by_none class store params r how initials empty is are e =
+    subst (λ h. IsTrue empty ↔ IsDefaultWay class store params r h) (sym is)
+    (subst (λ x. IsTrue x ↔ IsDefaultWay class store params r Nothing) (sym e) (no_initial class.machine r initials are))

@@ -1,33 +1,46 @@
--- What an object chooses, by how its plan stands.
-use Rattle.std.proofs.Common.{◌≡◌, ◌<◌, length, Option, Some, sym, subst, inl, inr}
-use Rattle.pssm_model.specs.declared.ids.RegionId.{RegionId}
+-- What an object chooses, by how its plan stands; and each opening and each pick that is ready has a way.
+use Rattle.std.proofs.Common.{◌≡◌, Option, Some, refl, inl, inr}
 use Rattle.pssm_model.specs.declared.elements.DraftMachine.{DraftMachine}
-use Rattle.pssm_model.specs.declared.steps.Mode.{Mode}
+use Rattle.pssm_model.specs.declared.steps.How.TheVariants.{By}
+use Rattle.pssm_model.specs.declared.steps.Item.{Item}
 use Rattle.pssm_model.specs.declared.steps.Item.TheVariants as items
 use Rattle.pssm_model.specs.BuiltMachine.{IsBuiltMachine}
 use Rattle.pssm_model.specs.Items.{HasRunOut}
+use Rattle.pssm_model.specs.Routes.{Truth}
 use Rattle.pssm_plan.specs.Agenda.{Agenda, course_of}
 use Rattle.pssm_plan.specs.Plans.{IsPlanOf}
 use Rattle.pssm_semantics.specs.declared.entry.Entry.{Entry}
+use Rattle.pssm_semantics.specs.declared.entry.Entry.TheVariants.{Opened, Pick}
 use Rattle.pssm_semantics.specs.declared.setting.Class.{Class}
+use Rattle.pssm_semantics.specs.Behaviours.{guards_under}
 use Rattle.pssm_pool.specs.declared.pools.Waiting.{Waiting}
 use Rattle.pssm_object.specs.Standing.{Standing}
-use Rattle.pssm_object.specs.inner.Choosing.{IsReadyOpening, TakesSignal, ChoosesOpening, Chooses}
+use Rattle.pssm_object.specs.inner.Situations.{first_waiting}
+use Rattle.pssm_object.specs.inner.Choosing.{IsPlainItem, HasWays, IsReadyChoice, GoesSomeWay, ChoosesWay, ChoosesNext, ChoosesInStep}
+use Rattle.pssm_object.proofs.BuiltWays.{some_default_way}
+use Rattle.pssm_object.proofs.LateRoutes.{from_choice}
 use Rattle.pssm_object.proofs.PlanItems.{rests_where, ready_is_plain}
 
 -- what is chosen where everything has run, and where something has not
-module _ (class : Class) (x : Standing) (signal : Option Waiting) (p : Agenda) (is : x.plan ≡ Some p) where
-  chooses : (chosen : Option Entry) → Chooses class x signal (Some p) chosen → Chooses class x signal x.plan chosen
-  chooses chosen h = subst (λ (plan : Option Agenda). Chooses class x signal plan chosen) (sym is) h
+module _ (class : Class) (x : Standing) (signal : Option Waiting) (p : Agenda) (is : x.plan ≡ Some p) (chosen : Option Entry) where
+  pub chooses_next : HasRunOut class.machine (course_of p) → ChoosesNext class x signal (first_waiting x) chosen → ChoosesInStep class x signal p chosen
+  chooses_next out next = inl ((p, is, out), next)
 
-  pub chooses_take : HasRunOut class.machine (course_of p) → (chosen : Option Entry) → TakesSignal class x signal chosen → Chooses class x signal x.plan chosen
-  chooses_take out chosen takes = chooses chosen (inl ((p, is, out), takes))
+  pub chooses_way : (HasRunOut class.machine (course_of p) → ⊥) → ChoosesWay class x p chosen → ChoosesInStep class x signal p chosen
+  chooses_way busy goes = inr ((λ rests. busy (rests_where class.machine x.plan p is rests)), goes)
 
-  pub chooses_opening : (HasRunOut class.machine (course_of p) → ⊥) → (chosen : Option Entry) → ChoosesOpening class.machine x.own p chosen
-      → Chooses class x signal x.plan chosen
-  chooses_opening busy chosen opens = chooses chosen (inr ((λ rests. busy (rests_where class.machine x.plan p is rests)), opens))
+-- a ready opening is of a region of the machine, and a ready pick from a choice of it
+pub choice_is_plain : {m : DraftMachine} → IsBuiltMachine m → (p : Agenda) (item : Item) → IsPlanOf m p → IsReadyChoice m p item → IsPlainItem m item
+choice_is_plain b p item plan ready = ready_is_plain b p item plan ready.1
 
--- the region of a ready opening is one of the machine
-pub opening_region : {m : DraftMachine} (b : IsBuiltMachine m) (p : Agenda) (opening : RegionId × Mode) → IsPlanOf m p → IsReadyOpening m p opening
-    → opening.0.0 < length m.regions
-opening_region b p (r, mode) plan ready = (ready_is_plain b p (items.Opened r mode) plan ready).1
+-- such an item has a way
+module _ (class : Class) (b : IsBuiltMachine class.machine) (x : Standing) where
+  abbrev truth_here : Truth
+  truth_here = guards_under class x.store x.params
+
+  pub some_way_entry : (item : Item) → HasWays item → IsPlainItem class.machine item → (e : Entry) × GoesSomeWay class x item e
+  some_way_entry (items.Opened r mode) ways plain = let (how, opens) = some_default_way b truth_here r in (Opened x.own r mode how, (how, opens, refl))
+  some_way_entry (items.Pick c) ways plain = let (route, late) = from_choice b truth_here c plain in (Pick x.own c route, (By route, late, refl))
+  some_way_entry (items.Exit s) ways plain = absurd ways
+  some_way_entry (items.Effect t) ways plain = absurd ways
+  some_way_entry (items.Enter s) ways plain = absurd ways

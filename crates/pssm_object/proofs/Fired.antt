@@ -2,27 +2,25 @@
 use Rattle.std.proofs.Common.{List, All, Contains}
 use Rattle.std.proofs.lemmas.List.Elements.{All-contains}
 use Rattle.pssm_model.specs.declared.ids.VertexId.{VertexId}
-use Rattle.pssm_model.specs.declared.ids.SignalId.{SignalId}
 use Rattle.pssm_model.specs.declared.elements.DraftMachine.{DraftMachine}
 use Rattle.pssm_model.specs.declared.steps.Route.{Route}
 use Rattle.pssm_model.specs.declared.steps.Event.{Event}
-use Rattle.pssm_model.specs.declared.steps.Event.TheVariants.{Signal}
+use Rattle.pssm_model.specs.declared.steps.Event.TheVariants.{Signal, Completion}
 use Rattle.pssm_model.specs.Configuration.{Configuration}
-use Rattle.pssm_model.specs.Routes.{Truth, IsSource, IsStateRoute, IsEnabled}
+use Rattle.pssm_model.specs.Routes.{Truth, IsSource, IsStateRoute, IsEnabledBy, IsEnabled}
 use Rattle.pssm_model.specs.FiringSets.{IsFiring}
 use Rattle.pssm_model.specs.Course.Head.{Starts, Fires}
 use Rattle.pssm_model.specs.BuiltMachine.{IsBuiltMachine}
-use Rattle.pssm_model.specs.SingleLegs.{HasSingleLegs}
-use Rattle.pssm_model.proofs.OverJunctions.{single_legs as legs_of}
 use Rattle.pssm_plan.specs.Steadiness.{IsConsistent, BeginsWell}
 use Rattle.pssm_semantics.specs.Known.{IsRouteOf}
-use Rattle.pssm_object.proofs.BuiltMachines.{nested}
+
+-- the sources of what an event enables are active
+pub active_source : (m : DraftMachine) (now : Configuration) (event : Event) (p : Route) → IsEnabledBy m now event p → (s : VertexId) → IsSource m p s
+    → now.Active s
+active_source m now (Signal signal) p by s source = by.3 s source
+active_source m now (Completion v) p by s source = by.2 s source
 
 module _ {m : DraftMachine} (b : IsBuiltMachine m) where
-  -- each of its routes is one leg
-  pub single_legs : HasSingleLegs m
-  single_legs = legs_of (nested b)
-
   module _ (now : Configuration) (truth : Truth) (event : Event) (routes : List Route) (h : IsFiring m now truth event routes) where
     -- what fires is enabled
     fired_enabled : (route : Route) → Contains routes route → IsEnabled m now truth event route
@@ -35,19 +33,18 @@ module _ {m : DraftMachine} (b : IsBuiltMachine m) where
     pub fired_there : All (IsRouteOf m) routes
     fired_there = λ i route lt. (h.0.sound.enabled i route lt).route_of_states.0.in_range
 
-  -- the sources of what a signal fires are active
-  pub fired_from_active : (now : Configuration) (truth : Truth) (signal : SignalId) (routes : List Route) → IsFiring m now truth (Signal signal) routes
-      → (p : Route) (s : VertexId) → Contains routes p → IsSource m p s → now.Active s
-  fired_from_active now truth signal routes h p s inside source = (fired_enabled now truth (Signal signal) routes h p inside).by_event.3 s source
+    -- and its sources are active
+    pub fired_from_active : (p : Route) (s : VertexId) → Contains routes p → IsSource m p s → now.Active s
+    fired_from_active p s inside source = active_source m now event p (fired_enabled p inside).by_event s source
 
   -- so a step begins well that fires, and one that starts where nothing is active
-  pub begins_by_firing : (now : Configuration) (truth : Truth) (signal : SignalId) (routes : List Route) → IsConsistent m now
-      → IsFiring m now truth (Signal signal) routes → BeginsWell m (Fires routes) now
-  begins_by_firing now truth signal routes consistent h = record {
+  pub begins_by_firing : (now : Configuration) (truth : Truth) (event : Event) (routes : List Route) → IsConsistent m now
+      → IsFiring m now truth event routes → BeginsWell m (Fires routes) now
+  begins_by_firing now truth event routes consistent h = record {
     consistent = consistent;
     start = λ e. absurd (cc);
     agree = h.0.sound.agree;
-    from_active = fired_from_active now truth signal routes h;
+    from_active = fired_from_active now truth event routes h;
   }
 
   pub begins_by_start : (now : Configuration) → ((s : VertexId) → now.Active s → ⊥) → BeginsWell m Starts now

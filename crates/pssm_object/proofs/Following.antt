@@ -1,22 +1,20 @@
 -- What the code asks of an entry that is accepted.
-use Rattle.std.proofs.Common.{◌≡◌, ℕ, true, List, IfSome, IsSomeAnd, Option, Some, None, refl, sym, subst}
+use Rattle.std.proofs.Common.{◌≡◌, ℕ, List, IfSome, IsSomeAnd, Option, Some, None, refl, sym, subst, inl, inr}
 use Rattle.pssm_model.specs.declared.ids.VertexId.{VertexId}
 use Rattle.pssm_model.specs.declared.ids.RegionId.{RegionId}
 use Rattle.pssm_model.specs.declared.elements.DraftMachine.{DraftMachine}
 use Rattle.pssm_model.specs.declared.steps.Firing.{Firing}
-use Rattle.pssm_model.specs.declared.steps.Event.TheVariants.{Signal}
+use Rattle.pssm_model.specs.declared.steps.Event.TheVariants.{Signal, Completion}
 use Rattle.pssm_model.specs.declared.steps.Mode.{Mode}
 use Rattle.pssm_model.specs.declared.steps.How.{How}
-use Rattle.pssm_model.specs.declared.steps.How.TheVariants.{Nothing}
+use Rattle.pssm_model.specs.declared.steps.How.TheVariants.{By, Nothing}
 use Rattle.pssm_model.specs.declared.steps.Item.{Item}
 use Rattle.pssm_model.specs.declared.steps.Item.TheVariants as items
 use Rattle.pssm_model.specs.Configuration.{Configuration}
-use Rattle.pssm_model.specs.Changes.{Agree}
 use Rattle.pssm_model.specs.Course.{RemembersSoFar}
 use Rattle.pssm_model.specs.Order.{IsReady, IsWayNow}
 use Rattle.pssm_model.specs.Routes.{Truth}
 use Rattle.pssm_model.specs.Ways.{Memory, IsWay}
-use Rattle.pssm_model.proofs.Agreeing.{Agree-symm}
 use Rattle.pssm_config.specs.Tables.{CanEnter, configuration_of}
 use Rattle.pssm_plan.specs.Agenda.{Agenda, course_of}
 use Rattle.pssm_plan.specs.Steadiness.{changed_along}
@@ -28,28 +26,25 @@ use Rattle.pssm_plan.proofs.Steadiness.{may_enter}
 use Rattle.pssm_semantics.specs.declared.entry.Entry.{Entry}
 use Rattle.pssm_semantics.specs.declared.entry.Entry.TheVariants.{Post, Start, Take, Done, Exit, Effect, Enter, Opened, Pick, DoStep}
 use Rattle.pssm_semantics.specs.declared.setting.Class.{Class}
+use Rattle.pssm_semantics.specs.Values.{eight_of, no_params}
+use Rattle.pssm_semantics.specs.Behaviours.{guards_under}
 use Rattle.pssm_semantics.specs.Built.{IsBuiltClass}
 use Rattle.pssm_pool.specs.declared.pools.Waiting.{Waiting}
-use Rattle.pssm_object.specs.Standing.{Standing, IsUnderWay, StandsAfter}
+use Rattle.pssm_object.specs.Standing.{Standing, AreActiveAlike, IsUnderWay, StandsAfter}
 use Rattle.pssm_object.specs.Following.{NamesSignal}
 use Rattle.pssm_object.specs.inner.Choosing.{IsPlainItem}
-use Rattle.pssm_object.specs.inner.Firing.{IsDefaultWay, truth_at}
+use Rattle.pssm_object.specs.inner.Firing.{IsDefaultWay}
 use Rattle.pssm_object.specs.inner.Working.{HasPlace}
-use Rattle.pssm_object.specs.inner.Judging.{FiresHere, JudgesItem, Judges}
-use Rattle.pssm_object.specs.inner.Advancing.{CanChange, CanRunHere, CanTake, CanFollow}
+use Rattle.pssm_object.specs.inner.Judging.{FiresHere, JudgesItem, JudgesLiving, Judges}
+use Rattle.pssm_object.specs.inner.Advancing.{CanChange, CanRunIn, CanTake, CanFollow}
 use Rattle.pssm_object.proofs.BuiltMachines.{nested, keeps_initials}
 use Rattle.pssm_object.proofs.Fired.{fired_state_route}
-use Rattle.pssm_object.proofs.BuiltWays.{way_is}
 use Rattle.pssm_object.proofs.Rules.{called_is_plain}
 use Rattle.pssm_object.proofs.Standings.{plan_of, step_of, along_of}
 
--- every guard is true
-unfoldable pub all_true : Truth
-all_true g = true
-
--- what may be entered in a configuration may be in one that agrees
-enter_alike : (m : DraftMachine) (a b : Configuration) (s : VertexId) → Agree a b → CanEnter m a s → CanEnter m b s
-enter_alike m a b s same h = record { state = h.state; vacant = λ r v here there active. h.vacant r v here there ((same.active v).1 active) }
+-- what may be entered in a configuration may be where as much is active
+enter_alike : (m : DraftMachine) (a b : Configuration) (s : VertexId) → AreActiveAlike b a → CanEnter m a s → CanEnter m b s
+enter_alike m a b s same h = record { state = h.state; vacant = λ r v here there active. h.vacant r v here there ((same v).0 active) }
 
 module _ (class : Class) (b : IsBuiltClass class) {J : List Entry} {x : Standing} (s : StandsAfter class J x) where
   abbrev m : DraftMachine
@@ -70,7 +65,7 @@ module _ (class : Class) (b : IsBuiltClass class) {J : List Entry} {x : Standing
   place_of : (y : Item) → IsThere m y → HasPlace m y
   place_of (items.Exit v) there = there
   place_of (items.Effect t) there = there
-  place_of (items.Enter v) there = there
+  place_of (items.Enter v) there = there.0
   place_of (items.Opened r mode) there = tt
   place_of (items.Pick c) there = tt
 
@@ -81,51 +76,62 @@ module _ (class : Class) (b : IsBuiltClass class) {J : List Entry} {x : Standing
       u : IsUnderWay m J x.own p.head (configuration_of p.at_head) p.ran
       u = step_of s p is
 
-      back : Agree (changed_along m (configuration_of p.at_head) p.ran) (configuration_of x.config)
-      back = Agree-symm (configuration_of x.config) (changed_along m (configuration_of p.at_head) p.ran) (along_of s p is)
-
       by : (z : Item) → IsReady m (course_of p) z → IsPlainItem m z → CanChange m (configuration_of x.config) z
       by (items.Exit v) ready plain =
-          (back.active v).0
+          (along_of s p is v).1
           (exit_is_active b.machine.shape (nested b.machine) (keeps_initials b.machine) p.head (configuration_of p.at_head) u.begins p.ran u.gone v ready.waiting)
       by (items.Enter v) ready plain =
-          enter_alike m (changed_along m (configuration_of p.at_head) p.ran) (configuration_of x.config) v back
+          enter_alike m (changed_along m (configuration_of p.at_head) p.ran) (configuration_of x.config) v (along_of s p is)
           (may_enter b.machine.shape (nested b.machine) (keeps_initials b.machine) p.head (configuration_of p.at_head) u.begins p.ran u.gone v ready)
       by (items.Opened r mode) ready plain = plain.1
       by (items.Effect t) ready plain = tt
       by (items.Pick c) ready plain = tt
 
-  pub can_run_here : (y : Item) (how : How) → ((p : Agenda) → IsReady m (course_of p) y → x.plan ≡ Some p → IsWayNow m all_true (course_of p) y how)
-      → JudgesItem m x.plan y None → CanRunHere m x.plan x.config y how
-  can_run_here y how way (p, is, ready) = record {
-    can_run = record { here = p; here_is = is; is_plan = plan_of s p is; ready = ready; way = (all_true, way p ready is) };
+  -- the way of an item has guards that are true where the object stands
+  pub can_run_here : (truth : Truth) (y : Item) (how : How)
+      → ((p : Agenda) → IsReady m (course_of p) y → x.plan ≡ Some p → IsWayNow m truth (course_of p) y how)
+      → JudgesItem m x.plan y None → CanRunIn class x y how
+  can_run_here truth y how way (p, is, ready) = record {
+    can_run = record { here = p; here_is = is; is_plan = plan_of s p is; ready = ready; way = (truth, way p ready is) };
     can_change = change_by p is y ready (ready_plain p is y ready);
     place = place_of y (ready_there p is y ready);
   }
 
+  -- the guards where the object stands
+  abbrev pub here : Truth
+  here = guards_under class x.store x.params
+
   -- a default way is a way of a ready opening
-  pub opens_now : (r : RegionId) (mode : Mode) (how : How) → IsDefaultWay m r how → (p : Agenda) → IsReady m (course_of p) (items.Opened r mode)
-      → x.plan ≡ Some p → IsWayNow m all_true (course_of p) (items.Opened r mode) how
+  pub opens_now : (r : RegionId) (mode : Mode) (how : How) → IsDefaultWay class x.store x.params r how → (p : Agenda)
+      → IsReady m (course_of p) (items.Opened r mode) → x.plan ≡ Some p → IsWayNow m here (course_of p) (items.Opened r mode) how
   opens_now r mode how default p ready is =
       let memory : Memory = RemembersSoFar m (course_of p) in
-      subst (λ k. IsWay m all_true memory (items.Opened r k) how) (sym (ready_plain p is (items.Opened r mode) ready).0)
-      ((way_is b.machine all_true memory r how).1 default)
+      subst (λ k. IsWay m here memory (items.Opened r k) how) (sym (ready_plain p is (items.Opened r mode) ready).0) default
 
   -- a take has a signal, and fires routes of States
   can_take : (signal : Option Waiting) (number : ℕ) (firing : Firing) → IsSomeAnd signal (λ w. number ≡ w.number)
       → IfSome signal (FiresHere class x firing.routes) → CanTake m firing.routes signal
   can_take None number firing named fires = named
   can_take (Some w) number firing named fires = λ route inside.
-      fired_state_route b.machine (configuration_of x.config) (truth_at class x.store w) (Signal w.signal) firing.routes fires route inside
+      fired_state_route b.machine (configuration_of x.config) (guards_under class x.store (eight_of w.args)) (Signal w.signal) firing.routes fires route inside
 
-  pub can_follow : (signal : Option Waiting) (e : Entry) → NamesSignal signal e → Judges class x signal e None → CanFollow m x.plan x.config signal e
-  can_follow signal (Post o g args) named h = tt
-  can_follow signal (Start o) named h = tt
-  can_follow signal (Take o number firing) named h = can_take signal number firing named h.1
-  can_follow signal (Done o v firing) named h = absurd h
-  can_follow signal (Exit o v outs) named h = can_run_here (items.Exit v) Nothing (λ p ready is. refl) h.0
-  can_follow signal (Effect o t outs) named h = can_run_here (items.Effect t) Nothing (λ p ready is. refl) h.0
-  can_follow signal (Enter o v outs) named h = can_run_here (items.Enter v) Nothing (λ p ready is. refl) h.0
-  can_follow signal (Opened o r mode how) named h = can_run_here (items.Opened r mode) how (opens_now r mode how h.1) h.0
-  can_follow signal (Pick o v route) named h = absurd h
-  can_follow signal (DoStep o v k outs) named h = absurd h
+  can_follow_living : (signal : Option Waiting) (e : Entry) → NamesSignal signal e → JudgesLiving class x signal e None → CanFollow class x signal e
+  can_follow_living signal (Post o g args) named h = tt
+  can_follow_living signal (Start o) named h = tt
+  can_follow_living signal (Take o number firing) named h = can_take signal number firing named h.2
+  can_follow_living signal (Done o v firing) named h = (
+    λ route inside.
+        fired_state_route b.machine (configuration_of x.config) (guards_under class x.store no_params) (Completion v) firing.routes h.2 route inside,
+    h.1,
+  )
+  can_follow_living signal (Exit o v outs) named h = can_run_here here (items.Exit v) Nothing (λ p ready is. refl) h.0
+  can_follow_living signal (Effect o t outs) named h = can_run_here here (items.Effect t) Nothing (λ p ready is. refl) h.0
+  can_follow_living signal (Enter o v outs) named h = can_run_here here (items.Enter v) Nothing (λ p ready is. refl) h.0
+  can_follow_living signal (Opened o r mode how) named h = can_run_here here (items.Opened r mode) how (opens_now r mode how h.1) h.0
+  can_follow_living signal (Pick o v route) named h = can_run_here here (items.Pick v) (By route) (λ p ready is. h.1) h.0
+  can_follow_living signal (DoStep o v k outs) named (inl (none, clash)) = absurd (cc)
+  can_follow_living signal (DoStep o v k outs) named (inr (started, h)) = h.0
+
+  pub can_follow : (signal : Option Waiting) (e : Entry) → NamesSignal signal e → Judges class x signal e None → CanFollow class x signal e
+  can_follow signal e named (inl (past, clash)) = absurd (cc)
+  can_follow signal e named (inr (lives, h)) = can_follow_living signal e named h

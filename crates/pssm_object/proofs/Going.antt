@@ -1,6 +1,9 @@
 -- Where an object stands once a step has gone on.
-use Rattle.std.proofs.Common.{◌≡◌, ◌++◌, [], ◌∷◌, IsSomeAnd, Option, Some, Result, Ok, Err, OnOk, refl}
+use Rattle.std.proofs.Common.{◌≡◌, ◌↔◌, ◌++◌, [], ◌∷◌, Bool, IsTrue, IfOk, List, Option, Some, Result, Ok, Err, OnOk, refl, subst}
+use Rattle.pssm_model.specs.declared.ids.VertexId.{VertexId}
 use Rattle.pssm_model.specs.declared.elements.DraftMachine.{DraftMachine}
+use Rattle.pssm_model.specs.declared.steps.Route.{Route}
+use Rattle.pssm_model.specs.declared.steps.Event.TheVariants.{Completion}
 use Rattle.pssm_model.specs.declared.steps.Firing.{Firing}
 use Rattle.pssm_model.specs.declared.steps.How.{How}
 use Rattle.pssm_model.specs.declared.steps.Item.{Item}
@@ -9,10 +12,12 @@ use Rattle.pssm_model.specs.Changes.{Agree, nothing_yet}
 use Rattle.pssm_config.specs.Tables.{Tables, configuration_of}
 use Rattle.pssm_plan.specs.Agenda.{Agenda}
 use Rattle.pssm_plan.specs.Plans.{IsPlanOf}
-use Rattle.pssm_semantics.specs.Values.{eight_of}
-use Rattle.pssm_pool.specs.declared.pools.Waiting.{Waiting}
+use Rattle.pssm_semantics.specs.declared.setting.Class.{Class}
+use Rattle.pssm_semantics.specs.Values.{Store, Params, eight_of}
 use Rattle.pssm_object.specs.Standing.{Standing}
-use Rattle.pssm_object.specs.inner.Advancing.{HasRunOn, HasFired, Begins, Takes}
+use Rattle.pssm_object.specs.inner.Firing.{Fires as Fired}
+use Rattle.pssm_object.specs.inner.Judging.{Completes}
+use Rattle.pssm_object.specs.inner.Advancing.{HasRunOn, HasFired, Begins}
 
 -- the item has run, where that has succeeded
 pub has_run_on : {A E : Type 0} (m : DraftMachine) (old : Option Agenda) (was now : Agenda) (item : Item) (how : How) (outcome : Result A E)
@@ -31,27 +36,25 @@ has_fired m config firing now (Ok done) head at_head ran plan =
     (record { now = now; now_is = refl; head_is = head; ran = ran; is_plan = plan }, at_head)
 has_fired m config firing now (Err error) head at_head ran plan = tt
 
--- a step has begun, by a start or by a take
+-- a step has begun, by a start
 pub begins : (m : DraftMachine) (old new : Standing) (plan : Agenda) → new.own ≡ old.own → new.plan ≡ Some plan → new.config ≡ old.config
-    → new.store ≡ old.store → new.params ≡ old.params → plan.head ≡ Starts → Agree (configuration_of plan.at_head) nothing_yet → plan.ran ≡ []
-    → IsPlanOf m plan → Begins m old new
-begins m old new plan own is config store params head at_head ran is_plan = record {
+    → new.store ≡ old.store → new.params ≡ old.params → new.queue ≡ old.queue → new.ended ≡ old.ended → plan.head ≡ Starts
+    → Agree (configuration_of plan.at_head) nothing_yet → plan.ran ≡ [] → IsPlanOf m plan → Begins m old new
+begins m old new plan own is config store params queue ended head at_head ran is_plan = record {
   own = own;
   plan = record { now = plan; now_is = is; head_is = head; ran = ran; is_plan = is_plan };
   at_head = at_head;
   config = config;
   store = store;
   params = params;
+  queue = queue;
+  ended = ended;
 }
 
-pub takes : (m : DraftMachine) (old new : Standing) (firing : Firing) (signal : Option Waiting) (plan : Agenda) → new.own ≡ old.own → new.plan ≡ Some plan
-    → new.config ≡ old.config → new.store ≡ old.store → plan.head ≡ Fires firing.routes → plan.at_head ≡ old.config → plan.ran ≡ [] → IsPlanOf m plan
-    → IsSomeAnd signal (λ w. new.params ≡ eight_of w.args) → Takes m old firing.routes signal new
-takes m old new firing signal plan own is config store head at_head ran is_plan params = record {
-  own = own;
-  plan = record { now = plan; now_is = is; head_is = head; ran = ran; is_plan = is_plan };
-  at_head = at_head;
-  config = config;
-  store = store;
-  params = params;
-}
+-- what the completion of a State fires, asked with no parameters
+pub completes_by : {E : Type 0} (class : Class) (x : Standing) (v : VertexId) (routes : List Route) (store : Store) (params : Params) (result : Result Bool E)
+    → store ≡ x.store → params ≡ [] → IfOk result (λ is. IsTrue is ↔ Fired class x.config store (eight_of params) (Completion v) routes)
+    → IfOk result (λ is. IsTrue is ↔ Completes class x v routes)
+completes_by class x v routes store params result same none h =
+    subst (λ (p : Params). IfOk result (λ is. IsTrue is ↔ Fired class x.config x.store (eight_of p) (Completion v) routes)) none
+    (subst (λ (s : Store). IfOk result (λ is. IsTrue is ↔ Fired class x.config s (eight_of params) (Completion v) routes)) same h)

@@ -1,5 +1,5 @@
 -- The verdict on one more entry is that of the rules.
-use Rattle.std.proofs.Common.{◌≡◌, ◌+◌, ℕ, ℤ, List, Contains, IfSome, IsSomeAnd, Option, Some, None, refl, sym, ap, subst, ◌∙◌}
+use Rattle.std.proofs.Common.{◌≡◌, ◌↔◌, ◌+◌, ℕ, ℤ, List, Contains, IfSome, IsSomeAnd, Option, Some, None, refl, sym, ap, subst, ◌∙◌, inl, inr}
 use Rattle.std.specs.Option.{option_map_or}
 use Rattle.pssm_model.specs.declared.ids.VertexId.{VertexId}
 use Rattle.pssm_model.specs.declared.ids.RegionId.{RegionId}
@@ -7,7 +7,8 @@ use Rattle.pssm_model.specs.declared.ids.TransId.{TransId}
 use Rattle.pssm_model.specs.declared.ids.SignalId.{SignalId}
 use Rattle.pssm_model.specs.declared.steps.Route.{Route}
 use Rattle.pssm_model.specs.declared.steps.Firing.{Firing}
-use Rattle.pssm_model.specs.declared.steps.Event.TheVariants.{Signal}
+use Rattle.pssm_model.specs.declared.steps.Event.{Event}
+use Rattle.pssm_model.specs.declared.steps.Event.TheVariants.{Signal, Completion}
 use Rattle.pssm_model.specs.declared.steps.Mode.{Mode}
 use Rattle.pssm_model.specs.declared.steps.Mode.TheVariants.{Plain}
 use Rattle.pssm_model.specs.declared.steps.How.{How}
@@ -15,8 +16,10 @@ use Rattle.pssm_model.specs.declared.steps.How.TheVariants.{By, Nothing}
 use Rattle.pssm_model.specs.declared.steps.Item.{Item}
 use Rattle.pssm_model.specs.declared.steps.Item.TheVariants as items
 use Rattle.pssm_model.specs.declared.elements.DraftMachine.{DraftMachine}
-use Rattle.pssm_model.specs.FiringSets.{IsFiring}
-use Rattle.pssm_model.specs.Ways.{Memory, CanOpen}
+use Rattle.pssm_model.specs.Configuration.{IsNextDoStep}
+use Rattle.pssm_model.specs.Routes.{Truth}
+use Rattle.pssm_model.specs.FiringSets.{IsFiring, IsLateRoute}
+use Rattle.pssm_model.specs.Ways.{Memory, CanOpen, OpensByDefault}
 use Rattle.pssm_model.specs.Items.{Called, IsWaiting, IsCleared}
 use Rattle.pssm_model.proofs.Agreeing.{Agree-symm}
 use Rattle.pssm_model.proofs.AgreeingRoutes.{firing_agrees}
@@ -35,7 +38,7 @@ use Rattle.pssm_semantics.specs.declared.stimulus.Stimulus.{Stimulus}
 use Rattle.pssm_semantics.specs.Journal.{IsMemory, IsStart, object_of, configuration_after}
 use Rattle.pssm_semantics.specs.Steps.{item_of}
 use Rattle.pssm_semantics.specs.Completion.{HasEnded, IsStepFinished}
-use Rattle.pssm_semantics.specs.Values.{eight_of, outcome_of}
+use Rattle.pssm_semantics.specs.Values.{Store, Params, eight_of, no_params, outcome_of}
 use Rattle.pssm_semantics.specs.Pool.{told_by, outs_of}
 use Rattle.pssm_semantics.specs.Behaviours.{store_of, params_of, outcome_at, guards_under, guards_at}
 use Rattle.pssm_semantics.specs.Rules.{IsCalledItem, IsClearedItem, IsWhatFires}
@@ -44,31 +47,17 @@ use Rattle.pssm_semantics.specs.Built.{IsBuiltClass}
 use Rattle.pssm_pool.specs.declared.pools.Waiting.{Waiting}
 use Rattle.pssm_object.specs.Standing.{Standing, StandsAfter}
 use Rattle.pssm_object.specs.Following.{stimulus_of, stimulus_for, KeepsRule, KeepsRules}
-use Rattle.pssm_object.specs.inner.Firing.{truth_at}
-use Rattle.pssm_object.specs.inner.Situations.{IsAtRest}
+use Rattle.pssm_object.specs.inner.Firing.{Fires, IsDefaultWay, IsWayFrom}
+use Rattle.pssm_object.specs.inner.Situations.{IsAtRest, first_waiting}
 use Rattle.pssm_object.specs.inner.Working.{act_for, nothing_from, outcome_for}
-use Rattle.pssm_object.specs.inner.Judging.{IsBusy, FiresHere, FiresOther, JudgesStart, JudgesTake, JudgesDone, JudgesItem, JudgesWork, JudgesOpened, JudgesNever, Judges}
+use Rattle.pssm_object.specs.inner.Doing.{IsNextHere, JudgesDoStep, step_act, step_outcome}
+use Rattle.pssm_object.specs.inner.Judging.{IsBusy, FiresHere, Completes, FiresOther, IsWayHere, HasStarted, JudgesStart, JudgesTake, JudgesDone, JudgesItem, JudgesWork, JudgesWay, JudgesDoing, IsPastEnd, JudgesLiving, Judges}
 use Rattle.pssm_object.proofs.Kept.{IsKeptBelow, kept_more, kept_first, follows, first_broken}
 use Rattle.pssm_object.proofs.Standings.{only_posts, step_of}
 use Rattle.pssm_object.proofs.UnderWay.{called_item, called_item_waits, cleared_item, cleared_item_is, step_finished, finished_step}
-use Rattle.pssm_object.proofs.Rules.{never_ended, starts_once, has_started, not_started, never_queued, no_queue_head, no_do_step, called_is_plain}
-use Rattle.pssm_object.proofs.BuiltWays.{way_is}
-
--- what the verdict on an entry that never comes may be
-pub never_is : (plan : Option Agenda) (never rule : Rule) (Q : Rule → Type 0) → (plan ≡ None → Q A3) → ((p : Agenda) → plan ≡ Some p → Q never)
-    → JudgesNever plan never (Some rule) → Q rule
-never_is plan never A3 Q first later h = first h
-never_is plan never A1 Q first later h = subst Q (sym h.1) (later h.0.0 h.0.1)
-never_is plan never A2 Q first later h = subst Q (sym h.1) (later h.0.0 h.0.1)
-never_is plan never A4 Q first later h = subst Q (sym h.1) (later h.0.0 h.0.1)
-never_is plan never A5 Q first later h = subst Q (sym h.1) (later h.0.0 h.0.1)
-never_is plan never A6 Q first later h = subst Q (sym h.1) (later h.0.0 h.0.1)
-never_is plan never A7 Q first later h = subst Q (sym h.1) (later h.0.0 h.0.1)
-never_is plan never A8 Q first later h = subst Q (sym h.1) (later h.0.0 h.0.1)
-never_is plan never A9 Q first later h = subst Q (sym h.1) (later h.0.0 h.0.1)
-never_is plan never A10 Q first later h = subst Q (sym h.1) (later h.0.0 h.0.1)
-never_is plan never A11 Q first later h = subst Q (sym h.1) (later h.0.0 h.0.1)
-never_is plan never A12 Q first later h = subst Q (sym h.1) (later h.0.0 h.0.1)
+use Rattle.pssm_object.proofs.DoingNext.{next_alike}
+use Rattle.pssm_object.proofs.QueueHeads.{head_of_queue, end_of_queue}
+use Rattle.pssm_object.proofs.Rules.{starts_once, has_started, not_started, called_is_plain}
 
 -- what a verdict says of an entry
 abbrev pub IsJudged : Class → Standing → Option Waiting → List Entry → Entry → Option Rule → Type 0
@@ -114,8 +103,21 @@ module _ (class : Class) (b : IsBuiltClass class) {J : List Entry} {x : Standing
   begun : (e : Entry) → Below e 2
   begun e = kept_first Holds J e tt
 
-  pub unended : HasEnded m J o → ⊥
-  unended ended = never_ended b.machine J o ended
+  -- an object that has ended refuses everything but posts
+  past_end : (e : Entry) → object_of e ≡ o → IsPastEnd x e → Holds A2 J e → ⊥
+  past_end (Post q g args) own past kept = past
+  past_end (Start q) own past kept = kept (subst (HasEnded m J) (sym own) (s.ended_is.0 past))
+  past_end (Take q number firing) own past kept = kept (subst (HasEnded m J) (sym own) (s.ended_is.0 past))
+  past_end (Done q v firing) own past kept = kept (subst (HasEnded m J) (sym own) (s.ended_is.0 past))
+  past_end (Exit q v outs) own past kept = kept (subst (HasEnded m J) (sym own) (s.ended_is.0 past))
+  past_end (Effect q t outs) own past kept = kept (subst (HasEnded m J) (sym own) (s.ended_is.0 past))
+  past_end (Enter q v outs) own past kept = kept (subst (HasEnded m J) (sym own) (s.ended_is.0 past))
+  past_end (Opened q r mode how) own past kept = kept (subst (HasEnded m J) (sym own) (s.ended_is.0 past))
+  past_end (Pick q v route) own past kept = kept (subst (HasEnded m J) (sym own) (s.ended_is.0 past))
+  past_end (DoStep q v k outs) own past kept = kept (subst (HasEnded m J) (sym own) (s.ended_is.0 past))
+
+  judged_past : (e : Entry) → object_of e ≡ o → IsPastEnd x e → First e A2
+  judged_past e own past = breaks e A2 2 refl (past_end e own past) (begun e)
 
   -- an entry that runs an item and is asked nothing by the rules of heads
   pub record IsWorkEntry (e : Entry) (y : Item) : Type 0 where
@@ -129,12 +131,12 @@ module _ (class : Class) (b : IsBuiltClass class) {J : List Entry} {x : Standing
     pub queue : Holds A5 J e
     pub firing : Holds A7 J e
 
-  pub exit_work : (v : VertexId) (outs : List Out) → IsWorkEntry (Exit o v outs) (items.Exit v)
-  exit_work v outs = record {
+  exit_work : (HasEnded m J o → ⊥) → (v : VertexId) (outs : List Out) → IsWorkEntry (Exit o v outs) (items.Exit v)
+  exit_work living v outs = record {
     own = refl;
     how = Nothing;
     runs = refl;
-    ends = unended;
+    ends = living;
     starts = λ f is start. (f, is, start);
     started = λ kept. kept;
     step = tt;
@@ -142,12 +144,12 @@ module _ (class : Class) (b : IsBuiltClass class) {J : List Entry} {x : Standing
     firing = tt;
   }
 
-  pub effect_work : (t : TransId) (outs : List Out) → IsWorkEntry (Effect o t outs) (items.Effect t)
-  effect_work t outs = record {
+  effect_work : (HasEnded m J o → ⊥) → (t : TransId) (outs : List Out) → IsWorkEntry (Effect o t outs) (items.Effect t)
+  effect_work living t outs = record {
     own = refl;
     how = Nothing;
     runs = refl;
-    ends = unended;
+    ends = living;
     starts = λ f is start. (f, is, start);
     started = λ kept. kept;
     step = tt;
@@ -155,12 +157,12 @@ module _ (class : Class) (b : IsBuiltClass class) {J : List Entry} {x : Standing
     firing = tt;
   }
 
-  pub enter_work : (v : VertexId) (outs : List Out) → IsWorkEntry (Enter o v outs) (items.Enter v)
-  enter_work v outs = record {
+  enter_work : (HasEnded m J o → ⊥) → (v : VertexId) (outs : List Out) → IsWorkEntry (Enter o v outs) (items.Enter v)
+  enter_work living v outs = record {
     own = refl;
     how = Nothing;
     runs = refl;
-    ends = unended;
+    ends = living;
     starts = λ f is start. (f, is, start);
     started = λ kept. kept;
     step = tt;
@@ -168,12 +170,12 @@ module _ (class : Class) (b : IsBuiltClass class) {J : List Entry} {x : Standing
     firing = tt;
   }
 
-  pub opened_work : (r : RegionId) (mode : Mode) (how : How) → IsWorkEntry (Opened o r mode how) (items.Opened r mode)
-  opened_work r mode how = record {
+  opened_work : (HasEnded m J o → ⊥) → (r : RegionId) (mode : Mode) (how : How) → IsWorkEntry (Opened o r mode how) (items.Opened r mode)
+  opened_work living r mode how = record {
     own = refl;
     how = how;
     runs = refl;
-    ends = unended;
+    ends = living;
     starts = λ f is start. (f, is, start);
     started = λ kept. kept;
     step = tt;
@@ -181,12 +183,12 @@ module _ (class : Class) (b : IsBuiltClass class) {J : List Entry} {x : Standing
     firing = tt;
   }
 
-  pick_work : (v : VertexId) (route : Route) → IsWorkEntry (Pick o v route) (items.Pick v)
-  pick_work v route = record {
+  pick_work : (HasEnded m J o → ⊥) → (v : VertexId) (route : Route) → IsWorkEntry (Pick o v route) (items.Pick v)
+  pick_work living v route = record {
     own = refl;
     how = By route;
     runs = refl;
-    ends = unended;
+    ends = living;
     starts = λ f is start. (f, is, start);
     started = λ kept. kept;
     step = tt;
@@ -279,106 +281,157 @@ module _ (class : Class) (b : IsBuiltClass class) {J : List Entry} {x : Standing
       ≡ (option_map_or (λ (a : Act). outcome_of a o x.store x.params) act (nothing_from x.store)).outs
   made_so act = sym (ap (λ (made : Outcome). made.outs) (outcome_here class s act))
 
-  judged_exit : (v : VertexId) (outs : List Out) (answer : Option Rule) → JudgesWork class x (items.Exit v) outs answer
+  judged_exit : (HasEnded m J o → ⊥) → (v : VertexId) (outs : List Out) (answer : Option Rule) → JudgesWork class x (items.Exit v) outs answer
       → IsJudged class x signal J (Exit o v outs) answer
-  judged_exit v outs = judged_work (Exit o v outs) (items.Exit v) outs (exit_work v outs) refl (made_so (act_for class (items.Exit v))) refl tt
+  judged_exit living v outs =
+      judged_work (Exit o v outs) (items.Exit v) outs (exit_work living v outs) refl (made_so (act_for class (items.Exit v))) refl tt
 
-  judged_effect : (t : TransId) (outs : List Out) (answer : Option Rule) → JudgesWork class x (items.Effect t) outs answer
+  judged_effect : (HasEnded m J o → ⊥) → (t : TransId) (outs : List Out) (answer : Option Rule) → JudgesWork class x (items.Effect t) outs answer
       → IsJudged class x signal J (Effect o t outs) answer
-  judged_effect t outs = judged_work (Effect o t outs) (items.Effect t) outs (effect_work t outs) refl (made_so (act_for class (items.Effect t))) refl tt
+  judged_effect living t outs =
+      judged_work (Effect o t outs) (items.Effect t) outs (effect_work living t outs) refl (made_so (act_for class (items.Effect t))) refl tt
 
-  judged_enter : (v : VertexId) (outs : List Out) (answer : Option Rule) → JudgesWork class x (items.Enter v) outs answer
+  judged_enter : (HasEnded m J o → ⊥) → (v : VertexId) (outs : List Out) (answer : Option Rule) → JudgesWork class x (items.Enter v) outs answer
       → IsJudged class x signal J (Enter o v outs) answer
-  judged_enter v outs = judged_work (Enter o v outs) (items.Enter v) outs (enter_work v outs) refl (made_so (act_for class (items.Enter v))) refl tt
+  judged_enter living v outs =
+      judged_work (Enter o v outs) (items.Enter v) outs (enter_work living v outs) refl (made_so (act_for class (items.Enter v))) refl tt
 
-  -- an opening with its way: only openings by default are called
+  -- the guards where the object stands are those after the journal
+  pub truth_is : guards_under class x.store x.params ≡ guards_at class (told_by J) J o
+  truth_is =
+      ap (λ (store : Store). guards_under class store x.params) s.store_is
+      ∙ ap (λ (params : Params). guards_under class (store_of class (told_by J) J o) params) s.params_is
+
+  -- the way of an opening: only openings by default are called
   pub opens_plainly : (p : Agenda) → x.plan ≡ Some p → (r : RegionId) (mode : Mode) → Called m (course_of p) (items.Opened r mode) → mode ≡ Plain
   opens_plainly p is r mode called =
       let u = step_of s p is in
       (called_is_plain b.machine p.head (configuration_of p.at_head) p.ran u.gone (items.Opened r mode) called).0
 
-  judged_opened : (r : RegionId) (mode : Mode) (how : How) (answer : Option Rule) → JudgesOpened m x.plan r mode how answer
+  pub opens_as : (r : RegionId) (mode : Mode) (how : How) → JudgesItem m x.plan (items.Opened r mode) None
+      → IsDefaultWay class x.store x.params r how ↔ Holds A10 J (Opened o r mode how)
+  opens_as r mode how ready =
+      let plain = opens_plainly ready.0 ready.1 r mode ready.2.waiting.called in
+      let truth : Truth = guards_at class (told_by J) J o in
+      let memory : Memory = IsMemory m J o in (
+        λ way. subst (λ k. CanOpen m truth memory r k how) (sym plain) (subst (λ (t : Truth). OpensByDefault m t r how) truth_is way),
+        λ kept. subst (λ (t : Truth). OpensByDefault m t r how) (sym truth_is) (subst (λ k. CanOpen m truth memory r k how) plain kept),
+      )
+
+  -- and that of a pick
+  pub picks_as : (v : VertexId) (route : Route) → IsWayFrom class x.store x.params v route ↔ Holds A10 J (Pick o v route)
+  picks_as v route = (
+    λ way. subst (λ (t : Truth). IsLateRoute m t v route) truth_is way,
+    λ kept. subst (λ (t : Truth). IsLateRoute m t v route) (sym truth_is) kept,
+  )
+
+  -- an opening or a pick with its way
+  module _ (e : Entry) (y : Item) (how : How) (w : IsWorkEntry e y) (way : JudgesItem m x.plan y None → IsWayHere class x y how ↔ Holds A10 J e)
+      (steps : Holds A11 J e) (outs : Holds A12 J e) where
+    judged_way : (answer : Option Rule) → JudgesWay class x y how answer → IsJudged class x signal J e answer
+    judged_way None h =
+        follows Holds J e (more e A12 12 refl outs (more e A11 11 refl steps (more e A10 10 refl ((way h.0).0 h.1) (work_kept e y w h.0))))
+    judged_way (Some A10) h = breaks e A10 10 refl (λ kept. h.1 ((way h.0).1 kept)) (work_kept e y w h.0)
+    judged_way (Some A3) h = work_refused e y w A3 h
+    judged_way (Some A8) h = work_refused e y w A8 h
+    judged_way (Some A9) h = work_refused e y w A9 h
+    judged_way (Some A1) h = absurd h
+    judged_way (Some A2) h = absurd h
+    judged_way (Some A4) h = absurd h
+    judged_way (Some A5) h = absurd h
+    judged_way (Some A6) h = absurd h
+    judged_way (Some A7) h = absurd h
+    judged_way (Some A11) h = absurd h
+    judged_way (Some A12) h = absurd h
+
+  judged_opened : (HasEnded m J o → ⊥) → (r : RegionId) (mode : Mode) (how : How) (answer : Option Rule) → JudgesWay class x (items.Opened r mode) how answer
       → IsJudged class x signal J (Opened o r mode how) answer
-  judged_opened r mode how None h =
-      let e : Entry = Opened o r mode how in
-      let plain = opens_plainly h.0.0 h.0.1 r mode h.0.2.waiting.called in
-      let truth = guards_at class (told_by J) J o in
-      let memory : Memory = IsMemory m J o in
-      follows Holds J e
-      (more e A12 12 refl refl (more e A11 11 refl tt
-      (more e A10 10 refl (subst (λ k. CanOpen m truth memory r k how) (sym plain) ((way_is b.machine truth memory r how).1 h.1))
-      (work_kept e (items.Opened r mode) (opened_work r mode how) h.0))))
-  judged_opened r mode how (Some A10) h =
-      let e : Entry = Opened o r mode how in
-      let plain = opens_plainly h.0.0 h.0.1 r mode h.0.2.waiting.called in
-      let truth = guards_at class (told_by J) J o in
-      let memory : Memory = IsMemory m J o in
-      breaks e A10 10 refl (λ kept. h.1 ((way_is b.machine truth memory r how).0 (subst (λ k. CanOpen m truth memory r k how) plain kept)))
-      (work_kept e (items.Opened r mode) (opened_work r mode how) h.0)
-  judged_opened r mode how (Some A3) h = work_refused (Opened o r mode how) (items.Opened r mode) (opened_work r mode how) A3 h
-  judged_opened r mode how (Some A8) h = work_refused (Opened o r mode how) (items.Opened r mode) (opened_work r mode how) A8 h
-  judged_opened r mode how (Some A9) h = work_refused (Opened o r mode how) (items.Opened r mode) (opened_work r mode how) A9 h
-  judged_opened r mode how (Some A1) h = absurd h
-  judged_opened r mode how (Some A2) h = absurd h
-  judged_opened r mode how (Some A4) h = absurd h
-  judged_opened r mode how (Some A5) h = absurd h
-  judged_opened r mode how (Some A6) h = absurd h
-  judged_opened r mode how (Some A7) h = absurd h
-  judged_opened r mode how (Some A11) h = absurd h
-  judged_opened r mode how (Some A12) h = absurd h
+  judged_opened living r mode how =
+      judged_way (Opened o r mode how) (items.Opened r mode) how (opened_work living r mode how) (λ ready. opens_as r mode how ready) tt refl
 
-  -- a pick
-  pub no_pick : (p : Agenda) → x.plan ≡ Some p → (v : VertexId) → IsWaiting m (course_of p) (items.Pick v) → ⊥
-  no_pick p is v waits =
-      let u = step_of s p is in
-      called_is_plain b.machine p.head (configuration_of p.at_head) p.ran u.gone (items.Pick v) waits.called
+  judged_pick : (HasEnded m J o → ⊥) → (v : VertexId) (route : Route) (answer : Option Rule) → JudgesWay class x (items.Pick v) (By route) answer
+      → IsJudged class x signal J (Pick o v route) answer
+  judged_pick living v route =
+      judged_way (Pick o v route) (items.Pick v) (By route) (pick_work living v route) (λ ready. picks_as v route) tt refl
 
-  judged_pick : (v : VertexId) (route : Route) (answer : Option Rule) → JudgesNever x.plan A8 answer → IsJudged class x signal J (Pick o v route) answer
-  judged_pick v route None h = absurd h
-  judged_pick v route (Some rule) h =
-      let e : Entry = Pick o v route in
-      never_is x.plan A8 rule (λ k. First e k)
-      (λ is. work_unstarted e (items.Pick v) (pick_work v route) is)
-      (λ p is. work_uncalled e (items.Pick v) (pick_work v route) p is (no_pick p is v)) h
+  -- the next do step where the object stands is that after the journal
+  pub next_as : (v : VertexId) (k : ℕ) → IsNextHere m x.config v k ↔ IsNextDoStep m (configuration_after m J o) v k
+  next_as v k = (
+    next_alike m (configuration_of x.config) (configuration_after m J o) s.now_is v k,
+    next_alike m (configuration_after m J o) (configuration_of x.config) (Agree-symm (configuration_of x.config) (configuration_after m J o) s.now_is) v k,
+  )
+
+  -- and it makes the same
+  pub step_made : (v : VertexId) (k : ℕ) (outs : List Out)
+      → step_outcome class x v k ≡ outcome_at class (told_by J) J (DoStep o v k outs) (store_of class (told_by J) J o)
+  step_made v k outs = by (step_act class v k)
+    where
+      by : (act : Option Act) → option_map_or (λ (a : Act). outcome_of a o x.store no_params) act (nothing_from x.store)
+          ≡ option_map_or (λ (a : Act). outcome_of a o (store_of class (told_by J) J o) no_params) act (nothing_from (store_of class (told_by J) J o))
+      by act = ap (λ (store : Store). option_map_or (λ (a : Act). outcome_of a o store no_params) act (nothing_from store)) s.store_is
 
   -- a do step
-  judged_do : (v : VertexId) (k : ℕ) (outs : List Out) (answer : Option Rule) → JudgesNever x.plan A11 answer
-      → IsJudged class x signal J (DoStep o v k outs) answer
-  judged_do v k outs None h = absurd h
-  judged_do v k outs (Some rule) h =
-      let e : Entry = DoStep o v k outs in
-      let open_still = more e A2 2 refl unended (begun e) in
-      never_is x.plan A11 rule (λ r. First e r)
-      (λ is. breaks e A3 3 refl (λ kept. not_started J o (only_posts s is) kept.0 kept.1 kept.2) open_still)
-      (λ p is. breaks e A11 11 refl (λ kept. no_do_step b.machine J o x.config s.fits s.now_is v k kept)
-      (more e A10 10 refl tt (more e A9 9 refl tt (more e A8 8 refl tt
-      (more e A7 7 refl tt (more e A6 6 refl tt (more e A5 5 refl tt (more e A4 4 refl tt
-      (more e A3 3 refl (has_started (step_of s p is)) open_still))))))))) h
+  module _ (living : HasEnded m J o → ⊥) (v : VertexId) (k : ℕ) (outs : List Out) where
+    doing_started : HasStarted x → Below (DoStep o v k outs) 11
+    doing_started (p, is) =
+        let e : Entry = DoStep o v k outs in
+        more e A10 10 refl tt (more e A9 9 refl tt (more e A8 8 refl tt
+        (more e A7 7 refl tt (more e A6 6 refl tt (more e A5 5 refl tt (more e A4 4 refl tt
+        (more e A3 3 refl (has_started (step_of s p is)) (more e A2 2 refl living (begun e)))))))))
+
+    doing_next : HasStarted x → IsNextHere m x.config v k → Below (DoStep o v k outs) 12
+    doing_next started next = more (DoStep o v k outs) A11 11 refl ((next_as v k).0 next) (doing_started started)
+
+    made_outs : (step_outcome class x v k).outs ≡ (outcome_at class (told_by J) J (DoStep o v k outs) (store_of class (told_by J) J o)).outs
+    made_outs = ap (λ (made : Outcome). made.outs) (step_made v k outs)
+
+    judged_step : HasStarted x → (answer : Option Rule) → JudgesDoStep class x v k outs answer → IsJudged class x signal J (DoStep o v k outs) answer
+    judged_step started None h =
+        follows Holds J (DoStep o v k outs) (more (DoStep o v k outs) A12 12 refl (h.1 ∙ made_outs) (doing_next started h.0))
+    judged_step started (Some A11) h = breaks (DoStep o v k outs) A11 11 refl (λ kept. h ((next_as v k).1 kept)) (doing_started started)
+    judged_step started (Some A12) h = breaks (DoStep o v k outs) A12 12 refl (λ kept. h.1 (kept ∙ sym made_outs)) (doing_next started h.0)
+    judged_step started (Some A1) h = absurd h
+    judged_step started (Some A2) h = absurd h
+    judged_step started (Some A3) h = absurd h
+    judged_step started (Some A4) h = absurd h
+    judged_step started (Some A5) h = absurd h
+    judged_step started (Some A6) h = absurd h
+    judged_step started (Some A7) h = absurd h
+    judged_step started (Some A8) h = absurd h
+    judged_step started (Some A9) h = absurd h
+    judged_step started (Some A10) h = absurd h
+
+    judged_doing : (answer : Option Rule) → JudgesDoing class x v k outs answer → IsJudged class x signal J (DoStep o v k outs) answer
+    judged_doing answer (inl (none, is)) =
+        subst (IsJudged class x signal J (DoStep o v k outs)) (sym is)
+        (breaks (DoStep o v k outs) A3 3 refl (λ kept. not_started J o (only_posts s none) kept.0 kept.1 kept.2)
+        (more (DoStep o v k outs) A2 2 refl living (begun (DoStep o v k outs))))
+    judged_doing answer (inr (started, h)) = judged_step started answer h
 
   -- a start
-  judged_start : (answer : Option Rule) → JudgesStart x.plan answer → IsJudged class x signal J (Start o) answer
-  judged_start None h =
+  judged_start : (HasEnded m J o → ⊥) → (answer : Option Rule) → JudgesStart x.plan answer → IsJudged class x signal J (Start o) answer
+  judged_start living None h =
       let e : Entry = Start o in
       follows Holds J e
       (more e A12 12 refl refl (more e A11 11 refl tt (more e A10 10 refl tt (more e A9 9 refl tt (more e A8 8 refl tt
       (more e A7 7 refl tt (more e A6 6 refl tt (more e A5 5 refl tt (more e A4 4 refl tt
-      (more e A3 3 refl (only_posts s h) (more e A2 2 refl unended (begun e))))))))))))
-  judged_start (Some A3) h =
-      breaks (Start o) A3 3 refl (λ kept. starts_once (step_of s h.0 h.1) kept) (more (Start o) A2 2 refl unended (begun (Start o)))
-  judged_start (Some A1) h = absurd h
-  judged_start (Some A2) h = absurd h
-  judged_start (Some A4) h = absurd h
-  judged_start (Some A5) h = absurd h
-  judged_start (Some A6) h = absurd h
-  judged_start (Some A7) h = absurd h
-  judged_start (Some A8) h = absurd h
-  judged_start (Some A9) h = absurd h
-  judged_start (Some A10) h = absurd h
-  judged_start (Some A11) h = absurd h
-  judged_start (Some A12) h = absurd h
+      (more e A3 3 refl (only_posts s h) (more e A2 2 refl living (begun e))))))))))))
+  judged_start living (Some A3) h =
+      breaks (Start o) A3 3 refl (λ kept. starts_once (step_of s h.0 h.1) kept) (more (Start o) A2 2 refl living (begun (Start o)))
+  judged_start living (Some A1) h = absurd h
+  judged_start living (Some A2) h = absurd h
+  judged_start living (Some A4) h = absurd h
+  judged_start living (Some A5) h = absurd h
+  judged_start living (Some A6) h = absurd h
+  judged_start living (Some A7) h = absurd h
+  judged_start living (Some A8) h = absurd h
+  judged_start living (Some A9) h = absurd h
+  judged_start living (Some A10) h = absurd h
+  judged_start living (Some A11) h = absurd h
+  judged_start living (Some A12) h = absurd h
 
   -- the rules of a head entry that is no start
-  module _ (e : Entry) (ends : Holds A2 J e)
+  module _ (living : HasEnded m J o → ⊥) (e : Entry) (ends : Holds A2 J e)
       (starts : (f : Entry) → Contains J f → IsStart f o → Holds A3 J e)
       (started : Holds A3 J e → (f : Entry) × Contains J f × IsStart f o)
       (finishes : IsStepFinished m J o → Holds A4 J e)
@@ -393,42 +446,66 @@ module _ (class : Class) (b : IsBuiltClass class) {J : List Entry} {x : Standing
     head_started p is = let f = has_started (step_of s p is) in more e A3 3 refl (starts f.0 f.1 f.2) head_begun
 
     head_busy : IsBusy m x.plan → First e A4
-    head_busy (p, is, busy) = breaks e A4 4 refl (λ kept. busy (finished_step (step_of s p is) unended (finished kept))) (head_started p is)
+    head_busy (p, is, busy) = breaks e A4 4 refl (λ kept. busy (finished_step (step_of s p is) living (finished kept))) (head_started p is)
 
     head_rests : IsAtRest m x.plan → Below e 5
     head_rests (p, is, out) = more e A4 4 refl (finishes (step_finished (step_of s p is) out)) (head_started p is)
 
-  -- a dispatch of a completion
-  judged_done : (v : VertexId) (firing : Firing) (answer : Option Rule) → JudgesDone m x.plan answer → IsJudged class x signal J (Done o v firing) answer
-  judged_done v firing None h = absurd h
-  judged_done v firing (Some A3) h =
-      head_unstarted (Done o v firing) unended (λ f is start. (f, is, start)) (λ kept. kept) (λ kept. kept) (λ kept. kept) h
-  judged_done v firing (Some A4) h = head_busy (Done o v firing) unended (λ f is start. (f, is, start)) (λ kept. kept) (λ kept. kept) (λ kept. kept) h
-  judged_done v firing (Some A5) h =
-      breaks (Done o v firing) A5 5 refl (λ kept. no_queue_head b.machine J o v kept)
-      (head_rests (Done o v firing) unended (λ f is start. (f, is, start)) (λ kept. kept) (λ kept. kept) (λ kept. kept) h)
-  judged_done v firing (Some A1) h = absurd h
-  judged_done v firing (Some A2) h = absurd h
-  judged_done v firing (Some A6) h = absurd h
-  judged_done v firing (Some A7) h = absurd h
-  judged_done v firing (Some A8) h = absurd h
-  judged_done v firing (Some A9) h = absurd h
-  judged_done v firing (Some A10) h = absurd h
-  judged_done v firing (Some A11) h = absurd h
-  judged_done v firing (Some A12) h = absurd h
+  -- what an event fires where the object stands is what it fires after the journal
+  fires_as : (params : Params) (event : Event) (firing : Firing)
+      → Fires class x.config x.store params event firing.routes ↔ IsWhatFires class (told_by J) J o params event firing
+  fires_as params event firing = (
+    λ fires. subst (λ (store : Store). IsFiring m (configuration_after m J o) (guards_under class store params) event firing.routes) s.store_is
+        (firing_agrees s.now_is (guards_under class x.store params) event firing.routes fires),
+    λ fires. firing_agrees (Agree-symm (configuration_of x.config) (configuration_after m J o) s.now_is) (guards_under class x.store params) event firing.routes
+        (subst (λ (store : Store). IsFiring m (configuration_after m J o) (guards_under class store params) event firing.routes) (sym s.store_is) fires),
+  )
 
-  -- what a signal fires where the object stands is what it fires after the journal
+  pub completes_as : (v : VertexId) (firing : Firing)
+      → Completes class x v firing.routes ↔ IsWhatFires class (told_by J) J o no_params (Completion v) firing
+  completes_as v firing = fires_as no_params (Completion v) firing
+
+  -- a dispatch of a completion
+  module _ (living : HasEnded m J o → ⊥) (v : VertexId) (firing : Firing) where
+    done_rests : IsAtRest m x.plan → Below (Done o v firing) 5
+    done_rests rests = head_rests living (Done o v firing) living (λ f is start. (f, is, start)) (λ kept. kept) (λ kept. kept) (λ kept. kept) rests
+
+    done_first : IsAtRest m x.plan → first_waiting x ≡ Some v → Below (Done o v firing) 7
+    done_first rests first =
+        let e : Entry = Done o v firing in
+        more e A6 6 refl tt (more e A5 5 refl ((head_of_queue m J x.own x.queue.states s.queue_is v).0 first) (done_rests rests))
+
+    judged_done : (answer : Option Rule) → JudgesDone class x v firing.routes answer → IsJudged class x signal J (Done o v firing) answer
+    judged_done None (rests, first, fires) =
+        let e : Entry = Done o v firing in
+        follows Holds J e
+        (more e A12 12 refl refl (more e A11 11 refl tt (more e A10 10 refl tt (more e A9 9 refl tt (more e A8 8 refl tt
+        (more e A7 7 refl ((completes_as v firing).0 fires) (done_first rests first)))))))
+    judged_done (Some A3) h =
+        head_unstarted living (Done o v firing) living (λ f is start. (f, is, start)) (λ kept. kept) (λ kept. kept) (λ kept. kept) h
+    judged_done (Some A4) h =
+        head_busy living (Done o v firing) living (λ f is start. (f, is, start)) (λ kept. kept) (λ kept. kept) (λ kept. kept) h
+    judged_done (Some A5) (rests, other) =
+        breaks (Done o v firing) A5 5 refl (λ kept. other ((head_of_queue m J x.own x.queue.states s.queue_is v).1 kept)) (done_rests rests)
+    judged_done (Some A7) (rests, first, wrong) =
+        breaks (Done o v firing) A7 7 refl (λ kept. wrong ((completes_as v firing).1 kept)) (done_first rests first)
+    judged_done (Some A1) h = absurd h
+    judged_done (Some A2) h = absurd h
+    judged_done (Some A6) h = absurd h
+    judged_done (Some A8) h = absurd h
+    judged_done (Some A9) h = absurd h
+    judged_done (Some A10) h = absurd h
+    judged_done (Some A11) h = absurd h
+    judged_done (Some A12) h = absurd h
+
+  -- what a signal fires
   pub fires_after : (w : Waiting) (firing : Firing) → FiresHere class x firing.routes w
       → IsWhatFires class (told_by J) J o (eight_of w.args) (Signal w.signal) firing
-  fires_after w firing fires =
-      subst (λ store. IsFiring m (configuration_after m J o) (guards_under class store (eight_of w.args)) (Signal w.signal) firing.routes) s.store_is
-      (firing_agrees s.now_is (truth_at class x.store w) (Signal w.signal) firing.routes fires)
+  fires_after w firing fires = (fires_as (eight_of w.args) (Signal w.signal) firing).0 fires
 
   pub fires_before : (w : Waiting) (firing : Firing) → IsWhatFires class (told_by J) J o (eight_of w.args) (Signal w.signal) firing
       → FiresHere class x firing.routes w
-  fires_before w firing fires =
-      firing_agrees (Agree-symm (configuration_of x.config) (configuration_after m J o) s.now_is) (truth_at class x.store w) (Signal w.signal) firing.routes
-      (subst (λ store. IsFiring m (configuration_after m J o) (guards_under class store (eight_of w.args)) (Signal w.signal) firing.routes) (sym s.store_is) fires)
+  fires_before w firing fires = (fires_as (eight_of w.args) (Signal w.signal) firing).1 fires
 
   fires_other : (w : Waiting) (firing : Firing) → FiresOther class x firing.routes w
       → IsWhatFires class (told_by J) J o (eight_of w.args) (Signal w.signal) firing → ⊥
@@ -451,29 +528,32 @@ module _ (class : Class) (b : IsBuiltClass class) {J : List Entry} {x : Standing
   fires_wrong (Some w) firing h kept = fires_other w firing h (kept (stimulus_of o w) refl)
 
   -- a take
-  module _ (number : ℕ) (firing : Firing) where
-    take_rests : IsAtRest m x.plan → Below (Take o number firing) 7
-    take_rests rests =
+  module _ (living : HasEnded m J o → ⊥) (number : ℕ) (firing : Firing) where
+    take_rests : IsAtRest m x.plan → Below (Take o number firing) 5
+    take_rests rests = head_rests living (Take o number firing) living (λ f is start. (f, is, start)) (λ kept. kept) (λ kept. kept) (λ kept. kept) rests
+
+    take_next : IsAtRest m x.plan → first_waiting x ≡ None → Below (Take o number firing) 7
+    take_next rests none =
         let e : Entry = Take o number firing in
-        more e A6 6 refl tt
-        (more e A5 5 refl (λ v i queued. never_queued b.machine J o v i queued)
-        (head_rests e unended (λ f is start. (f, is, start)) (λ kept. kept) (λ kept. kept) (λ kept. kept) rests))
+        more e A6 6 refl tt (more e A5 5 refl ((end_of_queue m J x.own x.queue.states s.queue_is).0 none) (take_rests rests))
 
     judged_take : (answer : Option Rule) → JudgesTake class x signal firing.routes answer → IsJudged class x signal J (Take o number firing) answer
     unfolding Told
-    judged_take None (rests, fires) =
+    judged_take None (rests, none, fires) =
         let e : Entry = Take o number firing in
         follows Holds J e
         (more e A12 12 refl refl (more e A11 11 refl tt (more e A10 10 refl tt (more e A9 9 refl tt (more e A8 8 refl tt
-        (more e A7 7 refl (fires_told signal firing fires) (take_rests rests)))))))
+        (more e A7 7 refl (fires_told signal firing fires) (take_next rests none)))))))
     judged_take (Some A3) h =
-        head_unstarted (Take o number firing) unended (λ f is start. (f, is, start)) (λ kept. kept) (λ kept. kept) (λ kept. kept) h
+        head_unstarted living (Take o number firing) living (λ f is start. (f, is, start)) (λ kept. kept) (λ kept. kept) (λ kept. kept) h
     judged_take (Some A4) h =
-        head_busy (Take o number firing) unended (λ f is start. (f, is, start)) (λ kept. kept) (λ kept. kept) (λ kept. kept) h
-    judged_take (Some A7) (rests, wrong) = breaks (Take o number firing) A7 7 refl (fires_wrong signal firing wrong) (take_rests rests)
+        head_busy living (Take o number firing) living (λ f is start. (f, is, start)) (λ kept. kept) (λ kept. kept) (λ kept. kept) h
+    judged_take (Some A5) (rests, some) =
+        breaks (Take o number firing) A5 5 refl (λ kept. some ((end_of_queue m J x.own x.queue.states s.queue_is).1 kept)) (take_rests rests)
+    judged_take (Some A7) (rests, none, wrong) =
+        breaks (Take o number firing) A7 7 refl (fires_wrong signal firing wrong) (take_next rests none)
     judged_take (Some A1) h = absurd h
     judged_take (Some A2) h = absurd h
-    judged_take (Some A5) h = absurd h
     judged_take (Some A6) h = absurd h
     judged_take (Some A8) h = absurd h
     judged_take (Some A9) h = absurd h
@@ -490,18 +570,45 @@ module _ (class : Class) (b : IsBuiltClass class) {J : List Entry} {x : Standing
       (more e A7 7 refl tt (more e A6 6 refl tt (more e A5 5 refl tt (more e A4 4 refl tt
       (more e A3 3 refl tt (more e A2 2 refl tt (begun e))))))))))))
 
+  -- the verdict on an entry of an object that has not ended
+  judged_living : (HasEnded m J o → ⊥) → (e : Entry) → object_of e ≡ o → (answer : Option Rule) → JudgesLiving class x signal e answer
+      → IsJudged class x signal J e answer
+  judged_living living (Post q g args) own answer h =
+      subst (IsJudged class x signal J (Post q g args)) (sym h) (subst (λ p. KeepsRules class x signal J (Post p g args)) (sym own) (judged_post g args))
+  judged_living living (Start q) own answer h = subst (λ p. IsJudged class x signal J (Start p) answer) (sym own) (judged_start living answer h)
+  judged_living living (Take q number firing) own answer h =
+      subst (λ p. IsJudged class x signal J (Take p number firing) answer) (sym own) (judged_take living number firing answer h)
+  judged_living living (Done q v firing) own answer h =
+      subst (λ p. IsJudged class x signal J (Done p v firing) answer) (sym own) (judged_done living v firing answer h)
+  judged_living living (Exit q v outs) own answer h =
+      subst (λ p. IsJudged class x signal J (Exit p v outs) answer) (sym own) (judged_exit living v outs answer h)
+  judged_living living (Effect q t outs) own answer h =
+      subst (λ p. IsJudged class x signal J (Effect p t outs) answer) (sym own) (judged_effect living t outs answer h)
+  judged_living living (Enter q v outs) own answer h =
+      subst (λ p. IsJudged class x signal J (Enter p v outs) answer) (sym own) (judged_enter living v outs answer h)
+  judged_living living (Opened q r mode how) own answer h =
+      subst (λ p. IsJudged class x signal J (Opened p r mode how) answer) (sym own) (judged_opened living r mode how answer h)
+  judged_living living (Pick q v route) own answer h =
+      subst (λ p. IsJudged class x signal J (Pick p v route) answer) (sym own) (judged_pick living v route answer h)
+  judged_living living (DoStep q v k outs) own answer h =
+      subst (λ p. IsJudged class x signal J (DoStep p v k outs) answer) (sym own) (judged_doing living v k outs answer h)
+
+  -- an object that has not ended: a post is judged alike whether it has
+  judged_open : (e : Entry) → object_of e ≡ o → (IsPastEnd x e → ⊥) → (answer : Option Rule) → JudgesLiving class x signal e answer
+      → IsJudged class x signal J e answer
+  judged_open (Post q g args) own lives answer h =
+      subst (IsJudged class x signal J (Post q g args)) (sym h) (subst (λ p. KeepsRules class x signal J (Post p g args)) (sym own) (judged_post g args))
+  judged_open (Start q) own lives answer h = judged_living (λ ended. lives (s.ended_is.1 ended)) (Start q) own answer h
+  judged_open (Take q number firing) own lives answer h = judged_living (λ ended. lives (s.ended_is.1 ended)) (Take q number firing) own answer h
+  judged_open (Done q v firing) own lives answer h = judged_living (λ ended. lives (s.ended_is.1 ended)) (Done q v firing) own answer h
+  judged_open (Exit q v outs) own lives answer h = judged_living (λ ended. lives (s.ended_is.1 ended)) (Exit q v outs) own answer h
+  judged_open (Effect q t outs) own lives answer h = judged_living (λ ended. lives (s.ended_is.1 ended)) (Effect q t outs) own answer h
+  judged_open (Enter q v outs) own lives answer h = judged_living (λ ended. lives (s.ended_is.1 ended)) (Enter q v outs) own answer h
+  judged_open (Opened q r mode how) own lives answer h = judged_living (λ ended. lives (s.ended_is.1 ended)) (Opened q r mode how) own answer h
+  judged_open (Pick q v route) own lives answer h = judged_living (λ ended. lives (s.ended_is.1 ended)) (Pick q v route) own answer h
+  judged_open (DoStep q v k outs) own lives answer h = judged_living (λ ended. lives (s.ended_is.1 ended)) (DoStep q v k outs) own answer h
+
   -- the verdict on any entry of the object
   pub judged : (e : Entry) → object_of e ≡ o → (answer : Option Rule) → Judges class x signal e answer → IsJudged class x signal J e answer
-  judged (Post q g args) own answer h =
-      subst (IsJudged class x signal J (Post q g args)) (sym h) (subst (λ p. KeepsRules class x signal J (Post p g args)) (sym own) (judged_post g args))
-  judged (Start q) own answer h = subst (λ p. IsJudged class x signal J (Start p) answer) (sym own) (judged_start answer h)
-  judged (Take q number firing) own answer h =
-      subst (λ p. IsJudged class x signal J (Take p number firing) answer) (sym own) (judged_take number firing answer h)
-  judged (Done q v firing) own answer h = subst (λ p. IsJudged class x signal J (Done p v firing) answer) (sym own) (judged_done v firing answer h)
-  judged (Exit q v outs) own answer h = subst (λ p. IsJudged class x signal J (Exit p v outs) answer) (sym own) (judged_exit v outs answer h)
-  judged (Effect q t outs) own answer h = subst (λ p. IsJudged class x signal J (Effect p t outs) answer) (sym own) (judged_effect t outs answer h)
-  judged (Enter q v outs) own answer h = subst (λ p. IsJudged class x signal J (Enter p v outs) answer) (sym own) (judged_enter v outs answer h)
-  judged (Opened q r mode how) own answer h =
-      subst (λ p. IsJudged class x signal J (Opened p r mode how) answer) (sym own) (judged_opened r mode how answer h)
-  judged (Pick q v route) own answer h = subst (λ p. IsJudged class x signal J (Pick p v route) answer) (sym own) (judged_pick v route answer h)
-  judged (DoStep q v k outs) own answer h = subst (λ p. IsJudged class x signal J (DoStep p v k outs) answer) (sym own) (judged_do v k outs answer h)
+  judged e own answer (inl (past, is)) = subst (IsJudged class x signal J e) (sym is) (judged_past e own past)
+  judged e own answer (inr (lives, h)) = judged_open e own lives answer h

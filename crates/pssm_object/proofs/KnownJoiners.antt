@@ -1,5 +1,5 @@
 -- Whether a State reacts is known, and so is whether a route can join what was chosen.
-use Rattle.std.proofs.Common.{◌≡◌, ◌⊎◌, ◌<◌, ℕ, List, length, Option, Some, None, ap, subst, inl, inr, ⊎_elim, arith}
+use Rattle.std.proofs.Common.{◌≡◌, ◌⊎◌, ◌<◌, ℕ, List, [], ◌∷◌, length, Option, Some, None, refl, sym, ap, subst, ◌∙◌, inl, inr, ⊎_elim, arith}
 use Rattle.std.proofs.lemmas.Bool.{cases_lt}
 use Rattle.pssm_model.specs.declared.ids.VertexId.{VertexId}
 use Rattle.pssm_model.specs.declared.ids.RegionId.{RegionId}
@@ -7,30 +7,31 @@ use Rattle.pssm_model.specs.declared.ids.TransId.{TransId}
 use Rattle.pssm_model.specs.declared.ids.SignalId.{SignalId}
 use Rattle.pssm_model.specs.declared.elements.DraftMachine.{DraftMachine}
 use Rattle.pssm_model.specs.declared.elements.Vertex.{Vertex}
+use Rattle.pssm_model.specs.declared.elements.Transition.{Transition}
 use Rattle.pssm_model.specs.declared.elements.VertexKind.TheVariants as kinds
 use Rattle.pssm_model.specs.declared.elements.TransKind.TheVariants.{External}
 use Rattle.pssm_model.specs.declared.elements.Owner.{Owner}
 use Rattle.pssm_model.specs.declared.elements.Owner.TheVariants.{Region, State}
 use Rattle.pssm_model.specs.declared.steps.Event.{Event}
-use Rattle.pssm_model.specs.declared.steps.Event.TheVariants.{Signal}
-use Rattle.pssm_model.specs.Forest.{vertex_at, HasKind, owner_of, LiesUnder, LiesInRegion, LiesInState, IsOrLiesIn, IsWithin, HasRegionsAbove}
+use Rattle.pssm_model.specs.declared.steps.Event.TheVariants.{Signal, Completion}
+use Rattle.pssm_model.specs.Forest.{vertex_at, transition_at, HasKind, owner_of, LiesUnder, LiesInRegion, LiesInState, IsOrLiesIn, IsWithin, HasRegionsAbove}
 use Rattle.pssm_model.specs.Forest.LiesUnder.{owned, further}
 use Rattle.pssm_model.specs.Forest.HasRegionsAbove.{region, state, machine}
 use Rattle.pssm_model.specs.Shapes.{HasShape}
 use Rattle.pssm_model.specs.Legs.{Leaves, Goes, Scope, LiesInScope}
 use Rattle.pssm_model.specs.Legs.Scope.{Nowhere, Inside, Within}
 use Rattle.pssm_model.specs.Configuration.{Configuration}
-use Rattle.pssm_model.specs.Routes.{Truth, Lists}
+use Rattle.pssm_model.specs.Routes.{Truth, Lists, HasNoTrigger}
 use Rattle.pssm_model.specs.SingleLegs.{HasSingleLegs}
 use Rattle.pssm_model.specs.inner.Listed.{vertex_number, transition_number}
-use Rattle.pssm_model.proofs.ElementLaws.{some_at, mapped_some, lists_at, external_split}
+use Rattle.pssm_model.proofs.ElementLaws.{some_at, mapped_some, mapped_at, lists_at, external_split}
 use Rattle.pssm_model.proofs.OwnerChains.{top_lies_nowhere}
 use Rattle.pssm_model.proofs.Nesting.{under_cases}
 use Rattle.pssm_routes.specs.declared.areas.Footprint.{Footprint}
 use Rattle.pssm_legs.specs.Areas.{scope_of}
 use Rattle.pssm_routes.specs.inner.Ways.{IsWayOut}
 use Rattle.pssm_routes.specs.inner.Rooms.{IsOpenRoom}
-use Rattle.pssm_routes.specs.inner.Starts.{IsStarted, Reacts, IsOutranked}
+use Rattle.pssm_routes.specs.inner.Starts.{IsCausedBy, IsStarted, Reacts, IsOutranked}
 use Rattle.pssm_routes.specs.inner.Sets.{HasJoiner, HasFreeRoute, IsTouched, HoldsSource, IsCeiling}
 use Rattle.pssm_routes.proofs.Conflicts.{some_footprint}
 use Rattle.pssm_routes.proofs.Ascending.{some_route_over}
@@ -41,9 +42,9 @@ use Rattle.pssm_routes.proofs.JoiningSteps.{none_joins_shut, none_joins}
 use Rattle.pssm_routes.proofs.Reaction.{IsReaction, reacts_leads, way_reacts, route_by_reacts}
 use Rattle.pssm_routes.proofs.Fruitless.{reacts_there}
 use Rattle.pssm_plan.proofs.Known.{Known, known_as, known_both, known_either, known_below, known_among, known_inside, known_number, known_vertex}
-use Rattle.pssm_plan.proofs.KnownPlaces.{known_in_region, known_in_state}
-use Rattle.pssm_object.proofs.BuiltMachines.{leaving_there, known_is_state}
-use Rattle.pssm_object.proofs.KnownWays.{known_leaves, some_way}
+use Rattle.pssm_plan.proofs.KnownPlaces.{known_vertex_kind, known_in_region, known_in_state}
+use Rattle.pssm_object.proofs.BuiltMachines.{leaving_there, known_leaves}
+use Rattle.pssm_object.proofs.KnownWays.{some_way}
 
 module _ {m : DraftMachine} (shape : HasShape m) (footprints : List Footprint) where
   known_in_scope : (v : VertexId) (scope : Scope) → Known (LiesInScope m v scope)
@@ -194,17 +195,30 @@ known_lists m t signal lt =
     let at = some_at m.transitions t.0 lt in
     known_as (lists_at m t at.0 signal at.1).1 (lists_at m t at.0 signal at.1).0 (known_inside known_signal at.0.triggers signal)
 
-module _ {m : DraftMachine} (b : HasSingleLegs m) (shape : HasShape m) (now : Configuration) (known : (s : VertexId) → Known (now.Active s)) (truth : Truth)
-    (signal : SignalId) where
-  abbrev event : Event
-  event = Signal signal
+-- whether it lists none
+known_empty : {X : Type 0} (xs : List X) → Known (xs ≡ [])
+known_empty [] = inl refl
+known_empty (x ∷ xs) = inr (λ e. cc)
 
+known_no_trigger : (m : DraftMachine) (t : TransId) → t.0 < length m.transitions → Known (HasNoTrigger m t)
+known_no_trigger m t lt =
+    let at = some_at m.transitions t.0 lt in
+    let lists = mapped_at (λ (x : Transition). x.triggers) (transition_at m t) at.0 at.1 in
+    known_as (λ none. lists ∙ ap Some none) (λ h. let both = sym lists ∙ h in cc) (known_empty at.0.triggers)
+
+-- whether the event causes a transition
+known_caused : (m : DraftMachine) (event : Event) (t : TransId) (s : VertexId) → t.0 < length m.transitions → Known (IsCausedBy m event t s)
+known_caused m (Signal signal) t s lt = known_lists m t signal lt
+known_caused m (Completion q) t s lt = known_both (known_vertex q s) (known_no_trigger m t lt)
+
+module _ {m : DraftMachine} (b : HasSingleLegs m) (shape : HasShape m) (now : Configuration) (known : (s : VertexId) → Known (now.Active s)) (truth : Truth)
+    (event : Event) where
   pub known_started : (t : TransId) (s : VertexId) → t.0 < length m.transitions → Known (IsStarted m now event t s)
   known_started t s lt =
       known_as
       (λ h. record { leaves = h.0; state = h.1.0; active = h.1.1.0; caused = h.1.1.1 })
       (λ h. (h.leaves, (h.state, (h.active, h.caused))))
-      (known_both (known_leaves m t s) (known_both (known_is_state m s) (known_both (known s) (known_lists m t signal lt))))
+      (known_both (known_leaves m t s) (known_both (known_vertex_kind m s kinds.State) (known_both (known s) (known_caused m event t s lt))))
 
   known_reaction : (s : VertexId) (t : TransId) → t.0 < length m.transitions → Known (IsReaction m now truth event s t)
   known_reaction s t lt =

@@ -23,10 +23,10 @@ use Rattle.pssm_routes.specs.inner.Ways.LeadsOut.{ends, on}
 use Rattle.pssm_routes.specs.inner.Ways.IsWay.{begins, goes_on}
 use Rattle.pssm_routes.proofs.Members.{front_or_rest}
 use Rattle.pssm_routes.proofs.Leading.{junction_split, ends_somewhere, IsPassed, passed_none, not_passed, few_passed, passed_next}
-use Rattle.pssm_plan.proofs.Known.{Known, known_as, known_both, known_either, known_not, known_below, known_transition, known_vertex}
+use Rattle.pssm_plan.proofs.Known.{Known, known_as, known_both, known_either, known_not, known_below, known_transition}
 use Rattle.pssm_plan.proofs.KnownPlaces.{known_in_region}
 use Rattle.pssm_plan.proofs.KnownItems.{known_true}
-use Rattle.pssm_object.proofs.BuiltMachines.{leaving_there}
+use Rattle.pssm_object.proofs.BuiltMachines.{leaving_there, known_leaves}
 
 -- of each number below a bound one thing holds, or of some number another
 some_or_each : (P Q : ℕ → Type 0) → ((k : ℕ) → P k ⊎ Q k) → (n : ℕ) → ((k : ℕ) × P k) ⊎ ((k : ℕ) → k < n → Q k)
@@ -39,15 +39,6 @@ some_or_each P Q each (suc n) =
     (λ here. inr (λ k lt. ⊎_elim (before k) (λ ge. subst Q (let same : n ≡ k = omega (arith, lt, ge) in same) here) (cases_lt k n)))
     (each n))
     (some_or_each P Q each n)
-
--- what a transition leaves is known
-pub known_leaves : (m : DraftMachine) (t : TransId) (v : VertexId) → Known (Leaves m t v)
-known_leaves m t v =
-    ⊎_elim
-    (λ lt. let at = some_at m.transitions t.0 lt in
-    known_as (leaves_at m t at.0 v at.1).1 (leaves_at m t at.0 v at.1).0 (known_vertex at.0.source v))
-    (λ ge. inr (λ h. let lt = leaving_there m t v h in absurd (omega (arith, lt, ge))))
-    (cases_lt t.0 (length m.transitions))
 
 -- the value of a guard
 value_of_guard : (m : DraftMachine) (truth : Truth) (t : TransId) (g : Guard) → guard_of m t ≡ Some g → Known (HasTrueValue m truth t)

@@ -31,3 +31,16 @@ pub mod TaskLists
 pub mod Eights
 pub mod Views
 pub mod Deferring
+pub mod QueueLists
+pub mod EndingLaws
+pub mod QueueChanges
+pub mod QueueLaws
+pub mod QueueEntries
+pub mod QueueHeads
+pub mod DoingNext
+pub mod DoingBehaviours
+pub mod DoingLists
+pub mod KnownEnds
+pub mod TaskCounts
+pub mod ChoiceLists
+pub mod TaskSums

@@ -46,7 +46,7 @@ rests_where m plan p is rests =
     let same : rests.0 ≡ p = (let e = rests.1 in cc) in
     subst (λ (q : Agenda). HasRunOut m (course_of q)) same rests.2
 
--- a ready item is an exit, an effect, an entry or an opening by default
+-- a ready item is an exit, an effect, an entry, a pick from a choice or an opening by default
 plain_there : (m : DraftMachine) (item : Item) → IsThere m item → IsPlainItem m item
 plain_there m (items.Exit s) there = tt
 plain_there m (items.Effect t) there = tt
@@ -54,12 +54,12 @@ plain_there m (items.Enter s) there = tt
 plain_there m (items.Opened r Plain) there = (refl, there)
 plain_there m (items.Opened r Shallow) there = absurd there
 plain_there m (items.Opened r Deep) there = absurd there
-plain_there m (items.Pick c) there = absurd there
+plain_there m (items.Pick c) there = there.1
 
 place_there : (m : DraftMachine) (item : Item) → IsThere m item → HasPlace m item
 place_there m (items.Exit s) there = there
 place_there m (items.Effect t) there = there
-place_there m (items.Enter s) there = there
+place_there m (items.Enter s) there = there.0
 place_there m (items.Opened r mode) there = tt
 place_there m (items.Pick c) there = tt
 

@@ -1,9 +1,10 @@
 -- The entry that runs a ready item with what its behaviour makes keeps every rule, so a step can be run to its end.
-use Rattle.std.proofs.Common.{◌≡◌, ◌⊎◌, ◌+◌, ◌<◌, ℕ, List, [], length, Contains, Some, None, IfSome, refl, sym, subst}
+use Rattle.std.proofs.Common.{◌≡◌, ◌⊎◌, ◌+◌, ℕ, List, [], Contains, Some, None, IfSome, refl, sym, subst}
 use Rattle.pssm_model.specs.declared.ids.VertexId.{VertexId}
 use Rattle.pssm_model.specs.declared.ids.RegionId.{RegionId}
 use Rattle.pssm_model.specs.declared.ids.TransId.{TransId}
 use Rattle.pssm_model.specs.declared.elements.DraftMachine.{DraftMachine}
+use Rattle.pssm_model.specs.declared.steps.Route.{Route}
 use Rattle.pssm_model.specs.declared.steps.Mode.{Mode}
 use Rattle.pssm_model.specs.declared.steps.How.{How}
 use Rattle.pssm_model.specs.declared.steps.How.TheVariants.{By, Restore, Nothing}
@@ -14,8 +15,8 @@ use Rattle.pssm_model.specs.Course.{Head, RemembersSoFar}
 use Rattle.pssm_model.specs.Items.{HasRunOut}
 use Rattle.pssm_model.specs.Order.{course_by, IsReady, IsWayNow}
 use Rattle.pssm_model.specs.Routes.{Truth}
-use Rattle.pssm_model.specs.Ways.{Memory, IsWay}
-use Rattle.pssm_model.proofs.RouteLaws.{all_of_one}
+use Rattle.pssm_model.specs.FiringSets.{IsLateRoute}
+use Rattle.pssm_model.specs.Ways.{Memory, IsWay, OpensByDefault}
 use Rattle.pssm_plan.proofs.StepLengths.{IsThere, called_there}
 use Rattle.pssm_plan.proofs.RouteSteps.{gone_by_routes}
 use Rattle.pssm_plan.proofs.RouteItems.{called_is}
@@ -23,14 +24,14 @@ use Rattle.pssm_plan.proofs.ReadyOrOut.{ready_or_out}
 use Rattle.pssm_semantics.specs.declared.entry.ObjectId.{ObjectId}
 use Rattle.pssm_semantics.specs.declared.entry.Out.{Out}
 use Rattle.pssm_semantics.specs.declared.entry.Entry.{Entry}
-use Rattle.pssm_semantics.specs.declared.entry.Entry.TheVariants.{Exit, Effect, Enter, Opened}
+use Rattle.pssm_semantics.specs.declared.entry.Entry.TheVariants.{Exit, Effect, Enter, Opened, Pick}
 use Rattle.pssm_semantics.specs.declared.entry.Rule.{Rule}
 use Rattle.pssm_semantics.specs.declared.entry.Rule.TheVariants.{A2, A3, A4, A5, A6, A7, A8, A9, A10, A11, A12}
 use Rattle.pssm_semantics.specs.declared.setting.Class.{Class}
 use Rattle.pssm_semantics.specs.Journal.{Heads, IsStart, IsMemory, object_of}
 use Rattle.pssm_semantics.specs.Completion.{HasEnded}
 use Rattle.pssm_semantics.specs.Steps.{item_of}
-use Rattle.pssm_semantics.specs.Known.{IsWayOf, IsRouteOf}
+use Rattle.pssm_semantics.specs.Known.{IsWayOf}
 use Rattle.pssm_semantics.specs.Pool.{told_by}
 use Rattle.pssm_semantics.specs.Behaviours.{store_of, outcome_at, guards_at}
 use Rattle.pssm_semantics.specs.Rules.{KeepsOwn, IsCalledItem, IsClearedItem}
@@ -38,21 +39,19 @@ use Rattle.pssm_semantics.specs.Verdict.{number_of}
 use Rattle.pssm_semantics.specs.Built.{IsBuiltClass}
 use Rattle.pssm_object.specs.Standing.{IsUnderWay}
 use Rattle.pssm_object.specs.Laws.{GoesOn}
-use Rattle.pssm_object.specs.inner.Firing.{IsDefaultWay}
 use Rattle.pssm_object.specs.inner.Choosing.{IsPlainItem}
-use Rattle.pssm_object.proofs.BuiltMachines.{nested, leaving_there}
-use Rattle.pssm_object.proofs.BuiltWays.{way_is, default_way}
-use Rattle.pssm_object.proofs.Following.{all_true}
+use Rattle.pssm_object.proofs.BuiltMachines.{nested}
+use Rattle.pssm_object.proofs.BuiltWays.{some_default_way}
 use Rattle.pssm_object.proofs.Kept.{IsKeptBelow, kept_more, kept_first, follows}
-use Rattle.pssm_object.proofs.Rules.{never_ended, has_started, called_is_plain}
+use Rattle.pssm_object.proofs.LateRoutes.{from_choice}
+use Rattle.pssm_object.proofs.Rules.{has_started, called_is_plain}
 use Rattle.pssm_object.proofs.UnderWay.{called_item, cleared_item}
 
--- the default way names what is of the machine
-pub way_there : (m : DraftMachine) (r : RegionId) (how : How) → IsDefaultWay m r how → IsWayOf m how
-way_there m r (By route) (v, t, initial, leaves, single) =
-    subst (IsRouteOf m) (sym single) (all_of_one (λ (u : TransId). u.0 < length m.transitions) t (leaving_there m t v leaves))
-way_there m r (Restore s) h = absurd h
-way_there m r Nothing h = tt
+-- a default way names what is of the machine, and so does a late route
+pub way_there : (m : DraftMachine) (truth : Truth) (r : RegionId) (how : How) → OpensByDefault m truth r how → IsWayOf m how
+way_there m truth r (By route) (v, initial, late) = late.route_is.in_range
+way_there m truth r (Restore s) h = absurd h
+way_there m truth r Nothing h = tt
 
 module _ (class : Class) (b : IsBuiltClass class) {J : List Entry} {o : ObjectId} {head : Head} {at_head : Configuration} {ran : List (Item × How)}
     (u : IsUnderWay class.machine J o head at_head ran) where
@@ -95,85 +94,108 @@ module _ (class : Class) (b : IsBuiltClass class) {J : List Entry} {o : ObjectId
     pub how : How
     pub runs : item_of e ≡ Some (y, how)
     pub no_head : Heads e o → ⊥
-    pub way : IsWayNow m all_true (course_by head at_head ran) y how
+    pub truth : Truth
+    pub way : IsWayNow m truth (course_by head at_head ran) y how
     pub goes_on : GoesOn class J o e
 
-  unended : HasEnded m J o → ⊥
-  unended = λ ended. never_ended b.machine J o ended
+  -- the guards after the journal
+  abbrev guards : Truth
+  guards = guards_at class (told_by J) J o
 
   -- what the behaviour of an entry makes
   abbrev made : Entry → List Out
   made e = (outcome_at class (told_by J) J e (store_of class (told_by J) J o)).outs
 
-  exit_next : (v : VertexId) → IsReady m (course_by head at_head ran) (items.Exit v) → RunsNext (items.Exit v) (Exit o v (made (Exit o v [])))
-  exit_next v ready = record {
+  exit_next : (HasEnded m J o → ⊥) → (v : VertexId) → IsReady m (course_by head at_head ran) (items.Exit v) → RunsNext (items.Exit v) (Exit o v (made (Exit o v [])))
+  exit_next living v ready = record {
     how = Nothing;
     runs = refl;
     no_head = λ heads. cc;
+    truth = guards;
     way = refl;
     goes_on = record {
       own = refl;
       works = tt;
       places = ready_there (items.Exit v) ready;
-      keeps = work_keeps (Exit o v (made (Exit o v []))) (items.Exit v) Nothing refl refl unended (λ f. f) tt tt tt refl tt refl ready;
+      keeps = work_keeps (Exit o v (made (Exit o v []))) (items.Exit v) Nothing refl refl living (λ f. f) tt tt tt refl tt refl ready;
     };
   }
 
-  effect_next : (t : TransId) → IsReady m (course_by head at_head ran) (items.Effect t) → RunsNext (items.Effect t) (Effect o t (made (Effect o t [])))
-  effect_next t ready = record {
+  effect_next : (HasEnded m J o → ⊥) → (t : TransId) → IsReady m (course_by head at_head ran) (items.Effect t) → RunsNext (items.Effect t) (Effect o t (made (Effect o t [])))
+  effect_next living t ready = record {
     how = Nothing;
     runs = refl;
     no_head = λ heads. cc;
+    truth = guards;
     way = refl;
     goes_on = record {
       own = refl;
       works = tt;
       places = ready_there (items.Effect t) ready;
-      keeps = work_keeps (Effect o t (made (Effect o t []))) (items.Effect t) Nothing refl refl unended (λ f. f) tt tt tt refl tt refl ready;
+      keeps = work_keeps (Effect o t (made (Effect o t []))) (items.Effect t) Nothing refl refl living (λ f. f) tt tt tt refl tt refl ready;
     };
   }
 
-  enter_next : (v : VertexId) → IsReady m (course_by head at_head ran) (items.Enter v) → RunsNext (items.Enter v) (Enter o v (made (Enter o v [])))
-  enter_next v ready = record {
+  enter_next : (HasEnded m J o → ⊥) → (v : VertexId) → IsReady m (course_by head at_head ran) (items.Enter v) → RunsNext (items.Enter v) (Enter o v (made (Enter o v [])))
+  enter_next living v ready = record {
     how = Nothing;
     runs = refl;
     no_head = λ heads. cc;
+    truth = guards;
     way = refl;
     goes_on = record {
       own = refl;
       works = tt;
-      places = ready_there (items.Enter v) ready;
-      keeps = work_keeps (Enter o v (made (Enter o v []))) (items.Enter v) Nothing refl refl unended (λ f. f) tt tt tt refl tt refl ready;
+      places = (ready_there (items.Enter v) ready).0;
+      keeps = work_keeps (Enter o v (made (Enter o v []))) (items.Enter v) Nothing refl refl living (λ f. f) tt tt tt refl tt refl ready;
     };
   }
 
-  opens_next : (r : RegionId) (mode : Mode) (how : How) → IsDefaultWay m r how → IsReady m (course_by head at_head ran) (items.Opened r mode)
-      → RunsNext (items.Opened r mode) (Opened o r mode how)
-  opens_next r mode how default ready =
+  opens_next : (HasEnded m J o → ⊥) → (r : RegionId) (mode : Mode) (how : How) → OpensByDefault m guards r how
+      → IsReady m (course_by head at_head ran) (items.Opened r mode) → RunsNext (items.Opened r mode) (Opened o r mode how)
+  opens_next living r mode how default ready =
       let plain = ready_plain (items.Opened r mode) ready in
-      let way : (truth : Truth) (memory : Memory) → IsWay m truth memory (items.Opened r mode) how = λ truth memory.
-      subst (λ k. IsWay m truth memory (items.Opened r k) how) (sym plain.0) ((way_is b.machine truth memory r how).1 default) in
+      let way : (memory : Memory) → IsWay m guards memory (items.Opened r mode) how = λ memory.
+      subst (λ k. IsWay m guards memory (items.Opened r k) how) (sym plain.0) default in
       record {
         how = how;
         runs = refl;
         no_head = λ heads. cc;
-        way = way all_true (RemembersSoFar m (course_by head at_head ran));
+        truth = guards;
+        way = way (RemembersSoFar m (course_by head at_head ran));
         goes_on = record {
           own = refl;
           works = tt;
-          places = (plain.1, way_there m r how default);
-          keeps = work_keeps (Opened o r mode how) (items.Opened r mode) how refl refl unended (λ f. f) tt tt tt
-              (way (guards_at class (told_by J) J o) (IsMemory m J o)) tt refl ready;
+          places = (plain.1, way_there m guards r how default);
+          keeps = work_keeps (Opened o r mode how) (items.Opened r mode) how refl refl living (λ f. f) tt tt tt (way (IsMemory m J o)) tt refl ready;
         };
       }
 
+  picks_next : (HasEnded m J o → ⊥) → (c : VertexId) (route : Route) → IsLateRoute m guards c route
+      → IsReady m (course_by head at_head ran) (items.Pick c) → RunsNext (items.Pick c) (Pick o c route)
+  picks_next living c route late ready = record {
+    how = By route;
+    runs = refl;
+    no_head = λ heads. cc;
+    truth = guards;
+    way = late;
+    goes_on = record {
+      own = refl;
+      works = tt;
+      places = ((ready_there (items.Pick c) ready).0, late.route_is.in_range);
+      keeps = work_keeps (Pick o c route) (items.Pick c) (By route) refl refl living (λ f. f) tt tt tt late tt refl ready;
+    };
+  }
+
   -- there is one for each ready item
-  pub runs_ready : (y : Item) → IsReady m (course_by head at_head ran) y → (e : Entry) × RunsNext y e
-  runs_ready (items.Exit v) ready = (Exit o v (made (Exit o v [])), exit_next v ready)
-  runs_ready (items.Effect t) ready = (Effect o t (made (Effect o t [])), effect_next t ready)
-  runs_ready (items.Enter v) ready = (Enter o v (made (Enter o v [])), enter_next v ready)
-  runs_ready (items.Opened r mode) ready = let way = default_way b.machine r in (Opened o r mode way.0, opens_next r mode way.0 way.1 ready)
-  runs_ready (items.Pick c) ready = absurd (ready_plain (items.Pick c) ready)
+  pub runs_ready : (HasEnded m J o → ⊥) → (y : Item) → IsReady m (course_by head at_head ran) y → (e : Entry) × RunsNext y e
+  runs_ready living (items.Exit v) ready = (Exit o v (made (Exit o v [])), exit_next living v ready)
+  runs_ready living (items.Effect t) ready = (Effect o t (made (Effect o t [])), effect_next living t ready)
+  runs_ready living (items.Enter v) ready = (Enter o v (made (Enter o v [])), enter_next living v ready)
+  runs_ready living (items.Opened r mode) ready =
+      let way = some_default_way b.machine guards r in (Opened o r mode way.0, opens_next living r mode way.0 way.1 ready)
+  runs_ready living (items.Pick c) ready =
+      let route = from_choice b.machine guards c (ready_plain (items.Pick c) ready) in (Pick o c route.0, picks_next living c route.0 route.1 ready)
 
   -- everything has run, or something is ready
   pub out_or_ready : HasRunOut m (course_by head at_head ran) ⊎ ((y : Item) × IsReady m (course_by head at_head ran) y)

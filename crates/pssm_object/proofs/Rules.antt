@@ -1,35 +1,32 @@
 -- What each rule asks of an object of a class that the code runs.
-use Rattle.std.proofs.Common.{◌≡◌, ℕ, List, ◌∷◌, Contains, refl, sym, subst, inl, inr, arith}
+use Rattle.std.proofs.Common.{◌≡◌, List, ◌∷◌, Contains, refl, sym, subst, inl}
 use Rattle.std.specs.List.{AllByRecursion}
 use Rattle.std.proofs.lemmas.List.Elements.{All-contains, All-from_recursion, Contains-append_right}
-use Rattle.pssm_model.specs.declared.ids.VertexId.{VertexId}
 use Rattle.pssm_model.specs.declared.elements.DraftMachine.{DraftMachine}
 use Rattle.pssm_model.specs.declared.steps.Mode.TheVariants.{Plain, Shallow, Deep}
 use Rattle.pssm_model.specs.declared.steps.How.{How}
 use Rattle.pssm_model.specs.declared.steps.Item.{Item}
 use Rattle.pssm_model.specs.declared.steps.Item.TheVariants as items
-use Rattle.pssm_model.specs.Configuration.{Configuration, IsNextDoStep}
+use Rattle.pssm_model.specs.Configuration.{Configuration}
 use Rattle.pssm_model.specs.Course.{Head}
 use Rattle.pssm_model.specs.Items.{Called}
 use Rattle.pssm_model.specs.Order.{HasGone, course_by}
-use Rattle.pssm_model.specs.Changes.{Agree}
 use Rattle.pssm_model.specs.BuiltMachine.{IsBuiltMachine}
-use Rattle.pssm_config.specs.Tables.{Tables, Fits, configuration_of}
 use Rattle.pssm_plan.proofs.RouteSteps.{gone_by_routes}
 use Rattle.pssm_plan.proofs.RouteItems.{called_is}
 use Rattle.pssm_plan.proofs.StepLengths.{called_there, IsThere}
 use Rattle.pssm_semantics.specs.declared.entry.ObjectId.{ObjectId}
 use Rattle.pssm_semantics.specs.declared.entry.Entry.{Entry}
 use Rattle.pssm_semantics.specs.declared.entry.Entry.TheVariants.{Post, Start, Take, Done, Exit, Effect, Enter, Opened, Pick, DoStep}
-use Rattle.pssm_semantics.specs.Journal.{Heads, IsPost, IsStart, object_of, configuration_after}
+use Rattle.pssm_semantics.specs.Journal.{Heads, IsPost, IsStart, object_of}
 use Rattle.pssm_semantics.specs.Steps.{StepAt, IsLastStep}
-use Rattle.pssm_semantics.specs.Completion.{HasEnded, IsQueuedAt, IsQueueHead, IsStepFinished}
+use Rattle.pssm_semantics.specs.Completion.{IsStepFinished}
 use Rattle.pssm_semantics.specs.Rules.{KeepsStart}
 use Rattle.pssm_semantics.proofs.Members.{first_in}
 use Rattle.pssm_semantics.proofs.Stores.{head_own}
 use Rattle.pssm_object.specs.Standing.{IsUnderWay}
 use Rattle.pssm_object.specs.inner.Choosing.{IsPlainItem}
-use Rattle.pssm_object.proofs.BuiltMachines.{nested, no_final, no_terminate, some_top, no_completion_transition, state_of_active, no_do_steps}
+use Rattle.pssm_object.proofs.BuiltMachines.{nested}
 
 -- a fact about each element is one about an element that is there
 pub each_of : {X : Type 0} (P : X → Type 0) (xs : List X) (x : X) → AllByRecursion P xs → Contains xs x → P x
@@ -89,28 +86,7 @@ module _ {m : DraftMachine} {J : List Entry} {o : ObjectId} {head : Head} {at_he
   has_started = (u.start, u.started.0, u.started.1)
 
 module _ {m : DraftMachine} (b : IsBuiltMachine m) where
-  -- an object of a machine without final states and terminate vertices does not end
-  pub never_ended : (J : List Entry) (o : ObjectId) → HasEnded m J o → ⊥
-  never_ended J o (inl (e, t, v, is, effect, enters, kind)) = no_terminate b v kind
-  never_ended J o (inr finals) = some_top b (λ r top. let f = finals r top in no_final b f.0 f.2)
-
-  -- no completion waits
-  pub never_queued : (J : List Entry) (o : ObjectId) (s : VertexId) (i : ℕ) → IsQueuedAt m J o s i → ⊥
-  never_queued J o s i h = no_completion_transition b h.transition.0 s h.transition.2 h.transition.1 h.becomes.0.state
-
-  pub no_queue_head : (J : List Entry) (o : ObjectId) (s : VertexId) → IsQueueHead m J o s → ⊥
-  no_queue_head J o s h = never_queued J o s h.0 h.1
-
-  -- no active State has a do step
-  pub no_do_step : (J : List Entry) (o : ObjectId) (tables : Tables) → Fits m tables → Agree (configuration_of tables) (configuration_after m J o)
-      → (s : VertexId) (k : ℕ) → IsNextDoStep m (configuration_after m J o) s k → ⊥
-  no_do_step J o tables fits now s k h =
-      let state = state_of_active b s (fits.states s ((now.active s).1 h.active)) in
-      let none = no_do_steps b s state in
-      let lt = h.in_range in
-      omega (arith, none, lt)
-
-  -- what such a machine calls are exits, effects, entries and openings by default
+  -- what such a machine calls are exits, effects, entries, picks from choices and openings by default
   pub called_is_plain : (head : Head) (now : Configuration) (ran : List (Item × How)) → HasGone m head now ran → (item : Item)
       → Called m (course_by head now ran) item → IsPlainItem m item
   called_is_plain head now ran gone item called =
@@ -124,4 +100,4 @@ module _ {m : DraftMachine} (b : IsBuiltMachine m) where
       plain (items.Opened r Plain) h = (refl, h)
       plain (items.Opened r Shallow) h = absurd h
       plain (items.Opened r Deep) h = absurd h
-      plain (items.Pick c) h = h
+      plain (items.Pick c) h = h.1

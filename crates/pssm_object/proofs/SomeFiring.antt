@@ -5,12 +5,9 @@ use Rattle.std.proofs.lemmas.List.Elements.{Contains-get_or, Contains-push_cases
 use Rattle.std.proofs.lemmas.List.Quantifiers.{all_pairs_push}
 use Rattle.pssm_model.specs.declared.ids.VertexId.{VertexId}
 use Rattle.pssm_model.specs.declared.ids.TransId.{TransId}
-use Rattle.pssm_model.specs.declared.ids.SignalId.{SignalId}
 use Rattle.pssm_model.specs.declared.elements.DraftMachine.{DraftMachine}
-use Rattle.pssm_model.specs.declared.elements.Element.TheVariants as elements
 use Rattle.pssm_model.specs.declared.steps.Route.{Route}
 use Rattle.pssm_model.specs.declared.steps.Event.{Event}
-use Rattle.pssm_model.specs.declared.steps.Event.TheVariants.{Signal}
 use Rattle.pssm_model.specs.Shapes.{HasShape}
 use Rattle.pssm_model.specs.Configuration.{Configuration}
 use Rattle.pssm_model.specs.Routes.{Truth}
@@ -20,8 +17,6 @@ use Rattle.pssm_model.specs.BuiltMachine.{IsBuiltMachine}
 use Rattle.pssm_model.specs.inner.Listed.{transition_number}
 use Rattle.pssm_model.proofs.ElementLaws.{some_at, leaves_at, leaves_one, same_transition, nothing_in_nil}
 use Rattle.pssm_model.proofs.RouteLaws.{none_in_order}
-use Rattle.pssm_model.proofs.NestedFrom.{nested_from_rules}
-use Rattle.pssm_model.proofs.OverJunctions.{single_legs}
 use Rattle.pssm_routes.specs.declared.areas.Footprint.{Footprint}
 use Rattle.pssm_routes.specs.inner.Footprints.{IsFootprintOf, ClashesWithSome}
 use Rattle.pssm_routes.specs.inner.Starts.{IsStarted, IsOutranked}
@@ -32,14 +27,11 @@ use Rattle.pssm_routes.proofs.Settling.{fires_settled}
 use Rattle.pssm_routes.proofs.Joiners.{joins_by}
 use Rattle.pssm_routes.proofs.Picking.{chosen_none, grown_by}
 use Rattle.pssm_plan.proofs.Known.{Known, known_as, known_both, known_not}
-use Rattle.pssm_object.proofs.BuiltMachines.{leaving_there}
+use Rattle.pssm_object.proofs.BuiltMachines.{single_legs, leaving_there}
 use Rattle.pssm_object.proofs.KnownJoiners.{known_started, known_outranked, known_joiner}
 
 module _ {m : DraftMachine} (b : HasSingleLegs m) (shape : HasShape m) (now : Configuration) (known : (s : VertexId) → Known (now.Active s)) (truth : Truth)
-    (signal : SignalId) where
-  abbrev event : Event
-  event = Signal signal
-
+    (event : Event) where
   -- A route can join that starts at the State with the transition.
   abbrev Joins : List Footprint → TransId → VertexId → Type 0
   Joins footprints t s =
@@ -51,9 +43,9 @@ module _ {m : DraftMachine} (b : HasSingleLegs m) (shape : HasShape m) (now : Co
       (λ started. known_as
       (λ h. (started, h.0, h.1))
       (λ (is, first, joiner). (first, joiner))
-      (known_both (known_not (known_outranked b shape now known truth signal s)) (known_joiner b shape now known truth signal footprints t s started)))
+      (known_both (known_not (known_outranked b shape now known truth event s)) (known_joiner b shape now known truth event footprints t s started)))
       (λ not. inr (λ h. not h.0))
-      (known_started b shape now known truth signal t s lt)
+      (known_started b shape now known truth event t s lt)
 
   known_joins : (footprints : List Footprint) (t : TransId) → t.0 < length m.transitions → Known ((s : VertexId) × Joins footprints t s)
   known_joins footprints t lt =
@@ -165,11 +157,6 @@ module _ {m : DraftMachine} (b : HasSingleLegs m) (shape : HasShape m) (now : Co
       (routes, chosen_fire routes footprints all)
 
 -- so something fires
-pub some_firing : {m : DraftMachine} → IsBuiltMachine m → (now : Configuration) → ((s : VertexId) → Known (now.Active s)) → (truth : Truth) (signal : SignalId)
-    → (routes : List Route) × IsFiring m now truth (Signal signal) routes
-some_firing b now known truth signal =
-    some_fire
-    (single_legs (nested_from_rules b.shape b.rules
-    (λ v x e further. b.built (elements.Vertex v) (x, e, further))
-    (λ t x e further. b.built (elements.Transition t) (x, e, further))))
-    b.shape now known truth signal
+pub some_firing : {m : DraftMachine} → IsBuiltMachine m → (now : Configuration) → ((s : VertexId) → Known (now.Active s)) → (truth : Truth) (event : Event)
+    → (routes : List Route) × IsFiring m now truth event routes
+some_firing b now known truth event = some_fire (single_legs b) b.shape now known truth event

@@ -6,16 +6,14 @@ use Rattle.pssm_model.specs.declared.elements.DraftMachine.{DraftMachine}
 use Rattle.pssm_model.specs.declared.elements.Owner.TheVariants.{Top, Region, State}
 use Rattle.pssm_model.specs.Forest.{owner_of}
 use Rattle.pssm_model.specs.Configuration.{Configuration}
-use Rattle.pssm_model.proofs.Agreeing.{Agree-trans}
-use Rattle.pssm_model.specs.Changes.{Agree}
 use Rattle.pssm_config.specs.Tables.{configuration_of}
 use Rattle.pssm_plan.specs.Agenda.{Agenda}
 use Rattle.pssm_plan.specs.Plans.{IsPlanOf}
 use Rattle.pssm_plan.specs.Steadiness.{IsConsistent, changed_along}
 use Rattle.pssm_semantics.specs.declared.entry.Entry.{Entry}
 use Rattle.pssm_semantics.specs.declared.setting.Class.{Class}
-use Rattle.pssm_semantics.specs.Journal.{IsPost, object_of, configuration_after}
-use Rattle.pssm_object.specs.Standing.{Standing, IsUnderWay, HasNotStarted, IsStepOf, StandsAfter}
+use Rattle.pssm_semantics.specs.Journal.{IsPost, object_of}
+use Rattle.pssm_object.specs.Standing.{Standing, AreActiveAlike, IsUnderWay, HasNotStarted, IsStepOf, StandsAfter}
 
 -- there is a plan, or there is none
 pub plan_or_none : (plan : Option Agenda) → (plan ≡ None) ⊎ ((p : Agenda) × (plan ≡ Some p))
@@ -43,20 +41,20 @@ module _ {class : Class} {J : List Entry} {x : Standing} (s : StandsAfter class 
   pub plan_fits : IfSome x.plan (IsPlanOf class.machine)
   plan_fits = plan_known x.plan s.step_is
 
-  -- the configuration is that to which the step has come
-  pub along_of : (p : Agenda) → x.plan ≡ Some p → Agree (configuration_of x.config) (changed_along class.machine (configuration_of p.at_head) p.ran)
-  along_of p is =
-      Agree-trans (configuration_of x.config) (configuration_after class.machine J x.own) (changed_along class.machine (configuration_of p.at_head) p.ran)
-      s.now_is (step_of p is).along
+  -- what is active is what the step has left active
+  pub along_of : (p : Agenda) → x.plan ≡ Some p → AreActiveAlike (configuration_of x.config) (changed_along class.machine (configuration_of p.at_head) p.ran)
+  along_of p is v =
+      let along = (step_of p is).along in
+      ((λ active. (along v).0 ((s.now_is.active v).0 active)), (λ active. (s.now_is.active v).1 ((along v).1 active)))
 
--- configurations that agree are consistent alike
-pub consistent_alike : (m : DraftMachine) (a b : Configuration) → Agree a b → IsConsistent m a → IsConsistent m b
+-- configurations in which as much is active are consistent alike
+pub consistent_alike : (m : DraftMachine) (a b : Configuration) → AreActiveAlike b a → IsConsistent m a → IsConsistent m b
 consistent_alike m a b same h = record {
-  states = λ s active. h.states s ((same.active s).1 active);
-  one_each = λ r s q first second is also. h.one_each r s q first second ((same.active s).1 is) ((same.active q).1 also);
-  owners = λ r s direct active. owner r (h.owners r s direct ((same.active s).1 active));
+  states = λ s active. h.states s ((same s).0 active);
+  one_each = λ r s q first second is also. h.one_each r s q first second ((same s).0 is) ((same q).0 also);
+  owners = λ r s direct active. owner r (h.owners r s direct ((same s).0 active));
 } where
   owner : (r : _) → (owner_of m (Region r) ≡ Some Top) ⊎ ((q : VertexId) × (owner_of m (Region r) ≡ Some (State q)) × a.Active q)
       → (owner_of m (Region r) ≡ Some Top) ⊎ ((q : VertexId) × (owner_of m (Region r) ≡ Some (State q)) × b.Active q)
   owner r (inl top) = inl top
-  owner r (inr (q, owns, active)) = inr (q, owns, (same.active q).0 active)
+  owner r (inr (q, owns, active)) = inr (q, owns, (same q).1 active)

@@ -1,5 +1,5 @@
 -- What the rules ask of an item of the last step, where the step is known to be under way, and what one more entry does to it.
-use Rattle.std.proofs.Common.{◌≡◌, ◌⊎◌, ◌++◌, List, [], ◌∷◌, Contains, Option, Some, None, filter_map, refl, sym, ap, subst, ◌∙◌, inl, inr}
+use Rattle.std.proofs.Common.{◌≡◌, ◌⊎◌, ◌↔◌, ◌++◌, List, [], ◌∷◌, Contains, Option, Some, None, filter_map, refl, sym, ap, subst, ◌∙◌, inl, inr, ⊎_elim}
 use Rattle.std.proofs.lemmas.List.Elements.{Contains-append_left}
 use Rattle.pssm_model.specs.declared.elements.DraftMachine.{DraftMachine}
 use Rattle.pssm_model.specs.declared.ids.VertexId.{VertexId}
@@ -22,7 +22,7 @@ use Rattle.pssm_plan.proofs.SteadyChanges.{changed_along-push}
 use Rattle.pssm_semantics.specs.declared.entry.ObjectId.{ObjectId}
 use Rattle.pssm_semantics.specs.declared.entry.Entry.{Entry}
 use Rattle.pssm_semantics.specs.declared.entry.Entry.TheVariants.{Post, Start, Take, Done, Exit, Effect, Enter, Opened, Pick, DoStep}
-use Rattle.pssm_semantics.specs.Journal.{Heads, IsStart, object_of, configuration_after}
+use Rattle.pssm_semantics.specs.Journal.{Heads, IsStart, IsActive, object_of, configuration_after}
 use Rattle.pssm_semantics.specs.Steps.{head_of, item_of, item_by, course_of}
 use Rattle.pssm_semantics.specs.Completion.{HasEnded, IsStepFinished}
 use Rattle.pssm_semantics.specs.Rules.{IsCalledItem, IsClearedItem}
@@ -30,7 +30,7 @@ use Rattle.pssm_semantics.specs.Tasks.{IsReadyItem}
 use Rattle.pssm_semantics.proofs.Appending.{more, one_last_step, goes_on, begins}
 use Rattle.pssm_semantics.proofs.Courses.{runs_own, ran_more, ran_same}
 use Rattle.pssm_semantics.proofs.Configurations.{changed_by, configuration-changed}
-use Rattle.pssm_object.specs.Standing.{IsUnderWay}
+use Rattle.pssm_object.specs.Standing.{AreActiveAlike, IsUnderWay}
 use Rattle.pssm_object.proofs.CourseLaws.{waiting_same, cleared_same, run_out_same, ready_same}
 
 module _ {m : DraftMachine} {J : List Entry} {o : ObjectId} {head : Head} {at_head : Configuration} {ran : List (Item × How)} (u : IsUnderWay m J o head at_head ran) where
@@ -108,6 +108,18 @@ changed_alike m a b (items.Opened r mode) (Restore s) h = Agree-opened_way a b h
 changed_alike m a b (items.Effect t) how h = h
 changed_alike m a b (items.Pick c) how h = h
 
+-- and what is active, where as much is active
+active_changed : (m : DraftMachine) (a b : Configuration) (item : Item) (how : How) → AreActiveAlike a b
+    → AreActiveAlike (changed_by_item m a item how) (changed_by_item m b item how)
+active_changed m a b (items.Enter s) how h v =
+    (⊎_elim (λ same. inl same) (λ was. inr ((h v).0 was)), ⊎_elim (λ same. inl same) (λ was. inr ((h v).1 was)))
+active_changed m a b (items.Exit s) how h v = ((λ was. (was.0, (h v).0 was.1)), (λ was. (was.0, (h v).1 was.1)))
+active_changed m a b (items.Opened r mode) Nothing h v = h v
+active_changed m a b (items.Opened r mode) (By route) h v = h v
+active_changed m a b (items.Opened r mode) (Restore s) h v = h v
+active_changed m a b (items.Effect t) how h v = h v
+active_changed m a b (items.Pick c) how h v = h v
+
 some_same : {x y : Item × How} → Some x ≡ Some y → x ≡ y
 some_same e = cc
 
@@ -149,13 +161,13 @@ after_item m J o e item how own runs =
 -- the entry runs an item of the last step
 module _ {m : DraftMachine} {J : List Entry} {o : ObjectId} {head : Head} {at_head : Configuration} {ran : List (Item × How)} (u : IsUnderWay m J o head at_head ran) where
   along_more : (e : Entry) (item : Item) (how : How) → object_of e ≡ o → item_of e ≡ Some (item, how)
-      → Agree (configuration_after m (J ++ e ∷ []) o) (changed_along m at_head (ran ++ (item, how) ∷ []))
-  along_more e item how own runs =
+      → AreActiveAlike (configuration_after m (J ++ e ∷ []) o) (changed_along m at_head (ran ++ (item, how) ∷ []))
+  along_more e item how own runs v =
       let now = configuration_after m J o in
-      let there = Agree-trans (configuration_after m (J ++ e ∷ []) o) (changed_by_item m now item how)
-      (changed_by_item m (changed_along m at_head ran) item how) (after_item m J o e item how own runs)
-      (changed_alike m now (changed_along m at_head ran) item how u.along) in
-      subst (Agree (configuration_after m (J ++ e ∷ []) o)) (sym (changed_along-push m at_head ran item how)) there
+      let there = (after_item m J o e item how own runs).active v in
+      let alike = active_changed m now (changed_along m at_head ran) item how u.along v in
+      subst (λ (c : Configuration). IsActive (J ++ e ∷ []) o v ↔ c.Active v) (sym (changed_along-push m at_head ran item how))
+      ((λ active. alike.0 (there.0 active)), (λ active. there.1 (alike.1 active)))
 
   pub runs_on : (e : Entry) (item : Item) (how : How) → object_of e ≡ o → (Heads e o → ⊥) → item_of e ≡ Some (item, how)
       → IsReady m (course_by head at_head ran) item → (truth : Truth) → IsWayNow m truth (course_by head at_head ran) item how
@@ -175,9 +187,9 @@ module _ {m : DraftMachine} {J : List Entry} {o : ObjectId} {head : Head} {at_he
     along = along_more e item how own runs;
   }
 
-  -- an entry of the object that runs no item and changes nothing leaves the step as it is
+  -- an entry of the object that runs no item and leaves active what is active leaves the step as it is
   pub goes_on_same : (e : Entry) → (Heads e o → ⊥) → item_by o e ≡ None
-      → Agree (configuration_after m (J ++ e ∷ []) o) (configuration_after m J o)
+      → AreActiveAlike (configuration_after m (J ++ e ∷ []) o) (configuration_after m J o)
       → IsUnderWay m (J ++ e ∷ []) o head at_head ran
   goes_on_same e other none same = record {
     step = more u.step e;
@@ -190,7 +202,7 @@ module _ {m : DraftMachine} {J : List Entry} {o : ObjectId} {head : Head} {at_he
     gone = u.gone;
     begins = u.begins;
     known = u.known;
-    along = Agree-trans (configuration_after m (J ++ e ∷ []) o) (configuration_after m J o) (changed_along m at_head ran) same u.along;
+    along = λ v. ((λ active. (u.along v).0 ((same v).0 active)), (λ active. (same v).1 ((u.along v).1 active)));
   }
 
 -- an entry begins a step, in a configuration that is that of the journal
@@ -211,6 +223,5 @@ begins_here m J o at_head e start heads started same kept routes well known = re
   gone = begun routes;
   begins = well;
   known = known;
-  along = Agree-trans (configuration_after m (J ++ e ∷ []) o) (configuration_after m J o) at_head kept
-      (Agree-symm at_head (configuration_after m J o) same);
+  along = λ v. ((λ active. (same.active v).1 ((kept.active v).0 active)), (λ active. (kept.active v).1 ((same.active v).0 active)));
 }

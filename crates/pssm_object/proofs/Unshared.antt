@@ -11,13 +11,11 @@ use Rattle.std.proofs.lemmas.Map.Steps.{length-le_from_distinct_below}
 use Rattle.pssm_model.specs.declared.ids.VertexId.{VertexId}
 use Rattle.pssm_model.specs.declared.ids.TransId.{TransId}
 use Rattle.pssm_model.specs.declared.elements.DraftMachine.{DraftMachine}
-use Rattle.pssm_model.specs.declared.elements.Element.TheVariants as elements
 use Rattle.pssm_model.specs.declared.elements.TransKind.{TransKind}
 use Rattle.pssm_model.specs.declared.elements.TransKind.TheVariants.{External, Local, Internal}
 use Rattle.pssm_model.specs.declared.steps.Route.{Route}
 use Rattle.pssm_model.specs.declared.steps.Firing.{Firing}
 use Rattle.pssm_model.specs.declared.steps.Event.{Event}
-use Rattle.pssm_model.specs.declared.steps.Event.TheVariants.{Signal, Completion}
 use Rattle.pssm_model.specs.Shapes.{HasShape}
 use Rattle.pssm_model.specs.Nested.{IsPlainlyNested}
 use Rattle.pssm_model.specs.BuiltMachine.{IsBuiltMachine}
@@ -25,19 +23,20 @@ use Rattle.pssm_model.specs.SingleLegs.{IsFrom}
 use Rattle.pssm_model.specs.Configuration.{Configuration}
 use Rattle.pssm_model.specs.Legs.{transitions_of, Leaves, Enters, Goes, On, Scope, LegScope, LiesInScope, Exits}
 use Rattle.pssm_model.specs.Legs.Scope.{Inside, Within}
-use Rattle.pssm_model.specs.Routes.{Truth, IsAscending, IsRoute, IsSource, IsEnabledBy, IsEnabled, Conflict}
+use Rattle.pssm_model.specs.Routes.{Truth, IsAscending, IsRoute, IsSource, IsEnabled, Conflict}
 use Rattle.pssm_model.specs.FiringSets.{StartsBefore, IsListed, IsFiring}
 use Rattle.pssm_model.proofs.ElementLaws.{leaves_one, nothing_in_nil, same_transition}
 use Rattle.pssm_model.proofs.RouteLaws.{conflict_from_source}
 use Rattle.pssm_model.proofs.StateRoutes.{is_start as start_inside, state_route_from}
-use Rattle.pssm_model.proofs.NestedFrom.{nested_from_rules}
 use Rattle.pssm_model.proofs.OverJunctions.{single_legs}
 use Rattle.pssm_model.proofs.OneLeg.{start_or_rest, comes_from, rest_leaves_no_state, alone, of_rest, source_of_leg, target_of_leg}
 use Rattle.pssm_model.proofs.CommonRegions.{some_leg_scope}
 use Rattle.pssm_model.proofs.LegScopes.{IsAround, start_kind, scope_of_local, scope_of_external, exits_of, shared_touch}
 use Rattle.pssm_plan.proofs.SteadyPlaces.{local_ends}
-use Rattle.pssm_semantics.specs.Built.{IsBuiltRoute, IsBuiltFiring}
+use Rattle.pssm_semantics.specs.Built.{IsBuiltRoute, IsShortRoute, IsBuiltFiring}
 use Rattle.pssm_semantics.proofs.Members.{first_in, later_in, in_cases}
+use Rattle.pssm_object.proofs.BuiltMachines.{nested}
+use Rattle.pssm_object.proofs.Fired.{active_source}
 
 -- ---- transitions that are listed once
 
@@ -237,28 +236,39 @@ module _ {m : DraftMachine} (nested : IsPlainlyNested m) (shape : HasShape m) wh
         (start_or_rest (single_legs nested) shape q second c other.starts t there))
         (start_or_rest (single_legs nested) shape p first a from.starts t here)
 
--- ---- what fires
+-- ---- the lengths of routes
 
--- the sources of an enabled route are active
-active_source : (m : DraftMachine) (now : Configuration) (event : Event) (p : Route) → IsEnabledBy m now event p → (s : VertexId) → IsSource m p s → now.Active s
-active_source m now (Signal signal) p by s source = by.3 s source
-active_source m now (Completion v) p by s source = by.2 s source
+module _ {m : DraftMachine} (shape : HasShape m) (p : Route) (route : IsRoute m p) where
+  -- the transitions of a route are in range
+  route_below : AllByRecursion (λ u. u.0 < 8192) (transitions_of p)
+  route_below =
+      let few = shape.limits.transitions in
+      recursion_from_All (λ (u : TransId). u.0 < 8192) (transitions_of p)
+      (λ k d lt. (let there = route.in_range k d lt in omega (arith, there, few)))
+
+  -- and it has each once
+  route_once : ListsOnce (transitions_of p)
+  route_once = once_append p.starts p.rest (once_ascending p.starts route.ascending.0) (once_ascending p.rest route.ascending.1) route.apart
+
+  -- so one of one start is short
+  pub short_route : (t : TransId) → p.starts ≡ t ∷ [] → IsShortRoute p
+  short_route t starts =
+      let most = few_once (length m.transitions) (transitions_of p) route_once
+      (λ u inside. All-contains (λ (w : TransId). w.0 < length m.transitions) (transitions_of p) u route.in_range inside) in
+      (((t, starts), route_below), omega (arith, most, shape.limits.transitions))
+
+-- ---- what fires
 
 module _ {m : DraftMachine} (nested : IsPlainlyNested m) (shape : HasShape m) (now : Configuration) (truth : Truth) (event : Event) where
   -- an enabled route has one start, in range
   enabled_built : (p : Route) → IsEnabled m now truth event p → IsBuiltRoute p
   enabled_built p enabled =
       let from = state_route_from (single_legs nested) p enabled.route_of_states in
-      let few = shape.limits.transitions in
-      let below : All (λ (u : TransId). u.0 < 8192) (transitions_of p) =
-      λ k d lt. (let there = enabled.route_of_states.0.in_range k d lt in omega (arith, there, few)) in
-      ((from.0, from.2.starts), recursion_from_All (λ (u : TransId). u.0 < 8192) (transitions_of p) below)
+      ((from.0, from.2.starts), route_below shape p enabled.route_of_states.0)
 
   -- and each transition once
   enabled_once : (p : Route) → IsEnabled m now truth event p → ListsOnce (transitions_of p)
-  enabled_once p enabled =
-      let route = enabled.route_of_states.0 in
-      once_append p.starts p.rest (once_ascending p.starts route.ascending.0) (once_ascending p.rest route.ascending.1) route.apart
+  enabled_once p enabled = route_once shape p enabled.route_of_states.0
 
   module _ (routes : List Route) (fires : IsFiring m now truth event routes) where
     is_enabled : (p : Route) → Contains routes p → IsEnabled m now truth event p
@@ -299,15 +309,9 @@ module _ {m : DraftMachine} (nested : IsPlainlyNested m) (shape : HasShape m) (n
         recursion_from_All IsBuiltRoute routes (λ k p lt. enabled_built _ (fires.0.sound.enabled k p lt))
 
 module _ {m : DraftMachine} (b : IsBuiltMachine m) where
-  plainly_nested : IsPlainlyNested m
-  plainly_nested =
-      nested_from_rules b.shape b.rules
-      (λ v x e further. b.built (elements.Vertex v) (x, e, further))
-      (λ t x e further. b.built (elements.Transition t) (x, e, further))
-
   -- so what fires has the form of what fires in a machine that the code runs
   pub built_firing : (now : Configuration) (truth : Truth) (event : Event) (firing : Firing) → IsFiring m now truth event firing.routes → IsBuiltFiring firing
   built_firing now truth event firing fires = (
-    routes_built plainly_nested b.shape now truth event firing.routes fires,
-    few_transitions plainly_nested b.shape now truth event firing.routes fires,
+    routes_built (nested b) b.shape now truth event firing.routes fires,
+    few_transitions (nested b) b.shape now truth event firing.routes fires,
   )

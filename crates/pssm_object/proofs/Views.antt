@@ -1,6 +1,11 @@
 -- What an object tells of itself, from where it stands.
-use Rattle.std.proofs.Common.{◌≡◌, ◌↔◌, ◌&&◌, ◌++◌, List, [], ◌∷◌, length, Contains, Bool, true, false, not, IsTrue, MatchBool, IfSome, IfNone, Option, Some, None, sym, subst}
+use Rattle.std.proofs.Common.{◌≡◌, ◌↔◌, ◌==◌, ◌≤◌, ◌<◌, ◌++◌, ℕ, List, [], ◌∷◌, length, Contains, Bool, IsTrue, MatchBool, IfSome, IfNone, Option, Some, None, slice_get, refl, sym, ap, subst, ◌∙◌, inl, inr, arith}
+use Rattle.std.proofs.lemmas.Bool.{eqb-true}
+use Rattle.pssm_model.specs.declared.ids.VertexId.{VertexId}
+use Rattle.pssm_model.specs.declared.ids.RegionId.{RegionId}
 use Rattle.pssm_model.specs.declared.elements.DraftMachine.{DraftMachine}
+use Rattle.pssm_model.specs.declared.elements.Owner.TheVariants.{Top, Region}
+use Rattle.pssm_model.specs.Forest.{owner_of}
 use Rattle.pssm_plan.specs.Plans.{IsPlanOf}
 use Rattle.pssm_model.specs.Changes.{Agree, nothing_yet}
 use Rattle.pssm_model.proofs.Agreeing.{Agree-symm, Agree-trans}
@@ -12,21 +17,27 @@ use Rattle.pssm_semantics.specs.declared.entry.Entry.TheVariants.{Take}
 use Rattle.pssm_semantics.specs.declared.entry.Rule.{Rule}
 use Rattle.pssm_semantics.specs.declared.setting.Class.{Class}
 use Rattle.pssm_semantics.specs.declared.stimulus.Task.{Task}
+use Rattle.pssm_semantics.specs.Completion.{HasEnded}
 use Rattle.pssm_semantics.specs.Journal.{object_of, configuration_after}
 use Rattle.pssm_semantics.specs.Values.{Store, Params, no_params}
 use Rattle.pssm_semantics.specs.Behaviours.{first_store}
 use Rattle.pssm_semantics.specs.Verdict.{IsFirstBroken}
 use Rattle.pssm_semantics.specs.Built.{IsBuiltClass}
 use Rattle.pssm_semantics.proofs.Configurations.{configuration-nil}
+use Rattle.pssm_semantics.proofs.Members.{first_in}
 use Rattle.pssm_pool.specs.declared.pools.Waiting.{Waiting}
 use Rattle.pssm_object.specs.declared.situation.Situation.{Situation}
+use Rattle.pssm_object.specs.Queue.{CompletionQueue, IsQueueOf}
+use Rattle.pssm_object.specs.inner.Queueing.{QueueFits}
 use Rattle.pssm_object.specs.Standing.{Standing, StandsAfter, Stands}
-use Rattle.pssm_object.specs.Following.{NamesPlaces, KeepsRule, KeepsRules, IsCandidate, IsMove, IsQuiet, HasNext, IsHandedIn, IsTold, CanCome, Defers, stimulus_for}
-use Rattle.pssm_object.specs.Tasks.{ready_tasks, Does}
-use Rattle.pssm_object.specs.inner.Situations.{standing_of, IsAtRest}
+use Rattle.pssm_object.specs.Following.{NamesPlaces, KeepsRule, KeepsRules, IsCandidate, IsMove, IsQuiet, HasNext, IsHandedIn, IsTold, CanCome, Defers, TellsEnd, IsFirstCompletion, TellsCompletion, stimulus_for}
+use Rattle.pssm_object.specs.Tasks.{ready_tasks, AreReadyTasks, Does}
+use Rattle.pssm_object.specs.inner.Situations.{standing_of}
 use Rattle.pssm_object.specs.inner.Judging.{Judges}
 use Rattle.pssm_object.specs.inner.Advancing.{CanFollow, Advances}
-use Rattle.pssm_object.specs.inner.Choosing.{Chooses, DoesTask, IsDeferredHere}
+use Rattle.pssm_object.specs.inner.Choosing.{Chooses, DoesTask, IsDeferredHere, IsStill}
+use Rattle.pssm_object.proofs.QueueEntries.{queue_before_all}
+use Rattle.pssm_object.proofs.QueueHeads.{head_of_queue, end_of_queue, queue_fits}
 use Rattle.pssm_object.proofs.Standings.{plan_fits}
 use Rattle.pssm_object.proofs.Judged.{judged}
 use Rattle.pssm_object.proofs.Accepted.{accepted}
@@ -35,7 +46,8 @@ use Rattle.pssm_object.proofs.Deferring.{deferred_is}
 use Rattle.pssm_object.proofs.Advancing.{following}
 use Rattle.pssm_object.proofs.Eights.{params_eight}
 use Rattle.pssm_object.proofs.Chosen.{IsGoodMove, good_move, chosen_keeps, quiet_is}
-use Rattle.pssm_object.proofs.TaskLists.{does_task}
+use Rattle.pssm_object.proofs.TaskLists.{lists_tasks, does_task}
+use Rattle.pssm_object.proofs.TaskCounts.{few_tasks}
 
 module _ (situation : Situation) (x : Standing) (view_is : standing_of situation ≡ x) where
   seen : (P : Standing → Type 0) → P (standing_of situation) → P x
@@ -44,13 +56,33 @@ module _ (situation : Situation) (x : Standing) (view_is : standing_of situation
   unseen : (P : Standing → Type 0) → P x → P (standing_of situation)
   unseen P there = subst P (sym view_is) there
 
+  -- whether it has ended, and which completion is the first that waits
+  pub end_seen : (answer : Bool) → answer ≡ situation.ended → (class : Class) → TellsEnd class x answer
+  end_seen answer is class J s = subst (λ (ended : Bool). IsTrue ended ↔ HasEnded class.machine J x.own) (sym (is ∙ ap (λ (y : Standing). y.ended) view_is)) s.ended_is
+
+  first_told : (class : Class) (J : List Entry) → StandsAfter class J x → (first : Option VertexId) → slice_get x.queue.states 0 ≡ first
+      → IsFirstCompletion class.machine J x.own first
+  first_told class J s None is = (end_of_queue class.machine J x.own x.queue.states s.queue_is).0 is
+  first_told class J s (Some v) is = (head_of_queue class.machine J x.own x.queue.states s.queue_is v).0 is
+
+  pub completion_seen : (answer : Option VertexId) → answer ≡ slice_get situation.queue.states 0 → (class : Class) → TellsCompletion class x answer
+  completion_seen answer is class J s =
+      first_told class J s answer (sym (is ∙ ap (λ (y : Standing). slice_get y.queue.states 0) view_is))
+
   module _ (class : Class) where
-    -- the configuration and the plan are of the machine
+    -- the configuration and the plan are of the machine, and there is room in the queue
     pub config_fits : Stands class x → Fits class.machine situation.config
     config_fits stands = unseen (λ y. Fits class.machine y.config) stands.1.fits
 
     pub plan_known : Stands class x → IfSome situation.plan (IsPlanOf class.machine)
     plan_known stands = unseen (λ y. IfSome y.plan (IsPlanOf class.machine)) (plan_fits stands.1)
+
+    pub room_seen : (J : List Entry) → StandsAfter class J x → QueueFits class.machine situation.queue
+    room_seen J s = unseen (λ y. QueueFits class.machine y.queue) (queue_fits class.machine J x.own x.queue s.queue_is s.room)
+
+    -- a ready task is ready by what is kept
+    pub ready_seen : (task : Task) → Contains (ready_tasks class.machine x) task → Contains (ready_tasks class.machine (standing_of situation)) task
+    ready_seen task ready = unseen (λ y. Contains (ready_tasks class.machine y) task) ready
 
     module _ (b : IsBuiltClass class) where
       -- the verdict is that of the rules
@@ -71,8 +103,14 @@ module _ (situation : Situation) (x : Standing) (view_is : standing_of situation
         accepts : Judges class x signal e None
         accepts = accepted class b can.stands signal e can.own can.keeps
 
-        pub follows_seen : CanFollow class.machine situation.plan situation.config signal e
-        follows_seen = unseen (λ y. CanFollow class.machine y.plan y.config signal e) (can_follow class b can.stands signal e can.names accepts)
+        pub follows_seen : CanFollow class (standing_of situation) signal e
+        follows_seen = unseen (λ y. CanFollow class y signal e) (can_follow class b can.stands signal e can.names accepts)
+
+        pub fits_seen : Fits class.machine situation.config
+        fits_seen = config_fits (can.before, can.stands)
+
+        pub room_fits : QueueFits class.machine situation.queue
+        room_fits = room_seen can.before can.stands
 
         pub eight_seen : length situation.params ≡ 8
         eight_seen = unseen (λ y. length y.params ≡ 8) (params_eight class can.before x can.stands)
@@ -81,13 +119,12 @@ module _ (situation : Situation) (x : Standing) (view_is : standing_of situation
             → IsTold J (stimulus_for x.own signal) e → StandsAfter class (J ++ e ∷ []) next
         advances_seen next h J s told = following class b s next signal e can.own can.names accepts told (seen (λ y. Advances class y signal e next) h)
 
-      -- it is quiet exactly where it rests and no signal waits
-      pub quiet_seen : (signal : Option Waiting) (J : List Entry) → StandsAfter class J x → (rests waiting : Bool)
-          → ((m : DraftMachine) → IfSome situation.plan (IsPlanOf m) → (IsTrue rests ↔ IsAtRest m situation.plan)) → IsHandedIn waiting signal
-          → MatchBool (rests && not waiting) (IsQuiet class x signal J) (HasNext class x signal J)
-      quiet_seen signal J s rests waiting says handed =
-          quiet_is class b x signal s rests waiting
-          (seen (λ y. IsTrue rests ↔ IsAtRest class.machine y.plan) (says class.machine (plan_known (J, s)))) handed
+      -- it is quiet exactly where nothing may come next
+      pub quiet_seen : (signal : Option Waiting) (J : List Entry) → StandsAfter class J x → (answer waiting : Bool)
+          → (IsTrue answer ↔ IsStill class.machine (standing_of situation) waiting) → IsHandedIn waiting signal
+          → MatchBool answer (IsQuiet class x signal J) (HasNext class x signal J)
+      quiet_seen signal J s answer waiting says handed =
+          quiet_is class b x signal s answer waiting (seen (λ y. IsTrue answer ↔ IsStill class.machine y waiting) says) handed
 
       -- it defers a signal exactly where an active State defers it
       pub defers_seen : (w : Waiting) (answer : Bool) → (IsTrue answer ↔ IsDeferredHere class (standing_of situation) w) → Defers class x w answer
@@ -95,6 +132,19 @@ module _ (situation : Situation) (x : Standing) (view_is : standing_of situation
           let here = seen (λ y. IsTrue answer ↔ IsDeferredHere class y w) h in
           let is = deferred_is class s w in
           (λ yes. is.0 (here.0 yes), λ deferred. here.1 (is.1 deferred))
+
+      -- there are few ready tasks
+      pub few_seen : Stands class x → length (ready_tasks class.machine (standing_of situation)) < 4294967296
+      few_seen stands =
+          unseen (λ y. length (ready_tasks class.machine y) < 4294967296)
+          (let few = few_tasks class b stands.1 in
+          let limits = b.machine.shape.limits in
+          let vertices = limits.vertices in
+          let transitions = limits.transitions in
+          omega (arith, few, vertices, transitions))
+
+      pub tasks_seen : AreReadyTasks class x (ready_tasks class.machine x)
+      tasks_seen = λ J s. lists_tasks class b s
 
       -- what is chosen is a move that may follow, and nothing is chosen where none may
       module _ (signal : Option Waiting) (stands : Stands class x) where
@@ -125,7 +175,7 @@ module _ (situation : Situation) (x : Standing) (view_is : standing_of situation
         none_seen (Some e) h = tt
 
       -- the entry of a ready task may follow
-      module _ (stands : Stands class x) (task : Task) (ready : Contains (ready_tasks x) task) (e : Entry)
+      module _ (stands : Stands class x) (task : Task) (ready : Contains (ready_tasks class.machine x) task) (e : Entry)
           (does : DoesTask class (standing_of situation) task e) where
         done : DoesTask class x task e
         done = seen (λ y. DoesTask class y task e) does
@@ -139,16 +189,25 @@ module _ (situation : Situation) (x : Standing) (view_is : standing_of situation
         pub task_seen : (J : List Entry) → StandsAfter class J x → KeepsRules class x None J e
         task_seen J s = let is = does_task class b s task ready e done in judged class b s None e is.1 None is.0
 
--- where the object does not rest it is not quiet
-pub not_quiet : (rests waiting : Bool) (P Q : Type 0) → rests ≡ false → MatchBool (rests && not waiting) P Q → MatchBool rests P Q
-not_quiet true waiting P Q is h = absurd (cc)
-not_quiet false waiting P Q is h = h
+-- before all entries an object has ended exactly where there is no top region
+ended_first : (m : DraftMachine) (own : ObjectId) (tops : List RegionId) → ((r : RegionId) → Contains tops r ↔ (owner_of m (Region r) ≡ Some Top))
+    → IsTrue (length tops == 0) ↔ HasEnded m [] own
+ended_first m own [] are = (λ yes. inr (λ r top. absurd (nothing_in_nil r ((are r).1 top))), λ ended. refl)
+ended_first m own (r ∷ rest) are = (λ yes. absurd (let no : length (r ∷ rest) ≡ 0 = eqb-true (length (r ∷ rest)) 0 yes in omega arith), never)
+  where
+    never : HasEnded m [] own → IsTrue (length (r ∷ rest) == 0)
+    never (inl (e, t, v, inside, effect, enters, kind)) = absurd (nothing_in_nil e inside)
+    never (inr finals) = let f = finals r ((are r).0 (first_in r rest)) in absurd (((configuration-nil m own).active f.0).0 f.3)
 
 -- a new object stands so after no entries
-pub starts_so : (class : Class) (own : ObjectId) (config : Tables) (store : Store) (params : Params) → Fits class.machine config
+pub starts_so : (class : Class) (own : ObjectId) (config : Tables) (store : Store) (params : Params) (queue : CompletionQueue) (tops : List RegionId) (ended : Bool)
+    → Fits class.machine config
     → Agree (configuration_of config) nothing_yet → store ≡ first_store class → params ≡ no_params
-    → StandsAfter class [] (record { own = own; config = config; plan = None; store = store; params = params })
-starts_so class own config store params fits nothing first zeros =
+    → queue.states ≡ [] → queue.room ≡ length class.machine.vertices
+    → ((r : RegionId) → Contains tops r ↔ (owner_of class.machine (Region r) ≡ Some Top)) → ended ≡ (length tops == 0)
+    → StandsAfter class []
+    (record { own = own; config = config; plan = None; store = store; params = params; queue = queue; ended = ended })
+starts_so class own config store params queue tops ended fits nothing first zeros empty room are none_top =
     let none = configuration-nil class.machine own in
     record {
       fits = fits;
@@ -158,4 +217,7 @@ starts_so class own config store params fits nothing first zeros =
       told = λ number firing inside. absurd (nothing_in_nil (Take own number firing) inside);
       store_is = first;
       params_is = zeros;
+      room = subst (λ (n : ℕ). length class.machine.vertices ≤ n) (sym room) (omega arith);
+      queue_is = subst (IsQueueOf class.machine [] own) (sym empty) (queue_before_all class.machine own);
+      ended_is = subst (λ (e : Bool). IsTrue e ↔ HasEnded class.machine [] own) (sym none_top) (ended_first class.machine own tops are);
     }

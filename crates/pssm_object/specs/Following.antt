@@ -1,5 +1,6 @@
 -- Which entries of an object may follow, as far as the object itself shows it.
-use Rattle.std.specs.Prelude.{◌≡◌, ◌↔◌, ◌<◌, ◌++◌, List, [], ◌∷◌, length, Option, option_map, IsSome, IsSomeAnd, Bool, IsTrue}
+use Rattle.std.specs.Prelude.{◌≡◌, ◌↔◌, ◌<◌, ◌++◌, List, [], ◌∷◌, length, Option, Some, None, option_map, IsSome, IsSomeAnd, Bool, IsTrue}
+use Rattle.pssm_model.specs.declared.ids.VertexId.{VertexId}
 use Rattle.pssm_model.specs.declared.elements.DraftMachine.{DraftMachine}
 use Rattle.pssm_semantics.specs.declared.entry.ObjectId.{ObjectId}
 use Rattle.pssm_semantics.specs.declared.entry.Entry.{Entry}
@@ -11,6 +12,7 @@ use Rattle.pssm_semantics.specs.Journal.{IsPost, object_of}
 use Rattle.pssm_semantics.specs.Pool.{told_by}
 use Rattle.pssm_semantics.specs.Known.{IsFiringOf, IsRouteOf, IsVertexOf, IsWayOf}
 use Rattle.pssm_semantics.specs.Rules.{KeepsOwn}
+use Rattle.pssm_semantics.specs.Completion.{HasEnded, IsQueueEmpty, IsQueueHead}
 use Rattle.pssm_semantics.specs.Deferral.{IsDeferred}
 use Rattle.pssm_semantics.specs.Verdict.{IsFirstBroken}
 use Rattle.pssm_pool.specs.declared.pools.Waiting.{Waiting}
@@ -119,3 +121,19 @@ Brings class old signal e new =
 abbrev pub Defers : Class → Standing → Waiting → Bool → Type 0
 Defers class x signal answer =
     (J : List Entry) → StandsAfter class J x → IsTrue answer ↔ IsDeferred class (told_by J) J x.own (stimulus_of x.own signal)
+
+-- After all entries after which the object stands so, the answer is whether the object has ended
+-- (UML 2.5.1 14.2.3.6 and 14.2.3.7, final states and terminate).
+abbrev pub TellsEnd : Class → Standing → Bool → Type 0
+TellsEnd class x answer = (J : List Entry) → StandsAfter class J x → IsTrue answer ↔ HasEnded class.machine J x.own
+
+-- the first of the completion queue; none where no completion waits (UML 2.5.1 14.2.3.8, completion events)
+abbrev pub IsFirstCompletion : DraftMachine → List Entry → ObjectId → Option VertexId → Type 0
+IsFirstCompletion m J o None = IsQueueEmpty m J o
+IsFirstCompletion m J o (Some s) = IsQueueHead m J o s
+
+-- After all entries after which the object stands so, this is the first of its completion queue
+-- (UML 2.5.1 14.2.3.8, completion events).
+abbrev pub TellsCompletion : Class → Standing → Option VertexId → Type 0
+TellsCompletion class x answer =
+    (J : List Entry) → StandsAfter class J x → IsFirstCompletion class.machine J x.own answer

@@ -1,5 +1,7 @@
+pub mod Queue
 pub mod Standing
 pub mod Following
+pub mod Doing
 pub mod Tasks
 pub mod Laws
 pub mod inner

@@ -1,5 +1,5 @@
 -- What contracts see of one object of a run: where it stands, and after which entries of all objects it stands so.
-use Rattle.std.specs.Prelude.{◌≡◌, ◌⊎◌, ℕ, List, filter_map, Option, Some, None, Contains}
+use Rattle.std.specs.Prelude.{◌≡◌, ◌⊎◌, ◌↔◌, ◌≤◌, ℕ, Bool, List, length, filter_map, Option, Some, None, Contains, IsTrue}
 use Rattle.std.specs.List.{AllByRecursion}
 use Rattle.pssm_model.specs.declared.ids.VertexId.{VertexId}
 use Rattle.pssm_model.specs.declared.elements.DraftMachine.{DraftMachine}
@@ -24,18 +24,26 @@ use Rattle.pssm_semantics.specs.Steps.{StepAt, IsLastStep, head_of, item_by}
 use Rattle.pssm_semantics.specs.Values.{Store, Params}
 use Rattle.pssm_semantics.specs.Pool.{told_by}
 use Rattle.pssm_semantics.specs.Behaviours.{store_of, params_of}
+use Rattle.pssm_semantics.specs.Completion.{HasEnded}
+use Rattle.pssm_object.specs.Queue.{CompletionQueue, IsQueueOf}
 
--- an object: which one it is, the tables of its configuration, the plan of its last step, the values of its variables, and the
--- parameters of its step (UML 2.5.1 14.2.3.9, run to completion)
+-- an object: which one it is, the tables of its configuration, the plan of its last step, the values of its variables, the
+-- parameters of its step, its completion queue, and whether it has ended (UML 2.5.1 14.2.3.9, run to completion)
 pub record Standing : Type 0 where
   pub own : ObjectId
   pub config : Tables
   pub plan : Option Agenda
   pub store : Store
   pub params : Params
+  pub queue : CompletionQueue
+  pub ended : Bool
 
--- The object has started, and its last step began so, in this configuration, and has come so far
--- (UML 2.5.1 14.2.3.9, run to completion).
+-- What is active in the one is active in the other (UML 2.5.1 14.2.3.4, State configurations).
+abbrev pub AreActiveAlike : Configuration → Configuration → Type 0
+AreActiveAlike a b = (s : VertexId) → a.Active s ↔ b.Active s
+
+-- The object has started, and its last step began so, in this configuration, and has come so far; what is active is what the
+-- items that have run leave active (UML 2.5.1 14.2.3.9, run to completion).
 pub record IsUnderWay (m : DraftMachine) (J : List Entry) (o : ObjectId) (head : Head) (at_head : Configuration)
     (ran : List (Item × How)) : Type 0 where
   pub step : StepAt
@@ -48,7 +56,7 @@ pub record IsUnderWay (m : DraftMachine) (J : List Entry) (o : ObjectId) (head :
   pub gone : HasGone m head at_head ran
   pub begins : BeginsWell m head at_head
   pub known : (s : VertexId) → at_head.Active s ⊎ (at_head.Active s → ⊥)
-  pub along : Agree (configuration_after m J o) (changed_along m at_head ran)
+  pub along : AreActiveAlike (configuration_after m J o) (changed_along m at_head ran)
 
 -- The object has not started: its entries are posts alone, and nothing is active, remembered or left empty
 -- (PSSM 1.0 8.5, the initial run-to-completion step).
@@ -76,6 +84,9 @@ pub record StandsAfter (class : Class) (J : List Entry) (x : Standing) : Type 0 
   pub told : HasSignalsTaken J x.own
   pub store_is : x.store ≡ store_of class (told_by J) J x.own
   pub params_is : x.params ≡ params_of (told_by J) J x.own
+  pub room : length class.machine.vertices ≤ x.queue.room
+  pub queue_is : IsQueueOf class.machine J x.own x.queue.states
+  pub ended_is : IsTrue x.ended ↔ HasEnded class.machine J x.own
 
 -- There are entries after which the object of the class stands so (UML 2.5.1 14.2.3.9, run to completion).
 abbrev pub Stands : Class → Standing → Type 0

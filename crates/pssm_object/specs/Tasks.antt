@@ -1,5 +1,5 @@
 -- The ready tasks of an object, and the entry that doing one of them makes.
-use Rattle.std.specs.Prelude.{◌≡◌, ◌≢◌, ◌↔◌, List, [], Option, Some, None, Contains, AllPairs}
+use Rattle.std.specs.Prelude.{◌≡◌, ◌≢◌, ◌↔◌, ◌++◌, List, [], if◌then◌else◌, Option, Some, None, Contains, AllPairs}
 use Rattle.std.specs.List.{filter_map}
 use Rattle.pssm_model.specs.declared.elements.DraftMachine.{DraftMachine}
 use Rattle.pssm_model.specs.declared.steps.Item.{Item}
@@ -15,6 +15,7 @@ use Rattle.pssm_semantics.specs.declared.stimulus.Task.TheVariants as tasks
 use Rattle.pssm_semantics.specs.declared.setting.Class.{Class}
 use Rattle.pssm_semantics.specs.Tasks.{IsReadyTask}
 use Rattle.pssm_object.specs.Standing.{Standing, StandsAfter}
+use Rattle.pssm_object.specs.Doing.{do_tasks}
 
 -- the task that an item is: an exit, an effect or an entry (this profile's choice)
 abbrev pub task_of : Item → Option Task
@@ -29,9 +30,10 @@ abbrev pub tasks_of_plan : Option Agenda → List Task
 tasks_of_plan None = []
 tasks_of_plan (Some plan) = filter_map (λ call. task_of call.item) (ready_calls plan)
 
--- those of an object (UML 2.5.1 14.2.3.9, transition execution sequence)
-abbrev pub ready_tasks : Standing → List Task
-ready_tasks x = tasks_of_plan x.plan
+-- those of an object: the ready exits, effects and entries of its step, and then the next do steps of its active States; none
+-- once it has ended (UML 2.5.1 14.2.3.9, transition execution sequence; 14.2.3.4, doActivity)
+abbrev pub ready_tasks : DraftMachine → Standing → List Task
+ready_tasks m x = if x.ended then [] else (tasks_of_plan x.plan ++ do_tasks m x.config)
 
 -- The tasks are exactly the ready ones of the object, each once (UML 2.5.1 14.2.3.9, transition execution sequence).
 pub record ListsTasks (m : DraftMachine) (J : List Entry) (o : ObjectId) (listed : List Task) : Type 0 where

@@ -1,6 +1,9 @@
 pub mod Advancing
 pub mod Choosing
+pub mod Doing
+pub mod Ending
 pub mod Firing
 pub mod Judging
+pub mod Queueing
 pub mod Situations
 pub mod Working

@@ -1,26 +1,29 @@
 //! What an object may do next, where it stands so.
-ghost use Rattle.std.specs.Prelude.{◌≡◌, ◌≤◌, ◌<◌, ◌↔◌, [], ℕ, length, IsTrue, IfOk, IfSome, IfNone, Option, Some, Contains};
+ghost use Rattle.std.specs.Prelude.{◌≡◌, ◌≤◌, ◌<◌, ◌↔◌, length, IsTrue, IfOk, IfSome, IfNone, Some, Contains};
 ghost use Rattle.std.specs.Option.{option_copied};
 ghost use Rattle.pssm_model.specs.declared.elements.DraftMachine.{DraftMachine};
-ghost use Rattle.pssm_model.specs.BuiltMachine.{IsBuiltMachine};
+ghost use Rattle.pssm_model.specs.declared.elements.VertexKind.TheVariants as kinds;
+ghost use Rattle.pssm_model.specs.Forest.{HasKind};
 ghost use Rattle.pssm_semantics.specs.Built.{IsBuiltClass};
 ghost use Rattle.pssm_config.specs.Tables.{Fits};
 ghost use Rattle.pssm_plan.specs.Plans.{IsPlanOf};
 ghost use Rattle.pssm_plan.specs.Standings.{ready_calls};
-ghost use Rattle.pssm_object.specs.Tasks.{tasks_of_plan};
-ghost use Rattle.pssm_object.specs.inner.Situations.{standing_of, IsAtRest};
+ghost use Rattle.pssm_object.specs.Tasks.{ready_tasks};
+ghost use Rattle.pssm_object.specs.inner.Situations.{standing_of, IsAtRest, first_waiting};
 ghost use Rattle.pssm_semantics.specs.Arguments.{ActArgsFit};
 ghost use Rattle.pssm_object.specs.inner.Working.{HasPlace, Makes, MakesBy};
-ghost use Rattle.pssm_object.specs.inner.Choosing.{IsReadyOpening, OpensNothing, OpensPlainly, TakesSignal, Chooses, DoesTask, LacksOpenings, IsDeferredHere};
+ghost use Rattle.pssm_object.specs.inner.Judging.{Completes};
+ghost use Rattle.pssm_object.specs.inner.Choosing.{IsPlainItem, HasWays, IsReadyChoice, HasNoChoice, GoesSomeWay, TakesSignal, ServesCompletion, ChoosesNext, ChoosesInStep, Chooses, DoesTask, LacksChoices, IsDeferredHere};
 
 use crate::firing::{is_deferred, pick_firing};
 use crate::opening::default_way;
+use crate::routes::route_from;
 use crate::situation::Situation;
 use crate::working::stated_act;
-use pssm_model::{Duplicate, Item, Machine, Mode, RegionId, Row};
+use pssm_model::{Duplicate, Event, Firing, Item, Mode, RegionId, Row, VertexId};
 use pssm_plan::Plan;
 use pssm_pool::Waiting;
-use pssm_semantics::{Act, Class, Entry, ObjectId, Out, Task};
+use pssm_semantics::{Act, Args, Class, Entry, Out, Task};
 use std::alloc::{AllocError as NoMemory, Global};
 
 impl Situation {
@@ -43,7 +46,8 @@ impl Situation {
         is_deferred(class, &self.config, waiting, self.store.as_slice())
     }
 
-    /// The start, a ready opening, or where the object rests the take of the signal; none where there is none of these.
+    /// The start; a ready opening or pick; or where the object rests the dispatch of the first completion that waits, and
+    /// where none waits the take of the signal; none where there is none of these, or the object has ended.
     pub fn choose_move(
         &self,
         alloc: Global,
@@ -56,18 +60,94 @@ impl Situation {
         requires plan { IfSome self.now.plan (IsPlanOf class.now.machine) }
         ensures { IfOk result (Chooses class.now (standing_of self.now) (option_copied signal.entry) self.now.plan) }
     {
+        if self.ended {
+            return Ok(None);
+        }
         match &self.plan {
             None => Ok(Some(Entry::Start { object: self.own })),
-            Some(plan) => {
-                if plan.finished() {
-                    return self.choose_take(alloc, class, signal, word);
-                }
-                match ready_opening(plan, word) {
-                    Some(opening) => Ok(Some(open(alloc, &class.machine, self.own, opening)?)),
-                    None => Ok(None),
-                }
-            }
+            Some(plan) => self.choose_in_step(alloc, class, plan, signal, word),
         }
+    }
+
+    // The same where the object has started, with this plan, and has not ended.
+    fn choose_in_step(
+        &self,
+        alloc: Global,
+        class: &Class,
+        plan: &Plan,
+        signal: Option<&Waiting>,
+        word: u64,
+    ) -> Result<Option<Entry>, NoMemory>
+        requires class { IsBuiltClass class.now }
+        requires fits { Fits class.now.machine self.now.config }
+        requires here { self.now.plan ≡ Some plan.now }
+        requires plan { IsPlanOf class.now.machine plan.now }
+        ensures { IfOk result (ChoosesInStep class.now (standing_of self.now) (option_copied signal.entry) plan.now) }
+    {
+        if plan.finished() {
+            return self.choose_next(alloc, class, signal, word);
+        }
+        match ready_choice(plan, word) {
+            Some(item) => Ok(Some(self.go_some_way(alloc, class, item, word)?)),
+            None => Ok(None),
+        }
+    }
+
+    // The dispatch of the first completion that waits; where none waits the take of the signal, if there is one.
+    fn choose_next(
+        &self,
+        alloc: Global,
+        class: &Class,
+        signal: Option<&Waiting>,
+        word: u64,
+    ) -> Result<Option<Entry>, NoMemory>
+        requires class { IsBuiltClass class.now }
+        requires fits { Fits class.now.machine self.now.config }
+        ensures { IfOk result (ChoosesNext class.now (standing_of self.now) (option_copied signal.entry)
+            (first_waiting (standing_of self.now))) }
+    {
+        match self.queue.first() {
+            Some(state) => Ok(Some(self.done_of(alloc, class, state, word)?)),
+            None => self.choose_take(alloc, class, signal, word),
+        }
+    }
+
+    // The dispatch of the completion of this State.
+    fn done_of(
+        &self,
+        alloc: Global,
+        class: &Class,
+        state: VertexId,
+        word: u64,
+    ) -> Result<Entry, NoMemory>
+        requires class { IsBuiltClass class.now }
+        requires fits { Fits class.now.machine self.now.config }
+        ensures { IfOk result (ServesCompletion class.now (standing_of self.now) state) }
+    {
+        let firing = self.pick_completion(alloc, class, state, word)?;
+        Ok(Entry::Done {
+            object: self.own,
+            state,
+            firing,
+        })
+    }
+
+    // What the completion of the State fires.
+    fn pick_completion(
+        &self,
+        alloc: Global,
+        class: &Class,
+        state: VertexId,
+        word: u64,
+    ) -> Result<Firing, NoMemory>
+        requires class { IsBuiltClass class.now }
+        requires fits { Fits class.now.machine self.now.config }
+        ensures { IfOk result (λ firing. Completes class.now (standing_of self.now) state firing.routes) }
+    {
+        let none = Args::from_vec(Vec::new(alloc));
+        let store = self.store.as_slice();
+        let event = Event::Completion(state);
+        pick_firing(alloc, class, &self.config, store, &none, event, word)
     }
 
     // The take of the signal, if there is one.
@@ -101,7 +181,16 @@ impl Situation {
         ensures { IfOk result (λ entry. TakesSignal class.now (standing_of self.now) (Some waiting.now) (Some entry)) }
     {
         let store = self.store.as_slice();
-        let firing = pick_firing(alloc, class, &self.config, waiting, store, word)?;
+        let event = Event::Signal(waiting.signal);
+        let firing = pick_firing(
+            alloc,
+            class,
+            &self.config,
+            store,
+            &waiting.args,
+            event,
+            word,
+        )?;
         Ok(Entry::Take {
             object: self.own,
             number: waiting.number,
@@ -109,11 +198,77 @@ impl Situation {
         })
     }
 
+    // An opening or a pick in one of its ways.
+    fn go_some_way(
+        &self,
+        alloc: Global,
+        class: &Class,
+        item: Item,
+        word: u64,
+    ) -> Result<Entry, NoMemory>
+        requires class { IsBuiltClass class.now }
+        requires item { HasWays item }
+        requires plain { IsPlainItem class.now.machine item }
+        ensures { IfOk result (GoesSomeWay class.now (standing_of self.now) item) }
+    {
+        match item {
+            Item::Opened(region, mode) => self.open(alloc, class, region, mode, word),
+            Item::Pick(choice) => self.pick_way(alloc, class, choice, word),
+            Item::Exit(_) | Item::Effect(_) | Item::Enter(_) => unreachable!(),
+        }
+    }
+
+    // The opening of a region in one of its ways.
+    fn open(
+        &self,
+        alloc: Global,
+        class: &Class,
+        region: RegionId,
+        mode: Mode,
+        word: u64,
+    ) -> Result<Entry, NoMemory>
+        requires class { IsBuiltClass class.now }
+        requires region { region.0 < length class.now.machine.regions }
+        ensures { IfOk result (GoesSomeWay class.now (standing_of self.now) (Item.Opened region mode)) }
+    {
+        let store = self.store.as_slice();
+        let how = default_way(alloc, class, store, &self.params, region, word)?;
+        Ok(Entry::Opened {
+            object: self.own,
+            region,
+            mode,
+            how,
+        })
+    }
+
+    // The pick of one of the ways from a choice.
+    #[tactic(auto, using(crate::proofs::BuiltMachines::choice_leads))]
+    fn pick_way(
+        &self,
+        alloc: Global,
+        class: &Class,
+        choice: VertexId,
+        word: u64,
+    ) -> Result<Entry, NoMemory>
+        requires class { IsBuiltClass class.now }
+        requires choice { HasKind class.now.machine choice kinds.Choice }
+        ensures { IfOk result (GoesSomeWay class.now (standing_of self.now) (Item.Pick choice)) }
+    {
+        let store = self.store.as_slice();
+        let route = route_from(alloc, class, store, &self.params, choice, word)?;
+        Ok(Entry::Pick {
+            object: self.own,
+            choice,
+            route,
+        })
+    }
+
     /// The entry that does a ready task, with the outputs of its behaviour.
     pub fn run_task(&self, alloc: Global, class: &Class, task: Task) -> Result<Entry, NoMemory>
         requires class { IsBuiltClass class.now }
+        requires fits { Fits class.now.machine self.now.config }
         requires plan { IfSome self.now.plan (IsPlanOf class.now.machine) }
-        requires ready { Contains (tasks_of_plan self.now.plan) task }
+        requires ready { Contains (ready_tasks class.now.machine (standing_of self.now)) task }
         ensures { IfOk result (DoesTask class.now (standing_of self.now) task) }
     {
         let object = self.own;
@@ -133,7 +288,12 @@ impl Situation {
                 state,
                 outs: self.outputs(alloc, class, Item::Enter(state))?,
             }),
-            Task::DoStep(_, _) => unreachable!(),
+            Task::DoStep(state, step) => Ok(Entry::DoStep {
+                object,
+                state,
+                step,
+                outs: self.step_outputs(alloc, class, state, step)?,
+            }),
         }
     }
 
@@ -159,53 +319,44 @@ impl Situation {
     }
 }
 
-// A ready opening, if there is one: the first at or after the place that the word picks, or else the first before it.
-fn ready_opening(plan: &Plan, word: u64) -> Option<(RegionId, Mode)>
-    ensures none { (m : DraftMachine) → IsPlanOf m plan.now → IfNone result (OpensNothing m plan.now) }
-    ensures ready { (m : DraftMachine) → IsPlanOf m plan.now → IfSome result (IsReadyOpening m plan.now) }
+// A ready opening or pick, if there is one: the first at or after the place that the word picks, or else the first
+// before it.
+fn ready_choice(plan: &Plan, word: u64) -> Option<Item>
+    ensures none { (m : DraftMachine) → IsPlanOf m plan.now → IfNone result (HasNoChoice m plan.now) }
+    ensures ready { (m : DraftMachine) → IsPlanOf m plan.now → IfSome result (IsReadyChoice m plan.now) }
 {
     let count = plan.ready_count();
     if count == 0 {
         return None;
     }
     let place = (word % u64::from(count)) as u32;
-    match first_opening(plan, place, count) {
-        Some(opening) => Some(opening),
-        None => first_opening(plan, 0, place),
+    match first_choice(plan, place, count) {
+        Some(item) => Some(item),
+        None => first_choice(plan, 0, place),
     }
 }
 
-// The first ready opening from one place on and before another.
-fn first_opening(plan: &Plan, from: u32, to: u32) -> Option<(RegionId, Mode)>
+// Whether the item is an opening or a pick.
+fn has_ways(item: Item) -> bool
+    ensures { IsTrue result ↔ HasWays item }
+{
+    match item {
+        Item::Opened(_, _) | Item::Pick(_) => true,
+        Item::Exit(_) | Item::Effect(_) | Item::Enter(_) => false,
+    }
+}
+
+// The first ready opening or pick from one place on and before another.
+fn first_choice(plan: &Plan, from: u32, to: u32) -> Option<Item>
     requires { to ≤ length (ready_calls plan.now) }
-    ensures none { IfNone result (LacksOpenings (ready_calls plan.now) from to) }
-    ensures ready { (m : DraftMachine) → IsPlanOf m plan.now → IfSome result (IsReadyOpening m plan.now) }
+    ensures none { IfNone result (LacksChoices (ready_calls plan.now) from to) }
+    ensures ready { (m : DraftMachine) → IsPlanOf m plan.now → IfSome result (IsReadyChoice m plan.now) }
 {
     for i in from..to {
-        if let Item::Opened(region, mode) = plan.ready_at(i) {
-            return Some((region, mode));
+        let item = plan.ready_at(i);
+        if has_ways(item) {
+            return Some(item);
         }
     }
     None
-}
-
-// The opening of a region by its default way.
-fn open(
-    alloc: Global,
-    machine: &Machine,
-    object: ObjectId,
-    opening: (RegionId, Mode),
-) -> Result<Entry, NoMemory>
-    requires built { IsBuiltMachine machine.now }
-    requires region { opening.0.0 < length machine.now.regions }
-    ensures { IfOk result (OpensPlainly machine.now object opening) }
-{
-    let (region, mode) = opening;
-    let how = default_way(alloc, machine, region)?;
-    Ok(Entry::Opened {
-        object,
-        region,
-        mode,
-        how,
-    })
 }

@@ -1,25 +1,29 @@
-//! What a signal fires where an object stands so, and whether the object defers it.
+//! What an event fires where an object stands so, and whether the object defers a signal.
 ghost use Rattle.std.specs.Prelude.{◌≡◌, ◌↔◌, ◌<◌, IsTrue, IfOk, length, slice_get};
 ghost use Rattle.std.specs.Option.{option_copied};
 ghost use Rattle.pssm_model.specs.BuiltMachine.{IsBuiltMachine};
 ghost use Rattle.pssm_config.specs.Tables.{Fits};
+ghost use Rattle.pssm_semantics.specs.Values.{eight_of};
+ghost use Rattle.pssm_semantics.specs.Behaviours.{guards_under};
 ghost use Rattle.pssm_semantics.specs.Deferral.{Defers};
-ghost use Rattle.pssm_object.specs.inner.Firing.{truth_at, Fires, OverridesThere, StateDefers, IsDeferredThere};
+ghost use Rattle.pssm_object.specs.inner.Firing.{Fires, OverridesThere, StateDefers, IsDeferredThere};
 
 use pssm_config::Config;
 use pssm_model::{Event, Firing, GuardId, Machine, SignalId, VertexId};
 use pssm_pool::Waiting;
 use pssm_routes::{is_firing_set, overrides, pick_firing_set};
-use pssm_semantics::{Class, Cond, truth};
+use pssm_semantics::{Args, Class, Cond, truth};
 use std::alloc::{AllocError as NoMemory, Global};
 
-// Whether a guard is true at a take of the signal.
-fn is_true(class: &Class, guard: GuardId, signal: &Waiting, store: &[i64]) -> bool
-    ensures { result ≡ truth_at class.now store.now signal.now guard }
+/// Whether a guard is true, where the variables and the parameters have these values; a parameter past the last one
+/// is 0.
+pub fn is_true(class: &Class, guard: GuardId, store: &[i64], params: &Args) -> bool
+    ensures given { result ≡ guards_under class.now store.now params.now guard }
+    ensures continued { result ≡ guards_under class.now store.now (eight_of params.now) guard }
 {
-    let _at_most_eight = signal.args.as_slice();
+    let _at_most_eight = params.as_slice();
     match guard_at(class, guard) {
-        Some(cond) => truth(cond, store, &signal.args),
+        Some(cond) => truth(cond, store, params),
         None => false,
     }
 }
@@ -31,52 +35,56 @@ fn guard_at(class: &Class, guard: GuardId) -> Option<&Cond>
     class.program.guards.as_slice().get(usize::from(guard.0))
 }
 
-/// Whether this is what the signal fires there.
+/// Whether this is what the event fires there, where the parameters are the arguments of its signal, or none of a
+/// completion.
 ///
 /// `NoMemory`: memory ran out.
 pub fn fires(
     alloc: Global,
     class: &Class,
     config: &Config,
-    signal: &Waiting,
     store: &[i64],
+    params: &Args,
+    event: Event,
     firing: &Firing,
 ) -> Result<bool, NoMemory>
     requires built { IsBuiltMachine class.now.machine }
     requires fits { Fits class.now.machine config.now }
-    ensures { IfOk result (λ is. IsTrue is ↔ Fires class.now config.now store.now signal.now firing.now.routes) }
+    ensures { IfOk result (λ is. IsTrue is
+        ↔ Fires class.now config.now store.now (eight_of params.now) event firing.now.routes) }
 {
     is_firing_set(
         alloc,
         &class.machine,
         config,
-        &|guard: GuardId| is_true(class, guard, signal, store),
-        Event::Signal(signal.signal),
+        &|guard: GuardId| is_true(class, guard, store, params),
+        event,
         firing,
     )
 }
 
-/// What the signal fires there: of all that it may fire, what the word settles.
+/// What the event fires there: of all that it may fire, what the word settles.
 ///
 /// `NoMemory`: memory ran out.
 pub fn pick_firing(
     alloc: Global,
     class: &Class,
     config: &Config,
-    signal: &Waiting,
     store: &[i64],
+    params: &Args,
+    event: Event,
     word: u64,
 ) -> Result<Firing, NoMemory>
     requires built { IsBuiltMachine class.now.machine }
     requires fits { Fits class.now.machine config.now }
-    ensures { IfOk result (λ firing. Fires class.now config.now store.now signal.now firing.routes) }
+    ensures { IfOk result (λ firing. Fires class.now config.now store.now (eight_of params.now) event firing.routes) }
 {
     pick_firing_set(
         alloc,
         &class.machine,
         config,
-        &|guard: GuardId| is_true(class, guard, signal, store),
-        Event::Signal(signal.signal),
+        &|guard: GuardId| is_true(class, guard, store, params),
+        event,
         word,
     )
 }
@@ -97,7 +105,7 @@ fn is_overridden(
     overrides(
         &class.machine,
         config,
-        &|guard: GuardId| is_true(class, guard, signal, store),
+        &|guard: GuardId| is_true(class, guard, store, &signal.args),
         signal.signal,
         state,
     )

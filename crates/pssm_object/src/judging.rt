@@ -1,25 +1,26 @@
 //! The verdict on one more entry, where the object stands so.
-ghost use Rattle.std.specs.Prelude.{◌≡◌, ◌<◌, ◌≢◌, ◌↔◌, length, IsTrue, IfOk, IfSome, MatchResult};
+ghost use Rattle.std.specs.Prelude.{◌≡◌, ◌<◌, ◌↔◌, length, Some, IsTrue, IfOk, IfSome, MatchResult};
 ghost use Rattle.std.specs.Option.{option_copied};
 ghost use Rattle.pssm_model.specs.declared.elements.DraftMachine.{DraftMachine};
 ghost use Rattle.pssm_semantics.specs.Built.{IsBuiltClass};
-ghost use Rattle.pssm_semantics.specs.Known.{IsWayOf};
+ghost use Rattle.pssm_semantics.specs.Known.{IsWayOf, IsRouteOf};
 ghost use Rattle.pssm_config.specs.Tables.{Fits};
 ghost use Rattle.pssm_plan.specs.Plans.{IsPlanOf};
 ghost use Rattle.pssm_object.specs.Following.{NamesPlaces};
 ghost use Rattle.pssm_object.specs.inner.Situations.{standing_of, IsAtRest};
 ghost use Rattle.pssm_semantics.specs.Arguments.{ActArgsFit};
 ghost use Rattle.pssm_object.specs.inner.Working.{HasPlace, Makes, MakesBy};
-ghost use Rattle.pssm_object.specs.inner.Judging.{JudgesRest, JudgesStart, JudgesFiring, JudgesTake, JudgesDone, JudgesItem, JudgesWork, JudgesOpened, JudgesNever, Judges};
+ghost use Rattle.pssm_object.specs.inner.Judging.{FiresHere, Completes, JudgesRest, JudgesStart, JudgesFiring, JudgesTake, JudgesDone, JudgesItem, JudgesWork, JudgesWay, JudgesDoing, IsPastEnd, JudgesLiving, Judges};
 
 use crate::firing::fires;
 use crate::opening::opens_by;
+use crate::routes::goes_on_by;
 use crate::situation::Situation;
 use crate::working::stated_act;
-use pssm_model::{Firing, How, Item, Machine, Mode, RegionId, Row, Same};
+use pssm_model::{Event, Firing, How, Item, Mode, RegionId, Route, Row, Same, VertexId};
 use pssm_plan::Standing;
 use pssm_pool::Waiting;
-use pssm_semantics::{Act, Class, Entry, Out, Rule};
+use pssm_semantics::{Act, Args, Class, Entry, Out, Rule};
 use std::alloc::{AllocError as NoMemory, Global};
 
 impl Situation {
@@ -37,11 +38,50 @@ impl Situation {
         requires names { NamesPlaces class.now.machine entry.now }
         ensures { IfOk result (Judges class.now (standing_of self.now) (option_copied signal.entry) entry.now) }
     {
+        if self.is_past_end(entry) {
+            Ok(Some(Rule::A2))
+        } else {
+            self.judge_living(alloc, class, entry, signal)
+        }
+    }
+
+    // Whether the entry comes after the end of the object, where a post alone may come.
+    fn is_past_end(&self, entry: &Entry) -> bool
+        ensures { IsTrue result ↔ IsPastEnd (standing_of self.now) entry.now }
+    {
+        match entry {
+            Entry::Post { .. } => false,
+            Entry::Start { .. }
+            | Entry::Take { .. }
+            | Entry::Done { .. }
+            | Entry::Exit { .. }
+            | Entry::Effect { .. }
+            | Entry::Enter { .. }
+            | Entry::Opened { .. }
+            | Entry::Pick { .. }
+            | Entry::DoStep { .. } => self.ended,
+        }
+    }
+
+    // The first rule that the entry breaks where the object has not ended.
+    fn judge_living(
+        &self,
+        alloc: Global,
+        class: &Class,
+        entry: &Entry,
+        signal: Option<&Waiting>,
+    ) -> Result<Option<Rule>, NoMemory>
+        requires class { IsBuiltClass class.now }
+        requires fits { Fits class.now.machine self.now.config }
+        requires plan { IfSome self.now.plan (IsPlanOf class.now.machine) }
+        requires names { NamesPlaces class.now.machine entry.now }
+        ensures { IfOk result (JudgesLiving class.now (standing_of self.now) (option_copied signal.entry) entry.now) }
+    {
         match entry {
             Entry::Post { .. } => Ok(None),
             Entry::Start { .. } => Ok(self.judge_start()),
             Entry::Take { firing, .. } => self.judge_take(alloc, class, firing, signal),
-            Entry::Done { .. } => Ok(self.judge_done()),
+            Entry::Done { state, firing, .. } => self.judge_done(alloc, class, *state, firing),
             Entry::Exit { state, outs, .. } => {
                 self.judge_work(alloc, class, Item::Exit(*state), outs)
             }
@@ -58,9 +98,14 @@ impl Situation {
                 mode,
                 how,
                 ..
-            } => Ok(self.judge_opened(&class.machine, *region, *mode, how)),
-            Entry::Pick { .. } => Ok(self.judge_never(Rule::A8)),
-            Entry::DoStep { .. } => Ok(self.judge_never(Rule::A11)),
+            } => Ok(self.judge_opened(class, *region, *mode, how)),
+            Entry::Pick { choice, route, .. } => Ok(self.judge_pick(class, *choice, route)),
+            Entry::DoStep {
+                state,
+                step,
+                outs,
+                ..
+            } => self.judge_doing(alloc, class, *state, *step, outs),
         }
     }
 
@@ -91,13 +136,16 @@ impl Situation {
         if let Err(rule) = self.at_rest() {
             return Ok(Some(rule));
         }
+        if self.queue.first().is_some() {
+            return Ok(Some(Rule::A5));
+        }
         match signal {
             Some(waiting) => self.judge_firing(alloc, class, firing, waiting),
             None => Ok(None),
         }
     }
 
-    // The verdict on what this signal fires, where the object rests.
+    // The verdict on what this signal fires, where the object rests and no completion waits.
     fn judge_firing(
         &self,
         alloc: Global,
@@ -107,24 +155,82 @@ impl Situation {
     ) -> Result<Option<Rule>, NoMemory>
         requires class { IsBuiltClass class.now }
         requires fits { Fits class.now.machine self.now.config }
-        ensures { IfOk result (JudgesFiring class.now (standing_of self.now) waiting.now firing.now.routes) }
+        ensures { IfOk result (JudgesFiring (FiresHere class.now (standing_of self.now) firing.now.routes waiting.now)) }
     {
+        let event = Event::Signal(waiting.signal);
         let store = self.store.as_slice();
-        if fires(alloc, class, &self.config, waiting, store, firing)? {
+        if fires(
+            alloc,
+            class,
+            &self.config,
+            store,
+            &waiting.args,
+            event,
+            firing,
+        )? {
             Ok(None)
         } else {
             Ok(Some(Rule::A7))
         }
     }
 
-    // The verdict on a dispatch of a completion: none ever waits.
-    fn judge_done(&self) -> Option<Rule>
-        ensures { (m : DraftMachine) → IfSome self.now.plan (IsPlanOf m) → JudgesDone m self.now.plan result }
+    // The verdict on a dispatch of the completion of a State.
+    fn judge_done(
+        &self,
+        alloc: Global,
+        class: &Class,
+        state: VertexId,
+        firing: &Firing,
+    ) -> Result<Option<Rule>, NoMemory>
+        requires class { IsBuiltClass class.now }
+        requires fits { Fits class.now.machine self.now.config }
+        requires plan { IfSome self.now.plan (IsPlanOf class.now.machine) }
+        ensures { IfOk result (JudgesDone class.now (standing_of self.now) state firing.now.routes) }
     {
-        match self.at_rest() {
-            Err(rule) => Some(rule),
-            Ok(()) => Some(Rule::A5),
+        if let Err(rule) = self.at_rest() {
+            return Ok(Some(rule));
         }
+        if self.queue.first() != Some(state) {
+            return Ok(Some(Rule::A5));
+        }
+        self.judge_completion(alloc, class, state, firing)
+    }
+
+    // The verdict on what the completion of a State fires, where it is the first of the queue.
+    fn judge_completion(
+        &self,
+        alloc: Global,
+        class: &Class,
+        state: VertexId,
+        firing: &Firing,
+    ) -> Result<Option<Rule>, NoMemory>
+        requires class { IsBuiltClass class.now }
+        requires fits { Fits class.now.machine self.now.config }
+        ensures { IfOk result (JudgesFiring (Completes class.now (standing_of self.now) state firing.now.routes)) }
+    {
+        if self.completes(alloc, class, state, firing)? {
+            Ok(None)
+        } else {
+            Ok(Some(Rule::A7))
+        }
+    }
+
+    // Whether this is what the completion of the State fires.
+    fn completes(
+        &self,
+        alloc: Global,
+        class: &Class,
+        state: VertexId,
+        firing: &Firing,
+    ) -> Result<bool, NoMemory>
+        requires class { IsBuiltClass class.now }
+        requires fits { Fits class.now.machine self.now.config }
+        ensures { IfOk result (λ is. IsTrue is ↔ Completes class.now (standing_of self.now) state firing.now.routes) }
+    {
+        let none = Args::from_vec(Vec::new(alloc));
+        let store = self.store.as_slice();
+        let event = Event::Completion(state);
+        fires(alloc, class, &self.config, store, &none, event, firing)
     }
 
     // Whether the last step is finished, or the rule that a head entry breaks.
@@ -210,22 +316,17 @@ impl Situation {
     }
 
     // The verdict on an opening with its way.
-    fn judge_opened(
-        &self,
-        machine: &Machine,
-        region: RegionId,
-        mode: Mode,
-        how: &How,
-    ) -> Option<Rule>
-        requires plan { IfSome self.now.plan (IsPlanOf machine.now) }
-        requires region { region.0 < length machine.now.regions }
-        requires way { IsWayOf machine.now how.now }
-        ensures { JudgesOpened machine.now self.now.plan region mode how.now result }
+    fn judge_opened(&self, class: &Class, region: RegionId, mode: Mode, how: &How) -> Option<Rule>
+        requires class { IsBuiltClass class.now }
+        requires plan { IfSome self.now.plan (IsPlanOf class.now.machine) }
+        requires region { region.0 < length class.now.machine.regions }
+        requires way { IsWayOf class.now.machine how.now }
+        ensures { JudgesWay class.now (standing_of self.now) (Item.Opened region mode) how.now result }
     {
         match self.judge_item(Item::Opened(region, mode)) {
             Some(rule) => Some(rule),
             None => {
-                if opens_by(machine, region, how) {
+                if opens_by(class, self.store.as_slice(), &self.params, region, how) {
                     None
                 } else {
                     Some(Rule::A10)
@@ -234,14 +335,43 @@ impl Situation {
         }
     }
 
-    // The verdict on what never comes: a pick or a do step.
-    fn judge_never(&self, rule: Rule) -> Option<Rule>
-        requires { rule ≢ Rule.A3 }
-        ensures { JudgesNever self.now.plan rule result }
+    // The verdict on a pick with its route.
+    fn judge_pick(&self, class: &Class, choice: VertexId, route: &Route) -> Option<Rule>
+        requires class { IsBuiltClass class.now }
+        requires plan { IfSome self.now.plan (IsPlanOf class.now.machine) }
+        requires choice { choice.0 < length class.now.machine.vertices }
+        requires route { IsRouteOf class.now.machine route.now }
+        ensures { JudgesWay class.now (standing_of self.now) (Item.Pick choice) (How.By route.now) result }
+    {
+        match self.judge_item(Item::Pick(choice)) {
+            Some(rule) => Some(rule),
+            None => {
+                if goes_on_by(class, self.store.as_slice(), &self.params, choice, route) {
+                    None
+                } else {
+                    Some(Rule::A10)
+                }
+            }
+        }
+    }
+
+    // The verdict on a do step with its outputs.
+    fn judge_doing(
+        &self,
+        alloc: Global,
+        class: &Class,
+        state: VertexId,
+        step: u16,
+        outs: &Row<Out>,
+    ) -> Result<Option<Rule>, NoMemory>
+        requires class { IsBuiltClass class.now }
+        requires fits { Fits class.now.machine self.now.config }
+        requires state { state.0 < length class.now.machine.vertices }
+        ensures { IfOk result (JudgesDoing class.now (standing_of self.now) state step outs.now) }
     {
         match &self.plan {
-            None => Some(Rule::A3),
-            Some(_) => Some(rule),
+            None => Ok(Some(Rule::A3)),
+            Some(_) => self.judge_step(alloc, class, state, step, outs),
         }
     }
 }

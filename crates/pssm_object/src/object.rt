@@ -2,13 +2,15 @@
 ghost use Rattle.std.specs.Prelude.{◌≡◌, ◌<◌, ◌++◌, ◌∷◌, [], List, length, slice_get, Some, None, IfOk, IfNone, IfSome, OnOk, OnErr, MatchBool, Option, Contains, map};
 ghost use Rattle.std.specs.Option.{option_copied};
 ghost use Rattle.pssm_semantics.specs.declared.entry.Entry.{Entry as AnEntry};
+ghost use Rattle.pssm_semantics.specs.declared.setting.Class.{Class as AClass};
 ghost use Rattle.pssm_semantics.specs.Values.{no_params};
 ghost use Rattle.pssm_semantics.specs.Journal.{object_of};
 ghost use Rattle.pssm_semantics.specs.Built.{IsBuiltClass};
 
+use crate::queue::Queue;
 use crate::situation::Situation;
-use crate::tasks::{count_tasks, nth_task};
 use pssm_config::Config;
+use pssm_model::VertexId;
 use pssm_pool::Waiting;
 use pssm_semantics::{Args, Class, Entry, ObjectId, Rule, Task, VarDecl};
 use std::alloc::{AllocError as NoMemory, Global};
@@ -17,8 +19,8 @@ use std::marker::Model;
 /// One object of a run, of a class that is handed in at each call.
 ///
 /// A clause sees where the object stands: which one it is, its configuration, the plan of its last step, the
-/// values of its variables and the parameters of its step. It keeps no entries: `StandsAfter` says after which
-/// journals it stands so, and what a call promises it promises for each of these.
+/// values of its variables, the parameters of its step, its completion queue and whether it has ended. It keeps no
+/// entries: `StandsAfter` says after which journals it stands so, and what a call promises it promises for each of these.
 #[derive(Drop)]
 pub struct Object {
     alloc: Global,
@@ -37,7 +39,7 @@ impl Model for Object {
 impl Object {
     ghost use Rattle.pssm_pool.specs.declared.pools.Waiting.{Waiting as Signal};
     ghost use Rattle.pssm_object.specs.Standing.{StandsAfter, Stands};
-    ghost use Rattle.pssm_object.specs.Following.{NamesPlaces, IsCandidate, IsMove, IsQuiet, HasNext, IsHandedIn, CanCome, MayCome, BreaksFirst, HasNoMove, Brings, Defers};
+    ghost use Rattle.pssm_object.specs.Following.{NamesPlaces, IsCandidate, IsMove, IsQuiet, HasNext, IsHandedIn, CanCome, MayCome, BreaksFirst, HasNoMove, Brings, Defers, TellsEnd, TellsCompletion};
     ghost use Rattle.pssm_object.specs.Tasks.{ready_tasks, AreReadyTasks, Does};
 
     /// An object of the class before its start, with the first values of the class's variables.
@@ -50,6 +52,9 @@ impl Object {
         let config = Config::new(alloc, &class.machine)?;
         let store = first_values(alloc, class.vars.as_slice())?;
         let params = zeros(alloc)?;
+        let queue = Queue::new(alloc, &class.machine)?;
+        // Only of no top regions all have ended before the start.
+        let ended = class.machine.top_regions().is_empty();
         Ok(Object {
             alloc,
             situation: Situation {
@@ -58,6 +63,8 @@ impl Object {
                 plan: None,
                 store,
                 params,
+                queue,
+                ended,
             },
         })
     }
@@ -108,6 +115,24 @@ impl Object {
         self.situation.own
     }
 
+    /// Whether it has ended: the effect of a transition into a terminate vertex has run, or every top region has an active
+    /// final state (UML 2.5.1, 14.2.3.6 and 14.2.3.7).
+    pub fn ended(&self) -> bool
+        ensures now { result ≡ self.now.ended }
+        ensures tells { (class : AClass) → TellsEnd class self.now result }
+    {
+        self.situation.ended
+    }
+
+    /// The State whose completion is the first that waits; none where none waits (UML 2.5.1, 14.2.3.8, completion
+    /// events).
+    pub fn completion(&self) -> Option<VertexId>
+        ensures now { result ≡ slice_get self.now.queue.states 0 }
+        ensures tells { (class : AClass) → TellsCompletion class self.now result }
+    {
+        self.situation.queue.first()
+    }
+
     /// The values of its variables, as they are now.
     pub fn store(&self) -> &[i64]
         ensures { result.now ≡ self.now.store }
@@ -122,36 +147,33 @@ impl Object {
         &self.situation.params
     }
 
-    /// How many tasks of the object are ready: exits, effects and entries whose turn has come (UML 2.5.1, 14.2.3.9).
+    /// How many tasks of the object are ready: exits, effects and entries whose turn has come, and the next do steps of
+    /// active States; none once the object has ended (UML 2.5.1, 14.2.3.9 and 14.2.3.4).
     pub fn task_count(&self, class: &Class) -> u32
         requires class { IsBuiltClass class.now }
-        ensures count { result ≡ length (ready_tasks self.now) }
-        ensures listed { AreReadyTasks class.now self.now (ready_tasks self.now) }
+        requires stands { Stands class.now self.now }
+        ensures count { result ≡ length (ready_tasks class.now.machine self.now) }
+        ensures listed { AreReadyTasks class.now self.now (ready_tasks class.now.machine self.now) }
     {
-        let _ = class;
-        match &self.situation.plan {
-            Some(plan) => count_tasks(plan),
-            None => 0,
-        }
+        self.situation.count_tasks(&class.machine)
     }
 
-    /// The ready task with a number, in the order in which they were called.
+    /// The ready task with a number: the exits, effects and entries in the order in which they were called, and then the
+    /// do steps.
     pub fn task_at(&self, class: &Class, i: u32) -> Task
-        requires { i < length (ready_tasks self.now) }
-        ensures { slice_get (ready_tasks self.now) i ≡ Some result }
+        requires stands { Stands class.now self.now }
+        requires there { i < length (ready_tasks class.now.machine self.now) }
+        ensures { slice_get (ready_tasks class.now.machine self.now) i ≡ Some result }
     {
-        let _ = class;
-        match &self.situation.plan {
-            Some(plan) => nth_task(plan, i),
-            None => unreachable!(),
-        }
+        self.situation.nth_task(&class.machine, i)
     }
 
-    /// A start, a take of this signal, or an opening that may come next; none exactly where there is none.
+    /// A start, a dispatch of a completion, a take of this signal, an opening or a pick that may come next; none exactly
+    /// where there is none.
     ///
-    /// `signal` is the first signal of the pool that is not deferred, where there is one. Of several openings, and of
-    /// several sets of routes that the signal may fire, the word settles one; which one is not promised. In the forms
-    /// that are run no dispatch of a completion and no pick ever comes. `NoMemory`: memory ran out.
+    /// `signal` is the first signal of the pool that is not deferred, where there is one. Of several openings and picks
+    /// and their ways, and of several sets of routes that may fire, the word settles one; which one is not promised.
+    /// `NoMemory`: memory ran out.
     pub fn choose_move(
         &self,
         class: &Class,
@@ -172,13 +194,13 @@ impl Object {
     /// Whether no entry of the object but a post may come next. `waiting`: whether a signal that is not deferred waits.
     pub fn quiet(&self, class: &Class, waiting: bool) -> bool
         requires class { IsBuiltClass class.now }
+        requires stands { Stands class.now self.now }
         // A signal is handed in where one waits.
         ensures { (J : List AnEntry) (signal : Option Signal) → StandsAfter class.now J self.now
             → IsHandedIn waiting signal
             → MatchBool result (IsQuiet class.now self.now signal J) (HasNext class.now self.now signal J) }
     {
-        let _ = class;
-        self.situation.is_at_rest() && !waiting
+        self.situation.is_quiet(&class.machine, waiting)
     }
 
     /// Whether the object defers the signal that waits: a State that is active defers it, and no route that the signal
@@ -197,7 +219,7 @@ impl Object {
     pub fn run_task(&self, alloc: Global, class: &Class, task: Task) -> Result<Entry, NoMemory>
         requires class { IsBuiltClass class.now }
         requires stands { Stands class.now self.now }
-        requires ready { Contains (ready_tasks self.now) task }
+        requires ready { Contains (ready_tasks class.now.machine self.now) task }
         ensures does { IfOk result (Does self.now.own task) }
         ensures places { IfOk result (NamesPlaces class.now.machine) }
         ensures follows { IfOk result (MayCome class.now self.now None) }

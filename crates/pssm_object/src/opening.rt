@@ -1,39 +1,44 @@
-//! By which way a region opens by default.
-ghost use Rattle.std.specs.Prelude.{◌≡◌, ◌↔◌, ◌<◌, IsTrue, IfOk, length};
+//! By which way a region opens by default, where the variables and the parameters have these values.
+ghost use Rattle.std.specs.Prelude.{◌↔◌, ◌<◌, IsTrue, IfOk, length};
 ghost use Rattle.pssm_model.specs.BuiltMachine.{IsBuiltMachine};
 ghost use Rattle.pssm_model.specs.Forest.{HasKind};
 ghost use Rattle.pssm_model.specs.declared.elements.VertexKind.TheVariants as kinds;
-ghost use Rattle.pssm_model.specs.Legs.{Leaves};
 ghost use Rattle.pssm_model.specs.Paths.{IsInitialOf};
 ghost use Rattle.pssm_semantics.specs.Known.{IsRouteOf, IsWayOf};
-ghost use Rattle.pssm_model.specs.declared.ids.VertexId.{VertexId};
-ghost use Rattle.pssm_object.specs.inner.Firing.{IsDefaultWay};
+ghost use Rattle.pssm_object.specs.inner.Firing.{IsWayFrom, IsDefaultWay};
 
-use crate::routes::{single_route, single_start};
-use pssm_model::{How, Machine, Owner, RegionId, Route, TransId, VertexId, VertexKind};
+use crate::routes::{goes_on_by, route_from};
+use pssm_model::{How, Machine, Owner, RegionId, Route, VertexId, VertexKind};
+use pssm_semantics::{Args, Class};
 use std::alloc::{AllocError as NoMemory, Global};
 
 /// Whether the way is one by which the region opens by default (UML 2.5.1, 14.2.3.2; by none this profile's choice).
-pub fn opens_by(machine: &Machine, r: RegionId, how: &How) -> bool
-    requires region { r.0 < length machine.now.regions }
-    requires way { IsWayOf machine.now how.now }
-    ensures { IsTrue result ↔ IsDefaultWay machine.now r how.now }
+pub fn opens_by(class: &Class, store: &[i64], params: &Args, r: RegionId, how: &How) -> bool
+    requires built { IsBuiltMachine class.now.machine }
+    requires region { r.0 < length class.now.machine.regions }
+    requires way { IsWayOf class.now.machine how.now }
+    ensures { IsTrue result ↔ IsDefaultWay class.now store.now params.now r how.now }
 {
     match how {
-        How::By(route) => begins_in(machine, r, route),
-        How::Nothing => machine.initials_of(r).is_empty(),
+        How::By(route) => begins_in(class, store, params, r, route),
+        How::Nothing => class.machine.initials_of(r).is_empty(),
         How::Restore(_) => false,
     }
 }
 
-// Whether the route is one transition out of an initial vertex of the region.
-fn begins_in(machine: &Machine, r: RegionId, route: &Route) -> bool
-    requires { IsRouteOf machine.now route.now }
-    ensures { IsTrue result ↔ IsDefaultWay machine.now r (How.By route.now) }
+// Whether a step goes on by the route from an initial vertex of the region.
+fn begins_in(class: &Class, store: &[i64], params: &Args, r: RegionId, route: &Route) -> bool
+    requires built { IsBuiltMachine class.now.machine }
+    requires route { IsRouteOf class.now.machine route.now }
+    ensures { IsTrue result ↔ IsDefaultWay class.now store.now params.now r (How.By route.now) }
 {
-    match single_start(route) {
-        Some(t) => is_initial_of(machine, r, machine.source(t)),
-        None => false,
+    match route.starts.as_slice() {
+        [start] => {
+            let origin = class.machine.source(*start);
+            is_initial_of(&class.machine, r, origin)
+                && goes_on_by(class, store, params, origin, route)
+        }
+        _ => false,
     }
 }
 
@@ -46,27 +51,39 @@ fn is_initial_of(machine: &Machine, r: RegionId, v: VertexId) -> bool
     vertex.kind == VertexKind::Initial && vertex.owner == Owner::Region(r)
 }
 
-/// The way by which the region opens by default.
-pub fn default_way(alloc: Global, machine: &Machine, r: RegionId) -> Result<How, NoMemory>
-    requires built { IsBuiltMachine machine.now }
-    requires region { r.0 < length machine.now.regions }
-    ensures { IfOk result (λ how. IsDefaultWay machine.now r how) }
+/// A way by which the region opens by default; of several the word settles one.
+///
+/// `NoMemory`: memory ran out.
+pub fn default_way(
+    alloc: Global,
+    class: &Class,
+    store: &[i64],
+    params: &Args,
+    r: RegionId,
+    word: u64,
+) -> Result<How, NoMemory>
+    requires built { IsBuiltMachine class.now.machine }
+    requires region { r.0 < length class.now.machine.regions }
+    ensures { IfOk result (IsDefaultWay class.now store.now params.now r) }
 {
-    match machine.initials_of(r) {
+    match class.machine.initials_of(r) {
         [] => Ok(How::Nothing),
-        [v, ..] => Ok(How::By(single_route(alloc, first_out(machine, *v))?)),
+        [v, ..] => Ok(How::By(from_initial(alloc, class, store, params, *v, word)?)),
     }
 }
 
-// The transition out of an initial vertex.
-fn first_out(machine: &Machine, v: VertexId) -> TransId
-    requires built { IsBuiltMachine machine.now }
-    requires vertex { v.0 < length machine.now.vertices }
-    requires initial { HasKind machine.now v kinds.Initial }
-    ensures { Leaves machine.now result v }
+// A route by which a step goes on from the initial vertex.
+fn from_initial(
+    alloc: Global,
+    class: &Class,
+    store: &[i64],
+    params: &Args,
+    v: VertexId,
+    word: u64,
+) -> Result<Route, NoMemory>
+    requires built { IsBuiltMachine class.now.machine }
+    requires initial { HasKind class.now.machine v kinds.Initial }
+    ensures { IfOk result (IsWayFrom class.now store.now params.now v) }
 {
-    match machine.outgoing(v) {
-        [t, ..] => *t,
-        [] => unreachable!(),
-    }
+    route_from(alloc, class, store, params, v, word)
 }

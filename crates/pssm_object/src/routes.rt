@@ -1,26 +1,56 @@
-//! Routes of one transition, by which regions open.
-ghost use Rattle.std.specs.Prelude.{◌≡◌, MatchOption, IfOk};
-ghost use Rattle.pssm_model.specs.Routes.{single_route};
+//! Routes by which a step goes on within itself, where the variables and the parameters have these values.
+ghost use Rattle.std.specs.Prelude.{◌↔◌, IsTrue, IfOk};
+ghost use Rattle.pssm_model.specs.BuiltMachine.{IsBuiltMachine};
+ghost use Rattle.pssm_model.specs.FiringSets.{IsLateOrigin};
+ghost use Rattle.pssm_model.specs.Paths.{HasOut};
+ghost use Rattle.pssm_object.specs.inner.Firing.{IsWayFrom};
 
-use pssm_model::{Route, Row, TransId};
+use crate::firing::is_true;
+use pssm_model::{GuardId, Route, VertexId};
+use pssm_routes::{check_late, pick_late};
+use pssm_semantics::{Args, Class};
 use std::alloc::{AllocError as NoMemory, Global};
 
-/// The transition of a route that is no more than one.
-pub fn single_start(route: &Route) -> Option<TransId>
-    ensures { MatchOption result ((t : TransId) → route.now ≡ single_route t → ⊥) (λ t. route.now ≡ single_route t) }
+/// Whether a step goes on by the route from the vertex: an initial vertex or a choice.
+pub fn goes_on_by(
+    class: &Class,
+    store: &[i64],
+    params: &Args,
+    origin: VertexId,
+    route: &Route,
+) -> bool
+    requires built { IsBuiltMachine class.now.machine }
+    ensures { IsTrue result ↔ IsWayFrom class.now store.now params.now origin route.now }
 {
-    match (route.starts.as_slice(), route.rest.as_slice()) {
-        ([start], []) => Some(*start),
-        _ => None,
-    }
+    check_late(
+        &class.machine,
+        &|guard: GuardId| is_true(class, guard, store, params),
+        origin,
+        route,
+    )
 }
 
-/// The route that is this transition and no more.
-pub fn single_route(alloc: Global, transition: TransId) -> Result<Route, NoMemory>
-    ensures { IfOk result (λ route. route ≡ single_route transition) }
+/// A route by which a step goes on from the vertex; of several the word settles one.
+///
+/// `NoMemory`: memory ran out.
+pub fn route_from(
+    alloc: Global,
+    class: &Class,
+    store: &[i64],
+    params: &Args,
+    origin: VertexId,
+    word: u64,
+) -> Result<Route, NoMemory>
+    requires built { IsBuiltMachine class.now.machine }
+    requires origin { IsLateOrigin class.now.machine origin }
+    requires out { HasOut class.now.machine origin }
+    ensures { IfOk result (IsWayFrom class.now store.now params.now origin) }
 {
-    Ok(Route {
-        starts: Row::from_vec(vec![in alloc; transition]?),
-        rest: Row::from_vec(Vec::new(alloc)),
-    })
+    pick_late(
+        alloc,
+        &class.machine,
+        &|guard: GuardId| is_true(class, guard, store, params),
+        origin,
+        word,
+    )
 }

@@ -1,4 +1,5 @@
 //! What an object keeps.
+use crate::queue::Queue;
 use pssm_config::Config;
 use pssm_plan::Plan;
 use pssm_semantics::{Args, ObjectId};
@@ -16,4 +17,8 @@ pub struct Situation {
     pub store: Vec<i64>,
     /// The parameters of the last step, eight numbers.
     pub params: Args,
+    /// The completion queue.
+    pub queue: Queue,
+    /// Whether it has ended.
+    pub ended: bool,
 }

@@ -1,23 +1,25 @@
 //! Where an object stands once one more entry of it has come that may follow.
-ghost use Rattle.std.specs.Prelude.{◌≡◌, ◌<◌, length, Contains, IfOk, OnOk, OnErr, Option, Some};
+ghost use Rattle.std.specs.Prelude.{◌≡◌, length, IfOk, OnOk, OnErr, Some};
 ghost use Rattle.std.specs.Option.{option_copied};
 ghost use Rattle.pssm_model.specs.BuiltMachine.{IsBuiltMachine};
 ghost use Rattle.pssm_model.specs.Changes.{Agree};
-ghost use Rattle.pssm_model.specs.declared.steps.Route.{Route};
-ghost use Rattle.pssm_model.specs.Routes.{IsStateRoute};
 ghost use Rattle.pssm_config.specs.Tables.{Fits, configuration_of};
 ghost use Rattle.pssm_plan.specs.Steadiness.{changed_by_item};
 ghost use Rattle.pssm_semantics.specs.Built.{IsBuiltClass};
 ghost use Rattle.pssm_semantics.specs.Arguments.{ActArgsFit};
 ghost use Rattle.pssm_semantics.specs.Values.{outcome_of};
-ghost use Rattle.pssm_object.specs.inner.Working.{act_for};
+ghost use Rattle.pssm_object.specs.inner.Queueing.{QueueFits};
+ghost use Rattle.pssm_object.specs.inner.Working.{HasPlace, act_for};
+ghost use Rattle.pssm_object.specs.inner.Doing.{IsNextHere};
 ghost use Rattle.pssm_object.specs.inner.Situations.{standing_of};
-ghost use Rattle.pssm_object.specs.inner.Advancing.{CanRun, HasRunOn, HasFired, CanChange, CanTake, CanFollow, CanRunHere, RunsHere, WorksHere, Takes, Advances};
+ghost use Rattle.pssm_object.specs.inner.Advancing.{CanRun, HasRunOn, HasFired, CanChange, AreStateRoutes, CanTake, CanFollow, CanRunHere, Settles, RunsHere, WorksHere, StepsHere, Takes, Dispatches, Advances};
 
+use crate::ending::ends_by;
+use crate::queue::{due_by, due_of};
 use crate::situation::Situation;
-use crate::working::{renew_params, stated_act};
+use crate::working::{clear_params, renew_params, stated_act};
 use pssm_config::Config;
-use pssm_model::{Firing, How, Item, Machine};
+use pssm_model::{Duplicate, Firing, How, Item, Machine, Route, VertexId};
 use pssm_plan::Plan;
 use pssm_pool::Waiting;
 use pssm_semantics::{Act, Class, Entry};
@@ -36,18 +38,23 @@ impl Situation {
     ) -> Result<(), NoMemory>
         requires class { IsBuiltClass class.now }
         requires fits { Fits class.now.machine self.old.config }
+        requires room { QueueFits class.now.machine self.old.queue }
         requires eight { length self.old.params ≡ 8 }
-        requires follows { CanFollow class.now.machine self.old.plan self.old.config (option_copied signal) entry.now }
+        requires follows { CanFollow class.now (standing_of self.old) (option_copied signal) entry.now }
         ensures ok { OnOk result (Advances class.now (standing_of self.old) (option_copied signal.entry) entry.now
             (standing_of self.new)) }
         ensures err { OnErr result (standing_of self.new ≡ standing_of self.old) }
     {
         match entry {
+            Entry::Post { .. } => Ok(()),
             Entry::Start { .. } => {
                 self.plan = Some(Plan::of_start(alloc, &class.machine)?);
                 Ok(())
             }
             Entry::Take { firing, .. } => self.take(alloc, &class.machine, firing, signal),
+            Entry::Done { state, firing, .. } => {
+                self.dispatch(alloc, &class.machine, *state, firing)
+            }
             Entry::Exit { state, .. } => self.do_work(alloc, class, Item::Exit(*state)),
             Entry::Effect { transition, .. } => {
                 self.do_work(alloc, class, Item::Effect(*transition))
@@ -59,9 +66,8 @@ impl Situation {
                 how,
                 ..
             } => self.run(alloc, &class.machine, Item::Opened(*region, *mode), how),
-            Entry::Post { .. } | Entry::Done { .. } | Entry::Pick { .. } | Entry::DoStep { .. } => {
-                Ok(())
-            }
+            Entry::Pick { choice, route, .. } => self.pick(alloc, &class.machine, *choice, route),
+            Entry::DoStep { state, step, .. } => self.step_on(alloc, class, *state, *step),
         }
     }
 
@@ -89,11 +95,35 @@ impl Situation {
         Ok(())
     }
 
+    // Dispatches the completion of the first State of the queue, and begins the step of what it fires.
+    fn dispatch(
+        &mut self,
+        alloc: Global,
+        machine: &Machine,
+        state: VertexId,
+        firing: &Firing,
+    ) -> Result<(), NoMemory>
+        requires built { IsBuiltMachine machine.now }
+        requires fits { Fits machine.now self.old.config }
+        requires room { QueueFits machine.now self.old.queue }
+        requires eight { length self.old.params ≡ 8 }
+        requires routes { AreStateRoutes machine.now firing.now.routes }
+        ensures ok { OnOk result (Dispatches machine.now (standing_of self.old) state firing.now.routes
+            (standing_of self.new)) }
+        ensures err { OnErr result (standing_of self.new ≡ standing_of self.old) }
+    {
+        fire(&mut self.plan, alloc, machine, &self.config, firing)?;
+        clear_params(&mut self.params, alloc);
+        self.queue.remove(state);
+        Ok(())
+    }
+
     // Runs a ready exit, effect or entry with its behaviour.
     #[inline(always)]
     fn do_work(&mut self, alloc: Global, class: &Class, item: Item) -> Result<(), NoMemory>
         requires class { IsBuiltClass class.now }
         requires fits { Fits class.now.machine self.old.config }
+        requires room { QueueFits class.now.machine self.old.queue }
         requires can { CanRunHere class.now.machine self.old.plan self.old.config item How.Nothing }
         ensures ok { OnOk result (WorksHere class.now (standing_of self.old) item (standing_of self.new)) }
         ensures err { OnErr result (standing_of self.new ≡ standing_of self.old) }
@@ -115,6 +145,7 @@ impl Situation {
     ) -> Result<(), NoMemory>
         requires class { IsBuiltClass class.now }
         requires fits { Fits class.now.machine self.old.config }
+        requires room { QueueFits class.now.machine self.old.queue }
         requires can { CanRunHere class.now.machine self.old.plan self.old.config item How.Nothing }
         requires own { Some act.now ≡ act_for class.now item }
         requires args { ActArgsFit act.now }
@@ -136,6 +167,26 @@ impl Situation {
         worked.outcome().store.as_slice().to_vec(alloc)
     }
 
+    // Runs a ready pick by this route.
+    fn pick(
+        &mut self,
+        alloc: Global,
+        machine: &Machine,
+        choice: VertexId,
+        route: &Route,
+    ) -> Result<(), NoMemory>
+        requires built { IsBuiltMachine machine.now }
+        requires fits { Fits machine.now self.old.config }
+        requires room { QueueFits machine.now self.old.queue }
+        requires can { CanRunHere machine.now self.old.plan self.old.config (Item.Pick choice) (How.By route.now) }
+        ensures ok { OnOk result (RunsHere machine.now (standing_of self.old) (Item.Pick choice) (How.By route.now)
+            self.old.store.items (standing_of self.new)) }
+        ensures err { OnErr result (standing_of self.new ≡ standing_of self.old) }
+    {
+        let how = How::By(route.duplicate(alloc)?);
+        self.run(alloc, machine, Item::Pick(choice), &how)
+    }
+
     // Runs a ready item in one of its ways, and changes the configuration as it does.
     fn run(
         &mut self,
@@ -146,12 +197,51 @@ impl Situation {
     ) -> Result<(), NoMemory>
         requires built { IsBuiltMachine machine.now }
         requires fits { Fits machine.now self.old.config }
+        requires room { QueueFits machine.now self.old.queue }
         requires can { CanRunHere machine.now self.old.plan self.old.config item how.now }
-        ensures ok { OnOk result (RunsHere machine.now (standing_of self.old) item how.now (standing_of self.new)) }
+        ensures ok { OnOk result (RunsHere machine.now (standing_of self.old) item how.now self.old.store.items
+            (standing_of self.new)) }
         ensures err { OnErr result (standing_of self.new ≡ standing_of self.old) }
     {
         run_item(&mut self.plan, alloc, machine, item, how)?;
+        self.settle(machine, item, how);
+        Ok(())
+    }
+
+    // Changes the configuration as the item does that runs in this way, and brings on the queue and the end.
+    fn settle(&mut self, machine: &Machine, item: Item, how: &How)
+        requires built { IsBuiltMachine machine.now }
+        requires fits { Fits machine.now self.old.config }
+        requires room { QueueFits machine.now self.old.queue }
+        requires can { CanChange machine.now (configuration_of self.old.config) item }
+        requires place { HasPlace machine.now item }
+        ensures settled { Settles machine.now (standing_of self.old) item how.now (standing_of self.new) }
+        ensures plan { self.new.plan ≡ self.old.plan }
+    {
+        let due = due_by(machine, &self.config, item, how);
         change(&mut self.config, machine, item, how);
+        self.queue.settle_by(machine, &self.config, item, due);
+        self.ended = ends_by(machine, &self.config, item);
+    }
+
+    // Does the next do step of an active State with its behaviour, and brings on the queue.
+    fn step_on(
+        &mut self,
+        alloc: Global,
+        class: &Class,
+        state: VertexId,
+        step: u16,
+    ) -> Result<(), NoMemory>
+        requires class { IsBuiltClass class.now }
+        requires fits { Fits class.now.machine self.old.config }
+        requires room { QueueFits class.now.machine self.old.queue }
+        requires next { IsNextHere class.now.machine self.old.config state step }
+        ensures ok { OnOk result (StepsHere class.now (standing_of self.old) state step (standing_of self.new)) }
+        ensures err { OnErr result (standing_of self.new ≡ standing_of self.old) }
+    {
+        let due = due_of(&class.machine, &self.config, None, Some(state));
+        self.do_step(alloc, class, state, step)?;
+        self.queue.settle(&class.machine, &self.config, None, due);
         Ok(())
     }
 }
@@ -166,7 +256,7 @@ fn fire(
 ) -> Result<(), NoMemory>
     requires built { IsBuiltMachine machine.now }
     requires fits { Fits machine.now config.now }
-    requires routes { (route : Route) → Contains firing.now.routes route → IsStateRoute machine.now route }
+    requires routes { AreStateRoutes machine.now firing.now.routes }
     ensures ok { OnOk result (HasFired machine.now config.now firing.now.routes plan.new) }
     ensures err { OnErr result (plan.new ≡ plan.old) }
 {

@@ -1,10 +1,112 @@
-//! The ready tasks of a plan.
-ghost use Rattle.std.specs.Prelude.{◌≡◌, ◌<◌, length, slice_get, Some, if◌then◌else◌, is_some};
-ghost use Rattle.pssm_object.specs.Tasks.{task_of as task_by, tasks_of_plan};
+//! The ready tasks of an object.
+ghost use Rattle.std.specs.Prelude.{◌≡◌, ◌≤◌, ◌<◌, ◌+◌, ◌-◌, ◌↔◌, length, slice_get, Some, IsTrue, IfSome, if◌then◌else◌, is_some};
+ghost use Rattle.pssm_config.specs.Tables.{Fits};
+ghost use Rattle.pssm_object.specs.Doing.{do_tasks};
+ghost use Rattle.pssm_object.specs.Tasks.{task_of as task_by, tasks_of_plan, ready_tasks};
+ghost use Rattle.pssm_plan.specs.Plans.{IsPlanOf};
+ghost use Rattle.pssm_object.specs.inner.Situations.{standing_of};
+ghost use Rattle.pssm_object.specs.inner.Choosing.{HasNothingLeft, IsStill};
 
-use pssm_model::Item;
+use crate::doing::{count_do_tasks, nth_do_task};
+use crate::situation::Situation;
+use pssm_model::{Item, Machine};
 use pssm_plan::Plan;
 use pssm_semantics::Task;
+
+impl Situation {
+    /// How many tasks of the object are ready.
+    pub fn count_tasks(&self, machine: &Machine) -> u32
+        requires fits { Fits machine.now self.now.config }
+        requires few { length (ready_tasks machine.now (standing_of self.now)) < 4294967296 }
+        ensures { result ≡ length (ready_tasks machine.now (standing_of self.now)) }
+    {
+        if self.ended {
+            0
+        } else {
+            self.count_all(machine)
+        }
+    }
+
+    // How many tasks of its step and do steps are ready.
+    fn count_all(&self, machine: &Machine) -> u32
+        requires fits { Fits machine.now self.now.config }
+        requires few { length (tasks_of_plan self.now.plan) + length (do_tasks machine.now self.now.config) < 4294967296 }
+        ensures { result ≡ length (tasks_of_plan self.now.plan) + length (do_tasks machine.now self.now.config) }
+    {
+        self.count_in_step() + count_do_tasks(machine, &self.config)
+    }
+
+    // How many tasks of its step are ready.
+    fn count_in_step(&self) -> u32
+        ensures { result ≡ length (tasks_of_plan self.now.plan) }
+    {
+        match &self.plan {
+            Some(plan) => count_tasks(plan),
+            None => 0,
+        }
+    }
+
+    /// The ready task with a number.
+    pub fn nth_task(&self, machine: &Machine, i: u32) -> Task
+        requires fits { Fits machine.now self.now.config }
+        requires there { i < length (ready_tasks machine.now (standing_of self.now)) }
+        ensures { slice_get (ready_tasks machine.now (standing_of self.now)) i ≡ Some result }
+    {
+        if self.is_in_step(i) {
+            self.nth_in_step(i)
+        } else {
+            self.nth_doing(machine, i)
+        }
+    }
+
+    // Whether the task with a number is one of its step.
+    fn is_in_step(&self, i: u32) -> bool
+        ensures { IsTrue result ↔ (i < length (tasks_of_plan self.now.plan)) }
+    {
+        i < self.count_in_step()
+    }
+
+    // The do step with a number that counts the tasks of its step too.
+    fn nth_doing(&self, machine: &Machine, i: u32) -> Task
+        requires fits { Fits machine.now self.now.config }
+        requires past { length (tasks_of_plan self.now.plan) ≤ i }
+        requires there { i - length (tasks_of_plan self.now.plan) < length (do_tasks machine.now self.now.config) }
+        ensures { slice_get (do_tasks machine.now self.now.config) (i - length (tasks_of_plan self.now.plan)) ≡ Some result }
+    {
+        nth_do_task(machine, &self.config, i - self.count_in_step())
+    }
+
+    // The ready task of its step with a number.
+    fn nth_in_step(&self, i: u32) -> Task
+        requires { i < length (tasks_of_plan self.now.plan) }
+        ensures { slice_get (tasks_of_plan self.now.plan) i ≡ Some result }
+    {
+        match &self.plan {
+            Some(plan) => nth_task(plan, i),
+            None => unreachable!(),
+        }
+    }
+
+    /// Whether no entry of the object but a post may come next.
+    pub fn is_quiet(&self, machine: &Machine, waiting: bool) -> bool
+        requires fits { Fits machine.now self.now.config }
+        requires plan { IfSome self.now.plan (IsPlanOf machine.now) }
+        ensures { IsTrue result ↔ IsStill machine.now (standing_of self.now) waiting }
+    {
+        self.ended || (!waiting && self.has_nothing_left(machine))
+    }
+
+    // Whether its step is finished, no completion waits and no do step is left.
+    fn has_nothing_left(&self, machine: &Machine) -> bool
+        requires fits { Fits machine.now self.now.config }
+        requires plan { IfSome self.now.plan (IsPlanOf machine.now) }
+        ensures { IsTrue result ↔ HasNothingLeft machine.now (standing_of self.now) }
+    {
+        self.is_at_rest()
+            && self.queue.first().is_none()
+            && count_do_tasks(machine, &self.config) == 0
+    }
+}
 
 // The task that an item is, if it is one.
 fn task_of(item: Item) -> Option<Task>
@@ -18,8 +120,8 @@ fn task_of(item: Item) -> Option<Task>
     }
 }
 
-/// How many of the ready items are tasks.
-pub fn count_tasks(plan: &Plan) -> u32
+// How many of the ready items are tasks.
+fn count_tasks(plan: &Plan) -> u32
     ensures { result ≡ length (tasks_of_plan (Some plan.now)) }
 {
     let mut count = 0;
@@ -31,8 +133,8 @@ pub fn count_tasks(plan: &Plan) -> u32
     count
 }
 
-/// The ready task with a number.
-pub fn nth_task(plan: &Plan, i: u32) -> Task
+// The ready task of the plan with a number.
+fn nth_task(plan: &Plan, i: u32) -> Task
     requires { i < length (tasks_of_plan (Some plan.now)) }
     ensures { slice_get (tasks_of_plan (Some plan.now)) i ≡ Some result }
 {

@@ -1,7 +1,7 @@
 //! The behaviours of exits, effects and entries, and what they make.
 ghost use Rattle.std.specs.Prelude.{◌≡◌, ◌≤◌, ◌<◌, length, Option, Some, IfOk, IfSome, IfNone};
 ghost use Rattle.std.specs.Option.{option_copied};
-ghost use Rattle.pssm_semantics.specs.Values.{eight_of};
+ghost use Rattle.pssm_semantics.specs.Values.{eight_of, no_params};
 ghost use Rattle.pssm_semantics.specs.Behaviours.{act_at as behaviour_at};
 ghost use Rattle.pssm_semantics.specs.Built.{IsBuiltClass};
 ghost use Rattle.pssm_object.specs.inner.Situations.{standing_of};
@@ -67,6 +67,17 @@ pub fn renew_params(params: &mut Args, alloc: Global, args: &Args)
     let old = mem::replace(params, Args::from_vec(Vec::new(alloc)));
     let mut values = old.into_vec();
     overwrite(values.as_mut_slice(), args.as_slice());
+    *params = Args::from_vec(values);
+}
+
+/// The parameters become eight zeros.
+pub fn clear_params(params: &mut Args, alloc: Global)
+    requires { length params.old ≡ 8 }
+    ensures { params.new ≡ no_params }
+{
+    let old = mem::replace(params, Args::from_vec(Vec::new(alloc)));
+    let mut values = old.into_vec();
+    values.as_mut_slice().copy_from_slice(&[0; 8]);
     *params = Args::from_vec(values);
 }
 

@@ -25,7 +25,7 @@ use Rattle.pssm_plan.specs.inner.Calling.{IsOpeningOf, IsOfRestored, IsRestoredO
 use Rattle.pssm_plan.specs.inner.Sequence.{IsOpenedBySome, IsExtended}
 use Rattle.pssm_plan.proofs.Taken.{taken_cases}
 use Rattle.pssm_plan.proofs.Growing.{HasGrown, AddedWhere, AddedBy, grown_by_one}
-use Rattle.pssm_plan.proofs.CalledPlaces.{region_owned_there, exit_there, effect_there, enter_there, opening_there, pick_there}
+use Rattle.pssm_plan.proofs.CalledPlaces.{region_owned_there, exit_there, effect_there, enter_there, opening_there}
 
 -- the items of a number
 abbrev pub exit_of : ℕ → Item
@@ -39,9 +39,6 @@ entry_of n = let s : VertexId = record { 0 = n } in Enter s
 
 abbrev pub opening_of : Mode → ℕ → Item
 opening_of mode n = let r : RegionId = record { 0 = n } in Opened r mode
-
-abbrev pub pick_of : ℕ → Item
-pick_of n = let c : VertexId = record { 0 = n } in Pick c
 
 -- those of the lower numbers that a way calls
 abbrev pub CalledBelow : DraftMachine → Way → (ℕ → Item) → ℕ → Item → Type 0
@@ -80,12 +77,6 @@ module _ (m : DraftMachine) (way : Way) (n : ℕ) (x : Item) where
   openings_all shape mode all = (
     λ h. (record { 0 = h.0 }, h.2.0, subst (calls_by m way) (sym h.2.0) h.2.1),
     λ h. let c = subst (calls_by m way) h.1 h.2 in let there = opening_there m way shape mode h.0 c in (h.0.0, omega (arith, there, all), (h.1, c)),
-  )
-
-  pub picks_all : length m.vertices ≤ n → CalledBelow m way pick_of n x ↔ IsPickBy m way x
-  picks_all all = (
-    λ h. (record { 0 = h.0 }, h.2.0, subst (calls_by m way) (sym h.2.0) h.2.1),
-    λ h. let c = subst (calls_by m way) h.1 h.2 in let there = pick_there m way h.0 c in (h.0.0, omega (arith, there, all), (h.1, c)),
   )
 
   pub reopened_all : (calls : List Call) → length m.regions ≤ n → ReopenedBelow m calls way n x ↔ IsReopened m calls way x

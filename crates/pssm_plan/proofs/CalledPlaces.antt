@@ -13,7 +13,7 @@ use Rattle.pssm_model.specs.declared.elements.Owner.{Owner}
 use Rattle.pssm_model.specs.declared.elements.Owner.TheVariants.{Region, State}
 use Rattle.pssm_model.specs.declared.steps.Mode.{Mode}
 use Rattle.pssm_model.specs.declared.steps.Mode.TheVariants.{Plain, Shallow, Deep}
-use Rattle.pssm_model.specs.declared.steps.Item.TheVariants.{Exit, Effect, Enter, Opened, Pick}
+use Rattle.pssm_model.specs.declared.steps.Item.TheVariants.{Exit, Effect, Enter, Opened}
 use Rattle.pssm_model.specs.Forest.{HasKind, owner_of, vertex_at}
 use Rattle.pssm_model.specs.Shapes.{HasShape, OwnsVertex}
 use Rattle.pssm_model.specs.SingleLegs.{HasSingleLegs}
@@ -88,7 +88,3 @@ module _ (m : DraftMachine) (way : Way) where
       ⊎_elim (λ b. absurd b) (λ e. ⊎_elim (λ it. owner_there m shape it.0 r it.3) (λ b. absurd b) e) h.2
   opening_there shape Deep r h =
       ⊎_elim (λ b. absurd b) (λ e. ⊎_elim (λ it. owner_there m shape it.0 r it.3) (λ b. absurd b) e) h.2
-
-  pub pick_there : (c : VertexId) → calls_by m way (Pick c) → c.0 < length m.vertices
-  pick_there c h =
-      ⊎_elim (λ b. absurd b) (λ e. ⊎_elim (λ it. kind_there m c kinds.Choice it.1) (λ b. absurd b) e) h.2

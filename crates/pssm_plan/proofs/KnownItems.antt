@@ -24,7 +24,7 @@ use Rattle.pssm_model.specs.Items.PathBefore.{after}
 use Rattle.pssm_model.specs.Nested.{IsPlainlyNested}
 use Rattle.pssm_model.specs.Order.{IsReady, IsAtOrBefore, HasReadyAtOrBefore, KnownConfiguration, known_course, IsNestedStep}
 use Rattle.pssm_model.specs.Routes.{IsRoute}
-use Rattle.pssm_plan.specs.inner.OverRoutes.{GoesByRoutes, LiesInArea, GoesBy, IsEnteredBy, IsEnteredOver, OpensBeside, IsOpenedOver, IsCalledOver, IsOrderedOver}
+use Rattle.pssm_plan.specs.inner.OverRoutes.{GoesByRoutes, LiesInArea, GoesBy, IsEnteredBy, IsEnteredOver, EndsOnChoice, IsPickedOver, OpensBeside, IsOpenedOver, IsCalledOver, IsOrderedOver}
 use Rattle.pssm_model.specs.declared.steps.Mode.TheVariants.{Plain, Shallow, Deep}
 use Rattle.pssm_model.proofs.ElementLaws.{mapped_some}
 use Rattle.pssm_model.proofs.StateRoutes.{start_of}
@@ -32,18 +32,17 @@ use Rattle.pssm_model.proofs.OverJunctions.{single_legs}
 use Rattle.pssm_plan.proofs.Depths.{owner_under}
 use Rattle.pssm_plan.proofs.RouteItems.{called_is, called_of, before_is, before_of}
 use Rattle.pssm_plan.proofs.RoutePaths.{path_begins_on, path_ends_on, no_round_path, path_order}
-use Rattle.pssm_plan.proofs.RouteCourses.{area_there}
+use Rattle.pssm_plan.proofs.RouteCourses.{area_there, entered_there}
 use Rattle.pssm_plan.proofs.Known.{Known, known_as, known_both, known_either, known_not, known_below, known_among, known_inside, known_transition}
-use Rattle.pssm_plan.proofs.KnownPlaces.{known_in_state, known_in_area, known_entered, known_beside}
+use Rattle.pssm_plan.proofs.KnownPlaces.{known_in_state, known_in_area, known_entered, known_choice, known_beside}
 use Rattle.pssm_plan.proofs.RouteSteps.{gone_by_routes}
 use Rattle.pssm_plan.proofs.Known.{run_known}
 use Rattle.pssm_plan.proofs.RouteReady.{ready_at_or_before, nothing_ready}
 
--- an opening of a history or a pick, which is in no order with the others
+-- an opening of a history, which is in no order with the others
 abbrev IsUnordered : Item → Type 0
 IsUnordered (items.Opened r Shallow) = Unit {0}
 IsUnordered (items.Opened r Deep) = Unit {0}
-IsUnordered (items.Pick c) = Unit {0}
 IsUnordered _ = ⊥
 
 -- the vertex of a number
@@ -134,6 +133,14 @@ module _ {m : DraftMachine} (nested : IsPlainlyNested m) (shape : HasShape m) (c
       (λ h. (h.0, (h.1, h.2)))
       (λ h. (h.0, h.1.0, h.1.1))
       (known_over_some (λ p. IsEnteredBy m p s) (λ p. known_entered shape p s))
+
+  -- and which picks
+  pub known_pick : (c : VertexId) → Known (IsCalledOver m course (items.Pick c))
+  known_pick c =
+      known_as
+      (λ h. (h.0, (h.1, h.2)))
+      (λ h. (h.0, h.1.0, h.1.1))
+      (known_over_some (λ p. EndsOnChoice m p c) (λ p. known_choice shape p c))
 
   known_run : (item : Item) → Known (HasRun course item)
   known_run item = run_known course item
@@ -243,6 +250,32 @@ module _ {m : DraftMachine} (nested : IsPlainlyNested m) (shape : HasShape m) (c
       (λ h. (h.0, h.1.0, (h.1.1, h.2)))
       (known_over_some (λ p. OpensBeside m p r × HasUnrun p) (λ p. known_both (known_beside shape p r) (known_unrun p)))
 
+  -- an effect and an entry for which a pick waits
+  known_pick_effect : (c : VertexId) → Known ((p : Route) × IsPickedOver m course p c × HasUnrun p)
+  known_pick_effect c =
+      known_as
+      (λ h. (h.0, (h.1, h.2.0), h.2.1))
+      (λ h. (h.0, h.1.0, (h.1.1, h.2)))
+      (known_over_some (λ p. EndsOnChoice m p c × HasUnrun p) (λ p. known_both (known_choice shape p c) (known_unrun p)))
+
+  known_enter_before : (s c : VertexId) → Known (IsOrderedOver m course (items.Enter s) (items.Pick c))
+  known_enter_before s c =
+      known_as
+      (λ h. (h.0, (h.1, h.2.0), h.2.1))
+      (λ h. (h.0, h.1.0, (h.1.1, h.2)))
+      (known_over_some (λ p. EndsOnChoice m p c × IsEnteredBy m p s) (λ p. known_both (known_choice shape p c) (known_entered shape p s)))
+
+  known_pick_enter : (c : VertexId)
+      → Known ((s : VertexId) × IsOrderedOver m course (items.Enter s) (items.Pick c) × (HasRun course (items.Enter s) → ⊥))
+  known_pick_enter c =
+      known_as
+      (λ h. (h.0, h.1.0, h.1.1))
+      (λ h. (h.0, (h.1, h.2)))
+      (known_vertex_some
+      (λ s. IsOrderedOver m course (items.Enter s) (items.Pick c) × (HasRun course (items.Enter s) → ⊥))
+      (λ s h. entered_there m shape h.0.0 s h.0.2)
+      (λ s. known_both (known_enter_before s c) (known_not (known_run (items.Enter s)))))
+
   known_outer_enter : (q : VertexId)
       → Known ((s : VertexId) × LiesInState m q s × IsCalledOver m course (items.Enter s) × (HasRun course (items.Enter s) → ⊥))
   known_outer_enter q =
@@ -302,6 +335,15 @@ module _ {m : DraftMachine} (nested : IsPlainlyNested m) (shape : HasShape m) (c
   no_opening_before r none (items.Opened q mode) h called not = h
   no_opening_before r none (items.Pick c) h called not = h
 
+  no_pick_before : (c : VertexId) → ((p : Route) × IsPickedOver m course p c × HasUnrun p → ⊥)
+      → ((s : VertexId) × IsOrderedOver m course (items.Enter s) (items.Pick c) × (HasRun course (items.Enter s) → ⊥) → ⊥)
+      → (x : Item) → IsOrderedOver m course x (items.Pick c) → IsCalledOver m course x → (HasRun course x → ⊥) → ⊥
+  no_pick_before c no_effect no_enter (items.Effect t) h called not = no_effect (h.0, h.1, (t, h.2, not))
+  no_pick_before c no_effect no_enter (items.Enter s) h called not = no_enter (s, h, not)
+  no_pick_before c no_effect no_enter (items.Exit s) h called not = h
+  no_pick_before c no_effect no_enter (items.Opened r mode) h called not = h
+  no_pick_before c no_effect no_enter (items.Pick v) h called not = h
+
   nothing_before : (y x : Item) → IsUnordered y → IsOrderedOver m course x y → ⊥
   nothing_before (items.Opened r Shallow) (items.Exit s) is h = h
   nothing_before (items.Opened r Shallow) (items.Effect t) is h = h
@@ -314,11 +356,7 @@ module _ {m : DraftMachine} (nested : IsPlainlyNested m) (shape : HasShape m) (c
   nothing_before (items.Opened r Deep) (items.Opened q way) is h = h
   nothing_before (items.Opened r Deep) (items.Pick c) is h = h
   nothing_before (items.Opened r Plain) x is h = is
-  nothing_before (items.Pick c) (items.Exit s) is h = h
-  nothing_before (items.Pick c) (items.Effect t) is h = h
-  nothing_before (items.Pick c) (items.Enter s) is h = h
-  nothing_before (items.Pick c) (items.Opened q way) is h = h
-  nothing_before (items.Pick c) (items.Pick v) is h = h
+  nothing_before (items.Pick c) x is h = is
   nothing_before (items.Exit s) x is h = is
   nothing_before (items.Effect t) x is h = is
   nothing_before (items.Enter s) x is h = is
@@ -368,13 +406,26 @@ module _ {m : DraftMachine} (nested : IsPlainlyNested m) (shape : HasShape m) (c
   cleared_or_waits (items.Opened r Shallow) =
       inl (cleared (items.Opened r Shallow) (λ x h called not. nothing_before (items.Opened r Shallow) x tt h))
   cleared_or_waits (items.Opened r Deep) = inl (cleared (items.Opened r Deep) (λ x h called not. nothing_before (items.Opened r Deep) x tt h))
-  cleared_or_waits (items.Pick c) = inl (cleared (items.Pick c) (λ x h called not. nothing_before (items.Pick c) x tt h))
+  cleared_or_waits (items.Pick c) =
+      ⊎_elim
+      (λ on. (
+      let effect = on.2 in
+      waits_for (items.Effect effect.0) (items.Pick c) (on.0, on.1, effect.1) (on.0, on.1.0, effect.1) effect.2
+      ))
+      (λ no_effect. ⊎_elim
+      (λ on. (
+      let enter = on.1 in
+      waits_for (items.Enter on.0) (items.Pick c) enter (enter.0, (enter.1.0, enter.2)) on.2
+      ))
+      (λ no_enter. inl (cleared (items.Pick c) (no_pick_before c no_effect no_enter)))
+      (known_pick_enter c))
+      (known_pick_effect c)
 
   -- a called item that has not run has a ready item at or before it
   pub some_ready : (item : Item) → IsWaiting m course item → (x : Item) × IsReady m course x × IsAtOrBefore m course x item
   some_ready item waits = ready_at_or_before nested shape course g (λ x is. cleared_or_waits x) item waits
 
--- so it is in the steps of a machine of States in regions
+-- so it is in the steps of a plainly nested machine
 pub step_ready : (m : DraftMachine) (course : Course) → IsNestedStep m course → ((s : VertexId) → Known (course.at_head.Active s))
     → (item : Item) → IsWaiting m course item → HasReadyAtOrBefore m course item
 step_ready m course h active item waits =

@@ -1,5 +1,5 @@
 -- What lies where is known of a draft that has the shape of a machine, and so is what routes span and enter.
-use Rattle.std.proofs.Common.{◌≡◌, ◌⊎◌, ◌<◌, ℕ, List, [], ◌∷◌, length, Option, Some, None, option_map, refl, sym, ap, subst, inl, inr, ⊎_elim, ◌∙◌}
+use Rattle.std.proofs.Common.{◌≡◌, ◌⊎◌, ◌<◌, ℕ, List, [], ◌∷◌, length, Bool, true, false, rules, Option, Some, None, option_map, refl, sym, ap, subst, inl, inr, ⊎_elim, ◌∙◌}
 use Rattle.std.proofs.lemmas.Option.{slice_get_within}
 use Rattle.pssm_model.specs.declared.ids.VertexId.{VertexId}
 use Rattle.pssm_model.specs.declared.ids.RegionId.{RegionId}
@@ -9,7 +9,7 @@ use Rattle.pssm_model.specs.declared.elements.Vertex.{Vertex}
 use Rattle.pssm_model.specs.declared.elements.Transition.{Transition}
 use Rattle.pssm_model.specs.declared.elements.Owner.{Owner}
 use Rattle.pssm_model.specs.declared.elements.Owner.TheVariants.{Top, Region, State}
-use Rattle.pssm_model.specs.Forest.{vertex_at, transition_at, HasKind, owner_of, LiesUnder, LiesInRegion, LiesInState, HasRegionsAbove}
+use Rattle.pssm_model.specs.Forest.{vertex_at, transition_at, HasKind, IsStateOrFinal, owner_of, LiesUnder, LiesInRegion, LiesInState, HasRegionsAbove}
 use Rattle.pssm_model.specs.Forest.LiesUnder.{owned, further}
 use Rattle.pssm_model.specs.Forest.HasRegionsAbove.{region, state, machine}
 use Rattle.pssm_model.specs.declared.elements.VertexKind.{VertexKind}
@@ -20,8 +20,10 @@ use Rattle.pssm_model.specs.declared.steps.Route.{Route}
 use Rattle.pssm_model.specs.Legs.{Leaves, Enters, Goes, transitions_of, Scope, LiesInScope}
 use Rattle.pssm_model.specs.Legs.Scope.{Nowhere, Inside, Within}
 use Rattle.pssm_model.specs.Shapes.{HasShape}
+use Rattle.pssm_model.specs.Equal.{vertex_kind_same}
+use Rattle.pssm_model.specs.contracts.elements.VertexKindPartialEq.TheImpl.{eq-value as vertex_kind_eq}
 use Rattle.pssm_model.specs.Routes.{IsSource}
-use Rattle.pssm_plan.specs.inner.OverRoutes.{GoesAs, IsEndOf, IsSpan, IsArea, LiesInArea, EndsOn, IsPassedBy, IsEnteredBy, EndsIn, LeavesOwner, OpensBeside}
+use Rattle.pssm_plan.specs.inner.OverRoutes.{GoesAs, IsEndOf, IsSpan, IsArea, LiesInArea, EndsOn, IsPassedBy, IsEnteredBy, EndsIn, LeavesOwner, EndsOnChoice, OpensBeside}
 use Rattle.pssm_model.proofs.ElementLaws.{mapped_at, leaves_at, enters_at, kind_at}
 use Rattle.pssm_model.proofs.OwnerChains.{top_lies_nowhere, counted_is_place}
 use Rattle.pssm_model.proofs.Nesting.{under_cases, shallower}
@@ -54,26 +56,22 @@ module _ (m : DraftMachine) where
   known_owner p q = known_some (owner_of m p) q
 
   -- the kind of a vertex
-  known_is_junction : (k : VertexKind) → Known (k ≡ kinds.Junction)
-  known_is_junction kinds.Junction = inl refl
-  known_is_junction kinds.State = inr (λ e. cc)
-  known_is_junction kinds.Final = inr (λ e. cc)
-  known_is_junction kinds.Initial = inr (λ e. cc)
-  known_is_junction kinds.DeepHistory = inr (λ e. cc)
-  known_is_junction kinds.ShallowHistory = inr (λ e. cc)
-  known_is_junction kinds.Join = inr (λ e. cc)
-  known_is_junction kinds.Fork = inr (λ e. cc)
-  known_is_junction kinds.Choice = inr (λ e. cc)
-  known_is_junction kinds.EntryPoint = inr (λ e. cc)
-  known_is_junction kinds.ExitPoint = inr (λ e. cc)
-  known_is_junction kinds.Terminate = inr (λ e. cc)
+  kind_self : (k : VertexKind) → vertex_kind_eq.it k k ≡ true
+  kind_self k = search rules
 
-  known_junction : (v : VertexId) → Known (HasKind m v kinds.Junction)
-  known_junction v = by (vertex_at m v) refl
+  same_kind : (k l : VertexKind) → Known (k ≡ l)
+  same_kind k l = by (vertex_kind_eq.it k l) refl
     where
-      by : (o : Option Vertex) → vertex_at m v ≡ o → Known (HasKind m v kinds.Junction)
-      by None e = inr (λ h. let none = ap (option_map (λ (x : Vertex). x.kind)) e in let clash : HasKind m v kinds.Junction = h in cc)
-      by (Some x) e = known_as (kind_at m v x kinds.Junction e).1 (kind_at m v x kinds.Junction e).0 (known_is_junction x.kind)
+      by : (same : Bool) → vertex_kind_eq.it k l ≡ same → Known (k ≡ l)
+      by true e = inl (vertex_kind_same k l e)
+      by false e = inr (λ is. let self : vertex_kind_eq.it k l ≡ true = subst (λ x. vertex_kind_eq.it k x ≡ true) is (kind_self k) in cc)
+
+  pub known_vertex_kind : (v : VertexId) (kind : VertexKind) → Known (HasKind m v kind)
+  known_vertex_kind v kind = by (vertex_at m v) refl
+    where
+      by : (o : Option Vertex) → vertex_at m v ≡ o → Known (HasKind m v kind)
+      by None e = inr (λ h. let none = ap (option_map (λ (x : Vertex). x.kind)) e in let clash : HasKind m v kind = h in cc)
+      by (Some x) e = known_as (kind_at m v x kind e).1 (kind_at m v x kind e).0 (same_kind x.kind kind)
 
   -- what there is of a transition that is not there
   no_kind : (t : TransId) (k : TransKind) → transition_at m t ≡ None → Goes m t k → ⊥
@@ -148,7 +146,7 @@ module _ (m : DraftMachine) where
       (transitions_of p)
       (λ t inside. known_target_some
       (λ v. (HasKind m v kinds.Junction → ⊥) × P v)
-      (λ v. known_both (known_not (known_junction v)) (each v))
+      (λ v. known_both (known_not (known_vertex_kind v kinds.Junction)) (each v))
       t))
 
 module _ {m : DraftMachine} (shape : HasShape m) where
@@ -265,11 +263,21 @@ module _ {m : DraftMachine} (shape : HasShape m) where
       (known_both (known_goes_as m p External) (known_in_span p s)))
 
   -- which States it enters
+  known_state_or_final : (v : VertexId) → Known (IsStateOrFinal m v)
+  known_state_or_final v = known_either (known_vertex_kind m v kinds.State) (known_vertex_kind m v kinds.Final)
+
+  known_around : (p : Route) (s v : VertexId) → Known (LiesInArea m p s × LiesInState m v s × (HasKind m v kinds.Terminate → ⊥))
+  known_around p s v =
+      known_as
+      (λ h. (h.0, h.1.0, h.1.1))
+      (λ h. (h.0, (h.1, h.2)))
+      (known_both (known_in_area p s) (known_both (known_in_state v s) (known_not (known_vertex_kind m v kinds.Terminate))))
+
   known_passed : (p : Route) (s : VertexId) → Known (IsPassedBy m p s)
   known_passed p s =
       known_end m
-      (λ v. (v ≡ s) ⊎ (LiesInArea m p s × LiesInState m v s))
-      (λ v. known_either (known_vertex v s) (known_both (known_in_area p s) (known_in_state v s)))
+      (λ v. ((v ≡ s) × IsStateOrFinal m v) ⊎ (LiesInArea m p s × LiesInState m v s × (HasKind m v kinds.Terminate → ⊥)))
+      (λ v. known_either (known_both (known_vertex v s) (known_state_or_final v)) (known_around p s v))
       p
 
   pub known_entered : (p : Route) (s : VertexId) → Known (IsEnteredBy m p s)
@@ -281,6 +289,12 @@ module _ {m : DraftMachine} (shape : HasShape m) where
 
   known_leaves_owner : (p : Route) (r : RegionId) → Known (LeavesOwner m p r)
   known_leaves_owner p r = known_source m (λ s. owner_of m (Region r) ≡ Some (State s)) (λ s. known_owner m (Region r) (State s)) p
+
+  pub known_choice : (p : Route) (c : VertexId) → Known (EndsOnChoice m p c)
+  known_choice p c =
+      known_both
+      (known_as (λ h. subst (EndsOn m p) h.2 h.1) (λ h. (c, h, refl)) (known_end m (λ v. v ≡ c) (λ v. known_vertex v c) p))
+      (known_vertex_kind m c kinds.Choice)
 
   pub known_beside : (p : Route) (r : RegionId) → Known (OpensBeside m p r)
   known_beside p r =

@@ -10,6 +10,7 @@ pub mod Looking
 pub mod SomeWay
 pub mod BetweenWays
 pub mod NearWays
+pub mod NearItems
 pub mod Telling
 pub mod StandingItems
 pub mod ReadyCalls
@@ -31,6 +32,8 @@ pub mod ReadyOrOut
 pub mod SteadyPlaces
 pub mod SteadyApart
 pub mod SteadyItems
+pub mod SteadyStems
+pub mod SteadyChains
 pub mod SteadyFilling
 pub mod SteadyChanges
 pub mod Steadiness

@@ -1,5 +1,5 @@
 -- The ways that call an item say all that there is to say of what comes before it.
-use Rattle.std.proofs.Common.{◌≡◌, ◌↔◌, Bool, List, Contains, sym, subst, inl, inr, ⊎_elim}
+use Rattle.std.proofs.Common.{◌↔◌, Bool, List, Contains, sym, subst, inl, inr, ⊎_elim}
 use Rattle.pssm_model.specs.declared.ids.TransId.{TransId}
 use Rattle.pssm_model.specs.declared.elements.DraftMachine.{DraftMachine}
 use Rattle.pssm_model.specs.declared.steps.Route.{Route}

@@ -1,5 +1,4 @@
--- A step of a machine of States in regions has run out, or has a ready item, where the configuration at its head is
--- known.
+-- A step of a plainly nested machine has run out, or has a ready item, where the configuration at its head is known.
 use Rattle.std.proofs.Common.{List, ◌⊎◌, ◌<◌, ℕ, length, inl, inr, ⊎_elim}
 use Rattle.pssm_model.specs.declared.ids.VertexId.{VertexId}
 use Rattle.pssm_model.specs.declared.ids.RegionId.{RegionId}
@@ -20,7 +19,7 @@ use Rattle.pssm_model.specs.Nested.{IsPlainlyNested}
 use Rattle.pssm_plan.specs.inner.OverRoutes.{GoesByRoutes, EndsIn, IsEnteredBy, OpensBeside, OpensAfterEntry, IsCalledOver}
 use Rattle.pssm_plan.proofs.Known.{Known, known_as, known_both, known_either, known_not, known_below}
 use Rattle.pssm_plan.proofs.KnownPlaces.{known_owner, known_entered, known_ends, known_beside}
-use Rattle.pssm_plan.proofs.KnownItems.{known_over_some, known_over, known_exit, known_enter, owning_there, some_ready}
+use Rattle.pssm_plan.proofs.KnownItems.{known_over_some, known_over, known_exit, known_enter, known_pick, owning_there, some_ready}
 use Rattle.pssm_plan.proofs.Known.{run_known}
 use Rattle.pssm_plan.proofs.RouteItems.{called_is, called_of}
 use Rattle.pssm_plan.proofs.RouteSteps.{gone_by_routes}
@@ -52,6 +51,9 @@ enter_of k = items.Enter (vertex_of k)
 
 abbrev opening_of : ℕ → Item
 opening_of k = items.Opened (region_of k) Plain
+
+abbrev pick_of : ℕ → Item
+pick_of k = items.Pick (vertex_of k)
 
 module _ {m : DraftMachine} (nested : IsPlainlyNested m) (shape : HasShape m) (course : Course) (g : GoesByRoutes m course)
     (active : (s : VertexId) → Known (course.at_head.Active s)) where
@@ -100,14 +102,15 @@ module _ {m : DraftMachine} (nested : IsPlainlyNested m) (shape : HasShape m) (c
       → ((k : ℕ) → k < length m.transitions → IsCalledOver m course (effect_of k) → HasRun course (effect_of k))
       → ((k : ℕ) → k < length m.vertices → IsCalledOver m course (enter_of k) → HasRun course (enter_of k))
       → ((k : ℕ) → k < length m.regions → IsCalledOver m course (opening_of k) → HasRun course (opening_of k))
+      → ((k : ℕ) → k < length m.vertices → IsCalledOver m course (pick_of k) → HasRun course (pick_of k))
       → (x : Item) → IsThere m x → IsCalledOver m course x → HasRun course x
-  all_ran exits effects entries openings (items.Exit s) there h = exits s.0 there h
-  all_ran exits effects entries openings (items.Effect t) there h = effects t.0 there h
-  all_ran exits effects entries openings (items.Enter s) there h = entries s.0 there h
-  all_ran exits effects entries openings (items.Opened r Plain) there h = openings r.0 there h
-  all_ran exits effects entries openings (items.Opened r Shallow) there h = absurd h
-  all_ran exits effects entries openings (items.Opened r Deep) there h = absurd h
-  all_ran exits effects entries openings (items.Pick c) there h = absurd h
+  all_ran exits effects entries openings picks (items.Exit s) there h = exits s.0 there h
+  all_ran exits effects entries openings picks (items.Effect t) there h = effects t.0 there h
+  all_ran exits effects entries openings picks (items.Enter s) there h = entries s.0 there.0 h
+  all_ran exits effects entries openings picks (items.Opened r Plain) there h = openings r.0 there h
+  all_ran exits effects entries openings picks (items.Opened r Shallow) there h = absurd h
+  all_ran exits effects entries openings picks (items.Opened r Deep) there h = absurd h
+  all_ran exits effects entries openings picks (items.Pick c) there h = picks c.0 there.0 h
 
   -- some item waits, or everything called has run
   some_waits : ((x : Item) → IsCalledOver m course x → IsThere m x)
@@ -121,10 +124,13 @@ module _ {m : DraftMachine} (nested : IsPlainlyNested m) (shape : HasShape m) (c
       (λ waits. inr waits)
       (λ entries. ⊎_elim
       (λ waits. inr waits)
-      (λ openings. inl (λ x called. (
+      (λ openings. ⊎_elim
+      (λ waits. inr waits)
+      (λ picks. inl (λ x called. (
       let is = called_is nested shape course g x called in
-      all_ran exits effects entries openings x (there x is) is
+      all_ran exits effects entries openings picks x (there x is) is
       )))
+      (waiting_known pick_of (λ k. known_pick nested shape course g active (vertex_of k)) (length m.vertices)))
       (waiting_known opening_of (λ k. opening_known (region_of k)) (length m.regions)))
       (waiting_known enter_of (λ k. known_enter nested shape course g active (vertex_of k)) (length m.vertices)))
       (waiting_known effect_of (λ k. known_over nested shape course g active (transition_of k)) (length m.transitions)))

@@ -17,7 +17,7 @@ use Rattle.pssm_model.specs.Legs.{transitions_of}
 use Rattle.pssm_model.specs.Course.{Head, Course}
 use Rattle.pssm_model.specs.Course.Head.{Starts, Fires}
 use Rattle.pssm_model.specs.Items.{StartOpens}
-use Rattle.pssm_plan.specs.inner.OverRoutes.{LiesInArea, IsEnteredBy, GoesByRoutes, IsCalledOver}
+use Rattle.pssm_plan.specs.inner.OverRoutes.{LiesInArea, IsEnteredBy, EndsOnChoice, GoesByRoutes, IsCalledOver}
 use Rattle.pssm_legs.specs.Calls.{IsItemIn}
 use Rattle.pssm_model.proofs.ElementLaws.{mapped_some}
 use Rattle.pssm_model.proofs.OwnerChains.{owned_is_place}
@@ -35,9 +35,16 @@ module _ (m : DraftMachine) where
       let x = mapped_some (λ (x : Transition). x.target) (transition_at m last.0) at.0 last.2 in
       let ends = (shape.ends last.0 x.0 x.1).1 in
       ⊎_elim
-      (λ same. subst (λ (v : VertexId). v.0 < length m.vertices) (x.2 ∙ same) ends)
+      (λ same. subst (λ (v : VertexId). v.0 < length m.vertices) (x.2 ∙ same.0) ends)
       (λ inside. area_there p s inside.0)
       at.2
+
+  -- and so is the choice on which it ends
+  pub picked_there : HasShape m → (p : Route) (c : VertexId) → EndsOnChoice m p c → c.0 < length m.vertices
+  picked_there shape p c h =
+      let last = h.0 in
+      let x = mapped_some (λ (x : Transition). x.target) (transition_at m last.0) c last.2 in
+      subst (λ (v : VertexId). v.0 < length m.vertices) x.2 (shape.ends last.0 x.0 x.1).1
 
 module _ {m : DraftMachine} (shape : HasShape m) (course : Course) (g : GoesByRoutes m course) where
   -- what it calls
@@ -59,4 +66,4 @@ module _ {m : DraftMachine} (shape : HasShape m) (course : Course) (g : GoesByRo
       region_at (Fires routes) q starts = absurd starts
   called_there (items.Opened r Shallow) h = absurd h
   called_there (items.Opened r Deep) h = absurd h
-  called_there (items.Pick c) h = absurd h
+  called_there (items.Pick c) h = picked_there m shape h.0 c h.1.1

@@ -4,7 +4,6 @@ use Rattle.pssm_model.specs.declared.ids.VertexId.{VertexId}
 use Rattle.pssm_model.specs.declared.ids.RegionId.{RegionId}
 use Rattle.pssm_model.specs.declared.ids.TransId.{TransId}
 use Rattle.pssm_model.specs.declared.elements.DraftMachine.{DraftMachine}
-use Rattle.pssm_model.specs.declared.elements.VertexKind.TheVariants as kinds
 use Rattle.pssm_model.specs.declared.elements.Owner.TheVariants.{Region, State}
 use Rattle.pssm_model.specs.declared.steps.Route.{Route}
 use Rattle.pssm_model.specs.declared.steps.Mode.{Mode}
@@ -12,7 +11,7 @@ use Rattle.pssm_model.specs.declared.steps.Mode.TheVariants.{Plain, Shallow, Dee
 use Rattle.pssm_model.specs.declared.steps.Item.{Item}
 use Rattle.pssm_model.specs.declared.steps.Item.TheVariants as items
 use Rattle.pssm_model.specs.Shapes.{HasShape}
-use Rattle.pssm_model.specs.Forest.{owner_of, HasKind}
+use Rattle.pssm_model.specs.Forest.{owner_of}
 use Rattle.pssm_model.specs.Legs.{On, SameLeg, LaterLeg}
 use Rattle.pssm_model.specs.Course.{Head, Course, Leg, IsLeg, HasRun}
 use Rattle.pssm_model.specs.Course.Head.{Starts, Fires}
@@ -21,11 +20,11 @@ use Rattle.pssm_model.specs.Items.Called.{start, run, ends, opens, restored, ent
 use Rattle.pssm_model.specs.Items.Before.{inner_exit, outer_enter, exit_effect, path, effect_enter, effect_end, enter_end, later}
 use Rattle.pssm_model.specs.Routes.{IsRoute}
 use Rattle.pssm_model.specs.Nested.{IsPlainlyNested}
-use Rattle.pssm_plan.specs.inner.OverRoutes.{EndsOn, IsEnteredBy, GoesBy, GoesByRoutes, IsExitedOver, OpensAfterEntry, IsCalledOver, IsOrderedOver}
+use Rattle.pssm_plan.specs.inner.OverRoutes.{EndsOn, IsEnteredBy, GoesBy, GoesByRoutes, IsExitedOver, EndsOnChoice, OpensAfterEntry, IsCalledOver, IsOrderedOver}
 use Rattle.pssm_model.proofs.StateRoutes.{start_of}
-use Rattle.pssm_model.proofs.OverJunctions.{single_legs}
+use Rattle.pssm_model.proofs.OverJunctions.{single_legs, IsEndKind}
 use Rattle.pssm_model.proofs.OneLeg.{leg_ends_on, on_start, one_leg, no_later_leg}
-use Rattle.pssm_plan.proofs.RouteLegs.{ends_on_state, leg_exits_is, leg_exits_of, leg_enters_is, leg_enters_of, aimed_is, aimed_of, no_leg_end, leg_opening_is, leg_opening_of}
+use Rattle.pssm_plan.proofs.RouteLegs.{ends_on_kind, leg_exits_is, leg_exits_of, leg_enters_is, leg_enters_of, aimed_is, aimed_of, leg_end_is, leg_end_of, leg_opening_is, leg_opening_of}
 use Rattle.pssm_plan.proofs.RoutePaths.{path_begins_on}
 
 module _ {m : DraftMachine} (nested : IsPlainlyNested m) (shape : HasShape m) (course : Course) (g : GoesByRoutes m course) where
@@ -50,9 +49,9 @@ module _ {m : DraftMachine} (nested : IsPlainlyNested m) (shape : HasShape m) (c
       let start = start_by p by in
       one_leg (single_legs nested) shape p (route_by p by) start.0 start.1 t u first second
 
-  -- it ends on a State
-  pub entered_is_state : (p : Route) → GoesBy course p → (v : VertexId) → EndsOn m p v → HasKind m v kinds.State
-  entered_is_state p by v h = let start = start_by p by in ends_on_state nested shape p (route_by p by) start.0 start.1 v h
+  -- it ends on a State or final state, a choice or a terminate vertex
+  pub end_kind_by : (p : Route) → GoesBy course p → (v : VertexId) → EndsOn m p v → IsEndKind m v
+  end_kind_by p by v h = let start = start_by p by in ends_on_kind nested shape p (route_by p by) start.0 start.1 v h
 
   -- what its leg calls, by whichever transition it is named
   exit_is : (p : Route) → GoesBy course p → (a : TransId) (s : VertexId) → IsCalledInLeg m course (record { route = p; named_by = a }) (items.Exit s)
@@ -76,8 +75,14 @@ module _ {m : DraftMachine} (nested : IsPlainlyNested m) (shape : HasShape m) (c
       → IsCalledInLeg m course (record { route = p; named_by = a }) (items.Enter s)
   enter_of p by a s on h = let start = start_by p by in leg_enters_of nested shape p (route_by p by) start.0 start.1 a s on h
 
-  no_end : (p : Route) → GoesBy course p → (a : TransId) (item : Item) → LegEnds m p a item → ⊥
-  no_end p by a item h = let start = start_by p by in no_leg_end nested shape p (route_by p by) start.0 start.1 a item h
+  end_is : (p : Route) → GoesBy course p → (a : TransId) (item : Item) → LegEnds m p a item → (c : VertexId) × (item ≡ items.Pick c) × EndsOnChoice m p c
+  end_is p by a item h =
+      let start = start_by p by in
+      let is = leg_end_is nested shape p (route_by p by) start.0 start.1 a item h in
+      (is.0, is.1, is.3)
+
+  end_of : (p : Route) → GoesBy course p → (a : TransId) (c : VertexId) → On p a → EndsOnChoice m p c → LegEnds m p a (items.Pick c)
+  end_of p by a c on h = let start = start_by p by in leg_end_of nested shape p (route_by p by) start.0 start.1 a c on h
 
   no_later : (p : Route) → GoesBy course p → (a c : TransId) → LaterLeg m p a c → ⊥
   no_later p by a c h = let start = start_by p by in no_later_leg (single_legs nested) shape p (route_by p by) start.0 start.1 a c h
@@ -135,11 +140,16 @@ module _ {m : DraftMachine} (nested : IsPlainlyNested m) (shape : HasShape m) (c
       let opens = leg_opening_is nested shape leg.route (route_by leg.route is.0) start.0 start.1 leg.named_by item h in
       subst (λ x. IsCalledOver m course x) (sym opens.1) (inr (inr (leg.route, (is.0, opens.3))))
 
+  picked_is : (leg : Leg) → IsLeg course leg → (item : Item) → LegEnds m leg.route leg.named_by item → IsCalledOver m course item
+  picked_is leg is item h =
+      let end = end_is leg.route is.0 leg.named_by item h in
+      subst (λ x. IsCalledOver m course x) (sym end.1) (leg.route, (is.0, end.2))
+
   -- what is called, in plain words
   pub called_is : (item : Item) → Called m course item → IsCalledOver m course item
   called_is item (start h) = start_is course.head item h refl
   called_is item (run leg is h) = item_is leg is item h
-  called_is item (ends leg is h) = absurd (no_end leg.route is.0 leg.named_by item h)
+  called_is item (ends leg is h) = picked_is leg is item h
   called_is item (opens leg is h) = beside_is leg is item h
   called_is item (restored mode s h e) = absurd (g.restores mode s h)
   called_is item (entered s ran h) = entered_is s item ran h
@@ -184,7 +194,9 @@ module _ {m : DraftMachine} (nested : IsPlainlyNested m) (shape : HasShape m) (c
       h
   called_of (items.Opened r Shallow) h = absurd h
   called_of (items.Opened r Deep) h = absurd h
-  called_of (items.Pick c) h = absurd h
+  called_of (items.Pick c) h =
+      let by = h.1.0 in
+      ends (leg_by h.0 by) (leg_is_there h.0 by) (end_of h.0 by (start_by h.0 by).0 c (start_on h.0 by) h.1.1)
 
   -- and what comes before what
   exit_effect_is : (x y : Item) (leg : Leg) → IsLeg course leg → IsExit x → IsEffect y → IsCalledInLeg m course leg x → IsCalledInLeg m course leg y
@@ -227,6 +239,32 @@ module _ {m : DraftMachine} (nested : IsPlainlyNested m) (shape : HasShape m) (c
   effect_opening_is (items.Opened r mode) y leg is a h k = absurd a
   effect_opening_is (items.Pick v) y leg is a h k = absurd a
 
+  effect_pick_is : (x y : Item) (leg : Leg) → IsLeg course leg → IsEffect x → IsCalledInLeg m course leg x → LegEnds m leg.route leg.named_by y
+      → IsOrderedOver m course x y
+  effect_pick_is (items.Effect u) y leg is a h k =
+      let end = end_is leg.route is.0 leg.named_by y k in
+      subst
+      (λ z. IsOrderedOver m course (items.Effect u) z)
+      (sym end.1)
+      (leg.route, (is.0, end.2), leg_ends_on m leg.route leg.named_by u h)
+  effect_pick_is (items.Exit s) y leg is a h k = absurd a
+  effect_pick_is (items.Enter s) y leg is a h k = absurd a
+  effect_pick_is (items.Opened r mode) y leg is a h k = absurd a
+  effect_pick_is (items.Pick v) y leg is a h k = absurd a
+
+  enter_pick_is : (x y : Item) (leg : Leg) → IsLeg course leg → IsEnter x → IsCalledInLeg m course leg x → LegEnds m leg.route leg.named_by y
+      → IsOrderedOver m course x y
+  enter_pick_is (items.Enter s) y leg is a h k =
+      let end = end_is leg.route is.0 leg.named_by y k in
+      subst
+      (λ z. IsOrderedOver m course (items.Enter s) z)
+      (sym end.1)
+      (leg.route, (is.0, end.2), enter_is leg.route is.0 leg.named_by s h)
+  enter_pick_is (items.Exit s) y leg is a h k = absurd a
+  enter_pick_is (items.Effect t) y leg is a h k = absurd a
+  enter_pick_is (items.Opened r mode) y leg is a h k = absurd a
+  enter_pick_is (items.Pick v) y leg is a h k = absurd a
+
   pub before_is : (x y : Item) → Before m course x y → IsOrderedOver m course x y
   before_is _ _ (inner_exit lies) = lies
   before_is _ _ (outer_enter lies) = lies
@@ -234,8 +272,8 @@ module _ {m : DraftMachine} (nested : IsPlainlyNested m) (shape : HasShape m) (c
   before_is _ _ (path leg is same h) = (leg.route, is.0, h)
   before_is _ _ (effect_enter {x = x} {y = y} leg is a c h k) = effect_enter_is x y leg is a c h k
   before_is _ _ (effect_end {x = x} {y = y} leg is a h k) =
-      ⊎_elim (λ end. absurd (no_end leg.route is.0 leg.named_by y end)) (λ opens. effect_opening_is x y leg is a h opens) k
-  before_is _ _ (enter_end {y = y} leg is a h k) = absurd (no_end leg.route is.0 leg.named_by y k)
+      ⊎_elim (effect_pick_is x y leg is a h) (effect_opening_is x y leg is a h) k
+  before_is _ _ (enter_end {x = x} {y = y} leg is a h k) = enter_pick_is x y leg is a h k
   before_is _ _ (later leg next is h a k) = absurd (no_later leg.route is.0 leg.named_by next h)
 
   pub before_of : (x y : Item) → IsOrderedOver m course x y → Before m course x y
@@ -261,17 +299,25 @@ module _ {m : DraftMachine} (nested : IsPlainlyNested m) (shape : HasShape m) (c
       let first = start_by p by in
       effect_end (leg_by p by) (leg_is_there p by) tt (in_leg p by first.0 t (start_on p by) h.2)
       (inr (leg_opening_of nested shape p (route_by p by) first.0 first.1 first.0 r (start_on p by) h.1.1))
+  before_of (items.Effect t) (items.Pick c) h =
+      let p = h.0 in
+      let by : GoesBy course p = h.1.0 in
+      let first = start_by p by in
+      effect_end (leg_by p by) (leg_is_there p by) tt (in_leg p by first.0 t (start_on p by) h.2) (inl (end_of p by first.0 c (start_on p by) h.1.1))
   before_of (items.Enter s) (items.Enter q) h = outer_enter h
+  before_of (items.Enter s) (items.Pick c) h =
+      let p = h.0 in
+      let by : GoesBy course p = h.1.0 in
+      let first = start_by p by in
+      enter_end (leg_by p by) (leg_is_there p by) tt (enter_of p by first.0 s (start_on p by) h.2) (end_of p by first.0 c (start_on p by) h.1.1)
   before_of (items.Exit s) (items.Enter q) h = absurd h
   before_of (items.Exit s) (items.Opened r mode) h = absurd h
   before_of (items.Exit s) (items.Pick c) h = absurd h
   before_of (items.Effect t) (items.Exit q) h = absurd h
   before_of (items.Effect t) (items.Opened r Shallow) h = absurd h
   before_of (items.Effect t) (items.Opened r Deep) h = absurd h
-  before_of (items.Effect t) (items.Pick c) h = absurd h
   before_of (items.Enter s) (items.Exit q) h = absurd h
   before_of (items.Enter s) (items.Effect t) h = absurd h
   before_of (items.Enter s) (items.Opened r mode) h = absurd h
-  before_of (items.Enter s) (items.Pick c) h = absurd h
   before_of (items.Opened r mode) y h = absurd h
   before_of (items.Pick c) y h = absurd h

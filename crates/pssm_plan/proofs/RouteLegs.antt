@@ -14,7 +14,7 @@ use Rattle.pssm_model.specs.declared.steps.Mode.TheVariants.{Plain, Shallow, Dee
 use Rattle.pssm_model.specs.declared.steps.Item.{Item}
 use Rattle.pssm_model.specs.declared.steps.Item.TheVariants as items
 use Rattle.pssm_model.specs.Shapes.{HasShape}
-use Rattle.pssm_model.specs.Forest.{transition_at, HasKind}
+use Rattle.pssm_model.specs.Forest.{transition_at, HasKind, IsStateOrFinal}
 use Rattle.pssm_model.specs.Legs.{Leaves, Goes, On, IsLastVertex, IsLocalFrom, IsInternal, IsOfLeg, Scope, LiesInScope, LegScope, LegExits, LegEnters}
 use Rattle.pssm_model.specs.Legs.SameLeg.{itself}
 use Rattle.pssm_model.specs.Legs.Scope.{Nowhere, Inside, Within}
@@ -23,10 +23,10 @@ use Rattle.pssm_model.specs.Items.{IsAimedAt, LegEnds, LegOpens}
 use Rattle.pssm_model.specs.Routes.{IsRoute, IsSource}
 use Rattle.pssm_model.specs.SingleLegs.{HasSingleLegs}
 use Rattle.pssm_model.specs.Nested.{IsPlainlyNested}
-use Rattle.pssm_plan.specs.inner.OverRoutes.{GoesAs, IsEndOf, IsArea, LiesInArea, EndsOn, IsEnteredBy, EndsIn, OpensBeside}
-use Rattle.pssm_model.proofs.ElementLaws.{mapped_at, kind_unique}
+use Rattle.pssm_plan.specs.inner.OverRoutes.{GoesAs, IsEndOf, IsArea, LiesInArea, EndsOn, IsEnteredBy, EndsIn, EndsOnChoice, OpensBeside}
+use Rattle.pssm_model.proofs.ElementLaws.{mapped_at}
 use Rattle.pssm_model.proofs.StateRoutes.{is_start, source_is_left}
-use Rattle.pssm_model.proofs.OverJunctions.{single_legs, target_is_state, internal_leaves, local_leaves}
+use Rattle.pssm_model.proofs.OverJunctions.{single_legs, IsEndKind, end_kind, other_kind, internal_leaves, local_leaves}
 use Rattle.pssm_model.proofs.CommonRegions.{scope_same}
 use Rattle.pssm_model.proofs.OneLeg.{leg_begins_on, leg_ends_on, on_start, on_there, source_of, one_leg, no_later_leg, no_point, no_some_point, internal_is_start, local_is_start, local_from_start, alone}
 
@@ -141,11 +141,12 @@ module _ {m : DraftMachine} (nested : IsPlainlyNested m) (shape : HasShape m) (p
     pub last_vertex_of : (a : TransId) (v : VertexId) → On p a → EndsOn m p v → IsLastVertex m p a v
     last_vertex_of a v on h = (h.0, one_leg b shape p route t starts a h.0 on h.1, h.2, h.3)
 
-    pub ends_on_state : (v : VertexId) → EndsOn m p v → HasKind m v kinds.State
-    ends_on_state v h = target_is_state nested shape h.0 v h.2 h.3
+    pub ends_on_kind : (v : VertexId) → EndsOn m p v → IsEndKind m v
+    ends_on_kind v h = end_kind nested shape h.0 v h.2 h.3
 
-    ends_on_no : (v : VertexId) (k : VertexKind) → k ≢ kinds.State → EndsOn m p v → HasKind m v k → ⊥
-    ends_on_no v k apart h is = apart (kind_unique m v k kinds.State is (ends_on_state v h))
+    -- a State or final state is of no other kind
+    state_is_no : (v : VertexId) (k : VertexKind) → k ≢ kinds.State → k ≢ kinds.Final → IsStateOrFinal m v → HasKind m v k → ⊥
+    state_is_no v k no_state no_final h is = ⊎_elim (other_kind m v k kinds.State no_state is) (other_kind m v k kinds.Final no_final is) h
 
     pub leg_enters_is : (a : TransId) (s : VertexId) → LegEnters m p a s → On p a × IsEnteredBy m p s
     leg_enters_is a s h =
@@ -158,8 +159,8 @@ module _ {m : DraftMachine} (nested : IsPlainlyNested m) (shape : HasShape m) (p
               h.0,
               last,
               ⊎_elim
-                  (λ around. inr (in_scope_is a s around.0 around.1 around.2, around.3))
-                  (⊎_elim (λ is. inl (sym is.1)) (λ entry. absurd (ends_on_no h.0 kinds.EntryPoint (λ e. cc) last entry.0)))
+                  (λ around. inr (in_scope_is a s around.0 around.1 around.2, around.3, h.2.0))
+                  (⊎_elim (λ is. inl (sym is.1, is.0)) (λ entry. absurd (nested.uncut h.0 (inr (inr (inl entry.0))))))
                   h.4,
             ),
           ),
@@ -171,13 +172,13 @@ module _ {m : DraftMachine} (nested : IsPlainlyNested m) (shape : HasShape m) (p
           h.0,
           last_vertex_of a h.0 on h.1,
           (
-            ends_on_no h.0 kinds.Terminate (λ e. cc) h.1,
-            ends_on_no h.0 kinds.ExitPoint (λ e. cc) h.1,
-            ends_on_no h.0 kinds.Join (λ e. cc) h.1,
+            ⊎_elim (λ same. state_is_no h.0 kinds.Terminate (λ e. cc) (λ e. cc) same.1) (λ around. around.2) h.2,
+            λ exits. nested.uncut h.0 (inr (inr (inr exits))),
+            λ joins. nested.uncut h.0 (inr (inl joins)),
           ),
           λ i. is.0 (internal_leg_is a i),
           ⊎_elim
-              (λ same. inr (inl (inl (ends_on_state h.0 h.1), sym same)))
+              (λ same. inr (inl (same.1, sym same.0)))
               (λ around. inl (around.0.0, leg_scope_of a around.0.0 on around.0.1, around.0.2, around.1))
               h.2,
         )
@@ -189,15 +190,18 @@ module _ {m : DraftMachine} (nested : IsPlainlyNested m) (shape : HasShape m) (p
     pub aimed_of : (a : TransId) (r : RegionId) → On p a → EndsIn m p r → IsAimedAt m p a r
     aimed_of a r on h = (a, h.0, inl (itself on), last_vertex_of a h.0 on h.1, h.2)
 
-    -- nothing is called at its end
-    pub no_leg_end : (a : TransId) (item : Item) → LegEnds m p a item → ⊥
-    no_leg_end a (items.Exit s) h = h
-    no_leg_end a (items.Effect u) h = h
-    no_leg_end a (items.Enter s) h = h
-    no_leg_end a (items.Opened r Plain) h = h
-    no_leg_end a (items.Opened r Shallow) h = ends_on_no h.0 kinds.ShallowHistory (λ e. cc) (last_vertex_is a h.0 h.1) h.2
-    no_leg_end a (items.Opened r Deep) h = ends_on_no h.0 kinds.DeepHistory (λ e. cc) (last_vertex_is a h.0 h.1) h.2
-    no_leg_end a (items.Pick c) h = ends_on_no c kinds.Choice (λ e. cc) (last_vertex_is a c h.0) h.1
+    -- at its end the choice is picked on which it ends, and nothing else is called there
+    pub leg_end_is : (a : TransId) (item : Item) → LegEnds m p a item → (c : VertexId) × (item ≡ items.Pick c) × On p a × EndsOnChoice m p c
+    leg_end_is a (items.Exit s) h = absurd h
+    leg_end_is a (items.Effect u) h = absurd h
+    leg_end_is a (items.Enter s) h = absurd h
+    leg_end_is a (items.Opened r Plain) h = absurd h
+    leg_end_is a (items.Opened r Shallow) h = absurd (nested.forgets h.0 (inl h.2))
+    leg_end_is a (items.Opened r Deep) h = absurd (nested.forgets h.0 (inr h.2))
+    leg_end_is a (items.Pick c) h = (c, refl, leg_begins_on m p a h.0.0 h.0.1, (last_vertex_is a c h.0, h.1))
+
+    pub leg_end_of : (a : TransId) (c : VertexId) → On p a → EndsOnChoice m p c → LegEnds m p a (items.Pick c)
+    leg_end_of a c on h = (last_vertex_of a c on h.0, h.1)
 
     -- a local one opens the regions of its State in which it does not end
     pub leg_opening_is : (a : TransId) (item : Item) → LegOpens m p a item → (r : RegionId) × (item ≡ items.Opened r Plain) × On p a × OpensBeside m p r

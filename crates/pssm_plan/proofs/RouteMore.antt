@@ -135,4 +135,10 @@ module _ (course : Course) (item : Item) (how : How) where
   called_more m (items.Opened r Plain) = (opened_is m r, opened_of m r)
   called_more m (items.Opened r Shallow) = (λ h. absurd h, λ h. ⊎_elim (λ none. absurd none) (λ none. absurd none) h)
   called_more m (items.Opened r Deep) = (λ h. absurd h, λ h. ⊎_elim (λ none. absurd none) (λ none. absurd none) h)
-  called_more m (items.Pick c) = (λ h. absurd h, λ h. ⊎_elim (λ none. absurd none) (λ none. absurd none) h)
+  called_more m (items.Pick c) = (
+    λ h. ⊎_elim (λ was. inl (h.0, (was, h.1.1))) (λ now. inr (h.0, now, h.1.1)) ((over_more h.0).0 h.1.0),
+    λ h. ⊎_elim
+        (λ was. (was.0, ((over_more was.0).1 (inl was.1.0), was.1.1)))
+        (λ now. (now.0, ((over_more now.0).1 (inr now.1), now.2)))
+        h,
+  )

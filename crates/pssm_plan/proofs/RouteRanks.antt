@@ -1,5 +1,5 @@
 -- Every called item of a step over junctions has a rank, and what comes before it a lower one: exits from within, then effects along the paths, and
--- then entries from without.
+-- then entries from without, and picks last.
 use Rattle.std.proofs.Common.{◌≡◌, ◌⊎◌, ◌<◌, ◌≤◌, ◌+◌, ◌-◌, ◌++◌, ℕ, List, [], ◌∷◌, length, Bool, true, false, Contains, refl, sym, subst, inl, inr, ⊎_elim, arith, eqb}
 use Rattle.std.specs.List.{list_any, IsDistinct}
 use Rattle.std.proofs.lemmas.Option.{slice_get_within}
@@ -23,7 +23,7 @@ use Rattle.pssm_model.specs.declared.steps.Mode.TheVariants.{Plain, Shallow, Dee
 use Rattle.pssm_model.specs.declared.steps.Item.{Item}
 use Rattle.pssm_model.specs.declared.steps.Item.TheVariants as items
 use Rattle.pssm_model.specs.Shapes.{HasShape}
-use Rattle.pssm_model.specs.Forest.{vertex_at, HasKind, LiesInState, HasRegionsAbove}
+use Rattle.pssm_model.specs.Forest.{vertex_at, HasKind, IsStateOrFinal, LiesInState, HasRegionsAbove}
 use Rattle.pssm_model.specs.Legs.{Leaves, Enters}
 use Rattle.pssm_model.specs.Paths.{LeadsOn}
 use Rattle.pssm_model.specs.WellFormed.Breaks.{E19}
@@ -31,14 +31,14 @@ use Rattle.pssm_model.specs.Course.{Course}
 use Rattle.pssm_model.specs.Items.{Called, Before, PathBefore}
 use Rattle.pssm_model.specs.Items.PathBefore.{next, after}
 use Rattle.pssm_model.specs.Nested.{IsPlainlyNested}
-use Rattle.pssm_plan.specs.inner.OverRoutes.{GoesByRoutes, IsCalledOver, IsOrderedOver}
+use Rattle.pssm_plan.specs.inner.OverRoutes.{GoesByRoutes, IsEnteredBy, IsCalledOver, IsOrderedOver}
 use Rattle.pssm_model.proofs.ElementLaws.{mapped_some, same_vertex, nothing_in_nil}
 use Rattle.pssm_model.proofs.RouteLaws.{is_one}
 use Rattle.pssm_model.proofs.OwnerChains.{one_count}
 use Rattle.pssm_model.proofs.Nesting.{shallower}
 use Rattle.pssm_plan.proofs.Depths.{state_down_region, depth_of_kind, depth_under, depth_in_scope}
 use Rattle.pssm_plan.proofs.RoutePaths.{step_leads, then_leads}
-use Rattle.pssm_plan.proofs.RouteItems.{called_is, before_is, entered_is_state}
+use Rattle.pssm_plan.proofs.RouteItems.{called_is, before_is}
 
 -- a chain of transitions over junctions that ends with the transition, by the numbers of the junctions
 pub data LeadsBack (m : DraftMachine) : TransId → List ℕ → Type 0 where
@@ -128,14 +128,27 @@ HasRank m (items.Exit s) n = (d : ℕ) × HasRegionsAbove m (State s) d × (n + 
 HasRank m (items.Effect t) n = (d : ℕ) × (n ≡ 33 + d) × (d ≤ length m.vertices) × ((vs : List ℕ) → LeadsBack m t vs → length vs ≤ d)
 HasRank m (items.Enter s) n = (d : ℕ) × HasRegionsAbove m (State s) d × (n ≡ 34 + length m.vertices + d)
 HasRank m (items.Opened r mode) n = n ≡ 34 + length m.vertices
-HasRank m (items.Pick c) n = n ≡ 0
+HasRank m (items.Pick c) n = n ≡ 67 + length m.vertices
 
 module _ {m : DraftMachine} (nested : IsPlainlyNested m) (shape : HasShape m) where
   exit_rank : (s : VertexId) → (d : ℕ) × (d ≤ 32) × HasRegionsAbove m (State s) d → (n : ℕ) × HasRank m (items.Exit s) n × (n ≤ 32)
   exit_rank s h = let le = h.1 in (32 - h.0, (h.0, h.2, omega arith), omega arith)
 
-  enter_rank : (s : VertexId) → (d : ℕ) × (d ≤ 32) × HasRegionsAbove m (State s) d → (n : ℕ) × HasRank m (items.Enter s) n
-  enter_rank s h = (34 + length m.vertices + h.0, (h.0, h.2, refl))
+  enter_rank : (s : VertexId) → (d : ℕ) × (d ≤ 32) × HasRegionsAbove m (State s) d
+      → (n : ℕ) × HasRank m (items.Enter s) n × (n < 67 + length m.vertices)
+  enter_rank s h = let le = h.1 in (34 + length m.vertices + h.0, (h.0, h.2, refl), omega (arith, le))
+
+  -- what a route enters lies at some depth
+  kind_depth : (v : VertexId) → IsStateOrFinal m v → (d : ℕ) × (d ≤ 32) × HasRegionsAbove m (State v) d
+  kind_depth v h = ⊎_elim (depth_of_kind shape v kinds.State) (depth_of_kind shape v kinds.Final) h
+
+  entered_depth : (p : Route) (s : VertexId) → IsEnteredBy m p s → (d : ℕ) × (d ≤ 32) × HasRegionsAbove m (State s) d
+  entered_depth p s h =
+      let at = h.1 in
+      ⊎_elim
+      (λ same. subst (λ v. (d : ℕ) × (d ≤ 32) × HasRegionsAbove m (State v) d) same.0 (kind_depth at.0 same.1))
+      (λ around. depth_in_scope shape s around.0.0 around.0.2)
+      at.2
 
   effect_rank : (t : TransId) → HasRank m (items.Effect t) (33 + length m.vertices)
   effect_rank t = (length m.vertices, refl, omega arith, λ vs h. chain_length nested t vs h)
@@ -148,14 +161,10 @@ module _ {m : DraftMachine} (nested : IsPlainlyNested m) (shape : HasShape m) wh
       (rank.0, rank.1)
   called_rank course g (items.Effect t) h = (33 + length m.vertices, effect_rank t)
   called_rank course g (items.Enter s) h =
-      let at = h.1.1.1 in
-      enter_rank s (⊎_elim
-      (λ same. subst (λ v. (d : ℕ) × (d ≤ 32) × HasRegionsAbove m (State v) d) same
-      (depth_of_kind shape at.0 kinds.State (entered_is_state nested shape course g h.0 h.1.0 at.0 at.1)))
-      (λ around. depth_in_scope shape s around.0.0 around.0.2)
-      at.2)
+      let rank = enter_rank s (entered_depth h.0 s h.1.1) in
+      (rank.0, rank.1)
   called_rank course g (items.Opened r mode) h = (34 + length m.vertices, refl)
-  called_rank course g (items.Pick c) h = (0, refl)
+  called_rank course g (items.Pick c) h = (67 + length m.vertices, refl)
 
   pub rank_of_called : (course : Course) → GoesByRoutes m course → (item : Item) → Called m course item → (n : ℕ) × HasRank m item n
   rank_of_called course g item h = called_rank course g item (called_is nested shape course g item h)
@@ -220,11 +229,14 @@ module _ {m : DraftMachine} (nested : IsPlainlyNested m) (shape : HasShape m) wh
   ordered_rank course (items.Effect t) (items.Exit q) k h rank = absurd h
   ordered_rank course (items.Effect t) (items.Opened r Shallow) k h rank = absurd h
   ordered_rank course (items.Effect t) (items.Opened r Deep) k h rank = absurd h
-  ordered_rank course (items.Effect t) (items.Pick c) k h rank = absurd h
+  ordered_rank course (items.Effect t) (items.Pick c) k h rank = (33 + length m.vertices, effect_rank t, omega (arith, rank))
   ordered_rank course (items.Enter s) (items.Exit q) k h rank = absurd h
   ordered_rank course (items.Enter s) (items.Effect t) k h rank = absurd h
   ordered_rank course (items.Enter s) (items.Opened r mode) k h rank = absurd h
-  ordered_rank course (items.Enter s) (items.Pick c) k h rank = absurd h
+  ordered_rank course (items.Enter s) (items.Pick c) k h rank =
+      let mine = enter_rank s (entered_depth h.0 s h.2) in
+      let lt : mine.0 < 67 + length m.vertices = mine.2 in
+      (mine.0, mine.1, omega (arith, rank, lt))
   ordered_rank course (items.Opened r mode) y k h rank = absurd h
   ordered_rank course (items.Pick c) y k h rank = absurd h
 

@@ -17,24 +17,27 @@ use Rattle.pssm_model.specs.Shapes.{HasShape}
 use Rattle.pssm_model.specs.declared.steps.Mode.TheVariants.{Plain}
 use Rattle.pssm_model.specs.Configuration.{Configuration, IsDirect}
 use Rattle.pssm_model.specs.Changes.{entered, exited}
-use Rattle.pssm_model.specs.Course.{Head, FiresBy, HasGoneBy, HasRun}
+use Rattle.pssm_model.specs.Course.{Head, FiresBy, HasRun}
 use Rattle.pssm_model.specs.Order.{HasGone, IsReady, course_by}
 use Rattle.pssm_model.specs.Order.HasGone.{begun as gone_begun, more as gone_more}
 use Rattle.pssm_model.specs.Nested.{IsPlainlyNested}
 use Rattle.pssm_model.specs.Routes.{IsSource}
 use Rattle.pssm_config.specs.Tables.{CanEnter}
 use Rattle.pssm_plan.specs.Steadiness.{IsConsistent, KeepsInitials, BeginsWell, changed_by_item, changed_along}
-use Rattle.pssm_plan.specs.inner.OverRoutes.{IsArea, GoesBy, EndsIn, IsEnteredBy, IsEnteredOver, IsCalledOver}
+use Rattle.pssm_plan.specs.inner.OverRoutes.{IsArea, GoesBy, IsEnteredBy, IsEnteredOver, IsCalledOver}
 use Rattle.pssm_model.specs.Legs.{Scope}
 use Rattle.pssm_model.specs.Legs.Scope.{Nowhere, Inside, Within}
-use Rattle.pssm_model.proofs.OwnerChains.{one_owner, owner_above}
+use Rattle.pssm_model.proofs.OwnerChains.{one_owner, owner_above, under_further}
 use Rattle.pssm_model.proofs.StateRoutes.{is_start, state_route_from}
-use Rattle.pssm_model.proofs.OverJunctions.{single_legs, target_is_state}
+use Rattle.pssm_model.proofs.OverJunctions.{other_kind, single_legs}
 use Rattle.pssm_plan.proofs.RouteItems.{called_is, called_of, before_of}
 use Rattle.pssm_plan.proofs.RouteSteps.{gone_by_routes}
-use Rattle.pssm_plan.proofs.SteadyPlaces.{IsRegionIn, IsEdge, same_state, one_reached, home_of_state, home_above, edge_or_outer, home_in_scope, region_in_scope, around_in_scope, source_is_end, beside_at_edge, late_area, entered_fills, entered_reached}
+use Rattle.pssm_plan.proofs.SteadyPlaces.{IsRegionIn, IsEdge, same_state, one_reached, home_of_state, home_above, edge_or_outer, home_in_scope, region_in_scope, around_in_scope, source_is_end, beside_at_edge, late_in, late_area, choice_in_area, choice_enters, entered_fills, entered_reached}
 use Rattle.pssm_plan.proofs.SteadyApart.{IsFired, IsFiredAround, edge_owner_stays}
-use Rattle.pssm_plan.proofs.SteadyItems.{starts_at, late_is, ran_was_called, step_route, is_fired, exited_around, ready_after_exits, over_area, beside_fires, inside_fired}
+use Rattle.pssm_plan.proofs.SteadyStems.{IsPickedBy, Stems, ran_was_called, stems, step_route}
+use Rattle.pssm_plan.proofs.SteadyStems.Stems.{fires as stem_fires, opens as stem_opens, picks as stem_picks}
+use Rattle.pssm_plan.proofs.SteadyChains.{Continues, entered_along}
+use Rattle.pssm_plan.proofs.SteadyItems.{starts_at, is_fired, exited_around, ready_after_exits, over_area, beside_fires, inside_fired}
 use Rattle.pssm_plan.proofs.SteadyFilling.{one_fills}
 use Rattle.pssm_plan.proofs.SteadyChanges.{changed_along-push, no_entry_yet, active_is}
 
@@ -69,30 +72,42 @@ module _ {m : DraftMachine} (shape : HasShape m) (now : Configuration) (consiste
 
 module _ {m : DraftMachine} (shape : HasShape m) (nested : IsPlainlyNested m) (initials : KeepsInitials m)
     (head : Head) (now : Configuration) (begins : BeginsWell m head now) where
-  -- what is entered is a State
-  entered_is_state : (p : Route) (s : VertexId) → IsEnteredBy m p s → HasKind m s kinds.State
+  -- what is entered is a State or final state
+  entered_is_state : (p : Route) (s : VertexId) → IsEnteredBy m p s → IsStateOrFinal m s
   entered_is_state p s h =
-      let last = h.1.1 in
       ⊎_elim
-      (λ same. subst (λ v. HasKind m v kinds.State) same (target_is_state nested shape last.0 h.1.0 last.2 last.3))
-      (λ inside. (shape.regions inside.1.0 (State s) inside.1.1).0)
+      (λ same. subst (λ v. IsStateOrFinal m v) same.0 same.1)
+      (λ inside. inl (shape.regions inside.1.0 (State s) inside.1.1).0)
       h.1.2
 
-  -- two States of one region that are entered are the same
+  -- two States of one region that routes on one chain enter are the same
+  entered_on_chain : (ran : List (Item × How)) → HasGone m head now ran → (r : RegionId) (s v : VertexId) (p u : Route)
+      → owner_of m (State s) ≡ Some (Region r) → owner_of m (State v) ≡ Some (Region r)
+      → IsEnteredOver m (course_by head now ran) p s → IsEnteredOver m (course_by head now ran) u v
+      → Continues m (course_by head now ran) p u → s ≡ v
+  entered_on_chain ran gone r s v p u e f first second chain =
+      let target = second.1.1 in
+      let step = step_route shape nested head now ran gone u second.0 in
+      one_reached shape target.0 s v r e f
+      (⊎_elim
+      (λ same. entered_reached shape nested u s target.0 step (subst (λ x. IsEnteredBy m x s) same first.1) target.1)
+      (λ under. inr (under_further (under.3 target.0 target.1) (owned under.1)))
+      (entered_along shape nested head now ran gone p u s first.0 chain first.1))
+      (entered_reached shape nested u v target.0 step second.1 target.1)
+
+  -- and so are any two of one region that are entered
   entered_once : (ran : List (Item × How)) → HasGone m head now ran → (r : RegionId) (s v : VertexId)
       → owner_of m (State s) ≡ Some (Region r) → owner_of m (State v) ≡ Some (Region r)
       → IsCalledOver m (course_by head now ran) (items.Enter s)
       → IsCalledOver m (course_by head now ran) (items.Enter v) → s ≡ v
   entered_once ran gone r s v e f first second =
       let above = home_above shape s r e in
-      let one = one_fills shape nested initials head now begins ran gone r above.0 above.1 first.0 second.0 first.1.0 second.1.0
-      (entered_fills shape nested initials first.0 s r (step_route shape nested head now ran gone first.0 first.1.0) e first.1.1)
-      (entered_fills shape nested initials second.0 v r (step_route shape nested head now ran gone second.0 second.1.0) f second.1.1) in
-      let target = second.1.1.1 in
-      let step = step_route shape nested head now ran gone second.0 second.1.0 in
-      one_reached shape target.0 s v r e f
-      (entered_reached shape nested second.0 s target.0 step (subst (λ x. IsEnteredBy m x s) one first.1.1) target.1)
-      (entered_reached shape nested second.0 v target.0 step second.1.1 target.1)
+      ⊎_elim
+      (λ ahead. entered_on_chain ran gone r s v first.0 second.0 e f first.1 second.1 ahead)
+      (λ behind. sym (entered_on_chain ran gone r v s second.0 first.0 f e second.1 first.1 behind))
+      (one_fills shape nested head now begins ran gone r above.0 above.1 first.0 second.0 first.1.0 second.1.0
+      (entered_fills shape nested first.0 s r (step_route shape nested head now ran gone first.0 first.1.0) e first.1.1)
+      (entered_fills shape nested second.0 v r (step_route shape nested head now ran gone second.0 second.1.0) f second.1.1))
 
   -- the region of a State whose entry is ready has no active direct vertex
   vacant : (ran : List (Item × How)) → HasGone m head now ran → (r : RegionId) (s v : VertexId)
@@ -112,10 +127,10 @@ module _ {m : DraftMachine} (shape : HasShape m) (nested : IsPlainlyNested m) (i
       let inside = fires.1.1 in
       let lies = region_in_scope shape v r inside.0 (owned f.0) (home_in_scope m s r inside.0 e.0 inside.2) in
       let around : IsFiredAround m head v fires.0 = (fires.1.0, (inside.0, inside.1, lies)) in
-      left.1 (ready_after_exits shape nested initials head now begins ran gone fires.0 s v fires.1 around ready
+      left.1 (ready_after_exits shape nested head now begins ran gone fires.0 s v fires.1 around ready
       (fires.0, (fires.1.0.0, left.0, around.1)))
       ))
-      (inside_fired shape nested initials head now ran gone over.0 s over.1))
+      (inside_fired shape nested head now ran gone over.0 s over.1))
       ((active_is shape nested initials head now begins ran gone v).0 active)
 
   -- a State whose entry is ready may become active
@@ -125,7 +140,7 @@ module _ {m : DraftMachine} (shape : HasShape m) (nested : IsPlainlyNested m) (i
   may_enter ran gone s ready =
       let over = called_is nested shape (course_by head now ran) (gone_by_routes nested shape head now ran gone) (items.Enter s) ready.waiting.called in
       record {
-        state = inl (entered_is_state over.0 s over.1.1);
+        state = entered_is_state over.0 s over.1.1;
         vacant = λ r v e f active. vacant ran gone r s v ready e f active;
       }
 
@@ -152,7 +167,7 @@ module _ {m : DraftMachine} (shape : HasShape m) (nested : IsPlainlyNested m) (i
           let course = course_by head now ran in
           let g = gone_by_routes nested shape head now ran gone in
           let called = called_is nested shape course g (items.Exit q) ready.waiting.called in
-          let at = exited_around shape nested initials head now ran gone q called in
+          let at = exited_around shape nested head now ran gone q called in
           let area = at.1.1 in
           let around : IsFiredAround m head s at.0 = (at.1.0, (area.0, area.1, around_in_scope m s q r area.0 (owned d.0) e area.2)) in
           ⊎_elim
@@ -185,7 +200,7 @@ module _ {m : DraftMachine} (shape : HasShape m) (nested : IsPlainlyNested m) (i
   fired_owner : (ran : List (Item × How)) → HasGone m head now ran → (p : Route) (r : RegionId) (o : VertexId) (area : Scope)
       → FiresBy head p → IsArea m p area → IsEdge m r area → owner_of m (Region r) ≡ Some (State o) → IsOwnerActive ran r
   fired_owner ran gone p r o area fires is edge e =
-      let fired : IsFired m head p = is_fired shape nested initials head now ran gone p fires in
+      let fired : IsFired m head p = is_fired shape nested head now ran gone p fires in
       let from = state_route_from (single_legs nested) p fired.1 in
       let source : IsSource m p from.1 = (from.0, is_start p from.0 from.2.starts, from.2.leaves) in
       inr (
@@ -195,43 +210,82 @@ module _ {m : DraftMachine} (shape : HasShape m) (nested : IsPlainlyNested m) (i
           edge_active p from.1 o r area fires source is edge e,
           λ exit. (
               let called = ran_was_called shape nested head now ran gone (items.Exit o) exit in
-              let at = exited_around shape nested initials head now ran gone o called in
+              let at = exited_around shape nested head now ran gone o called in
               edge_owner_stays shape nested head now begins p at.0 r o area fired is edge e at.1
               ),
         )),
       )
 
-  late_owner : (ran : List (Item × How)) → HasGone m head now ran → (p : Route) (r : RegionId) (area : Scope)
-      → HasGoneBy (course_by head now ran) p → IsArea m p area → IsEdge m r area → IsOwnerActive ran r
-  late_owner ran gone p r area late is edge =
-      let course = course_by head now ran in
-      let by = late_is shape nested head now ran gone p late in
-      let place = late_area shape nested initials by.0 by.1 p area by.2.0.0 by.2.0.1 is in
-      let same : r ≡ by.0 = subst (λ x. IsEdge m r x) place edge in
-      let called : IsCalledOver m course (items.Opened r Plain) =
-      subst (λ x. IsCalledOver m course (items.Opened x Plain)) (sym same) by.2.0.2 in
+  -- so where a region is opened
+  opened_owner : (ran : List (Item × How)) → HasGone m head now ran → (r : RegionId) → IsCalledOver m (course_by head now ran) (items.Opened r Plain)
+      → IsOwnerActive ran r
+  opened_owner ran gone r called =
       ⊎_elim
       (λ starts. inl (starts_at m head r starts).1)
       (⊎_elim
       (λ at. inr (at.0, at.1.1, (active_is shape nested initials head now begins ran gone at.0).1 (inl at.1.0)))
       (λ beside. (
-      let fires = beside_fires shape nested initials head now ran gone beside.0 r beside.1 in
-      let wide = over_area shape nested initials head now ran gone beside.0 (inl fires) in
+      let fires = beside_fires shape nested head now ran gone beside.0 r beside.1 in
+      let wide = over_area shape nested head now ran gone beside.0 (inl fires) in
       let at = (beside_at_edge m beside.0 r wide.0 beside.1.1 wide.1).0 in
       fired_owner ran gone beside.0 r beside.1.1.1.0 wide.0 fires wide.1 at beside.1.1.1.2
       )))
       called
 
+  -- a State around a choice that has been left is entered, where what has ended on the choice enters it
+  around_choice : (ran : List (Item × How)) → HasGone m head now ran → (w u : Route) (c o : VertexId) (r h : RegionId) (area : Scope)
+      → IsPickedBy m (course_by head now ran) w u c → IsArea m w area → IsRegionIn m h area → owner_of m (Region r) ≡ Some (State o)
+      → owner_of m (State o) ≡ Some (Region h) → owner_of m (State c) ≡ Some (Region r) → IsOwnerActive ran r
+  around_choice ran gone w u c o r h area by is inside e f home =
+      let lies = region_in_scope shape o h area (owned f) inside in
+      let step = step_route shape nested head now ran gone w by.goes in
+      let entry = by.entries o (choice_enters shape nested w c o step by.ends (area, is, lies) (r, e, owned home)) in
+      inr (o, e, (active_is shape nested initials head now begins ran gone o).1 (inl entry))
+
+  -- so it is where a region is all of the place of a route
+  stem_owner : (ran : List (Item × How)) → HasGone m head now ran → (p : Route) (r : RegionId) (o : VertexId) (area : Scope)
+      → Stems m (course_by head now ran) p → IsArea m p area → IsEdge m r area → owner_of m (Region r) ≡ Some (State o) → IsOwnerActive ran r
+  stem_owner ran gone p r o area (stem_fires fires) is edge e = fired_owner ran gone p r o area fires is edge e
+  stem_owner ran gone p r o area (stem_opens {r = k} {v = v} by) is edge e =
+      let same : r ≡ k = subst (λ x. IsEdge m r x) (late_area shape nested p k v by.0.1 area is) edge in
+      opened_owner ran gone r (subst (λ x. IsCalledOver m (course_by head now ran) (items.Opened x Plain)) (sym same) by.0.2)
+  stem_owner ran gone p r o area (stem_picks {w = w} {c = c} before by) is edge e =
+      let at = late_in shape nested p c by.late in
+      let same : r ≡ at.0 = subst (λ x. IsEdge m r x) (late_area shape nested p at.0 c at.1 area is) edge in
+      let home = subst (λ x. owner_of m (State c) ≡ Some (Region x)) (sym same) at.1.1 in
+      let wide = choice_in_area shape nested w c (step_route shape nested head now ran gone w by.goes) by.ends in
+      let outer = home_of_state shape o (inl (shape.regions r (State o) e).0) in
+      ⊎_elim
+      (λ edges. stem_owner ran gone w r o wide.0 before wide.1 edges e)
+      (λ out. around_choice ran gone w p c o r outer.0 wide.0 by wide.1 out e outer.1 home)
+      (edge_or_outer shape r outer.0 o wide.0 e outer.1 (home_in_scope m c r wide.0 home wide.2))
+
+  -- where a route enters a State, it ends in the region that owns that, and on no terminate vertex
+  end_of_entered : (p : Route) (q : VertexId) (r : RegionId) (h : IsEnteredBy m p q) → owner_of m (State q) ≡ Some (Region r)
+      → LiesInRegion m h.1.0 r × (HasKind m h.1.0 kinds.Terminate → ⊥)
+  end_of_entered p q r h f =
+      ⊎_elim
+      (λ same. (
+        subst (λ x. LiesInRegion m x r) (sym same.0) (owned f),
+        λ k. ⊎_elim
+            (λ state. other_kind m h.1.0 kinds.State kinds.Terminate (λ e. cc) state k)
+            (λ final. other_kind m h.1.0 kinds.Final kinds.Terminate (λ e. cc) final k)
+            same.1,
+      ))
+      (λ around. (under_further around.1.2 (further around.1.1 (owned f)), around.2))
+      h.1.2
+
   inner_owner : (ran : List (Item × How)) → HasGone m head now ran → (p : Route) (q o : VertexId) (r h : RegionId) (area : Scope)
       → IsReady m (course_by head now ran) (items.Enter q) → owner_of m (State q) ≡ Some (Region r)
       → owner_of m (Region r) ≡ Some (State o) → owner_of m (State o) ≡ Some (Region h) → IsEnteredOver m (course_by head now ran) p q
-      → EndsIn m p r → IsArea m p area → IsRegionIn m h area → IsOwnerActive ran r
-  inner_owner ran gone p q o r h area ready f e home over ends is inside =
+      → IsArea m p area → IsRegionIn m h area → IsOwnerActive ran r
+  inner_owner ran gone p q o r h area ready f e home over is inside =
       let course = course_by head now ran in
       let g = gone_by_routes nested shape head now ran gone in
       let lies = region_in_scope shape o h area (owned home) inside in
+      let last = end_of_entered p q r over.1 f in
       let called : IsCalledOver m course (items.Enter o) =
-      (p, (over.0, (over.1.0, (ends.0, ends.1, inr ((area, is, lies), (r, e, ends.2)))))) in
+      (p, (over.0, (over.1.0, (over.1.1.0, over.1.1.1, inr ((area, is, lies), (r, e, last.0), last.1))))) in
       let entry = ready.cleared (items.Enter o) (called_of nested shape course g (items.Enter o) called)
       (before_of nested shape course g (items.Enter o) (items.Enter q) (r, e, owned f)) in
       inr (o, e, (active_is shape nested initials head now begins ran gone o).1 (inl entry))
@@ -246,15 +300,12 @@ module _ {m : DraftMachine} (shape : HasShape m) (nested : IsPlainlyNested m) (i
       let called = called_is nested shape course (gone_by_routes nested shape head now ran gone) (items.Enter q) ready.waiting.called in
       let p = called.0 in
       let over : GoesBy course p = called.1.0 in
-      let fills = entered_fills shape nested initials p q r (step_route shape nested head now ran gone p over) f called.1.1 in
+      let fills = entered_fills shape nested p q r (step_route shape nested head now ran gone p over) f called.1.1 in
       let area = fills.1 in
       let home = home_of_state shape o (inl (shape.regions r (State o) e).0) in
       ⊎_elim
-      (λ edge. ⊎_elim
-      (λ fires. fired_owner ran gone p r o area.0 fires area.1 edge e)
-      (λ late. late_owner ran gone p r area.0 late area.1 edge)
-      over)
-      (λ outer. inner_owner ran gone p q o r home.0 area.0 ready f e home.1 called.1 fills.0 area.1 outer)
+      (λ edge. stem_owner ran gone p r o area.0 (stems shape nested head now ran gone p over) area.1 edge e)
+      (λ outer. inner_owner ran gone p q o r home.0 area.0 ready f e home.1 called.1 area.1 outer)
       (edge_or_outer shape r home.0 o area.0 e home.1 area.2)
 
   owner_active : (ran : List (Item × How)) → HasGone m head now ran → (r : RegionId) (q : VertexId)

@@ -24,7 +24,7 @@ use Rattle.pssm_model.proofs.StateRoutes.{is_start, start_is_on, state_route_fro
 use Rattle.pssm_model.proofs.OverJunctions.{single_legs}
 use Rattle.pssm_plan.proofs.Known.{Known, known_both, known_as, known_transition}
 use Rattle.pssm_plan.proofs.RouteLegs.{leg_exits_of}
-use Rattle.pssm_plan.proofs.SteadyPlaces.{IsRegionUnder, IsEdge, same_state, edge_owner_outside, edge_not_around, region_in_scope, under_is_in, around_in_scope, source_is_end, one_area}
+use Rattle.pssm_plan.proofs.SteadyPlaces.{IsRegionIn, IsEdge, same_state, edge_owner_outside, edge_not_around, region_in_scope, around_in_scope, source_is_end, one_area}
 
 -- The route fires, and starts at States.
 abbrev pub IsFired : DraftMachine → Head → Route → Type 0
@@ -187,12 +187,12 @@ module _ {m : DraftMachine} (shape : HasShape m) (nested : IsPlainlyNested m) (h
 
   -- nor does a region around such a region lie there
   pub edge_stays : (p q : Route) (r k : RegionId) (area place : Scope) → IsFired m head p → IsArea m p area → IsEdge m r area
-      → LiesUnder m (Region r) (Region k) → IsFired m head q → IsArea m q place → IsRegionUnder m k place → ⊥
+      → LiesUnder m (Region r) (Region k) → IsFired m head q → IsArea m q place → IsRegionIn m k place → ⊥
   edge_stays p q r k area place fires is edge under other at inside =
       ⊎_elim
       (λ same. (
       let here = one_area m q place area at (subst (λ x. IsArea m x area) same is) in
-      edge_not_around shape r k area edge under (subst (λ x. IsRegionUnder m k x) here inside)
+      edge_not_around shape r k area edge under (subst (λ x. IsRegionIn m k x) here inside)
       ))
       (λ apart. (
       let from = source_at_edge p r area fires is edge in
@@ -201,6 +201,6 @@ module _ {m : DraftMachine} (shape : HasShape m) (nested : IsPlainlyNested m) (h
       (λ owns. ⊎_elim (λ clash. absurd (cc)) (λ more. more) (under_cases m (Region r) (State from.0) (Region k) owns under))
       from.2 in
       source_outside p q from.0 apart fires other from.1
-      (place, at, region_in_scope shape from.0 k place lies (under_is_in m k place inside))
+      (place, at, region_in_scope shape from.0 k place lies inside)
       ))
       (known_route p q)

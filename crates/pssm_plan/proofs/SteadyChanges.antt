@@ -130,14 +130,14 @@ module _ {m : DraftMachine} (shape : HasShape m) (nested : IsPlainlyNested m) (i
       → IsWaiting m (course_by head now ran) (items.Exit q) → HasRun (course_by head now ran) (items.Enter v) → ⊥
   no_entry_yet ran gone p q v place around waits entry =
       let called = called_is nested shape (course_by head now ran) (gone_by_routes nested shape head now ran gone) (items.Exit q) waits.called in
-      waits.not_run (entry_after_exits shape nested initials head now begins ran gone p v q around place entry called)
+      waits.not_run (entry_after_exits shape nested head now begins ran gone p v q around place entry called)
 
   -- so a State has not been entered whose exit waits
   not_entered : (ran : List (Item × How)) → HasGone m head now ran → (q : VertexId)
       → IsWaiting m (course_by head now ran) (items.Exit q) → HasRun (course_by head now ran) (items.Enter q) → ⊥
   not_entered ran gone q waits entry =
       let called = called_is nested shape (course_by head now ran) (gone_by_routes nested shape head now ran gone) (items.Exit q) waits.called in
-      let at = exited_around shape nested initials head now ran gone q called in
+      let at = exited_around shape nested head now ran gone q called in
       no_entry_yet ran gone at.0 q q at.1 at.1 waits entry
 
   -- what is active

@@ -1,43 +1,38 @@
 -- What has run before an entry, and where a step enters States: all that is entered lies where something fires, and
 -- every called exit of that place has run.
-use Rattle.std.proofs.Common.{List, Some, ◌≡◌, ◌⊎◌, [], ◌∷◌, refl, sym, ap, subst, inl, inr, ⊎_elim}
+use Rattle.std.proofs.Common.{List, Some, ◌≡◌, ◌⊎◌, refl, sym, subst, inl, inr, ⊎_elim}
 use Rattle.pssm_model.specs.declared.ids.VertexId.{VertexId}
 use Rattle.pssm_model.specs.declared.ids.RegionId.{RegionId}
 use Rattle.pssm_model.specs.declared.ids.TransId.{TransId}
 use Rattle.pssm_model.specs.declared.elements.DraftMachine.{DraftMachine}
-use Rattle.pssm_model.specs.declared.elements.VertexKind.TheVariants as kinds
 use Rattle.pssm_model.specs.declared.elements.Owner.TheVariants.{Top, Region, State}
 use Rattle.pssm_model.specs.declared.steps.Route.{Route}
-use Rattle.pssm_model.specs.declared.steps.Mode.TheVariants.{Plain, Shallow, Deep}
+use Rattle.pssm_model.specs.declared.steps.Mode.TheVariants.{Plain}
 use Rattle.pssm_model.specs.declared.steps.How.{How}
-use Rattle.pssm_model.specs.declared.steps.How.TheVariants.{By, Restore, Nothing}
+use Rattle.pssm_model.specs.declared.steps.How.TheVariants.{By}
 use Rattle.pssm_model.specs.declared.steps.Item.{Item}
 use Rattle.pssm_model.specs.declared.steps.Item.TheVariants as items
-use Rattle.pssm_model.specs.Forest.{HasKind, owner_of, LiesInRegion}
-use Rattle.pssm_model.specs.Paths.{IsInitialOf}
+use Rattle.pssm_model.specs.Forest.{owner_of, LiesInRegion}
 use Rattle.pssm_model.specs.Shapes.{HasShape}
-use Rattle.pssm_model.specs.Routes.{Truth, single_route, IsSource}
-use Rattle.pssm_model.specs.FiringSets.{IsLateRoute}
 use Rattle.pssm_model.specs.Configuration.{Configuration}
-use Rattle.pssm_model.specs.Course.{Head, Course, FiresBy, HasGoneBy, HasRun, RemembersSoFar}
+use Rattle.pssm_model.specs.Course.{Head, FiresBy, HasGoneBy, HasRun}
 use Rattle.pssm_model.specs.Course.Head.{Starts, Fires}
 use Rattle.pssm_model.specs.Items.{StartOpens, Before}
-use Rattle.pssm_model.specs.Ways.{Memory, IsWay}
 use Rattle.pssm_model.specs.Order.{HasGone, IsReady, course_by}
 use Rattle.pssm_model.specs.Order.HasGone.{begun as gone_begun, more as gone_more}
 use Rattle.pssm_model.specs.Nested.{IsPlainlyNested}
-use Rattle.pssm_plan.specs.Steadiness.{KeepsInitials, BeginsWell}
-use Rattle.pssm_model.specs.Legs.{Leaves, On, Scope}
-use Rattle.pssm_plan.specs.inner.OverRoutes.{IsArea, OpensBeside, GoesBy, IsEnteredBy, IsExitedOver, IsEnteredOver, IsOpenedOver, IsCalledOver}
-use Rattle.pssm_model.proofs.ElementLaws.{kind_unique, leaves_one, nothing_in_nil}
-use Rattle.pssm_model.proofs.RouteLaws.{single_source_is}
+use Rattle.pssm_plan.specs.Steadiness.{BeginsWell}
+use Rattle.pssm_model.specs.Legs.{On, Scope, LiesInScope}
+use Rattle.pssm_plan.specs.inner.OverRoutes.{IsArea, LiesInArea, IsPickedOver, OpensBeside, GoesBy, IsExitedOver, IsEnteredOver, IsOpenedOver, IsCalledOver}
+use Rattle.pssm_model.proofs.ElementLaws.{nothing_in_nil}
 use Rattle.pssm_model.proofs.StateRoutes.{start_is_on, state_route_from}
 use Rattle.pssm_model.proofs.OverJunctions.{single_legs}
-use Rattle.pssm_plan.proofs.RouteItems.{called_is, called_of, before_of}
-use Rattle.pssm_plan.proofs.RouteMore.{entered_more, called_more}
-use Rattle.pssm_plan.proofs.RouteSteps.{gone_by_routes, fires_states, late_single}
-use Rattle.pssm_plan.proofs.MoreRan.{gone_on, nothing_ran, begins_by, gone_by_more, run_more}
-use Rattle.pssm_plan.proofs.SteadyPlaces.{IsRegionUnder, IsSingleFrom, IsStepRoute, has_area, late_lies, entered_in_area, beside_at_edge, under_is_in, region_in_scope, around_in_scope, owned_under}
+use Rattle.pssm_plan.proofs.RouteItems.{called_of, before_of}
+use Rattle.pssm_plan.proofs.RouteSteps.{gone_by_routes, fires_states, gone_late}
+use Rattle.pssm_plan.proofs.MoreRan.{nothing_ran, gone_by_more, run_more}
+use Rattle.pssm_plan.proofs.SteadyPlaces.{IsRegionIn, IsLateIn, has_area, late_in, late_area, one_late_region, entered_in_area, choice_in_area, beside_at_edge, under_is_in, home_in_scope, region_in_scope, around_in_scope, owned_under}
+use Rattle.pssm_plan.proofs.SteadyStems.{IsLateBy, Stems, called_ready, newly_late, stems, step_route, fires_from_state}
+use Rattle.pssm_plan.proofs.SteadyStems.Stems.{fires as stem_fires, opens as stem_opens, picks as stem_picks}
 use Rattle.pssm_plan.proofs.SteadyApart.{IsFired, IsFiredAround, one_around}
 
 -- what starts does not fire
@@ -51,122 +46,9 @@ pub starts_at : (m : DraftMachine) (head : Head) (r : RegionId) → StartOpens m
 starts_at m Starts r starts = (refl, starts)
 starts_at m (Fires routes) r starts = absurd starts
 
--- The route is one transition out of the initial vertex of a region that the step opens.
-abbrev pub IsOutOf : DraftMachine → Course → Route → RegionId → VertexId → Type 0
-IsOutOf m course p r v = IsInitialOf m r v × IsSingleFrom m p v × IsCalledOver m course (items.Opened r Plain)
-
--- And the step has opened it.
-abbrev pub IsLateBy : DraftMachine → Course → Route → RegionId → VertexId → Type 0
-IsLateBy m course p r v = IsOutOf m course p r v × HasRun course (items.Opened r Plain)
-
-module _ {m : DraftMachine} (shape : HasShape m) (nested : IsPlainlyNested m) where
-  -- a late route of one transition leaves its origin
-  single_from : (truth : Truth) (v : VertexId) (p : Route) (t : TransId) → IsLateRoute m truth v p → p ≡ single_route t → IsSingleFrom m p v
-  single_from truth v p t late is =
-      let first = late.leaves.1 in
-      let starts : p.starts ≡ t ∷ [] = ap (λ (q : Route). q.starts) is in
-      let same : late.leaves.0 ≡ t = cc in
-      (t, is, subst (λ u. Leaves m u v) same late.leaves.2)
-
-  -- it is that of an opening
-  opened_by : (course : Course) (truth : Truth) (memory : Memory) (item : Item) (how : How)
-      → IsCalledOver m course item
-      → IsWay m truth memory item how → (p : Route) (t : TransId) → how ≡ By p → p ≡ single_route t
-      → (r : RegionId) × (v : VertexId) × IsOutOf m course p r v × (items.Opened r Plain ≡ item)
-  opened_by course truth memory (items.Exit s) how called way p t e is = let clash = way in absurd (cc)
-  opened_by course truth memory (items.Effect u) how called way p t e is = let clash = way in absurd (cc)
-  opened_by course truth memory (items.Enter s) how called way p t e is = let clash = way in absurd (cc)
-  opened_by course truth memory (items.Opened r Plain) (By other) called way p t e is =
-      let same : other ≡ p = same_way other p e in
-      let late : IsLateRoute m truth way.0 p = subst (λ q. IsLateRoute m truth way.0 q) same way.2 in
-      (r, way.0, (way.1, single_from truth way.0 p t late is, called), refl)
-    where
-      same_way : (p q : Route) → By p ≡ By q → p ≡ q
-      same_way p q f = cc
-  opened_by course truth memory (items.Opened r Plain) (Restore s) called way p t e is = absurd way
-  opened_by course truth memory (items.Opened r Plain) Nothing called way p t e is = absurd (cc)
-  opened_by course truth memory (items.Opened r Shallow) how called way p t e is = absurd called
-  opened_by course truth memory (items.Opened r Deep) how called way p t e is = absurd called
-  opened_by course truth memory (items.Pick c) how called way p t e is = absurd called
-
-  module _ (head : Head) (now : Configuration) where
-    -- a ready item is called
-    pub called_ready : (ran : List (Item × How)) → HasGone m head now ran → (item : Item) → IsReady m (course_by head now ran) item
-        → IsCalledOver m (course_by head now ran) item
-    called_ready ran gone item ready =
-        called_is nested shape (course_by head now ran) (gone_by_routes nested shape head now ran gone) item ready.waiting.called
-
-    goes_on : (ran : List (Item × How)) (item : Item) (how : How) (p : Route) (r : RegionId) (v : VertexId)
-        → IsOutOf m (course_by head now ran) p r v → IsOutOf m (gone_on (course_by head now ran) item how) p r v
-    goes_on ran item how p r v h =
-        (h.0, h.1, (called_more (course_by head now ran) item how m (items.Opened r Plain)).1 (inl h.2))
-
-    -- what an item goes by once it has run
-    pub newly_late : (ran : List (Item × How)) (item : Item) (how : How) → HasGone m head now ran → IsReady m (course_by head now ran) item
-        → (truth : Truth) → IsWay m truth (RemembersSoFar m (course_by head now ran)) item how → (p : Route) → how ≡ By p
-        → (r : RegionId) × (v : VertexId) × IsOutOf m (course_by head now ran) p r v × (items.Opened r Plain ≡ item)
-    newly_late ran item how gone ready truth way p e =
-        let course = course_by head now ran in
-        let single = late_single nested shape head now _ (gone_more item how gone ready truth way) p ((gone_by_more course item how p).1 (inr e)) in
-        opened_by course truth (RemembersSoFar m course) item how (called_ready ran gone item ready) way p single.0 e single.1
-
-    pub late_is : (ran : List (Item × How)) → HasGone m head now ran
-        → (p : Route) → HasGoneBy (course_by head now ran) p
-        → (r : RegionId) × (v : VertexId) × IsLateBy m (course_by head now ran) p r v
-    late_is _ (gone_begun fires) p h = absurd (nothing_in_nil (h.0, By p) h.1)
-    late_is _ (gone_more {ran = ran} item how before ready truth way) p h =
-        let course = course_by head now ran in
-        ⊎_elim
-        (λ was. (
-        let at = late_is ran before p was in
-        (at.0, at.1, (goes_on ran item how p at.0 at.1 at.2.0, (run_more course item how (items.Opened at.0 Plain)).1 (inl at.2.1)))
-        ))
-        (λ is. (
-        let at = newly_late ran item how before ready truth way p is in
-        (at.0, at.1, (goes_on ran item how p at.0 at.1 at.2, (run_more course item how (items.Opened at.0 Plain)).1 (inr at.3)))
-        ))
-        ((gone_by_more course item how p).0 h)
-
-    -- what has run was called
-    pub ran_was_called : (ran : List (Item × How)) → HasGone m head now ran
-        → (x : Item) → HasRun (course_by head now ran) x → IsCalledOver m (course_by head now ran) x
-    ran_was_called _ (gone_begun fires) x h = absurd (nothing_ran head now x h)
-    ran_was_called _ (gone_more {ran = ran} item how before ready truth way) x h =
-        let course = course_by head now ran in
-        (called_more course item how m x).1 (inl (⊎_elim
-        (λ was. ran_was_called ran before x was)
-        (λ is. subst (λ y. IsCalledOver m course y) (sym is) (called_ready ran before item ready))
-        ((run_more course item how x).0 h)))
-
-    -- each route by which the step goes starts at States, or is one transition out of an initial vertex
-    pub step_route : (ran : List (Item × How)) → HasGone m head now ran → (p : Route) → GoesBy (course_by head now ran) p → IsStepRoute m p
-    step_route ran gone p over =
-        ⊎_elim
-        (λ fires. inl (fires_states nested shape head now ran gone p fires))
-        (λ late. (
-        let single = late_single nested shape head now ran gone p late in
-        inr ((gone_by_routes nested shape head now ran gone).routes p (inr late), (single.2.0, (single.0, single.1, single.2.1), single.2.2))
-        ))
-        over
-
-    -- so one that leaves a State fires
-    pub fires_from_state : (ran : List (Item × How)) → HasGone m head now ran → (p : Route) (s : VertexId) → GoesBy (course_by head now ran) p
-        → IsSource m p s → HasKind m s kinds.State → FiresBy head p
-    fires_from_state ran gone p s over source k =
-        ⊎_elim
-        (λ fires. fires)
-        (λ late. (
-        let single = late_single nested shape head now ran gone p late in
-        let leaves = single_source_is m single.0 s (subst (λ q. IsSource m q s) single.1 source) in
-        let same = leaves_one m single.0 single.2.0 s single.2.1 leaves in
-        let clash = kind_unique m s kinds.Initial kinds.State (subst (λ v. HasKind m v kinds.Initial) same single.2.2) k in
-        absurd (cc)
-        ))
-        over
-
--- The region lies where the route fires, and is not all of that place.
+-- The region lies where the route fires.
 abbrev pub IsFiredOver : DraftMachine → Head → RegionId → Route → Type 0
-IsFiredOver m head r p = IsFired m head p × ((area : Scope) × IsArea m p area × IsRegionUnder m r area)
+IsFiredOver m head r p = IsFired m head p × ((area : Scope) × IsArea m p area × IsRegionIn m r area)
 
 -- The step is a start, or this is so.
 abbrev pub StartsOr : Head → Type 0 → Type 0
@@ -179,10 +61,9 @@ not_starting head route fires h = ⊎_elim (λ starts. absurd (subst (λ x. Fire
 pub around_of : {m : DraftMachine} → HasShape m → (head : Head) (s : VertexId) (r : RegionId) (p : Route) → LiesInRegion m s r → IsFiredOver m head r p
     → IsFiredAround m head s p
 around_of {m = m} shape head s r p lies over =
-    (over.0, (over.1.0, over.1.1, region_in_scope shape s r over.1.0 lies (under_is_in m r over.1.0 over.1.2)))
+    (over.0, (over.1.0, over.1.1, region_in_scope shape s r over.1.0 lies over.1.2))
 
-module _ {m : DraftMachine} (shape : HasShape m) (nested : IsPlainlyNested m) (initials : KeepsInitials m)
-    (head : Head) (now : Configuration) where
+module _ {m : DraftMachine} (shape : HasShape m) (nested : IsPlainlyNested m) (head : Head) (now : Configuration) where
   pub is_fired : (ran : List (Item × How)) → HasGone m head now ran → (p : Route) → FiresBy head p → IsFired m head p
   is_fired ran gone p fires = (fires, fires_states nested shape head now ran gone p fires)
 
@@ -205,7 +86,7 @@ module _ {m : DraftMachine} (shape : HasShape m) (nested : IsPlainlyNested m) (i
       → HasRun (course_by head now ran) (items.Effect t) → (q : VertexId) → IsFiredAround m head q p
       → IsCalledOver m (course_by head now ran) (items.Exit q)
       → HasRun (course_by head now ran) (items.Exit q)
-  effect_after_exits _ (gone_begun fires) p t on h q around called = absurd (nothing_ran head now (items.Effect t) h)
+  effect_after_exits _ (gone_begun all) p t on h q around called = absurd (nothing_ran head now (items.Effect t) h)
   effect_after_exits _ (gone_more {ran = ran} item how before ready truth way) p t on h q around called =
       let course = course_by head now ran in
       let g = gone_by_routes nested shape head now ran before in
@@ -227,7 +108,7 @@ module _ {m : DraftMachine} (shape : HasShape m) (nested : IsPlainlyNested m) (i
   opened_after_effect : (ran : List (Item × How)) → HasGone m head now ran → (p : Route) (t : TransId) (r : RegionId)
       → FiresBy head p → On p t → OpensBeside m p r → HasRun (course_by head now ran) (items.Opened r Plain)
       → HasRun (course_by head now ran) (items.Effect t)
-  opened_after_effect _ (gone_begun fires) p t r is on beside h = absurd (nothing_ran head now (items.Opened r Plain) h)
+  opened_after_effect _ (gone_begun all) p t r is on beside h = absurd (nothing_ran head now (items.Opened r Plain) h)
   opened_after_effect _ (gone_more {ran = ran} item how before ready truth way) p t r is on beside h =
       let course = course_by head now ran in
       let g = gone_by_routes nested shape head now ran before in
@@ -242,7 +123,7 @@ module _ {m : DraftMachine} (shape : HasShape m) (nested : IsPlainlyNested m) (i
   pub over_area : (ran : List (Item × How)) → HasGone m head now ran → (p : Route)
       → GoesBy (course_by head now ran) p
       → (area : Scope) × IsArea m p area
-  over_area ran gone p over = has_area shape nested initials p (step_route shape nested head now ran gone p over)
+  over_area ran gone p over = has_area shape nested p (step_route shape nested head now ran gone p over)
 
   -- a region that is opened beside what is entered lies where what opens it fires
   pub beside_within : (ran : List (Item × How)) → HasGone m head now ran → (p : Route) (r : RegionId)
@@ -250,46 +131,102 @@ module _ {m : DraftMachine} (shape : HasShape m) (nested : IsPlainlyNested m) (i
   beside_within ran gone p r h =
       let fires = beside_fires ran gone p r h in
       let area = over_area ran gone p (inl fires) in
-      (is_fired ran gone p fires, (area.0, area.1, (beside_at_edge m p r area.0 h.1 area.1).1))
+      (is_fired ran gone p fires, (area.0, area.1, under_is_in m r area.0 (beside_at_edge m p r area.0 h.1 area.1).1))
 
-  -- each region that the step opens lies where something fires, where what has been entered lies so, or the step is a start
-  opened_where : (ran : List (Item × How)) → HasGone m head now ran
-      → ((u : Route) (s : VertexId) → IsEnteredOver m (course_by head now ran) u s → StartsOr head ((p : Route) × IsFiredAround m head s p))
+  -- All places where what the step goes by exits and enters lie where something fires, or the step is a start.
+  abbrev AllFired : List (Item × How) → Type 0
+  AllFired ran =
+      (u : Route) → GoesBy (course_by head now ran) u → StartsOr head ((p : Route) × ((v : VertexId) → LiesInArea m u v → IsFiredAround m head v p))
+
+  -- And so do all regions in which it starts late.
+  abbrev AllLateFired : List (Item × How) → Type 0
+  AllLateFired ran =
+      (u : Route) (r : RegionId) (v : VertexId) → HasGoneBy (course_by head now ran) u → IsLateIn m u r v
+      → StartsOr head ((p : Route) × IsFiredOver m head r p)
+
+  all_from_late : (ran : List (Item × How)) → HasGone m head now ran → AllLateFired ran → AllFired ran
+  all_from_late ran gone all u goes =
+      ⊎_elim
+      (λ fires. inr (u, λ v lies. (is_fired ran gone u fires, lies)))
+      (λ late. (
+      let from = gone_late nested shape head now ran gone u late in
+      let at = late_in shape nested u from.origin (from.route, (from.first, from.starts, from.leaves), from.kind) in
+      ⊎_elim
+      (λ starts. inl starts)
+      (λ over. inr (
+        over.0,
+        λ v lies. around_of shape head v at.0 over.0
+            (subst (λ x. LiesInScope m v x) (late_area shape nested u at.0 from.origin at.1 lies.0 lies.1) lies.2) over.1,
+      ))
+      (all u at.0 from.origin late at.1)
+      ))
+      goes
+
+  -- what is entered then does
+  entered_where : (ran : List (Item × How)) → HasGone m head now ran → AllFired ran
+      → (u : Route) (s : VertexId) → IsEnteredOver m (course_by head now ran) u s → StartsOr head ((p : Route) × IsFiredAround m head s p)
+  entered_where ran gone all u s h =
+      let lies = entered_in_area shape nested u s (step_route shape nested head now ran gone u h.0) h.1 in
+      ⊎_elim (λ starts. inl starts) (λ over. inr (over.0, over.1 s lies)) (all u h.0)
+
+  -- and what is opened
+  opened_where : (ran : List (Item × How)) → HasGone m head now ran → AllFired ran
       → (r : RegionId) → IsCalledOver m (course_by head now ran) (items.Opened r Plain) → StartsOr head ((p : Route) × IsFiredOver m head r p)
-  opened_where ran gone inside r called =
+  opened_where ran gone all r called =
       ⊎_elim
       (λ starts. inl (starts_at m head r starts).0)
       (⊎_elim
       (λ at. ⊎_elim
       (λ starts. inl starts)
-      (λ around. inr (around.0, (around.1.0, (around.1.1.0, around.1.1.1, owned_under m r at.0 around.1.1.0 at.1.1 around.1.1.2))))
-      (inside at.1.2.0 at.0 at.1.2.1))
+      (λ around. (
+      let area = around.1.1 in
+      inr (around.0, (around.1.0, (area.0, area.1, under_is_in m r area.0 (owned_under m r at.0 area.0 at.1.1 area.2))))
+      ))
+      (entered_where ran gone all at.1.2.0 at.0 at.1.2.1))
       (λ beside. inr (beside.0, beside_within ran gone beside.0 r beside.1)))
       called
 
-  -- all that is entered lies where something fires, or the step is a start
-  pub inside_fired : (ran : List (Item × How)) → HasGone m head now ran
-      → (u : Route) (s : VertexId) → IsEnteredOver m (course_by head now ran) u s → StartsOr head ((p : Route) × IsFiredAround m head s p)
-  inside_fired _ (gone_begun fires) u s h =
-      let is = is_fired _ (gone_begun fires) u (begins_by head now u h.0) in
-      inr (u, (is, entered_in_area shape nested initials u s (inl is.1) h.1))
-  inside_fired _ (gone_more {ran = ran} item how before ready truth way) u s h =
-      let course = course_by head now ran in
-      ⊎_elim
-      (λ was. inside_fired ran before u s was)
-      (λ new. (
-      let by = newly_late shape nested head now ran item how before ready truth way u new.0 in
-      let lies = late_lies shape nested initials by.0 by.1 u s by.2.0 by.2.1 new.1 in
+  -- and the region of a choice on which it ends
+  picked_where : (ran : List (Item × How)) → HasGone m head now ran → AllFired ran → (w : Route) (c : VertexId) (r : RegionId)
+      → IsPickedOver m (course_by head now ran) w c → owner_of m (State c) ≡ Some (Region r) → StartsOr head ((p : Route) × IsFiredOver m head r p)
+  picked_where ran gone all w c r h e =
+      let lies = choice_in_area shape nested w c (step_route shape nested head now ran gone w h.0) h.1 in
       ⊎_elim
       (λ starts. inl starts)
-      (λ over. inr (over.0, around_of shape head s by.0 over.0 lies over.1))
-      (opened_where ran before (inside_fired ran before) by.0 by.2.2)
+      (λ over. (
+      let around = over.1 c lies in
+      inr (over.0, (around.0, (around.1.0, around.1.1, home_in_scope m c r around.1.0 e around.1.2)))
       ))
-      ((entered_more course item how m u s).0 h)
+      (all w h.0)
+
+  -- so all of them do
+  pub late_fired : (ran : List (Item × How)) → HasGone m head now ran → AllLateFired ran
+  late_fired _ (gone_begun all) u r v late from = absurd (nothing_in_nil (late.0, By u) late.1)
+  late_fired _ (gone_more {ran = ran} item how before ready truth way) u r v late from =
+      let course = course_by head now ran in
+      let all = all_from_late ran before (late_fired ran before) in
+      ⊎_elim
+      (λ was. late_fired ran before u r v was from)
+      (λ is. ⊎_elim
+      (λ opening. (
+      let same = one_late_region shape nested u r v from opening.0 opening.1 opening.2.1 in
+      subst (λ x. StartsOr head ((p : Route) × IsFiredOver m head x p)) (sym same) (opened_where ran before all opening.0 opening.2.2)
+      ))
+      (λ pick. (
+      let at = late_in shape nested u pick.0 pick.3 in
+      let same = one_late_region shape nested u r v from at.0 pick.0 at.1 in
+      picked_where ran before all pick.1 pick.0 r pick.2 (subst (λ x. owner_of m (State pick.0) ≡ Some (Region x)) (sym same) at.1.1)
+      ))
+      (newly_late shape nested head now ran item how before ready truth way u is))
+      ((gone_by_more course item how u).0 late)
+
+  pub inside_fired : (ran : List (Item × How)) → HasGone m head now ran
+      → (u : Route) (s : VertexId) → IsEnteredOver m (course_by head now ran) u s → StartsOr head ((p : Route) × IsFiredAround m head s p)
+  inside_fired ran gone u s h = entered_where ran gone (all_from_late ran gone (late_fired ran gone)) u s h
 
   pub opened_fired : (ran : List (Item × How)) → HasGone m head now ran
       → (r : RegionId) → IsCalledOver m (course_by head now ran) (items.Opened r Plain) → StartsOr head ((p : Route) × IsFiredOver m head r p)
-  opened_fired ran gone r called = opened_where ran gone (inside_fired ran gone) r called
+  opened_fired ran gone r called = opened_where ran gone (all_from_late ran gone (late_fired ran gone)) r called
 
   module _ (begins : BeginsWell m head now) where
     same_place : (s : VertexId) (p u : Route) → IsFiredAround m head s p → IsFiredAround m head s u → p ≡ u
@@ -309,32 +246,59 @@ module _ {m : DraftMachine} (shape : HasShape m) (nested : IsPlainlyNested m) (i
         let same = same_place s p u at around in
         effect_after_exits ran gone u t on effect q (subst (λ x. IsFiredAround m head q x) same place) called
 
-    -- an entry by a late route
-    late_after : (ran : List (Item × How)) → HasGone m head now ran → IsEntryAfterExits ran
-        → (p u : Route) (s q : VertexId) → IsFiredAround m head s p → IsFiredAround m head q p → IsEnteredBy m u s
-        → HasGoneBy (course_by head now ran) u
+    -- What fires has run its effects.
+    abbrev HasActed : List (Item × How) → Route → Type 0
+    HasActed ran u = FiresBy head u → (t : TransId) → On u t → HasRun (course_by head now ran) (items.Effect t)
+
+    -- by what the step goes, once it is under way, every called exit of its place has run: by what fires
+    fired_acted : (ran : List (Item × How)) → HasGone m head now ran → (p u : Route) (s q : VertexId) → IsFiredAround m head s p
+        → IsFiredAround m head q p → LiesInArea m u s → FiresBy head u → HasActed ran u
         → IsCalledOver m (course_by head now ran) (items.Exit q) → HasRun (course_by head now ran) (items.Exit q)
-    late_after ran gone earlier p u s q here place enters late called =
-        let by = late_is shape nested head now ran gone u late in
-        let lies = late_lies shape nested initials by.0 by.1 u s by.2.0.0 by.2.0.1 enters in
+    fired_acted ran gone p u s q here place lies is acted called =
+        let fires = is_fired ran gone u is in
+        let first = first_on u fires in
+        fired_after ran gone p u first.0 s q here place (fires, lies) first.1 (acted is first.0 first.1) called
+
+    -- by a route that leaves a region that the step has opened
+    opened_after : (ran : List (Item × How)) → HasGone m head now ran → IsEntryAfterExits ran
+        → (p u : Route) (s q : VertexId) (r : RegionId) (v : VertexId) → IsFiredAround m head s p → IsFiredAround m head q p → LiesInRegion m s r
+        → IsLateBy m (course_by head now ran) u r v
+        → IsCalledOver m (course_by head now ran) (items.Exit q) → HasRun (course_by head now ran) (items.Exit q)
+    opened_after ran gone earlier p u s q r v here place lies by called =
         ⊎_elim
-        (λ starts. absurd (starts_alone m head by.0 p starts here.0.0))
+        (λ starts. absurd (starts_alone m head r p starts here.0.0))
         (⊎_elim
         (λ at. (
         let around = not_starting head p here.0.0 (inside_fired ran gone at.1.2.0 at.0 at.1.2.1) in
         let area = around.1.1 in
         let inner : IsFiredAround m head s around.0 =
-        (around.1.0, (area.0, area.1, around_in_scope m s at.0 by.0 area.0 lies at.1.1 area.2)) in
+        (around.1.0, (area.0, area.1, around_in_scope m s at.0 r area.0 lies at.1.1 area.2)) in
         let same = same_place s around.0 p inner here in
         earlier p at.0 q (subst (λ x. IsFiredAround m head at.0 x) same around.1) place at.1.0 called
         ))
         (λ beside. (
-        let over = beside_within ran gone beside.0 by.0 beside.1 in
+        let over = beside_within ran gone beside.0 r beside.1 in
         let first = first_on beside.0 over.0 in
-        fired_after ran gone p beside.0 first.0 s q here place (around_of shape head s by.0 beside.0 lies over) first.1
-        (opened_after_effect ran gone beside.0 first.0 by.0 over.0.0 first.1 beside.1.1 by.2.1) called
+        fired_after ran gone p beside.0 first.0 s q here place (around_of shape head s r beside.0 lies over) first.1
+        (opened_after_effect ran gone beside.0 first.0 r over.0.0 first.1 beside.1.1 (By u, by.1)) called
         )))
-        by.2.0.2
+        by.0.2
+
+    -- by a route that leaves a choice: by what has ended on that
+    stems_after : (ran : List (Item × How)) → HasGone m head now ran → IsEntryAfterExits ran
+        → (p u : Route) (s q : VertexId) → IsFiredAround m head s p → IsFiredAround m head q p → LiesInArea m u s
+        → Stems m (course_by head now ran) u → HasActed ran u
+        → IsCalledOver m (course_by head now ran) (items.Exit q) → HasRun (course_by head now ran) (items.Exit q)
+    stems_after ran gone earlier p u s q here place lies (stem_fires is) acted called = fired_acted ran gone p u s q here place lies is acted called
+    stems_after ran gone earlier p u s q here place lies (stem_opens {r = r} {v = v} by) acted called =
+        let inside = subst (λ x. LiesInScope m s x) (late_area shape nested u r v by.0.1 lies.0 lies.1) lies.2 in
+        opened_after ran gone earlier p u s q r v here place inside by called
+    stems_after ran gone earlier p u s q here place lies (stem_picks {w = w} {c = c} before by) acted called =
+        let at = late_in shape nested u c by.late in
+        let inside = subst (λ x. LiesInScope m s x) (late_area shape nested u at.0 c at.1 lies.0 lies.1) lies.2 in
+        let area = choice_in_area shape nested w c (step_route shape nested head now ran gone w by.goes) by.ends in
+        let around : LiesInArea m w s = (area.0, area.1, region_in_scope shape s at.0 area.0 inside (home_in_scope m c at.0 area.0 at.1.1 area.2)) in
+        stems_after ran gone earlier p w s q here place around before (λ is t on. by.effects t on) called
 
     -- a ready entry finds every called exit of its place run
     ready_after : (ran : List (Item × How)) → HasGone m head now ran → IsEntryAfterExits ran
@@ -345,23 +309,18 @@ module _ {m : DraftMachine} (shape : HasShape m) (nested : IsPlainlyNested m) (i
         let course = course_by head now ran in
         let g = gone_by_routes nested shape head now ran gone in
         let over = called_ready shape nested head now ran gone (items.Enter s) ready in
-        ⊎_elim
-        (λ fires. (
-        let is = is_fired ran gone over.0 fires in
-        let first = first_on over.0 is in
-        let effect = ready.cleared (items.Effect first.0) (called_of nested shape course g (items.Effect first.0) (over.0, over.1.0, first.1))
-        (before_of nested shape course g (items.Effect first.0) (items.Enter s) (over.0, over.1, first.1)) in
-        fired_after ran gone p over.0 first.0 s q here place (is, entered_in_area shape nested initials over.0 s (inl is.1) over.1.1) first.1 effect called
-        ))
-        (λ late. late_after ran gone earlier p over.0 s q here place over.1.1 late called)
-        over.1.0
+        let lies = entered_in_area shape nested over.0 s (step_route shape nested head now ran gone over.0 over.1.0) over.1.1 in
+        stems_after ran gone earlier p over.0 s q here place lies (stems shape nested head now ran gone over.0 over.1.0)
+        (λ is t on. ready.cleared (items.Effect t) (called_of nested shape course g (items.Effect t) (over.0, over.1.0, on))
+        (before_of nested shape course g (items.Effect t) (items.Enter s) (over.0, over.1, on)))
+        called
 
     -- once an entry has run, every called exit of its place has
     pub entry_after_exits : (ran : List (Item × How)) → HasGone m head now ran
         → (p : Route) (s q : VertexId) → IsFiredAround m head s p → IsFiredAround m head q p → HasRun (course_by head now ran) (items.Enter s)
         → IsCalledOver m (course_by head now ran) (items.Exit q)
         → HasRun (course_by head now ran) (items.Exit q)
-    entry_after_exits _ (gone_begun fires) p s q here place h called = absurd (nothing_ran head now (items.Enter s) h)
+    entry_after_exits _ (gone_begun all) p s q here place h called = absurd (nothing_ran head now (items.Enter s) h)
     entry_after_exits _ (gone_more {ran = ran} item how before ready truth way) p s q here place h called =
         let course = course_by head now ran in
         (run_more course item how (items.Exit q)).1 (inl (⊎_elim

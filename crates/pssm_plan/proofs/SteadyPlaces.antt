@@ -1,5 +1,5 @@
 -- Where the States stand that a route enters: owner chains, places where routes exit and enter, and the regions that a route fills.
-use Rattle.std.proofs.Common.{◌≡◌, ◌⊎◌, ◌++◌, ℕ, suc, List, [], ◌∷◌, Contains, Some, refl, sym, ap, subst, ◌∙◌, inl, inr, ⊎_elim}
+use Rattle.std.proofs.Common.{◌≡◌, ◌≢◌, ◌⊎◌, ◌++◌, ℕ, suc, List, [], ◌∷◌, Some, refl, sym, ap, subst, ◌∙◌, inl, inr, ⊎_elim}
 use Rattle.std.proofs.lemmas.List.Elements.{Contains-append_left}
 use Rattle.pssm_model.specs.declared.ids.VertexId.{VertexId}
 use Rattle.pssm_model.specs.declared.ids.RegionId.{RegionId}
@@ -18,27 +18,28 @@ use Rattle.pssm_model.specs.declared.elements.TransKind.TheVariants.{External, L
 use Rattle.pssm_model.specs.declared.steps.Route.{Route}
 use Rattle.pssm_model.specs.Forest.{vertex_at, transition_at, owner_of, HasKind, IsStateOrFinal, LiesUnder, LiesInRegion, LiesInState, IsWithin, HasRegionsAbove}
 use Rattle.pssm_model.specs.Forest.LiesUnder.{owned, further}
-use Rattle.pssm_model.specs.Legs.{Leaves, Enters, Goes, On, Scope, LiesInScope}
+use Rattle.pssm_model.specs.Legs.{Leaves, Enters, Goes, On, IsPoint, Scope, LiesInScope}
 use Rattle.pssm_model.specs.Legs.Scope.{Nowhere, Inside, Within}
 use Rattle.pssm_model.specs.Nested.{IsPlainlyNested}
-use Rattle.pssm_model.specs.Paths.{IsInitialOf, IsJunctionPath}
+use Rattle.pssm_model.specs.Paths.{ComesAfter, IsJunctionPath}
+use Rattle.pssm_model.specs.Paths.ComesAfter.{end as after_end, inner as after_inner}
 use Rattle.pssm_model.specs.Paths.IsJunctionPath.{one, more}
-use Rattle.pssm_model.specs.Routes.{single_route, IsRoute, IsSource, IsStateRoute, IsReached}
+use Rattle.pssm_model.specs.Routes.{IsRoute, IsSource, IsStateRoute, IsReached}
 use Rattle.pssm_model.specs.Routes.IsReached.{start as reached_first, on as reached_after}
 use Rattle.pssm_model.specs.Shapes.{HasShape, OwnsVertex}
-use Rattle.pssm_model.specs.WellFormed.Breaks.{E14}
-use Rattle.pssm_plan.specs.Steadiness.{KeepsInitials}
-use Rattle.pssm_plan.specs.inner.OverRoutes.{GoesAs, IsEndOf, IsSpan, IsArea, LiesInArea, EndsOn, IsEnteredBy, EndsIn, OpensBeside}
-use Rattle.pssm_model.proofs.ElementLaws.{mapped_some, mapped_at, kind_unique, leaves_one}
-use Rattle.pssm_model.proofs.RouteLaws.{on_single, on_single_is, reached_is_on}
+use Rattle.pssm_model.specs.WellFormed.Breaks.{E13, E14, E20}
+use Rattle.pssm_plan.specs.inner.OverRoutes.{GoesAs, IsEndOf, IsSpan, IsArea, LiesInArea, EndsOn, IsEnteredBy, EndsIn, OpensBeside, EndsOnChoice}
+use Rattle.pssm_model.proofs.ElementLaws.{mapped_some, mapped_at, leaves_one, enters_one}
+use Rattle.pssm_model.proofs.RouteLaws.{reached_is_on}
 use Rattle.pssm_model.proofs.Nesting.{under_cases, region_cases, outer_of_region, lies_within}
 use Rattle.pssm_model.proofs.OwnerChains.{one_owner, under_further, circle_is_endless, top_lies_nowhere, region_down}
+use Rattle.pssm_model.proofs.RegionChains.{on_one_chain}
 use Rattle.pssm_model.proofs.Scopes.{one_scope}
 use Rattle.pssm_model.proofs.StateRoutes.{is_start as start_inside, source_is_left, state_route_from}
-use Rattle.pssm_model.proofs.OverJunctions.{single_legs, internal_leaves, local_leaves}
-use Rattle.pssm_model.proofs.OneLeg.{is_start, passes_junction}
+use Rattle.pssm_model.proofs.OverJunctions.{IsLateKind, other_kind, single_legs, internal_leaves, local_leaves}
+use Rattle.pssm_model.proofs.OneLeg.{on_start, is_start, start_or_rest, source_of, passes_junction, comes_from, alone}
 use Rattle.pssm_model.proofs.LegScopes.{some_scope}
-use Rattle.pssm_plan.proofs.KnownPlaces.{known_in_state}
+use Rattle.pssm_plan.proofs.KnownPlaces.{known_in_region, known_in_state}
 use Rattle.pssm_plan.proofs.Depths.{owner_under, depth_under, state_down_region}
 use Rattle.pssm_plan.proofs.RouteLegs.{leg_scope_is}
 use Rattle.pssm_plan.proofs.RoutePaths.{one_last}
@@ -65,13 +66,21 @@ IsEdge m r (Within q) = r ≡ q
 abbrev pub Fills : DraftMachine → Route → RegionId → Type 0
 Fills m p r = EndsIn m p r × ((area : Scope) × IsArea m p area × IsRegionIn m r area)
 
--- The route is one transition, which leaves the vertex.
-abbrev pub IsSingleFrom : DraftMachine → Route → VertexId → Type 0
-IsSingleFrom m p v = (t : TransId) × (p ≡ single_route t) × Leaves m t v
+-- The route starts with one transition, which leaves the vertex.
+abbrev pub IsStartFrom : DraftMachine → Route → VertexId → Type 0
+IsStartFrom m p v = (t : TransId) × (p.starts ≡ t ∷ []) × Leaves m t v
 
--- The route is one by which steps go: one out of States, or one transition out of an initial vertex.
+-- The route starts at the vertex, an initial vertex or a choice.
+abbrev pub IsLateFrom : DraftMachine → Route → VertexId → Type 0
+IsLateFrom m p v = IsRoute m p × IsStartFrom m p v × IsLateKind m v
+
+-- The region owns that vertex.
+abbrev pub IsLateIn : DraftMachine → Route → RegionId → VertexId → Type 0
+IsLateIn m p r v = IsLateFrom m p v × (owner_of m (State v) ≡ Some (Region r))
+
+-- The route is one by which steps go: one out of States, or one that starts within a step.
 abbrev pub IsStepRoute : DraftMachine → Route → Type 0
-IsStepRoute m p = IsStateRoute m p ⊎ (IsRoute m p × ((v : VertexId) × IsSingleFrom m p v × HasKind m v kinds.Initial))
+IsStepRoute m p = IsStateRoute m p ⊎ ((v : VertexId) × IsLateFrom m p v)
 
 -- The vertex is the State, or lies on an owner chain that passes it.
 abbrev pub IsAtOrUnder : DraftMachine → VertexId → VertexId → Type 0
@@ -80,6 +89,9 @@ IsAtOrUnder m v s = (v ≡ s) ⊎ LiesUnder m (State v) (State s)
 -- names of States and regions as places
 pub same_state : (s q : VertexId) → State s ≡ State q → s ≡ q
 same_state s q e = cc
+
+pub same_region_place : (r q : RegionId) → Region r ≡ Region q → r ≡ q
+same_region_place r q e = cc
 
 module _ {m : DraftMachine} (shape : HasShape m) where
   -- no region lies in itself
@@ -110,7 +122,7 @@ module _ {m : DraftMachine} (shape : HasShape m) where
   edge_owner_outside r s (Within q) e edge lies = no_circle r (further e (subst (λ x. LiesInRegion m s x) (sym edge) lies))
 
   -- nor does a region around it
-  pub edge_not_around : (r p : RegionId) (area : Scope) → IsEdge m r area → LiesUnder m (Region r) (Region p) → IsRegionUnder m p area → ⊥
+  pub edge_not_around : (r p : RegionId) (area : Scope) → IsEdge m r area → LiesUnder m (Region r) (Region p) → IsRegionIn m p area → ⊥
   edge_not_around r p Nowhere edge under inside = inside
   edge_not_around r p (Inside w) edge under inside =
       ⊎_elim
@@ -118,7 +130,10 @@ module _ {m : DraftMachine} (shape : HasShape m) where
       (λ more. no_circle p (under_further inside more))
       (under_cases m (Region r) (State w) (Region p) edge under)
   edge_not_around r p (Within q) edge under inside =
-      no_circle p (under_further (subst (λ x. LiesUnder m (Region p) (Region x)) (sym edge) inside) under)
+      ⊎_elim
+      (λ same. no_circle r (subst (λ x. LiesUnder m (Region r) (Region x)) (same ∙ sym edge) under))
+      (λ more. no_circle p (under_further (subst (λ x. LiesUnder m (Region p) (Region x)) (sym edge) more) under))
+      inside
 
   -- so a region does not own a State in which another lies that it owns
   pub never_under : (s v : VertexId) (r : RegionId) → owner_of m (State s) ≡ Some (Region r)
@@ -160,31 +175,28 @@ module _ {m : DraftMachine} (shape : HasShape m) where
       second)
       first
 
-  -- a region owns each State and final state
-  owner_is_region : (s : VertexId) (p : Owner) → IsStateOrFinal m s → owner_of m (State s) ≡ Some p → OwnsVertex m s p
-      → (h : RegionId) × (owner_of m (State s) ≡ Some (Region h))
-  owner_is_region s Top is e owns = absurd owns
-  owner_is_region s (Region h) is e owns = (h, e)
-  owner_is_region s (State q) is e owns = absurd (
-      ⊎_elim
-      (λ k. ⊎_elim
-      (λ point. (let clash = kind_unique m s kinds.State kinds.EntryPoint k point in cc))
-      (λ point. (let clash = kind_unique m s kinds.State kinds.ExitPoint k point in cc))
-      owns.0)
-      (λ k. ⊎_elim
-      (λ point. (let clash = kind_unique m s kinds.Final kinds.EntryPoint k point in cc))
-      (λ point. (let clash = kind_unique m s kinds.Final kinds.ExitPoint k point in cc))
-      owns.0)
-      is)
+  -- a region owns each vertex that is no connection point
+  owner_is_region : (v : VertexId) (p : Owner) → (IsPoint m v → ⊥) → owner_of m (State v) ≡ Some p → OwnsVertex m v p
+      → (h : RegionId) × (owner_of m (State v) ≡ Some (Region h))
+  owner_is_region v Top not e owns = absurd owns
+  owner_is_region v (Region h) not e owns = (h, e)
+  owner_is_region v (State q) not e owns = absurd (not owns.0)
 
-  home_of_kind : (s : VertexId) (k : VertexKind) → IsStateOrFinal m s → HasKind m s k
-      → (h : RegionId) × (owner_of m (State s) ≡ Some (Region h))
-  home_of_kind s k is h =
-      let x = mapped_some (λ (x : Vertex). x.kind) (vertex_at m s) k h in
-      owner_is_region s x.0.owner is (mapped_at (λ (x : Vertex). x.owner) (vertex_at m s) x.0 x.1) (shape.vertices s x.0 x.1).0
+  home_of_kind : (v : VertexId) (k : VertexKind) → k ≢ kinds.EntryPoint → k ≢ kinds.ExitPoint → HasKind m v k
+      → (h : RegionId) × (owner_of m (State v) ≡ Some (Region h))
+  home_of_kind v k apart other h =
+      let x = mapped_some (λ (x : Vertex). x.kind) (vertex_at m v) k h in
+      owner_is_region v x.0.owner
+      (λ point. ⊎_elim (other_kind m v k kinds.EntryPoint apart h) (other_kind m v k kinds.ExitPoint other h) point)
+      (mapped_at (λ (x : Vertex). x.owner) (vertex_at m v) x.0 x.1) (shape.vertices v x.0 x.1).0
 
   pub home_of_state : (s : VertexId) → IsStateOrFinal m s → (h : RegionId) × (owner_of m (State s) ≡ Some (Region h))
-  home_of_state s is = ⊎_elim (λ k. home_of_kind s kinds.State is k) (λ k. home_of_kind s kinds.Final is k) is
+  home_of_state s is =
+      ⊎_elim (home_of_kind s kinds.State (λ e. cc) (λ e. cc)) (home_of_kind s kinds.Final (λ e. cc) (λ e. cc)) is
+
+  pub home_of_late : (v : VertexId) → IsLateKind m v → (h : RegionId) × (owner_of m (State v) ≡ Some (Region h))
+  home_of_late v is =
+      ⊎_elim (home_of_kind v kinds.Initial (λ e. cc) (λ e. cc)) (home_of_kind v kinds.Choice (λ e. cc) (λ e. cc)) is
 
   -- a region that lies in a State is one of it, or lies in one of it
   pub under_state : (r : RegionId) (w : VertexId) → LiesUnder m (Region r) (State w)
@@ -224,6 +236,23 @@ module _ {m : DraftMachine} (shape : HasShape m) where
       let depth = depth_under shape s (Region r) (owned e) in
       let less = region_down r e depth.2 in
       (less.0, less.2)
+
+  -- a vertex lies in one region of a State
+  deeper : (s : VertexId) (r q : RegionId) → owner_of m (Region r) ≡ Some (State s) → owner_of m (Region q) ≡ Some (State s)
+      → LiesUnder m (Region r) (Region q) → ⊥
+  deeper s r q e f under =
+      ⊎_elim
+      (λ clash. cc)
+      (λ out. no_circle q (further f out))
+      (under_cases m (Region r) (State s) (Region q) e under)
+
+  pub one_region_of : (v s : VertexId) (r q : RegionId) → owner_of m (Region r) ≡ Some (State s) → owner_of m (Region q) ≡ Some (State s)
+      → LiesInRegion m v r → LiesInRegion m v q → r ≡ q
+  one_region_of v s r q e f lies also =
+      ⊎_elim
+      (λ within. ⊎_elim (λ same. same) (λ under. absurd (deeper s r q e f under)) within)
+      (λ within. ⊎_elim (λ same. sym same) (λ under. absurd (deeper s q r f e under)) within)
+      (on_one_chain m (State v) r q lies also)
 
   -- a State owns a region that lies in another, and a region owns the State
   owner_is_state : (r q : RegionId) (p : Owner) → owner_of m (Region r) ≡ Some p → LiesUnder m (Region r) (Region q)
@@ -360,25 +389,29 @@ module _ {m : DraftMachine} (shape : HasShape m) (nested : IsPlainlyNested m)
 
 module _ {m : DraftMachine} (shape : HasShape m) (nested : IsPlainlyNested m) where
   pub is_route : (p : Route) → IsStepRoute m p → IsRoute m p
-  is_route p is = ⊎_elim (λ fires. fires.0) (λ late. late.0) is
+  is_route p is = ⊎_elim (λ fires. fires.0) (λ late. late.1.0) is
 
   -- it has one start
   pub has_start : (p : Route) → IsStepRoute m p → (t : TransId) × (p.starts ≡ t ∷ [])
   has_start p is =
       ⊎_elim
       (λ fires. (let from = state_route_from (single_legs nested) p fires in (from.0, from.2.starts)))
-      (λ late. (late.1.1.0, ap (λ (q : Route). q.starts) late.1.1.1))
+      (λ late. (late.1.1.0, late.1.1.1))
       is
+
+  -- and ends on one vertex
+  pub one_end : (p : Route) (v w : VertexId) → IsStepRoute m p → EndsOn m p v → EndsOn m p w → v ≡ w
+  one_end p v w step first second =
+      let start = has_start p step in
+      one_last (single_legs nested) shape p (is_route p step) start.0 start.1 v w first second
 
   -- what a route enters stands on the owner chain of its last vertex
   pub entered_reached : (p : Route) (s w : VertexId) → IsStepRoute m p → IsEnteredBy m p s → EndsOn m p w → IsAtOrUnder m w s
   entered_reached p s w step h ends =
-      let start = has_start p step in
-      let last = λ (a c : VertexId). one_last (single_legs nested) shape p (is_route p step) start.0 start.1 a c in
+      let last = one_end p h.1.0 w step h.1.1 ends in
       ⊎_elim
-      (λ same. inl (last w h.1.0 ends h.1.1 ∙ same))
-      (λ around. inr (subst (λ x. LiesUnder m (State x) (State s)) (last h.1.0 w h.1.1 ends)
-      (under_further around.1.2 (owned around.1.1))))
+      (λ same. inl (sym last ∙ same.0))
+      (λ around. inr (subst (λ x. LiesUnder m (State x) (State s)) last (under_further around.1.2 (owned around.1.1))))
       h.1.2
 
   -- a route out of States exits and enters somewhere, or nowhere
@@ -388,74 +421,133 @@ module _ {m : DraftMachine} (shape : HasShape m) (nested : IsPlainlyNested m) wh
       let leg = some_scope (single_legs nested) shape p is.0 from.0 from.2.starts from.1 from.2.leaves in
       (leg.0, (leg_scope_is nested shape p is.0 from.0 from.2.starts from.0 leg.0 leg.1).1)
 
-  -- a region owns each initial vertex
-  region_of_initial : (v : VertexId) (p : Owner) → HasKind m v kinds.Initial → owner_of m (State v) ≡ Some p → OwnsVertex m v p
-      → (r : RegionId) × IsInitialOf m r v
-  region_of_initial v Top i e owns = absurd owns
-  region_of_initial v (Region r) i e owns = (r, (i, e))
-  region_of_initial v (State q) i e owns =
-      absurd (⊎_elim
-      (λ point. (let clash = kind_unique m v kinds.Initial kinds.EntryPoint i point in cc))
-      (λ point. (let clash = kind_unique m v kinds.Initial kinds.ExitPoint i point in cc))
-      owns.0)
+  -- an internal route ends on the State that it leaves, so on no choice
+  internal_stays : (t : TransId) (s c : VertexId) → Goes m t Internal → Leaves m t s → Enters m t c → HasKind m c kinds.Choice → ⊥
+  internal_stays t s c goes l e choice =
+      nested.rules _ 13 (E13 (
+        goes,
+        (
+          s,
+          l,
+          inr (λ back. (
+              let state = internal_leaves nested shape t s goes l in
+              other_kind m c kinds.Choice kinds.State (λ same. cc) choice (subst (λ x. HasKind m x kinds.State) (enters_one m t s c back e) state)
+              )),
+        ),
+      ))
 
-  initial_of : (v : VertexId) → HasKind m v kinds.Initial → (r : RegionId) × IsInitialOf m r v
-  initial_of v i =
-      let x = mapped_some (λ (x : Vertex). x.kind) (vertex_at m v) kinds.Initial i in
-      region_of_initial v x.0.owner i (mapped_at (λ (x : Vertex). x.owner) (vertex_at m v) x.0 x.1) (shape.vertices v x.0 x.1).0
+  choice_not_internal : (p : Route) (c : VertexId) → IsStepRoute m p → EndsOnChoice m p c → GoesAs m p Internal → ⊥
+  choice_not_internal p c step ends goes =
+      let route = is_route p step in
+      let from = source_of (single_legs nested) shape p route goes.0 goes.1 goes.0 (on_start (single_legs nested) shape p route goes.0 goes.1) in
+      let state = internal_leaves nested shape goes.0 from.0 goes.2 from.1 in
+      let only = alone (single_legs nested) shape p route goes.0 goes.1 from.0 ends.0.0 from.1 state goes.2 ends.0.1 in
+      internal_stays goes.0 from.0 c goes.2 from.1 (subst (λ u. Enters m u c) only ends.0.2) ends.1
 
-  -- the kind of a transition that leaves an initial vertex is external
-  external_from : (v : VertexId) (t : TransId) (k : TransKind) → HasKind m v kinds.Initial → Leaves m t v → Goes m t k → Goes m t External
-  external_from v t External i l goes = goes
-  external_from v t Local i l goes =
-      absurd (let clash = kind_unique m v kinds.Initial kinds.State i (local_leaves nested shape t v goes l) in cc)
-  external_from v t Internal i l goes =
-      absurd (let clash = kind_unique m v kinds.Initial kinds.State i (internal_leaves nested shape t v goes l) in cc)
+  -- the kind of a transition that leaves an initial vertex or a choice is external
+  pub no_state : (v : VertexId) → IsLateKind m v → HasKind m v kinds.State → ⊥
+  no_state v late state =
+      ⊎_elim
+      (λ i. other_kind m v kinds.Initial kinds.State (λ e. cc) i state)
+      (λ c. other_kind m v kinds.Choice kinds.State (λ e. cc) c state)
+      late
 
-  goes_externally : (v : VertexId) (t : TransId) → HasKind m v kinds.Initial → Leaves m t v → Goes m t External
-  goes_externally v t i l =
+  external_from : (v : VertexId) (t : TransId) (k : TransKind) → IsLateKind m v → Leaves m t v → Goes m t k → Goes m t External
+  external_from v t External late l goes = goes
+  external_from v t Local late l goes = absurd (no_state v late (local_leaves nested shape t v goes l))
+  external_from v t Internal late l goes = absurd (no_state v late (internal_leaves nested shape t v goes l))
+
+  goes_externally : (v : VertexId) (t : TransId) → IsLateKind m v → Leaves m t v → Goes m t External
+  goes_externally v t late l =
       let x = mapped_some (λ (y : Transition). y.source) (transition_at m t) v l in
-      external_from v t x.0.kind i l (mapped_at (λ (y : Transition). y.kind) (transition_at m t) x.0 x.1)
+      external_from v t x.0.kind late l (mapped_at (λ (y : Transition). y.kind) (transition_at m t) x.0 x.1)
 
-module _ {m : DraftMachine} (shape : HasShape m) (nested : IsPlainlyNested m) (initials : KeepsInitials m) where
-  -- the span of a transition out of an initial vertex is the region of that
-  late_span : (r : RegionId) (v : VertexId) (t : TransId) → IsInitialOf m r v → Leaves m t v → IsSpan m (single_route t) r
-  late_span r v t initial leaves = record {
-    common = λ u end. ⊎_elim
-        (λ l. subst (λ x. LiesInRegion m x r)
-        (leaves_one m t v u leaves (subst (λ k. Leaves m k u) (on_single_is t end.0 end.1) l)) (owned initial.1))
-        (λ l. initials.stays r v u t initial leaves (subst (λ k. Enters m k u) (on_single_is t end.0 end.1) l))
-        end.2;
+-- where a route that starts within a step exits and enters
+module _ {m : DraftMachine} (shape : HasShape m) (nested : IsPlainlyNested m) (p : Route) (r : RegionId) (v : VertexId) (late : IsLateIn m p r v) where
+  route : IsRoute m p
+  route = late.0.0
+
+  from : IsStartFrom m p v
+  from = late.0.1
+
+  -- an inner path leads from its start to each vertex on which one of its transitions ends
+  comes_after : (u : TransId) (w : VertexId) → IsReached m p u → Enters m u w → ComesAfter m from.0 w
+  comes_after u w (reached_first h) e =
+      after_end (subst (λ x. Enters m x w) (is_start (single_legs nested) shape p route from.0 from.1 u h) e)
+  comes_after u w (reached_after {u = k} {v = q} before enters l h) e =
+      after_inner u (comes_after k q before enters)
+      (inl (passes_junction (single_legs nested) shape p route from.0 from.1 u k q (reached_is_on m p k before) enters l h)) l e
+
+  -- so each of these lies in the region
+  stays_inside : (u : TransId) (w : VertexId) → On p u → Enters m u w → LiesInRegion m w r
+  stays_inside u w is e =
+      ⊎_elim
+      (λ lies. lies)
+      (λ out. absurd (nested.rules (places.At (elements.Vertex v)) 20 (E20 (inl (
+        ⊎_elim (λ i. inl i) (λ c. inr (inr c)) late.0.2,
+        (from.0, r, from.2, late.1, (w, comes_after u w (route.reached u is) e, out)),
+      )))))
+      (known_in_region shape w r)
+
+  pub late_ends : (w : VertexId) → IsEndOf m p w → LiesInRegion m w r
+  late_ends w (u, is, inr enters) = stays_inside u w is enters
+  late_ends w (u, is, inl leaves) =
+      ⊎_elim
+      (λ same. subst (λ x. LiesInRegion m x r) (leaves_one m from.0 v w from.2 (subst (λ x. Leaves m x w) same leaves)) (owned late.1))
+      (λ in_rest. (
+      let before = comes_from (single_legs nested) shape p route from.0 from.1 u in_rest in
+      subst (λ x. LiesInRegion m x r) (leaves_one m u before.junction w before.leaves leaves)
+      (stays_inside before.before before.junction before.there before.enters)
+      ))
+      (start_or_rest (single_legs nested) shape p route from.0 from.1 u is)
+
+  -- and that is its span
+  late_span : IsSpan m p r
+  late_span = record {
+    common = late_ends;
     innermost = λ q all under. ⊎_elim
         (λ same. no_circle shape q (subst (λ x. LiesUnder m (Region q) (Region x)) same under))
         (λ out. no_circle shape q (under_further under out))
-        (region_cases m (State v) r q initial.1 (all v (t, on_single t, inl leaves)));
+        (region_cases m (State v) r q late.1 (all v (from.0, on_start (single_legs nested) shape p route from.0 from.1, inl from.2)));
   }
 
   -- it is external, so it exits and enters there
-  late_is_area : (r : RegionId) (v : VertexId) (p : Route) → IsInitialOf m r v → IsSingleFrom m p v → IsArea m p (Within r)
-  late_is_area r v p initial from =
-      subst (λ q. IsArea m q (Within r)) (sym from.1) (
-        (from.0, refl, goes_externally shape nested v from.0 initial.0 from.2),
-        late_span r v from.0 initial from.2,
-      )
+  late_is_area : IsArea m p (Within r)
+  late_is_area = ((from.0, from.1, goes_externally shape nested v from.0 late.0.2 from.2), late_span)
 
-  pub late_area : (r : RegionId) (v : VertexId) (p : Route) (area : Scope) → IsInitialOf m r v → IsSingleFrom m p v → IsArea m p area
-      → area ≡ Within r
-  late_area r v p area initial from is = one_area m p area (Within r) is (late_is_area r v p initial from)
+  pub late_area : (area : Scope) → IsArea m p area → area ≡ Within r
+  late_area area is = one_area m p area (Within r) is late_is_area
+
+  -- so it starts in one region
+  pub one_late_region : (q : RegionId) (w : VertexId) → IsLateIn m p q w → r ≡ q
+  one_late_region q w other =
+      let at = other.0.1 in
+      let same : w ≡ v = leaves_one m from.0 w v (subst (λ t. Leaves m t w) (start_same m p at.0 from.0 at.1 from.1) at.2) from.2 in
+      let owner = subst (λ x. owner_of m (State x) ≡ Some (Region q)) same other.1 in
+      same_region_place r q (one_owner m (State v) (Region r) (Region q) late.1 owner)
+
+  -- what it enters lies in the region
+  pub late_lies : (s : VertexId) → IsEnteredBy m p s → LiesInRegion m s r
+  late_lies s h =
+      ⊎_elim
+      (λ same. subst (λ x. LiesInRegion m x r) same.0 (late_ends h.1.0 (h.1.1.0, h.1.1.1, inr h.1.1.2)))
+      (λ around. subst (λ x. LiesInScope m s x) (late_area around.0.0 around.0.1) around.0.2)
+      h.1.2
+
+module _ {m : DraftMachine} (shape : HasShape m) (nested : IsPlainlyNested m) where
+  -- the region in which it starts
+  pub late_in : (p : Route) (v : VertexId) → IsLateFrom m p v → (r : RegionId) × IsLateIn m p r v
+  late_in p v late = let home = home_of_late shape v late.2 in (home.0, (late, home.1))
 
   -- each route by which steps go exits and enters somewhere, or nowhere
   pub has_area : (p : Route) → IsStepRoute m p → (area : Scope) × IsArea m p area
   has_area p is =
       ⊎_elim
       (λ fires. state_area shape nested p fires)
-      (λ late. (
-      let initial = initial_of shape nested late.1.0 late.1.2 in
-      (Within initial.0, late_is_area initial.0 late.1.0 p initial.1 late.1.1)
-      ))
+      (λ late. (let at = late_in p late.0 late.1 in (Within at.0, late_is_area shape nested p at.0 late.0 at.1)))
       is
 
-  -- what it enters lies there
+  -- what it ends on lies there
   target_in_area : (p : Route) (v : VertexId) (area : Scope) → IsStepRoute m p → EndsOn m p v → (GoesAs m p Internal → ⊥) → IsArea m p area
       → LiesInScope m v area
   target_in_area p v Nowhere step ends not is = absurd (not is)
@@ -464,12 +556,13 @@ module _ {m : DraftMachine} (shape : HasShape m) (nested : IsPlainlyNested m) (i
       local_ends shape nested p (is_route shape nested p step) goes.0 goes.1 s ends.0 v goes.2 (source_is_left p goes.0 goes.1 m s is.1) ends.1 ends.2
   target_in_area p v (Within r) step ends not is = is.1.common v (ends.0, ends.1, inr ends.2)
 
+  -- and so does what it enters
   pub entered_in_area : (p : Route) (s : VertexId) → IsStepRoute m p → IsEnteredBy m p s → LiesInArea m p s
   entered_in_area p s step h =
       ⊎_elim
       (λ same. (
       let area = has_area p step in
-      (area.0, area.1, subst (λ x. LiesInScope m x area.0) same (target_in_area p h.1.0 area.0 step h.1.1 h.0 area.1))
+      (area.0, area.1, subst (λ x. LiesInScope m x area.0) same.0 (target_in_area p h.1.0 area.0 step h.1.1 h.0 area.1))
       ))
       (λ inside. inside.0)
       h.1.2
@@ -480,21 +573,31 @@ module _ {m : DraftMachine} (shape : HasShape m) (nested : IsPlainlyNested m) (i
   entered_fills p s r step e h =
       let inside = entered_in_area p s step h in (
         ⊎_elim
-            (λ same. (h.1.0, h.1.1, subst (λ x. LiesInRegion m x r) (sym same) (owned e)))
+            (λ same. (h.1.0, h.1.1, subst (λ x. LiesInRegion m x r) (sym same.0) (owned e)))
             (λ around. (h.1.0, h.1.1, under_further around.1.2 (further around.1.1 (owned e))))
             h.1.2,
         (inside.0, inside.1, home_in_scope m s r inside.0 e inside.2),
       )
 
-  -- what a route out of an initial vertex enters lies in the region of that
-  pub late_lies : (r : RegionId) (v : VertexId) (p : Route) (s : VertexId) → IsInitialOf m r v → IsSingleFrom m p v
-      → IsEnteredBy m p s → LiesInRegion m s r
-  late_lies r v p s initial from h =
-      ⊎_elim
-      (λ same. subst (λ x. LiesInRegion m x r) same
-      ((late_is_area r v p initial from).1.common h.1.0 (h.1.1.0, h.1.1.1, inr h.1.1.2)))
-      (λ around. subst (λ x. LiesInScope m s x) (late_area r v p around.0.0 initial from around.0.1) around.0.2)
-      h.1.2
+  -- a choice on which it ends lies there, and it fills the region that owns that
+  pub choice_in_area : (p : Route) (c : VertexId) → IsStepRoute m p → EndsOnChoice m p c → LiesInArea m p c
+  choice_in_area p c step ends =
+      let area = has_area p step in
+      (area.0, area.1, target_in_area p c area.0 step ends.0 (choice_not_internal shape nested p c step ends) area.1)
+
+  pub choice_fills : (p : Route) (c : VertexId) (r : RegionId) → IsStepRoute m p → owner_of m (State c) ≡ Some (Region r)
+      → EndsOnChoice m p c → Fills m p r
+  choice_fills p c r step e ends =
+      let inside = choice_in_area p c step ends in
+      ((c, ends.0, owned e), (inside.0, inside.1, home_in_scope m c r inside.0 e inside.2))
+
+  -- it enters the States around the choice that lie there
+  pub choice_enters : (p : Route) (c o : VertexId) → IsStepRoute m p → EndsOnChoice m p c → LiesInArea m p o → LiesInState m c o
+      → IsEnteredBy m p o
+  choice_enters p c o step ends inside lies = (
+    choice_not_internal shape nested p c step ends,
+    (c, ends.0, inr (inside, lies, λ terminates. other_kind m c kinds.Choice kinds.Terminate (λ e. cc) ends.1 terminates)),
+  )
 
 module _ (m : DraftMachine) where
   -- what ends in a region ends in the one around it

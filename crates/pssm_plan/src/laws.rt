@@ -8,9 +8,9 @@ ghost use Rattle.pssm_model.specs.Items.{IsWaiting, HasRunOut};
 ghost use Rattle.pssm_model.specs.Order.{KnownConfiguration, known_course, IsReady};
 ghost use Rattle.pssm_model.specs.Order.{HasReadyAtOrBefore, IsNestedStep, entries_at_most};
 
-/// In a step of a machine of initial vertices, States and junctions, a called item that has not run has a ready item
-/// at or before it; so where no item is ready, everything called has run (UML 2.5.1, 14.2.3.9, transition execution
-/// sequence).
+/// In a step of a machine without forks, joins, entry, exit and history points, a called item that has not run has a
+/// ready item at or before it; so where no item is ready, everything called has run (UML 2.5.1, 14.2.3.9, transition
+/// execution sequence).
 pub fn ready_items()
     ensures waiting { (m : DraftMachine) (head : Head) (now : KnownConfiguration) (ran : List (Item × How))
         (item : Item) → IsNestedStep m (known_course head now ran) → IsWaiting m (known_course head now ran) item

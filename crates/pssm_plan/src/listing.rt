@@ -2,6 +2,7 @@
 ghost use Rattle.std.specs.Prelude.{◌≡◌, ◌⊎◌, ◌↔◌, ◌<◌, Some, IsTrue, OnOk, Contains, length};
 ghost use Rattle.pssm_model.specs.declared.steps.Item.{Item as Called};
 ghost use Rattle.pssm_model.specs.Items.{restored_mode as opened_mode};
+ghost use Rattle.pssm_model.specs.Forest.{LiesInState};
 ghost use Rattle.pssm_model.specs.SingleLegs.{HasSingleLegs};
 ghost use Rattle.pssm_config.specs.Tables.{Fits, configuration_of};
 ghost use Rattle.pssm_legs.specs.Calls.{IsItemIn};
@@ -14,7 +15,7 @@ ghost use Rattle.pssm_plan.specs.inner.Calling.{IsDefaultOf, IsRestoredOf, IsOpe
 
 use crate::progress::Restored;
 use crate::roster::{Call, Roster, has_run};
-use crate::ways::{Way, some_way_opens, way_calls, way_opens};
+use crate::ways::{Way, lies_in, some_way_opens, way_calls, way_opens};
 use pssm_config::Config;
 use pssm_model::{Item, Machine, Mode, Owner, RegionId, TransId, VertexId};
 use std::alloc::AllocError as NoMemory;
@@ -43,6 +44,26 @@ fn calls_exit(machine: &Machine, config: &Config, way: &Way, s: VertexId) -> boo
     ensures { IsTrue result ↔ ((configuration_of config.now).Active s × calls_by machine.now way.now (Called.Exit s)) }
 {
     config.is_active(s) && way_calls(machine, way, Item::Exit(s))
+}
+
+// Whether the way calls the entry of a vertex. It enters what it ends on, and States in which that lies.
+fn calls_entry(machine: &Machine, way: &Way, s: VertexId) -> bool
+    requires single { HasSingleLegs machine.now }
+    requires way { IsWayIn machine.now way.now }
+    requires vertex { s.0 < length machine.now.vertices }
+    ensures { IsTrue result ↔ calls_by machine.now way.now (Called.Enter s) }
+{
+    let _shaped = machine.regions();
+    is_near(machine, way.legs.last, s) && way_calls(machine, way, Item::Enter(s))
+}
+
+// Whether a vertex is this one or lies in it.
+fn is_near(machine: &Machine, v: VertexId, s: VertexId) -> bool
+    requires vertex { v.0 < length machine.now.vertices }
+    requires state { s.0 < length machine.now.vertices }
+    ensures { IsTrue result ↔ ((s ≡ v) ⊎ LiesInState machine.now v s) }
+{
+    s == v || lies_in(machine, v, s)
 }
 
 impl Roster {
@@ -103,9 +124,8 @@ impl Roster {
             (IsEntryBy machine.now way.now) self.new.calls.items) }
     {
         for number in 0..machine.vertices() {
-            let entry = Item::Enter(VertexId(number));
-            let wanted = way_calls(machine, way, entry);
-            self.add(machine, entry, wanted)?;
+            let wanted = calls_entry(machine, way, VertexId(number));
+            self.add(machine, Item::Enter(VertexId(number)), wanted)?;
         }
         Ok(())
     }
@@ -127,7 +147,7 @@ impl Roster {
         Ok(())
     }
 
-    // Lists the picks that a way calls.
+    // Lists the pick that a way calls, which is on its last vertex.
     fn list_picks(&mut self, machine: &Machine, way: &Way) -> Result<(), NoMemory>
         requires single { HasSingleLegs machine.now }
         requires roster { IsRoster machine.now self.old.calls.items }
@@ -136,12 +156,10 @@ impl Roster {
         ensures added { OnOk result (IsExtended machine.now self.old.calls.items
             (IsPickBy machine.now way.now) self.new.calls.items) }
     {
-        for number in 0..machine.vertices() {
-            let pick = Item::Pick(VertexId(number));
-            let wanted = way_calls(machine, way, pick);
-            self.add(machine, pick, wanted)?;
-        }
-        Ok(())
+        let _shaped = machine.regions();
+        let pick = Item::Pick(way.legs.last);
+        let wanted = way_calls(machine, way, pick);
+        self.add(machine, pick, wanted)
     }
 
     // Lists what a way calls, but for exits.

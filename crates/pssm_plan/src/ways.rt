@@ -119,8 +119,8 @@ fn nests(machine: &Machine, first: Item, second: Item) -> bool
     }
 }
 
-// Whether a vertex lies in a State; in one without regions none does.
-fn lies_in(machine: &Machine, v: VertexId, s: VertexId) -> bool
+/// Whether a vertex lies in a State; in one without regions none does.
+pub fn lies_in(machine: &Machine, v: VertexId, s: VertexId) -> bool
     requires vertex { v.0 < length machine.now.vertices }
     requires state { s.0 < length machine.now.vertices }
     ensures { IsTrue result ↔ LiesInState machine.now v s }
@@ -155,16 +155,17 @@ fn first_calling(machine: &Machine, ways: &[Way], item: Item) -> usize
     ways.len()
 }
 
-// The number of the ways up to the last that calls an item.
-fn last_calling(machine: &Machine, ways: &[Way], item: Item) -> usize
+// The number of the ways up to the last that calls an item, of those from a place on; that place where none does.
+fn last_calling(machine: &Machine, ways: &[Way], item: Item, from: usize) -> usize
     requires single { HasSingleLegs machine.now }
     requires ways { AreWaysIn machine.now ways.now }
     requires item { IsItemIn machine.now item }
+    requires from { from ≤ length ways.now }
     ensures within { result ≤ length ways.now }
     ensures none { (k : ℕ) (way : TakenWay) → result ≤ k → slice_get ways.now k ≡ Some way → calls_by machine.now way item → ⊥ }
 {
-    let mut last = 0;
-    for k in 0..ways.len() {
+    let mut last = from;
+    for k in from..ways.len() {
         if way_calls(machine, &ways[k], item) {
             last = k + 1;
         }
@@ -180,8 +181,11 @@ pub fn ways_of<'a>(machine: &Machine, ways: &'a [Way], item: Item) -> &'a [Way]
     ensures all { (way : TakenWay) → Contains ways.now way → calls_by machine.now way item → Contains result.now way }
     ensures some { (way : TakenWay) → Contains result.now way → Contains ways.now way }
 {
+    if ways.len() < 2 {
+        return ways;
+    }
     let first = first_calling(machine, ways, item);
-    let last = last_calling(machine, ways, item);
+    let last = last_calling(machine, ways, item, first);
     if first < last {
         &ways[first..last]
     } else {

@@ -1,5 +1,5 @@
 -- The transitions of a path in ascending number, each once, without its start.
-use Rattle.std.proofs.Common.{◌≡◌, ◌≢◌, ◌⊎◌, ◌↔◌, ◌<◌, ℕ, zero, suc, List, [], ◌∷◌, length, get_or, cond, ltb, eqb, All, Contains, refl, ap, subst, inl, inr, ⊎_elim, arith}
+use Rattle.std.proofs.Common.{◌≡◌, ◌≢◌, ◌⊎◌, ◌↔◌, ◌<◌, suc, List, [], ◌∷◌, get_or, cond, ltb, eqb, All, Contains, refl, ap, subst, inl, inr, ⊎_elim, arith}
 use Rattle.std.proofs.lemmas.Bool.{cond_both, ltb-true, ltb-false, eqb-true, eqb-false}
 use Rattle.std.proofs.lemmas.List.Elements.{All-cons, All-contains, Contains-get_or}
 use Rattle.std.proofs.lemmas.List.Kept.{AllPairs-cons}
@@ -9,20 +9,7 @@ use Rattle.pssm_model.specs.Routes.{IsAscending}
 use Rattle.pssm_model.proofs.ElementLaws.{same_transition, nothing_in_nil}
 use Rattle.pssm_model.proofs.RouteLaws.{none_in_order}
 use Rattle.pssm_routes.specs.inner.Steps.{IsRouteOver}
-
--- what is in a list with one element more at its front
-pub contains_head : {X : Type 0} (x : X) (xs : List X) → Contains (x ∷ xs) x
-contains_head x xs = (0, omega arith, refl)
-
-pub contains_tail : {X : Type 0} (x y : X) (xs : List X) → Contains xs y → Contains (x ∷ xs) y
-contains_tail x y xs h = let lt = h.1 in (suc h.0, omega arith, h.2)
-
-pub contains_cases : {X : Type 0} (x y : X) (xs : List X) → Contains (x ∷ xs) y → (x ≡ y) ⊎ Contains xs y
-contains_cases x y xs h = by h.0 h.1 h.2
-  where
-    by : (k : ℕ) → k < length (x ∷ xs) → get_or (x ∷ xs) k y ≡ y → (x ≡ y) ⊎ Contains xs y
-    by zero lt e = inl e
-    by (suc k) lt e = inr (k, omega arith, e)
+use Rattle.pssm_routes.proofs.Members.{in_front, in_rest, front_or_rest}
 
 -- what holds of all that a list contains holds of all its places
 pub all_from_contains : {X : Type 0} (P : X → Type 0) (xs : List X) → ((x : X) → Contains xs x → P x) → All P xs
@@ -39,28 +26,28 @@ HasOneMore t us more = (x : TransId) → Contains more x ↔ ((t ≡ x) ⊎ Cont
 
 one_more_in_front : (t : TransId) (us : List TransId) → HasOneMore t us (t ∷ us)
 one_more_in_front t us x = (
-  λ h. contains_cases t x us h,
-  λ h. ⊎_elim (λ same. subst (Contains (t ∷ us)) same (contains_head t us)) (λ has. contains_tail t x us has) h,
+  λ h. front_or_rest t x us h,
+  λ h. ⊎_elim (λ same. subst (Contains (t ∷ us)) same (in_front t us)) (λ has. in_rest t x us has) h,
 )
 
 one_there : (t u : TransId) (us : List TransId) → t ≡ u → HasOneMore t (u ∷ us) (u ∷ us)
 one_there t u us e x = (
   λ h. inr h,
-  λ h. ⊎_elim (λ same. subst (Contains (u ∷ us)) (let twice : u ≡ x = cc (e, same) in twice) (contains_head u us)) (λ has. has) h,
+  λ h. ⊎_elim (λ same. subst (Contains (u ∷ us)) (let twice : u ≡ x = cc (e, same) in twice) (in_front u us)) (λ has. has) h,
 )
 
 one_more_behind : (t u : TransId) (us more : List TransId) → HasOneMore t us more → HasOneMore t (u ∷ us) (u ∷ more)
 one_more_behind t u us more h x = (
   λ has. ⊎_elim
-      (λ same. inr (subst (Contains (u ∷ us)) same (contains_head u us)))
-      (λ rest. ⊎_elim (λ same. inl same) (λ old. inr (contains_tail u x us old)) ((h x).0 rest))
-      (contains_cases u x more has),
+      (λ same. inr (subst (Contains (u ∷ us)) same (in_front u us)))
+      (λ rest. ⊎_elim (λ same. inl same) (λ old. inr (in_rest u x us old)) ((h x).0 rest))
+      (front_or_rest u x more has),
   λ has. ⊎_elim
-      (λ same. contains_tail u x more ((h x).1 (inl same)))
+      (λ same. in_rest u x more ((h x).1 (inl same)))
       (λ old. ⊎_elim
-      (λ same. subst (Contains (u ∷ more)) same (contains_head u more))
-      (λ rest. contains_tail u x more ((h x).1 (inr rest)))
-      (contains_cases u x us old))
+      (λ same. subst (Contains (u ∷ more)) same (in_front u more))
+      (λ rest. in_rest u x more ((h x).1 (inr rest)))
+      (front_or_rest u x us old))
       has,
 )
 
@@ -124,24 +111,24 @@ HasOthers start path rest = (u : TransId) → Contains rest u ↔ (Contains path
 
 others_skip : (start t : TransId) (path rest : List TransId) → t ≡ start → HasOthers start path rest → HasOthers start (t ∷ path) rest
 others_skip start t path rest e h u = (
-  λ has. (contains_tail t u path ((h u).0 has).0, ((h u).0 has).1),
+  λ has. (in_rest t u path ((h u).0 has).0, ((h u).0 has).1),
   λ both. ⊎_elim
       (λ same. absurd (both.1 (let back : u ≡ start = cc (same, e) in back)))
       (λ old. (h u).1 (old, both.1))
-      (contains_cases t u path both.0),
+      (front_or_rest t u path both.0),
 )
 
 others_keep : (start t : TransId) (path rest more : List TransId) → t ≢ start → HasOthers start path rest → HasOneMore t rest more
     → HasOthers start (t ∷ path) more
 others_keep start t path rest more ne h one u = (
   λ has. ⊎_elim
-      (λ same. (subst (Contains (t ∷ path)) same (contains_head t path), subst (λ x. x ≢ start) same ne))
-      (λ old. (contains_tail t u path ((h u).0 old).0, ((h u).0 old).1))
+      (λ same. (subst (Contains (t ∷ path)) same (in_front t path), subst (λ x. x ≢ start) same ne))
+      (λ old. (in_rest t u path ((h u).0 old).0, ((h u).0 old).1))
       ((one u).0 has),
   λ both. ⊎_elim
       (λ same. (one u).1 (inl same))
       (λ old. (one u).1 (inr ((h u).1 (old, both.1))))
-      (contains_cases t u path both.0),
+      (front_or_rest t u path both.0),
 )
 
 others_are : (start : TransId) (path : List TransId) → HasOthers start path (others start path)

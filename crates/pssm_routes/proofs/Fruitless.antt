@@ -1,5 +1,5 @@
 -- What the search shows of the transitions and vertices so far: that none of them reacts.
-use Rattle.std.proofs.Common.{◌≡◌, ◌∙◌, ◌↔◌, ◌<◌, ◌≤◌, ◌+◌, ℕ, List, [], ◌∷◌, ◌++◌, length, get_or, take, true, false, Option, Some, None, is_some, IfSome, IfNone, Contains, All, sym, subst, ⊎_elim, arith}
+use Rattle.std.proofs.Common.{◌≡◌, ◌∙◌, ◌↔◌, ◌<◌, ◌≤◌, ◌+◌, ℕ, List, [], ◌∷◌, ◌++◌, length, get_or, take, true, false, Option, Some, None, is_some, IfSome, IfNone, Contains, All, ap, sym, subst, ⊎_elim, arith}
 use Rattle.std.proofs.lemmas.Bool.{cases_eq, true≢false}
 use Rattle.std.proofs.lemmas.List.{take_all}
 use Rattle.std.proofs.lemmas.List.Elements.{Contains-push, Contains-push_cases, Contains-append_left, All-push}
@@ -20,7 +20,7 @@ use Rattle.pssm_model.specs.SingleLegs.{HasSingleLegs}
 use Rattle.pssm_routes.specs.declared.seeking.Search.{Search}
 use Rattle.pssm_routes.specs.inner.Starts.{IsStarted, Reacts}
 use Rattle.pssm_routes.specs.inner.Ways.{LeadsOut}
-use Rattle.pssm_routes.specs.inner.Steps.{SeesDeadEnds}
+use Rattle.pssm_routes.specs.inner.Steps.{KnowsDeadEnds}
 use Rattle.pssm_routes.proofs.Choosing.{seen_cases}
 use Rattle.pssm_routes.proofs.Reaction.{reacts_leads}
 
@@ -40,21 +40,29 @@ same_place v w n e f = same_vertex v w (e ∙ sym f)
 pub below_last : (q n : ℕ) → q < n + 1 → (q ≡ n → ⊥) → q < n
 below_last q n lt apart = omega (arith, lt, apart)
 
+-- one transition more that is not so
+pub no_start_more : (P : TransId → Type 0) (n : ℕ) (at : TransId) → at.0 ≡ n → ((t : TransId) → t.0 < n → P t → ⊥) → (P at → ⊥)
+    → (t : TransId) → t.0 < n + 1 → P t → ⊥
+no_start_more P n at e none not t lt is = ⊎_elim
+    (λ same. let one : t ≡ at = ap (λ k. let u : TransId = record { 0 = k } in u) (same ∙ sym e) in not (subst P one is))
+    (λ apart. none t (below_last t.0 n lt apart) is)
+    (cases_eq t.0 n)
+
 -- one element more at the end of a list
 pub all_more : {X : Type 0} (P : X → Type 0) (found more : List X) (x : X) → more ≡ found ++ x ∷ [] → All P found → P x → All P more
 all_more P found more x e all here = subst (All P) (sym e) (All-push P found x all here)
 
 module _ (m : DraftMachine) (now : Configuration) (truth : Truth) (event : Event) where
   -- The search has seen only dead ends, and no transition among these that the event starts at the State leads out.
-  pub record IsFruitless (s : VertexId) (ts : List TransId) (search : Search) : Type 0 where
-    pub dead : SeesDeadEnds m truth None search
+  pub record IsFruitless (s : VertexId) (ts : List TransId) (search : List Search) : Type 0 where
+    pub dead : KnowsDeadEnds m truth None search
     pub none : (t : TransId) → Contains ts t → IsStarted m now event t s → LeadsOut m truth None t → ⊥
 
-  pub fruitless_start : (s : VertexId) (search : Search) → SeesDeadEnds m truth None search → IsFruitless s [] search
+  pub fruitless_start : (s : VertexId) (search : List Search) → KnowsDeadEnds m truth None search → IsFruitless s [] search
   fruitless_start s search dead = record { dead = dead; none = λ t has started leads. nothing_in_nil t has }
 
-  pub fruitless_more : (s : VertexId) (ts : List TransId) (n : ℕ) (d : TransId) (old new : Search) → n < length ts
-      → IsFruitless s (take n ts) old → SeesDeadEnds m truth None new
+  pub fruitless_more : (s : VertexId) (ts : List TransId) (n : ℕ) (d : TransId) (old new : List Search) → n < length ts
+      → IsFruitless s (take n ts) old → KnowsDeadEnds m truth None new
       → (IsStarted m now event (get_or ts n d) s → LeadsOut m truth None (get_or ts n d) → ⊥)
       → IsFruitless s (take (n + 1) ts) new
   fruitless_more s ts n d old new lt h dead not = record {
@@ -66,7 +74,7 @@ module _ (m : DraftMachine) (now : Configuration) (truth : Truth) (event : Event
   }
 
   -- none of its transitions leads out: the vertex does not react
-  pub fruitless_end : HasSingleLegs m → HasShape m → (s : VertexId) (ts : List TransId) (n : ℕ) (search : Search)
+  pub fruitless_end : HasSingleLegs m → HasShape m → (s : VertexId) (ts : List TransId) (n : ℕ) (search : List Search)
       → ((t : TransId) → Contains ts t ↔ Leaves m t s) → length ts ≤ n → IsFruitless s (take n ts) search → Reacts m now truth event s → ⊥
   fruitless_end b shape s ts n search lists le h reacts =
       let leads = reacts_leads b now truth event shape s reacts in
@@ -80,14 +88,14 @@ module _ (m : DraftMachine) (now : Configuration) (truth : Truth) (event : Event
       subst (λ (v : VertexId). v.0 < length m.vertices) at.2 (shape.ends h.2.0 at.0 at.1).0
 
   -- The search has seen only dead ends, and no vertex so far that is the State or lies in it reacts.
-  pub record IsBarren (state : VertexId) (n : ℕ) (search : Search) : Type 0 where
-    pub dead : SeesDeadEnds m truth None search
+  pub record IsBarren (state : VertexId) (n : ℕ) (search : List Search) : Type 0 where
+    pub dead : KnowsDeadEnds m truth None search
     pub none : (q : VertexId) → q.0 < n → IsOrLiesIn m q state × Reacts m now truth event q → ⊥
 
-  pub barren_start : (state : VertexId) (search : Search) → SeesDeadEnds m truth None search → IsBarren state 0 search
+  pub barren_start : (state : VertexId) (search : List Search) → KnowsDeadEnds m truth None search → IsBarren state 0 search
   barren_start state search dead = record { dead = dead; none = λ q lt h. (let no : ⊥ = omega (arith, lt) in no) }
 
-  pub barren_more : (state at : VertexId) (n : ℕ) (old new : Search) → at.0 ≡ n → IsBarren state n old → SeesDeadEnds m truth None new
+  pub barren_more : (state at : VertexId) (n : ℕ) (old new : List Search) → at.0 ≡ n → IsBarren state n old → KnowsDeadEnds m truth None new
       → (IsOrLiesIn m at state × Reacts m now truth event at → ⊥) → IsBarren state (n + 1) new
   barren_more state at n old new e h dead not = record {
     dead = dead;
@@ -97,18 +105,18 @@ module _ (m : DraftMachine) (now : Configuration) (truth : Truth) (event : Event
         (cases_eq q.0 n);
   }
 
-  pub barren_end : HasShape m → (state : VertexId) (n : ℕ) (search : Search) → length m.vertices ≤ n → IsBarren state n search
+  pub barren_end : HasShape m → (state : VertexId) (n : ℕ) (search : List Search) → length m.vertices ≤ n → IsBarren state n search
       → (q : VertexId) → IsOrLiesIn m q state × Reacts m now truth event q → ⊥
   barren_end shape state n search le h q is =
       let there = reacts_there shape q is.1 in
       h.none q (let below : q.0 < n = omega (arith, le, there) in below) is
 
   -- Exactly the vertices so far that react are found, and the search has seen only dead ends.
-  pub record AreReacting (found : List VertexId) (n : ℕ) (search : Search) : Type 0 where
-    pub dead : SeesDeadEnds m truth None search
+  pub record AreReacting (found : List VertexId) (n : ℕ) (search : List Search) : Type 0 where
+    pub dead : KnowsDeadEnds m truth None search
     pub found_are : (s : VertexId) → Contains found s ↔ ((s.0 < n) × Reacts m now truth event s)
 
-  pub reacting_start : (found : List VertexId) (search : Search) → found ≡ [] → SeesDeadEnds m truth None search → AreReacting found 0 search
+  pub reacting_start : (found : List VertexId) (search : List Search) → found ≡ [] → KnowsDeadEnds m truth None search → AreReacting found 0 search
   reacting_start found search e dead = record {
     dead = dead;
     found_are = λ s. (
@@ -117,8 +125,8 @@ module _ (m : DraftMachine) (now : Configuration) (truth : Truth) (event : Event
     );
   }
 
-  reacting_push : (found : List VertexId) (n : ℕ) (at : VertexId) (old new : Search) → at.0 ≡ n → AreReacting found n old
-      → SeesDeadEnds m truth None new → Reacts m now truth event at → AreReacting (found ++ at ∷ []) (n + 1) new
+  reacting_push : (found : List VertexId) (n : ℕ) (at : VertexId) (old new : List Search) → at.0 ≡ n → AreReacting found n old
+      → KnowsDeadEnds m truth None new → Reacts m now truth event at → AreReacting (found ++ at ∷ []) (n + 1) new
   reacting_push found n at old new e h dead reacts = record {
     dead = dead;
     found_are = λ s. (
@@ -133,13 +141,13 @@ module _ (m : DraftMachine) (now : Configuration) (truth : Truth) (event : Event
     );
   }
 
-  pub reacting_more : (found more : List VertexId) (n : ℕ) (at : VertexId) (old new : Search) → more ≡ found ++ at ∷ [] → at.0 ≡ n
-      → AreReacting found n old → SeesDeadEnds m truth None new → Reacts m now truth event at → AreReacting more (n + 1) new
+  pub reacting_more : (found more : List VertexId) (n : ℕ) (at : VertexId) (old new : List Search) → more ≡ found ++ at ∷ [] → at.0 ≡ n
+      → AreReacting found n old → KnowsDeadEnds m truth None new → Reacts m now truth event at → AreReacting more (n + 1) new
   reacting_more found more n at old new is e h dead reacts =
       subst (λ items. AreReacting items (n + 1) new) (sym is) (reacting_push found n at old new e h dead reacts)
 
-  reacting_skip : (found : List VertexId) (n : ℕ) (at : VertexId) (old new : Search) → at.0 ≡ n → AreReacting found n old
-      → SeesDeadEnds m truth None new → (Reacts m now truth event at → ⊥) → AreReacting found (n + 1) new
+  reacting_skip : (found : List VertexId) (n : ℕ) (at : VertexId) (old new : List Search) → at.0 ≡ n → AreReacting found n old
+      → KnowsDeadEnds m truth None new → (Reacts m now truth event at → ⊥) → AreReacting found (n + 1) new
   reacting_skip found n at old new e h dead not = record {
     dead = dead;
     found_are = λ s. (
@@ -151,12 +159,12 @@ module _ (m : DraftMachine) (now : Configuration) (truth : Truth) (event : Event
     );
   }
 
-  pub reacting_same : (found more : List VertexId) (n : ℕ) (at : VertexId) (old new : Search) → more ≡ found → at.0 ≡ n
-      → AreReacting found n old → SeesDeadEnds m truth None new → (Reacts m now truth event at → ⊥) → AreReacting more (n + 1) new
+  pub reacting_same : (found more : List VertexId) (n : ℕ) (at : VertexId) (old new : List Search) → more ≡ found → at.0 ≡ n
+      → AreReacting found n old → KnowsDeadEnds m truth None new → (Reacts m now truth event at → ⊥) → AreReacting more (n + 1) new
   reacting_same found more n at old new is e h dead not =
       subst (λ items. AreReacting items (n + 1) new) (sym is) (reacting_skip found n at old new e h dead not)
 
-  pub reacting_end : HasShape m → (found : List VertexId) (n : ℕ) (search : Search) → length m.vertices ≤ n → AreReacting found n search
+  pub reacting_end : HasShape m → (found : List VertexId) (n : ℕ) (search : List Search) → length m.vertices ≤ n → AreReacting found n search
       → (s : VertexId) → Contains found s ↔ Reacts m now truth event s
   reacting_end shape found n search le h s = (
     λ has. ((h.found_are s).0 has).1,

@@ -101,7 +101,7 @@ module _ {m : DraftMachine} (b : HasSingleLegs m) where
       (λ q found. below_with v ns kind h q (Contains-from_any eqb-true q (ns ++ v.0 ∷ []) found)) in
       let long = length_push ns v.0 in omega arith
 
-  is_pseudostate : (v : VertexId) → HasKind m v kinds.Junction → IsPseudostate m v
+  pub is_pseudostate : (v : VertexId) → HasKind m v kinds.Junction → IsPseudostate m v
   is_pseudostate v kind = (kinds.Junction, kind, tt)
 
   pub passed_next : (v w : VertexId) (u : TransId) (ns : List ℕ) → HasKind m v kinds.Junction → HasKind m w kinds.Junction → Leaves m u v → Enters m u w

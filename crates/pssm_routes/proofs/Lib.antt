@@ -3,7 +3,9 @@ pub mod Leading
 pub mod Routed
 pub mod Conflicts
 pub mod Settling
+pub mod LoneCandidates
 pub mod Sought
+pub mod OneSearch
 pub mod Ceilings
 pub mod Rooms
 pub mod JoiningSteps
@@ -29,3 +31,8 @@ pub mod Scanning
 pub mod Listing
 pub mod FootprintLists
 pub mod Picking
+pub mod LateRoutes
+pub mod Deciding
+pub mod SomeLate
+pub mod TrueOnes
+pub mod SettledStarts

@@ -1,6 +1,6 @@
 -- What makes a start and other transitions one route.
-use Rattle.std.proofs.Common.{◌≡◌, ◌≢◌, ◌⊎◌, ◌∙◌, ◌<◌, zero, suc, List, [], ◌∷◌, length, Option, Some, All, Contains, refl, sym, subst, arith, inl, inr, ⊎_elim}
-use Rattle.std.proofs.lemmas.List.Elements.{Contains-append_left, Contains-append_right, Contains-append_cases, All-contains}
+use Rattle.std.proofs.Common.{◌≡◌, ◌≢◌, ◌⊎◌, ◌∙◌, ◌<◌, zero, suc, ◌↔◌, List, [], ◌∷◌, length, Bool, true, false, not, IsTrue, Option, Some, All, Contains, refl, sym, subst, arith, inl, inr, ⊎_elim}
+use Rattle.std.proofs.lemmas.List.Elements.{All-nil, Contains-append_left, Contains-append_right, Contains-append_cases, All-contains}
 use Rattle.std.proofs.lemmas.Option.{same_Some}
 use Rattle.pssm_model.specs.declared.ids.VertexId.{VertexId}
 use Rattle.pssm_model.specs.declared.ids.TransId.{TransId}
@@ -15,17 +15,15 @@ use Rattle.pssm_model.specs.Shapes.{HasShape}
 use Rattle.pssm_model.specs.Legs.{Leaves, Enters, On}
 use Rattle.pssm_model.specs.Routes.{IsAscending, IsReached, IsRoute, GoesOnAt, HasOne}
 use Rattle.pssm_model.specs.Routes.IsReached.{start as begins, on as goes}
-use Rattle.pssm_model.proofs.ElementLaws.{some_at, mapped_at, mapped_some, kind_unique, leaves_one}
-use Rattle.pssm_model.proofs.RouteLaws.{in_one, is_one, one_in_order, reached_is_on}
+use Rattle.pssm_model.proofs.ElementLaws.{nothing_in_nil, some_at, mapped_at, mapped_some, kind_unique, leaves_one}
+use Rattle.pssm_model.proofs.StateRoutes.{leaves_some}
+use Rattle.pssm_model.proofs.RouteLaws.{in_one, is_one, one_in_order, none_in_order, reached_is_on}
 use Rattle.pssm_model.specs.SingleLegs.{HasSingleLegs}
+use Rattle.pssm_routes.specs.inner.Ways.{EndsOnJunction}
 use Rattle.pssm_routes.specs.inner.Onward.{onward_at, IsOnward, HasStray, IsMet, LeadsToAll}
 use Rattle.pssm_routes.specs.inner.Onward.IsMet.{first, further}
 
--- a transition leaves a vertex, which has a kind
-pub leaves_some : (m : DraftMachine) (t : TransId) → t.0 < length m.transitions → (v : VertexId) × Leaves m t v
-leaves_some m t lt =
-    let at = some_at m.transitions t.0 lt in (at.0.source, mapped_at (λ (x : Transition). x.source) (transition_at m t) at.0 at.1)
-
+-- a vertex that a transition leaves has a kind
 pub source_kind : (m : DraftMachine) → HasShape m → (t : TransId) (v : VertexId) → Leaves m t v → (k : VertexKind) × HasKind m v k
 source_kind m shape t v leaves =
     let at = mapped_some (λ (x : Transition). x.source) (transition_at m t) v leaves in
@@ -100,11 +98,8 @@ module _ {m : DraftMachine} (b : HasSingleLegs m) (start : TransId) (rest : List
     reached_met u v (goes {u = t} {v = w} before into out inside) enters kind =
         let next = h.found w u inside out in further (reached_met t w before into next.0) next.1 enters kind
 
-    module _ (state : (s : VertexId) → Leaves m start s → HasKind m s kinds.State) where
-      -- the start leaves no junction
-      start_apart : (v : VertexId) → Leaves m start v → HasKind m v kinds.Junction → ⊥
-      start_apart v leaves kind = let clash = kind_unique m v kinds.State kinds.Junction (state v leaves) kind in cc
-
+    -- the start leaves no junction
+    module _ (start_apart : (v : VertexId) → Leaves m start v → HasKind m v kinds.Junction → ⊥) where
       next_found : (v : VertexId) (t : TransId) → HasKind m v kinds.Junction → On made t → Leaves m t v → onward_at onward v ≡ Some t
       next_found v t kind on leaves =
           ⊎_elim
@@ -181,3 +176,34 @@ module _ {m : DraftMachine} (b : HasSingleLegs m) (start : TransId) (rest : List
             in_range_at : All (λ t. t.0 < length m.transitions) (start ∷ rest)
             in_range_at zero d lt = there
             in_range_at (suc k) d lt = range k d (omega (arith, lt))
+
+-- A start alone makes a route exactly where it does not end on a junction.
+module _ {m : DraftMachine} (b : HasSingleLegs m) (start : TransId) (start_apart : (v : VertexId) → Leaves m start v → HasKind m v kinds.Junction → ⊥) where
+  none_on : IsOnward m [] []
+  none_on = record { there = λ v t next. absurd (cc); found = λ v t inside. absurd (nothing_in_nil t inside) }
+
+  met_after : (v : VertexId) → IsMet m [] start v → EndsOnJunction m start
+  met_after _ (first {v = v} enters kind) = (v, enters, kind)
+  met_after _ (further {v = v} before next enters kind) = met_after v before
+
+  pub alone_makes : start.0 < length m.transitions → (EndsOnJunction m start → ⊥) → IsRoute m (made b start [])
+  alone_makes there out =
+      leads_made b start [] [] none_on start_apart
+      (record { goes_on = λ v met. absurd (out (met_after v met)); sources = λ t v inside. absurd (nothing_in_nil t inside) })
+      (All-nil (λ (t : TransId). t.0 < length m.transitions)) there (none_in_order (λ (t u : TransId). t.0 < u.0))
+
+  pub alone_stops : IsRoute m (made b start []) → EndsOnJunction m start → ⊥
+  alone_stops route (v, enters, kind) =
+      let next = (route_leads b start [] [] none_on start_apart route).goes_on v (first enters kind) in let not = next.1 in cc
+
+  pub alone : (rest : List TransId) (is : Bool) → rest ≡ [] → start.0 < length m.transitions → (IsTrue is ↔ EndsOnJunction m start)
+      → IsTrue (not is) ↔ IsRoute m (made b start rest)
+  alone rest is e there ends =
+      subst (λ ts. IsTrue (not is) ↔ IsRoute m (made b start ts)) (sym e) (
+        λ ends_else. alone_makes there (λ on. let at = ends.1 on in cc),
+        λ route. false_is is (λ at. alone_stops route (ends.0 at)),
+      )
+    where
+      false_is : (is : Bool) → (IsTrue is → ⊥) → IsTrue (not is)
+      false_is true apart = absurd (apart refl)
+      false_is false _ = refl

@@ -12,7 +12,7 @@ use Rattle.pssm_model.specs.Forest.{HasKind, transition_at}
 use Rattle.pssm_model.specs.Configuration.{Configuration}
 use Rattle.pssm_model.specs.Legs.{Leaves}
 use Rattle.pssm_model.specs.Routes.{Truth, IsAscending, IsTrueAt, IsRoute, IsStateRoute, IsEnabled}
-use Rattle.pssm_model.proofs.ElementLaws.{mapped_some, leaves_one}
+use Rattle.pssm_model.proofs.ElementLaws.{mapped_some, leaves_one, kind_unique}
 use Rattle.pssm_model.proofs.RouteLaws.{is_one, same_route}
 use Rattle.pssm_model.specs.SingleLegs.{HasSingleLegs}
 use Rattle.pssm_routes.specs.inner.Onward.{IsStartedRoute}
@@ -25,6 +25,10 @@ use Rattle.pssm_routes.proofs.Made.{made, on_made, on_start, on_rest}
 module _ (m : DraftMachine) (now : Configuration) (event : Event) (start : TransId) (s : VertexId) (h : IsStarted m now event start s) where
   pub started_source : (q : VertexId) → Leaves m start q → HasKind m q kinds.State
   started_source q leaves = subst (λ v. HasKind m v kinds.State) (leaves_one m start s q h.leaves leaves) h.state
+
+  pub started_apart : (q : VertexId) → Leaves m start q → HasKind m q kinds.Junction → ⊥
+  started_apart q leaves junction =
+      let same = kind_unique m q kinds.State kinds.Junction (started_source q leaves) junction in cc
 
   pub started_inside : start.0 < length m.transitions
   started_inside =

@@ -12,7 +12,6 @@ use Rattle.pssm_model.proofs.ElementLaws.{leaves_one}
 use Rattle.pssm_model.proofs.RouteLaws.{in_one, is_one}
 use Rattle.pssm_model.specs.SingleLegs.{HasSingleLegs}
 use Rattle.pssm_routes.specs.declared.seeking.Step.{Step}
-use Rattle.pssm_routes.specs.declared.seeking.Search.{Search}
 use Rattle.pssm_routes.specs.inner.Starts.{IsStarted, HasRouteBy, Reacts}
 use Rattle.pssm_routes.specs.inner.Ways.{LeadsOut, IsWayOut}
 use Rattle.pssm_routes.specs.inner.Steps.{IsFound}
@@ -54,6 +53,6 @@ module _ {m : DraftMachine} (b : HasSingleLegs m) (now : Configuration) (truth :
   pub route_by_reacts : (s : VertexId) (t : TransId) → Leaves m t s → HasRouteBy m now truth event t → Reacts m now truth event s
   route_by_reacts s t leaves h = (h.0, h.1, (t, subst (λ ts. Contains ts t) (sym h.2) (in_one t), leaves))
 
-  pub found_reacts : (s : VertexId) (t : TransId) (search : Search) (last : Step) → IsStarted m now event t s → IsFound m truth None search t last
+  pub found_reacts : (s : VertexId) (t : TransId) (steps : List Step) (last : Step) → IsStarted m now event t s → IsFound m truth None steps t last
       → Reacts m now truth event s
-  found_reacts s t search last started found = route_by_reacts s t started.leaves (way_reacts s t last.by found.0 started found.2)
+  found_reacts s t steps last started found = route_by_reacts s t started.leaves (way_reacts s t last.by found.0 started found.2)

@@ -14,7 +14,7 @@ use Rattle.pssm_model.specs.declared.elements.VertexKind.TheVariants as kinds
 use Rattle.pssm_model.specs.declared.steps.Route.{Route}
 use Rattle.pssm_model.specs.Forest.{HasKind, transition_at}
 use Rattle.pssm_model.specs.Legs.{Leaves, Enters, On, transitions_of}
-use Rattle.pssm_model.specs.Routes.{Truth, IsReached, IsStateRoute, IsTrueAt, EndsAt, GoesOnAt, HasOne, guard_of, IsAscending}
+use Rattle.pssm_model.specs.Routes.{Truth, IsReached, IsRoute, IsStateRoute, IsTrueAt, EndsAt, GoesOnAt, HasOne, guard_of, IsAscending}
 use Rattle.pssm_model.specs.Routes.IsReached.{start as reached_first, on as reached_after}
 use Rattle.pssm_model.proofs.ElementLaws.{mapped_some, mapped_at, leaves_one, kind_unique}
 use Rattle.pssm_model.proofs.RouteLaws.{in_one, is_one, one_in_order}
@@ -125,18 +125,14 @@ module _ {m : DraftMachine} (b : HasSingleLegs m) (truth : Truth) (within : Opti
       let enters : Enters m last at.0.target = mapped_at (λ (x : Transition). x.target) (transition_at m last) at.0 at.1 in
       way_leads_by way.way (ends opened enters (way.ends at.0.target enters))
 
-  module _ (s : VertexId) (leaves : Leaves m start s) (state : HasKind m s kinds.State) (q : Route) (over : IsRouteOver start path q) where
+  -- where the start leaves no junction
+  module _ (no_junction : (v : VertexId) → Leaves m start v → HasKind m v kinds.Junction → ⊥) (q : Route) (over : IsRouteOver start path q) where
     on_path : (u : TransId) → On q u → Contains path u
     on_path u is_on =
         ⊎_elim
         (λ first. subst (Contains path) (sym (start_is q start over.starts u first)) (way_has_start way.way))
         (λ later. ((over.rest u).0 later).0)
         (Contains-append_cases q.starts q.rest u is_on)
-
-    no_junction : (v : VertexId) → Leaves m start v → HasKind m v kinds.Junction → ⊥
-    no_junction v left kind =
-        let same = leaves_one m start s v leaves left in
-        let clash = kind_unique m v kinds.State kinds.Junction (subst (λ w. HasKind m w kinds.State) same state) kind in cc
 
     in_rest : (u : TransId) (v : VertexId) → Contains path u → Leaves m u v → HasKind m v kinds.Junction → Contains q.rest u
     in_rest u v inside left kind = (over.rest u).1 (inside, λ same. no_junction v (subst (λ x. Leaves m x v) same left) kind)
@@ -190,24 +186,36 @@ module _ {m : DraftMachine} (b : HasSingleLegs m) (truth : Truth) (within : Opti
     goes_on_at t v kinds.Choice is_on enters is = ends_at v kinds.Choice is (λ e. cc)
     goes_on_at t v kinds.Terminate is_on enters is = ends_at v kinds.Terminate is (λ e. cc)
 
-    pub way_true : (u : TransId) → On q u → IsTrueAt m truth u
-    way_true u is_on = (way_is_open way.way u (on_path u is_on)).guard
-
-    pub way_allowed : (u : TransId) (v : VertexId) → On q u → Enters m u v → IsAllowed m within v
-    way_allowed u v is_on enters = (way_is_open way.way u (on_path u is_on)).target v enters
+    pub over_true : (u : TransId) → On q u → IsTrueAt m truth u
+    over_true u is_on = (way_is_open way.way u (on_path u is_on)).guard
 
     there_on : (u : TransId) → On q u → u.0 < length m.transitions
-    there_on u is_on = let at = true_is_there m truth u (way_true u is_on) in slice_get_within m.transitions u.0 at.0 at.1
+    there_on u is_on = let at = true_is_there m truth u (over_true u is_on) in slice_get_within m.transitions u.0 at.0 at.1
+
+    pub over_routed : IsRoute m q
+    over_routed = record {
+      in_range = λ k d lt. there_on (get_or (transitions_of q) k d) (All-contains_itself (transitions_of q) k d lt);
+      starts = inl (start, over.starts, λ v enters join. b.uncut v (inr (inl join)));
+      ascending = (subst IsAscending (sym over.starts) (one_in_order (λ (t u : TransId). t.0 < u.0) start), over.ascending);
+      apart = λ t first later. ((over.rest t).0 later).1 (start_is q start over.starts t first);
+      reached = λ t is_on. reached_on way.way (λ u inside. inside) t (on_path t is_on);
+      goes_on = goes_on_at;
+    }
+
+  module _ (s : VertexId) (leaves : Leaves m start s) (state : HasKind m s kinds.State) (q : Route) (over : IsRouteOver start path q) where
+    no_junction : (v : VertexId) → Leaves m start v → HasKind m v kinds.Junction → ⊥
+    no_junction v left kind =
+        let same = leaves_one m start s v leaves left in
+        let clash = kind_unique m v kinds.State kinds.Junction (subst (λ w. HasKind m w kinds.State) same state) kind in cc
+
+    pub way_true : (u : TransId) → On q u → IsTrueAt m truth u
+    way_true u is_on = over_true no_junction q over u is_on
+
+    pub way_allowed : (u : TransId) (v : VertexId) → On q u → Enters m u v → IsAllowed m within v
+    way_allowed u v is_on enters = (way_is_open way.way u (on_path no_junction q over u is_on)).target v enters
 
     pub way_routed : IsStateRoute m q
     way_routed = (
-      record {
-        in_range = λ k d lt. there_on (get_or (transitions_of q) k d) (All-contains_itself (transitions_of q) k d lt);
-        starts = inl (start, over.starts, λ v enters join. b.uncut v (inr (inl join)));
-        ascending = (subst IsAscending (sym over.starts) (one_in_order (λ (t u : TransId). t.0 < u.0) start), over.ascending);
-        apart = λ t first later. ((over.rest t).0 later).1 (start_is q start over.starts t first);
-        reached = λ t is_on. reached_on way.way (λ u inside. inside) t (on_path t is_on);
-        goes_on = goes_on_at;
-      },
+      over_routed no_junction q over,
       λ v source. subst (λ w. HasKind m w kinds.State) (leaves_one m start s v leaves (source_is_left q start over.starts m v source)) state,
     )

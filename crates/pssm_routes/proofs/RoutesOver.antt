@@ -8,7 +8,6 @@ use Rattle.pssm_model.specs.Configuration.{Configuration}
 use Rattle.pssm_model.specs.Shapes.{HasShape}
 use Rattle.pssm_model.specs.Routes.{Truth}
 use Rattle.pssm_model.specs.SingleLegs.{HasSingleLegs}
-use Rattle.pssm_routes.specs.declared.seeking.Search.{Search}
 use Rattle.pssm_routes.specs.declared.seeking.Step.{Step}
 use Rattle.pssm_routes.specs.declared.areas.Footprint.{Footprint}
 use Rattle.pssm_routes.specs.inner.Starts.{IsStarted}
@@ -20,8 +19,8 @@ use Rattle.pssm_routes.proofs.Conflicts.{some_footprint}
 
 module _ {m : DraftMachine} (b : HasSingleLegs m) (shape : HasShape m) (truth : Truth) (footprints : List Footprint) (t : TransId) where
   -- what a search has found is free
-  pub found_free : (search : Search) (last : Step) → IsJoiningStep m truth footprints search t last → HasFreeRoute m truth footprints t
-  found_free search last h =
+  pub found_free : (steps : List Step) (last : Step) → IsJoiningStep m truth footprints steps t last → HasFreeRoute m truth footprints t
+  found_free steps last h =
       let q = some_route_over t h.0 in
       let is = h.2 q.0 q.1 in
       let footprint = some_footprint b shape q.0 is.0 in

@@ -1,5 +1,5 @@
 -- A search for a way out: what coming to a junction does to what the search keeps, and what it knows at its end.
-use Rattle.std.proofs.Common.{◌≡◌, ◌⊎◌, ◌<◌, ◌≤◌, ◌+◌, ℕ, zero, suc, List, [], ◌∷◌, ◌++◌, length, take, map, get_or, set, replicate, Bool, true, false, eqb, Option, Some, None, slice_get, option_map, unwrap_or, Contains, refl, sym, ap, subst, ◌∙◌, inl, inr, ⊎_elim, append-nil, arith}
+use Rattle.std.proofs.Common.{◌≡◌, ◌⊎◌, ◌<◌, ◌≤◌, ◌+◌, ℕ, zero, suc, List, [], ◌∷◌, ◌++◌, length, take, map, get_or, set, replicate, Bool, true, false, eqb, Option, Some, None, IfNone, slice_get, option_map, unwrap_or, Contains, refl, sym, ap, subst, ◌∙◌, inl, inr, ⊎_elim, append-nil, arith}
 use Rattle.std.specs.List.{IsDistinct}
 use Rattle.std.proofs.lemmas.Bool.{eqb-true, cases_lt}
 use Rattle.std.proofs.lemmas.Bool.Decides.{eqb_tells}
@@ -24,7 +24,7 @@ use Rattle.pssm_model.proofs.ElementLaws.{mapped_some, enters_one, same_vertex, 
 use Rattle.pssm_model.proofs.RouteLaws.{is_one}
 use Rattle.pssm_routes.specs.declared.seeking.Step.{Step}
 use Rattle.pssm_routes.specs.declared.seeking.Search.{Search}
-use Rattle.pssm_routes.specs.inner.Ways.{IsOpen, LeadsOut}
+use Rattle.pssm_routes.specs.inner.Ways.{EndsOnJunction, IsOpen, LeadsOut}
 use Rattle.pssm_routes.specs.inner.Ways.IsWay.{begins, goes_on}
 use Rattle.pssm_routes.specs.inner.Ways.LeadsOut.{ends, on}
 use Rattle.pssm_routes.specs.inner.Steps.{IsTrail, IsSeen, IsFound, SeesDeadEnds}
@@ -32,6 +32,11 @@ use Rattle.pssm_routes.specs.inner.Steps.IsTrail.{first as trail_first, further}
 use Rattle.pssm_routes.specs.inner.Seeking.{kept, ComesTo, Tries, ComesOnce, IsLed, IsLedOn, IsTried, HasStepTo, KeepsWays, IsUnderWay, GoesOn}
 use Rattle.pssm_routes.specs.inner.Seeking.ComesTo.{out, again, first}
 use Rattle.pssm_routes.specs.inner.Seeking.Tries.{closed, comes}
+
+-- what holds anyway holds where nothing is found
+pub if_none : {X P : Type 0} (o : Option X) → P → IfNone o P
+if_none None h = h
+if_none (Some x) h = tt
 
 -- what is at a place of a list with one more at its end, or of a list cut short
 at_left : {X : Type 0} (xs ys : List X) (k : ℕ) (x : X) → slice_get xs k ≡ Some x → slice_get (xs ++ ys) k ≡ Some x
@@ -265,7 +270,7 @@ once_more {m = m} {old = old} {new = new} {step = step} h (first {v = v} e j fre
 -- a step whose transition ends on no junction is the last of a way out
 module _ {m : DraftMachine} {truth : Truth} {within : Option RegionId} where
   found_at_end : (start : TransId) {old new : Search} {step : Step} → IsLed m truth within start old step → ComesTo m old step new true
-      → IsFound m truth within new start step
+      → IsFound m truth within new.steps start step
   found_at_end start {old = old} {new = new} {step = step} led (out free same) = (
     led.path,
     subst (λ (s : Search). IsTrail s.steps step led.path) (sym same) (trail_of_taken old.count led.trail),
@@ -297,7 +302,7 @@ module _ {m : DraftMachine} {truth : Truth} {within : Option RegionId} where
     tries_tells (comes opened c) w also enters = tried_at_end c w also enters
 
     tries_finds : (start : TransId) → (IsOpen m truth within step.by → IsLed m truth within start old step) → Tries m truth within old step new true
-        → IsFound m truth within new start step
+        → IsFound m truth within new.steps start step
     tries_finds start led (comes opened c) = found_at_end start (led opened) c
 
 module _ {m : DraftMachine} {truth : Truth} {within : Option RegionId} {start : TransId} where
@@ -340,8 +345,14 @@ module _ {m : DraftMachine} {truth : Truth} {within : Option RegionId} {start : 
               (start_led empty) tries;
         }
 
+  -- an open transition that ends on no junction is a way out
+  pub found_alone : (EndsOnJunction m start → ⊥) → IsOpen m truth within start → (steps : List Step)
+      → IsFound m truth within steps start (record { by = start; before = None })
+  found_alone apart opened steps =
+      (start ∷ [], trail_first start, record { junctions = []; way = begins opened; ends = λ v enters kind. apart (v, enters, kind) })
+
   pub found_from_start : {empty new : Search} → Tries m truth within empty (record { by = start; before = None }) new true
-      → IsFound m truth within new start (record { by = start; before = None })
+      → IsFound m truth within new.steps start (record { by = start; before = None })
   found_from_start {empty = empty} tries = tries_finds start (start_led empty) tries
 
   -- where it has gone on from all that it keeps, nothing leads out
@@ -405,7 +416,7 @@ module _ {m : DraftMachine} {Told : Truth → Type 0} {within : Option RegionId}
 
       pub goes_out : (truth : Truth) (start : TransId) (before : Search) → Told truth → IsUnderWay m truth within start before initial place
           → Tries m truth within search (record { by = u; before = Some place }) new true
-          → IsFound m truth within new start (record { by = u; before = Some place })
+          → IsFound m truth within new.steps start (record { by = u; before = Some place })
       goes_out truth start before told under tries = tries_finds start (led_from_here truth start before u told leaves under) tries
 
     -- where all transitions out of the junction are tried, it has gone on from one step more

@@ -1,5 +1,5 @@
 //! Which routes can join others without a conflict.
-ghost use Rattle.std.specs.Prelude.{◌↔◌, ◌<◌, length, All, IsTrue, IfSome, IfNone};
+ghost use Rattle.std.specs.Prelude.{◌↔◌, ◌<◌, Option, length, All, IsTrue, IfSome, IfNone};
 ghost use Rattle.pssm_model.specs.declared.ids.VertexId.{VertexId};
 ghost use Rattle.pssm_model.specs.declared.ids.RegionId.{RegionId};
 ghost use Rattle.pssm_model.specs.declared.elements.Owner.{Owner};
@@ -10,12 +10,13 @@ ghost use Rattle.pssm_model.specs.Routes.{Truth};
 ghost use Rattle.pssm_routes.specs.Telling.{CanBeAsked, Tells};
 ghost use Rattle.pssm_model.specs.SingleLegs.{HasSingleLegs};
 ghost use Rattle.pssm_routes.specs.inner.Footprints.{IsFootprintIn};
-ghost use Rattle.pssm_routes.specs.inner.Steps.{IsJoiningStep};
+ghost use Rattle.pssm_routes.specs.inner.Ways.{EndsOnJunction};
+ghost use Rattle.pssm_routes.specs.inner.Steps.{KnowsDeadEnds, IsJoiningStep, steps_of};
 ghost use Rattle.pssm_routes.specs.inner.Sets.{HasFreeRoute, IsTouched, HoldsSource, IsCeiling};
 ghost use Rattle.pssm_routes.specs.inner.Rooms.{Touches, IsNextOut, IsRoomFor, IsRoomIn};
 
 use crate::areas::{Footprint, are_on_one_chain};
-use crate::seeking::{Search, Step, find_way};
+use crate::seeking::{Search, Step, ends_on_junction, find_way};
 use pssm_legs::covers;
 use pssm_model::{GuardId, Machine, Owner, RegionId, TransId, TransKind, VertexId};
 
@@ -133,24 +134,88 @@ pub fn find_joiner<T: Fn(GuardId) -> bool>(
     truth: &T,
     footprints: &[Footprint],
     t: TransId,
-    search: &mut Search,
+    search: &mut [Search],
 ) -> Option<Step>
     requires legs { HasSingleLegs machine.now }
     requires there { t.0 < length machine.now.transitions }
     requires footprints { All (IsFootprintIn machine.now) footprints.now }
     requires askable { CanBeAsked machine.now (T.pre truth.now) }
     requires source { (v : VertexId) → Leaves machine.now t v → HasKind machine.now v kinds.State }
+    requires room { EndsOnJunction machine.now t → 0 < length search.old }
+    requires nothing { (values : Truth) (within : Option RegionId)
+        → KnowsDeadEnds machine.now values within search.old }
     ensures some { (values : Truth) → Tells machine.now (T.post truth.now) values
-        → IfSome result (IsJoiningStep machine.now values footprints.now search.new t) }
+        → IfSome result (IsJoiningStep machine.now values footprints.now (steps_of search.new) t) }
     ensures none { (values : Truth) → Tells machine.now (T.post truth.now) values
         → IfNone result (HasFreeRoute machine.now values footprints.now t → ⊥) }
 {
     let _shaped = machine.regions();
     match room_for(machine, footprints, t) {
         Room::Shut => None,
-        Room::Open(within) => {
-            *search = Search::new();
-            find_way(machine, truth, within, t, search)
-        }
+        Room::Open(within) => find_way(machine, truth, within, t, search),
     }
+}
+
+// Whether there is a route with this start that clashes with none of the footprints, by this search.
+fn finds_joiner<T: Fn(GuardId) -> bool>(
+    machine: &Machine,
+    truth: &T,
+    footprints: &[Footprint],
+    t: TransId,
+    search: &mut [Search],
+) -> bool
+    requires legs { HasSingleLegs machine.now }
+    requires there { t.0 < length machine.now.transitions }
+    requires footprints { All (IsFootprintIn machine.now) footprints.now }
+    requires askable { CanBeAsked machine.now (T.pre truth.now) }
+    requires source { (v : VertexId) → Leaves machine.now t v → HasKind machine.now v kinds.State }
+    requires room { EndsOnJunction machine.now t → 0 < length search.old }
+    requires nothing { (values : Truth) (within : Option RegionId)
+        → KnowsDeadEnds machine.now values within search.old }
+    ensures { (values : Truth) → Tells machine.now (T.post truth.now) values
+        → (IsTrue result ↔ HasFreeRoute machine.now values footprints.now t) }
+{
+    let _shaped = machine.regions();
+    find_joiner(machine, truth, footprints, t, search).is_some()
+}
+
+// Whether there is a route with this start that clashes with none of the footprints. The search stands in this call
+// alone.
+#[inline(never)]
+fn has_joiner_by_search<T: Fn(GuardId) -> bool>(
+    machine: &Machine,
+    truth: &T,
+    footprints: &[Footprint],
+    t: TransId,
+) -> bool
+    requires legs { HasSingleLegs machine.now }
+    requires there { t.0 < length machine.now.transitions }
+    requires footprints { All (IsFootprintIn machine.now) footprints.now }
+    requires askable { CanBeAsked machine.now (T.pre truth.now) }
+    requires source { (v : VertexId) → Leaves machine.now t v → HasKind machine.now v kinds.State }
+    ensures { (values : Truth) → Tells machine.now (T.post truth.now) values
+        → (IsTrue result ↔ HasFreeRoute machine.now values footprints.now t) }
+{
+    finds_joiner(machine, truth, footprints, t, &mut [Search::new()])
+}
+
+/// Whether there is a route with this start that clashes with none of the footprints.
+pub fn has_joiner<T: Fn(GuardId) -> bool>(
+    machine: &Machine,
+    truth: &T,
+    footprints: &[Footprint],
+    t: TransId,
+) -> bool
+    requires legs { HasSingleLegs machine.now }
+    requires there { t.0 < length machine.now.transitions }
+    requires footprints { All (IsFootprintIn machine.now) footprints.now }
+    requires askable { CanBeAsked machine.now (T.pre truth.now) }
+    requires source { (v : VertexId) → Leaves machine.now t v → HasKind machine.now v kinds.State }
+    ensures { (values : Truth) → Tells machine.now (T.post truth.now) values
+        → (IsTrue result ↔ HasFreeRoute machine.now values footprints.now t) }
+{
+    if ends_on_junction(machine, t) {
+        return has_joiner_by_search(machine, truth, footprints, t);
+    }
+    finds_joiner(machine, truth, footprints, t, &mut [])
 }

@@ -7,6 +7,7 @@
 mod areas;
 mod guards;
 mod joining;
+mod late;
 mod pick;
 mod reacting;
 mod route;
@@ -15,6 +16,7 @@ mod set;
 mod starting;
 mod tracing;
 
+pub use late::{check_late, pick_late};
 pub use pick::pick_firing_set;
 pub use pssm_model::{Event, Firing, Route};
 pub use reacting::overrides;

@@ -1,5 +1,5 @@
 //! What fires, as a word settles it (UML 2.5.1, 14.2.3.9, transition selection).
-ghost use Rattle.std.specs.Prelude.{◌≡◌, ◌↔◌, ◌<◌, ◌≤◌, length, All, Contains, IsTrue, IfOk, OnOk, IfSome, IfNone};
+ghost use Rattle.std.specs.Prelude.{◌≡◌, ◌↔◌, ◌<◌, ◌≤◌, ◌%◌, length, All, Contains, IsTrue, IfOk, OnOk, IfSome, IfNone};
 ghost use Rattle.std.specs.List.Sorted.{IsPermutation};
 ghost use Rattle.pssm_model.specs.declared.ids.TransId.{TransId};
 ghost use Rattle.pssm_model.specs.declared.ids.VertexId.{VertexId};
@@ -18,7 +18,7 @@ use crate::areas::{Footprint, footprint_of};
 use crate::joining::find_joiner;
 use crate::reacting::candidates;
 use crate::route::check_route;
-use crate::seeking::Search;
+use crate::seeking::{ends_on_junction, search_if, steps_of};
 use crate::starting::is_started;
 use crate::tracing::route_of_trail;
 use pssm_config::Config;
@@ -35,7 +35,6 @@ fn free_route<T: Fn(GuardId) -> bool>(
     event: Event,
     footprints: &[Footprint],
     t: TransId,
-    search: &mut Search,
 ) -> Result<Option<Route>, NoMemory>
     requires legs { HasSingleLegs machine.now }
     requires fits { Fits machine.now config.now }
@@ -55,10 +54,12 @@ fn free_route<T: Fn(GuardId) -> bool>(
     if !is_started(machine, config, event, t) {
         return Ok(None);
     }
+    let mut made = search_if(alloc, ends_on_junction(machine, t))?;
+    let search = made.as_mut_slice();
     let Some(last) = find_joiner(machine, truth, footprints, t, search) else {
         return Ok(None);
     };
-    let route = route_of_trail(alloc, search, t, last)?;
+    let route = route_of_trail(alloc, steps_of(search), t, last)?;
     if !check_route(machine, config, truth, event, &route) {
         return Ok(None);
     }
@@ -74,7 +75,6 @@ fn free_route_from<T: Fn(GuardId) -> bool>(
     event: Event,
     footprints: &[Footprint],
     source: VertexId,
-    search: &mut Search,
 ) -> Result<Option<Route>, NoMemory>
     requires legs { HasSingleLegs machine.now }
     requires fits { Fits machine.now config.now }
@@ -90,9 +90,7 @@ fn free_route_from<T: Fn(GuardId) -> bool>(
         (IsSpent machine.now (configuration_of config.now) values event footprints.now source)) }
 {
     for t in machine.outgoing(source) {
-        if let Some(route) = free_route(
-            alloc, machine, config, truth, event, footprints, *t, search,
-        )? {
+        if let Some(route) = free_route(alloc, machine, config, truth, event, footprints, *t)? {
             return Ok(Some(route));
         }
     }
@@ -129,7 +127,6 @@ impl Chosen {
         truth: &T,
         event: Event,
         source: VertexId,
-        search: &mut Search,
     ) -> Result<(), NoMemory>
         requires legs { HasSingleLegs machine.now }
         requires fits { Fits machine.now config.now }
@@ -152,7 +149,6 @@ impl Chosen {
             event,
             self.footprints.as_slice(),
             source,
-            search,
         )?;
         match found {
             Some(route) => self.add(machine, route),
@@ -184,9 +180,8 @@ impl Chosen {
             → OnOk result (IsGrown machine.now (configuration_of config.now) values event (Contains states.now)
             self.old.footprints.items self.new.routes.items self.new.footprints.items) }
     {
-        let mut search = Search::new();
         for s in states {
-            self.add_from(alloc, machine, config, truth, event, *s, &mut search)?;
+            self.add_from(alloc, machine, config, truth, event, *s)?;
         }
         Ok(())
     }
@@ -211,9 +206,10 @@ fn put_in_order(routes: &mut Vec<Route>) -> Result<(), NoMemory>
     Ok(())
 }
 
-// The place in a list of this length at which the word begins.
-fn place_of(word: u64, count: usize) -> usize
-    ensures { result ≤ count }
+/// The place in a list of this length at which the word begins.
+pub fn place_of(word: u64, count: usize) -> usize
+    ensures within { result ≤ count }
+    ensures remainder { 0 < count → result ≡ word % count }
 {
     if count == 0 {
         return 0;

@@ -1,8 +1,12 @@
 //! The States that react to an event, and those in which none reacts (UML 2.5.1, 14.2.3.9, firing
 //! priorities).
 ghost use Rattle.std.specs.Prelude.{◌≡◌, ◌↔◌, ◌<◌, ◌⊎◌, false, true, None, length, slice_index_or};
-ghost use Rattle.std.specs.Prelude.{All, Contains, IsTrue, IfOk, IfSome, IfNone};
+ghost use Rattle.std.specs.Prelude.{Option, All, Contains, IsTrue, IsFalse, IfOk, IfSome, IfNone};
 ghost use Rattle.pssm_model.specs.declared.ids.VertexId.{VertexId};
+ghost use Rattle.pssm_model.specs.declared.ids.RegionId.{RegionId};
+ghost use Rattle.pssm_model.specs.declared.ids.TransId.{TransId};
+ghost use Rattle.pssm_model.specs.declared.elements.DraftMachine.{DraftMachine};
+ghost use Rattle.pssm_model.specs.declared.steps.Event.TheVariants as events;
 ghost use Rattle.pssm_model.specs.Forest.{LiesInState, IsOrLiesIn};
 ghost use Rattle.pssm_model.specs.Legs.{Leaves};
 ghost use Rattle.pssm_model.specs.Routes.{Truth};
@@ -10,11 +14,11 @@ ghost use Rattle.pssm_model.specs.FiringSets.{Overrides};
 ghost use Rattle.pssm_config.specs.Tables.{Fits, configuration_of};
 ghost use Rattle.pssm_routes.specs.Telling.{CanBeAsked, Tells};
 ghost use Rattle.pssm_model.specs.SingleLegs.{HasSingleLegs};
-ghost use Rattle.pssm_routes.specs.inner.Starts.{IsStarted, Reacts, IsCandidate};
-ghost use Rattle.pssm_routes.specs.inner.Ways.{LeadsOut};
-ghost use Rattle.pssm_routes.specs.inner.Steps.{SeesDeadEnds};
+ghost use Rattle.pssm_routes.specs.inner.Starts.{IsStarted, Reacts, IsCandidate, HasSearch};
+ghost use Rattle.pssm_routes.specs.inner.Ways.{EndsOnJunction, LeadsOut};
+ghost use Rattle.pssm_routes.specs.inner.Steps.{KnowsDeadEnds};
 
-use crate::seeking::{Search, find_way};
+use crate::seeking::{Search, ends_on_junction, find_way, search_if};
 use crate::starting::is_started;
 use pssm_config::Config;
 use pssm_model::{Event, GuardId, Machine, Owner, SignalId, TransId, VertexId};
@@ -28,23 +32,25 @@ fn leads<T: Fn(GuardId) -> bool>(
     truth: &T,
     event: Event,
     t: TransId,
-    search: &mut Search,
+    search: &mut [Search],
 ) -> bool
     requires legs { HasSingleLegs machine.now }
     requires fits { Fits machine.now config.now }
     requires askable { CanBeAsked machine.now (T.pre truth.now) }
     requires there { t.0 < length machine.now.transitions }
+    requires room { HasSearch machine.now (configuration_of config.now) event search.old }
+    ensures same { length search.new ≡ length search.old }
     ensures reacts { (values : Truth) → Tells machine.now (T.post truth.now) values → result ≡ true
         → (s : VertexId) → Leaves machine.now t s
         → Reacts machine.now (configuration_of config.now) values event s }
     ensures none { (values : Truth) → Tells machine.now (T.post truth.now) values
-        → SeesDeadEnds machine.now values None search.old
+        → KnowsDeadEnds machine.now values None search.old
         → result ≡ false
         → (s : VertexId) → IsStarted machine.now (configuration_of config.now) event t s
         → LeadsOut machine.now values None t → ⊥ }
     ensures dead { (values : Truth) → Tells machine.now (T.post truth.now) values
-        → SeesDeadEnds machine.now values None search.old
-        → result ≡ false → SeesDeadEnds machine.now values None search.new }
+        → KnowsDeadEnds machine.now values None search.old
+        → result ≡ false → KnowsDeadEnds machine.now values None search.new }
 {
     if !is_started(machine, config, event, t) {
         return false;
@@ -60,18 +66,20 @@ fn reacts<T: Fn(GuardId) -> bool>(
     truth: &T,
     event: Event,
     source: VertexId,
-    search: &mut Search,
+    search: &mut [Search],
 ) -> bool
     requires legs { HasSingleLegs machine.now }
     requires fits { Fits machine.now config.now }
     requires askable { CanBeAsked machine.now (T.pre truth.now) }
     requires there { source.0 < length machine.now.vertices }
+    requires room { HasSearch machine.now (configuration_of config.now) event search.old }
+    ensures same { length search.new ≡ length search.old }
     ensures reacts { (values : Truth) → Tells machine.now (T.post truth.now) values
-        → SeesDeadEnds machine.now values None search.old
+        → KnowsDeadEnds machine.now values None search.old
         → (IsTrue result ↔ Reacts machine.now (configuration_of config.now) values event source) }
     ensures dead { (values : Truth) → Tells machine.now (T.post truth.now) values
-        → SeesDeadEnds machine.now values None search.old
-        → result ≡ false → SeesDeadEnds machine.now values None search.new }
+        → KnowsDeadEnds machine.now values None search.old
+        → result ≡ false → KnowsDeadEnds machine.now values None search.new }
 {
     for t in machine.outgoing(source) {
         if leads(machine, config, truth, event, *t, search) {
@@ -98,25 +106,99 @@ fn reacts_within<T: Fn(GuardId) -> bool>(
     event: Event,
     state: VertexId,
     source: VertexId,
-    search: &mut Search,
+    search: &mut [Search],
 ) -> bool
     requires legs { HasSingleLegs machine.now }
     requires fits { Fits machine.now config.now }
     requires askable { CanBeAsked machine.now (T.pre truth.now) }
     requires state { state.0 < length machine.now.vertices }
     requires there { source.0 < length machine.now.vertices }
+    requires room { HasSearch machine.now (configuration_of config.now) event search.old }
+    ensures same { length search.new ≡ length search.old }
     ensures reacts { (values : Truth) → Tells machine.now (T.post truth.now) values
-        → SeesDeadEnds machine.now values None search.old
+        → KnowsDeadEnds machine.now values None search.old
         → (IsTrue result ↔ (IsOrLiesIn machine.now source state
         × Reacts machine.now (configuration_of config.now) values event source)) }
     ensures dead { (values : Truth) → Tells machine.now (T.post truth.now) values
-        → SeesDeadEnds machine.now values None search.old
-        → result ≡ false → SeesDeadEnds machine.now values None search.new }
+        → KnowsDeadEnds machine.now values None search.old
+        → result ≡ false → KnowsDeadEnds machine.now values None search.new }
 {
     if !is_or_lies_in(machine, source, state) {
         return false;
     }
     reacts(machine, config, truth, event, source, search)
+}
+
+// Whether the event starts a transition that ends on a junction.
+fn starts_over_junction(machine: &Machine, config: &Config, event: Event) -> bool
+    requires fits { Fits machine.now config.now }
+    ensures { IsFalse result → (t : TransId) (s : VertexId)
+        → IsStarted machine.now (configuration_of config.now) event t s → EndsOnJunction machine.now t → ⊥ }
+{
+    for number in 0..machine.transitions() {
+        if is_start_over_junction(machine, config, event, TransId(number)) {
+            return true;
+        }
+    }
+    false
+}
+
+// Whether the event starts the transition, and it ends on a junction.
+fn is_start_over_junction(machine: &Machine, config: &Config, event: Event, t: TransId) -> bool
+    requires fits { Fits machine.now config.now }
+    requires there { t.0 < length machine.now.transitions }
+    ensures { IsFalse result → (s : VertexId)
+        → IsStarted machine.now (configuration_of config.now) event t s → EndsOnJunction machine.now t → ⊥ }
+{
+    ends_on_junction(machine, t) && is_started(machine, config, event, t)
+}
+
+// Whether a route that the signal enables starts at the State or in it, by this search.
+fn overrides_with<T: Fn(GuardId) -> bool>(
+    machine: &Machine,
+    config: &Config,
+    truth: &T,
+    signal: SignalId,
+    state: VertexId,
+    search: &mut [Search],
+) -> bool
+    requires legs { HasSingleLegs machine.now }
+    requires fits { Fits machine.now config.now }
+    requires askable { CanBeAsked machine.now (T.pre truth.now) }
+    requires there { state.0 < length machine.now.vertices }
+    requires room { HasSearch machine.now (configuration_of config.now) (events.Signal signal) search.old }
+    requires nothing { (values : Truth) → KnowsDeadEnds machine.now values None search.old }
+    ensures { (values : Truth) → Tells machine.now (T.post truth.now) values
+        → (IsTrue result ↔ Overrides machine.now (configuration_of config.now) values signal state) }
+{
+    let event = Event::Signal(signal);
+    for number in 0..machine.vertices() {
+        let source = VertexId(number);
+        if reacts_within(machine, config, truth, event, state, source, search) {
+            return true;
+        }
+    }
+    false
+}
+
+// Whether a route that the signal enables starts at the State or in it. The search stands in this
+// call alone.
+#[inline(never)]
+fn overrides_by_search<T: Fn(GuardId) -> bool>(
+    machine: &Machine,
+    config: &Config,
+    truth: &T,
+    signal: SignalId,
+    state: VertexId,
+) -> bool
+    requires legs { HasSingleLegs machine.now }
+    requires fits { Fits machine.now config.now }
+    requires askable { CanBeAsked machine.now (T.pre truth.now) }
+    requires there { state.0 < length machine.now.vertices }
+    ensures { (values : Truth) → Tells machine.now (T.post truth.now) values
+        → (IsTrue result ↔ Overrides machine.now (configuration_of config.now) values signal state) }
+{
+    overrides_with(machine, config, truth, signal, state, &mut [Search::new()])
 }
 
 /// Whether a route that the signal enables starts at the State or in it, and so keeps the State
@@ -135,40 +217,48 @@ pub fn overrides<T: Fn(GuardId) -> bool>(
     ensures { (values : Truth) → Tells machine.now (T.post truth.now) values
         → (IsTrue result ↔ Overrides machine.now (configuration_of config.now) values signal state) }
 {
-    let event = Event::Signal(signal);
-    let mut search = Search::new();
-    for number in 0..machine.vertices() {
-        let source = VertexId(number);
-        if reacts_within(machine, config, truth, event, state, source, &mut search) {
-            return true;
-        }
+    if starts_over_junction(machine, config, Event::Signal(signal)) {
+        return overrides_by_search(machine, config, truth, signal, state);
     }
-    false
+    overrides_with(machine, config, truth, signal, state, &mut [])
 }
 
-// Whether a route that the event enables starts at the vertex. Where one does, the search is made
-// anew.
+// Forgets what the search has seen.
+fn forget(search: &mut [Search])
+    ensures same { length search.new ≡ length search.old }
+    ensures nothing { (m : DraftMachine) (truth : Truth) (within : Option RegionId)
+        → KnowsDeadEnds m truth within search.new }
+{
+    if !search.is_empty() {
+        search[0].clear();
+    }
+}
+
+// Whether a route that the event enables starts at the vertex. Where one does, what the search has
+// seen is forgotten.
 fn reacts_afresh<T: Fn(GuardId) -> bool>(
     machine: &Machine,
     config: &Config,
     truth: &T,
     event: Event,
     source: VertexId,
-    search: &mut Search,
+    search: &mut [Search],
 ) -> bool
     requires legs { HasSingleLegs machine.now }
     requires fits { Fits machine.now config.now }
     requires askable { CanBeAsked machine.now (T.pre truth.now) }
     requires there { source.0 < length machine.now.vertices }
+    requires room { HasSearch machine.now (configuration_of config.now) event search.old }
+    ensures same { length search.new ≡ length search.old }
     ensures reacts { (values : Truth) → Tells machine.now (T.post truth.now) values
-        → SeesDeadEnds machine.now values None search.old
+        → KnowsDeadEnds machine.now values None search.old
         → (IsTrue result ↔ Reacts machine.now (configuration_of config.now) values event source) }
     ensures dead { (values : Truth) → Tells machine.now (T.post truth.now) values
-        → SeesDeadEnds machine.now values None search.old
-        → SeesDeadEnds machine.now values None search.new }
+        → KnowsDeadEnds machine.now values None search.old
+        → KnowsDeadEnds machine.now values None search.new }
 {
     if reacts(machine, config, truth, event, source, search) {
-        *search = Search::new();
+        forget(search);
         return true;
     }
     false
@@ -190,11 +280,12 @@ fn reacting_states<T: Fn(GuardId) -> bool>(
         ↔ Reacts machine.now (configuration_of config.now) values event s) }
     ensures there { IfOk result (λ found. All (λ s. s.0 < length machine.now.vertices) found.items) }
 {
+    let mut made = search_if(alloc, starts_over_junction(machine, config, event))?;
+    let search = made.as_mut_slice();
     let mut found = Vec::new(alloc);
-    let mut search = Search::new();
     for number in 0..machine.vertices() {
         let source = VertexId(number);
-        if reacts_afresh(machine, config, truth, event, source, &mut search) {
+        if reacts_afresh(machine, config, truth, event, source, search) {
             found.push(source)?;
         }
     }
@@ -288,6 +379,9 @@ pub fn candidates<T: Fn(GuardId) -> bool>(
         ↔ IsCandidate machine.now (configuration_of config.now) values event s) }
 {
     let reacting = reacting_states(alloc, machine, config, truth, event)?;
+    if reacting.len() < 2 {
+        return Ok(reacting);
+    }
     let outranked = states_around(alloc, machine, reacting.as_slice())?;
     unmarked(alloc, reacting.as_slice(), outranked.as_slice())
 }

@@ -16,6 +16,7 @@ ghost use Rattle.pssm_routes.specs.inner.Onward.{IsMet, HasMarkedSource, AreAllM
 ghost use Rattle.pssm_routes.specs.inner.Onward.{IsStartedRoute};
 
 use crate::guards::is_true_at;
+use crate::seeking::ends_on_junction;
 use crate::starting::is_started;
 use pssm_config::Config;
 use pssm_model::{Event, GuardId, Machine, Route, TransId, VertexId, VertexKind};
@@ -146,12 +147,15 @@ fn leads_to_all(machine: &Machine, onward: &Onward, start: TransId, rest: &[Tran
     walk(machine, onward, start, &mut seen) && are_seen(machine, &seen, rest)
 }
 
-// Whether the start and the other transitions make one route.
+// Whether the start and the other transitions make one route, by what goes on from each junction. That stands in this
+// call alone.
+#[inline(never)]
 #[tactic(auto, using(crate::proofs::Made::leads_made, crate::proofs::Made::route_leads))]
-fn makes_route(machine: &Machine, start: TransId, rest: &[TransId]) -> bool
+fn makes_route_over(machine: &Machine, start: TransId, rest: &[TransId]) -> bool
     requires legs { HasSingleLegs machine.now }
     requires start { start.0 < length machine.now.transitions }
-    requires source { (s : VertexId) → Leaves machine.now start s → HasKind machine.now s kinds.State }
+    requires source { (s : VertexId) → Leaves machine.now start s
+        → HasKind machine.now s kinds.Junction → ⊥ }
     requires rest { All (λ t. t.0 < length machine.now.transitions) rest.now }
     requires ascending { IsAscending rest.now }
     ensures { IsTrue result ↔ IsRoute machine.now (record { starts = start ∷ []; rest = rest.now }) }
@@ -162,6 +166,36 @@ fn makes_route(machine: &Machine, start: TransId, rest: &[TransId]) -> bool
         return false;
     }
     leads_to_all(machine, &onward, start, rest)
+}
+
+// Whether the start and the other transitions make one route.
+fn makes_route(machine: &Machine, start: TransId, rest: &[TransId]) -> bool
+    requires legs { HasSingleLegs machine.now }
+    requires start { start.0 < length machine.now.transitions }
+    requires source { (s : VertexId) → Leaves machine.now start s
+        → HasKind machine.now s kinds.Junction → ⊥ }
+    requires rest { All (λ t. t.0 < length machine.now.transitions) rest.now }
+    requires ascending { IsAscending rest.now }
+    ensures { IsTrue result ↔ IsRoute machine.now (record { starts = start ∷ []; rest = rest.now }) }
+{
+    if rest.is_empty() {
+        return !ends_on_junction(machine, start);
+    }
+    makes_route_over(machine, start, rest)
+}
+
+/// Whether the start, which leaves no junction, makes one route with the other transitions.
+pub fn is_route_from(machine: &Machine, start: TransId, rest: &[TransId]) -> bool
+    requires legs { HasSingleLegs machine.now }
+    requires start { start.0 < length machine.now.transitions }
+    requires source { (s : VertexId) → Leaves machine.now start s
+        → HasKind machine.now s kinds.Junction → ⊥ }
+    ensures { IsTrue result ↔ IsRoute machine.now (record { starts = start ∷ []; rest = rest.now }) }
+{
+    if !are_ascending(machine, rest) {
+        return false;
+    }
+    makes_route(machine, start, rest)
 }
 
 // Whether the transitions are true.
@@ -180,7 +214,7 @@ fn are_true<T: Fn(GuardId) -> bool>(machine: &Machine, truth: &T, transitions: &
 }
 
 // Whether the event starts the start, and it makes one route with the other transitions.
-#[tactic(auto, using(crate::proofs::MadeEnabled::started_source, crate::proofs::MadeEnabled::started_inside, crate::proofs::MadeEnabled::rest_range))]
+#[tactic(auto, using(crate::proofs::MadeEnabled::started_apart, crate::proofs::MadeEnabled::started_inside))]
 fn is_started_route(
     machine: &Machine,
     config: &Config,
@@ -195,14 +229,11 @@ fn is_started_route(
     if start.0 >= machine.transitions() {
         return false;
     }
-    if !are_ascending(machine, rest) {
-        return false;
-    }
-    is_started(machine, config, event, start) && makes_route(machine, start, rest)
+    is_started(machine, config, event, start) && is_route_from(machine, start, rest)
 }
 
-// Whether the start and the other transitions are true.
-fn are_all_true<T: Fn(GuardId) -> bool>(
+/// Whether the start and the other transitions are true.
+pub fn are_all_true<T: Fn(GuardId) -> bool>(
     machine: &Machine,
     truth: &T,
     start: TransId,

@@ -1,5 +1,5 @@
-//! The search for a way over junctions: each junction is gone on from once, and no memory is taken.
-ghost use Rattle.std.specs.Prelude.{◌≡◌, ◌↔◌, ◌<◌, ◌+◌, Option, length, IsTrue, IfSome, IfNone};
+//! The search for a way over junctions: each junction is gone on from once.
+ghost use Rattle.std.specs.Prelude.{◌≡◌, ◌↔◌, ◌<◌, ◌≤◌, ◌+◌, List, Option, length, IsTrue, IfSome, IfNone, IfOk};
 ghost use Rattle.pssm_model.specs.declared.ids.VertexId.{VertexId};
 ghost use Rattle.pssm_model.specs.declared.ids.RegionId.{RegionId};
 ghost use Rattle.pssm_model.specs.declared.ids.TransId.{TransId};
@@ -9,13 +9,15 @@ ghost use Rattle.pssm_model.specs.Forest.{HasKind};
 ghost use Rattle.pssm_model.specs.Legs.{Leaves};
 ghost use Rattle.pssm_model.specs.Routes.{Truth};
 ghost use Rattle.pssm_routes.specs.declared.seeking.Search.{Search};
+ghost use Rattle.pssm_routes.specs.declared.seeking.Step.{Step};
 ghost use Rattle.pssm_routes.specs.Telling.{CanBeAsked, Tells};
-ghost use Rattle.pssm_routes.specs.inner.Ways.{IsAllowed, IsOpen, LeadsOut};
-ghost use Rattle.pssm_routes.specs.inner.Steps.{SeesDeadEnds, IsFound};
+ghost use Rattle.pssm_routes.specs.inner.Ways.{IsAllowed, EndsOnJunction, IsOpen, LeadsOut};
+ghost use Rattle.pssm_routes.specs.inner.Steps.{SeesDeadEnds, KnowsDeadEnds, steps_of, IsFound};
 ghost use Rattle.pssm_routes.specs.inner.Seeking.{ComesTo, Tries, ComesOnce, IsUnderWay};
 
 use crate::guards::is_true_at;
 use pssm_model::{GuardId, Machine, RegionId, TransId, VertexId, VertexKind};
+use std::alloc::{AllocError as NoMemory, Global};
 
 /// By which transition a search came to a junction, and the place of the step before it, if there
 /// is one.
@@ -49,6 +51,15 @@ impl Search {
             }; 4096],
             count: 0,
         }
+    }
+
+    /// Forgets what was seen. The marks are cleared in this call alone.
+    #[inline(never)]
+    pub fn clear(&mut self)
+        ensures nothing { (m : DraftMachine) (truth : Truth) (within : Option RegionId)
+            → SeesDeadEnds m truth within self.new }
+    {
+        *self = Search::new();
     }
 
     // Comes to the target of a step's transition. It answers whether that is no junction; a
@@ -108,7 +119,7 @@ impl Search {
         ensures found { (values : Truth) (start : TransId) (before : Search)
             → Tells machine.now (T.post truth.now) values
             → IsUnderWay machine.now values within start before self.old place
-            → IfSome result (IsFound machine.now values within self.new start) }
+            → IfSome result (IsFound machine.now values within self.new.steps start) }
         ensures none { (values : Truth) (start : TransId) (before : Search)
             → Tells machine.now (T.post truth.now) values
             → IsUnderWay machine.now values within start before self.old place
@@ -128,6 +139,15 @@ impl Search {
         }
         None
     }
+}
+
+/// Whether the transition ends on a junction.
+pub fn ends_on_junction(machine: &Machine, t: TransId) -> bool
+    requires { t.0 < length machine.now.transitions }
+    ensures { IsTrue result ↔ EndsOnJunction machine.now t }
+{
+    let _shaped = machine.regions();
+    machine.vertex(machine.target(t)).kind == VertexKind::Junction
 }
 
 // Whether the vertex lies in the region, if one is named.
@@ -158,9 +178,34 @@ fn is_open<T: Fn(GuardId) -> bool>(
     is_allowed(machine, within, machine.target(t)) && is_true_at(machine, truth, t)
 }
 
-/// Seeks a way from the transition over junctions that the search has not seen. It answers the last
-/// transition of a way, and the place of the step before it; none exactly where there is no way.
-pub fn find_way<T: Fn(GuardId) -> bool>(
+// The step by a transition that ends on no junction, where it is open.
+fn step_alone<T: Fn(GuardId) -> bool>(
+    machine: &Machine,
+    truth: &T,
+    within: Option<RegionId>,
+    t: TransId,
+) -> Option<Step>
+    requires there { t.0 < length machine.now.transitions }
+    requires region { IfSome within (λ r. r.0 < length machine.now.regions) }
+    requires askable { CanBeAsked machine.now (T.pre truth.now) }
+    requires out { EndsOnJunction machine.now t → ⊥ }
+    ensures found { (values : Truth) (steps : List Step) → Tells machine.now (T.post truth.now) values
+        → IfSome result (IsFound machine.now values within steps t) }
+    ensures none { (values : Truth) → Tells machine.now (T.post truth.now) values
+        → IfNone result (LeadsOut machine.now values within t → ⊥) }
+{
+    if !is_open(machine, truth, within, t) {
+        return None;
+    }
+    Some(Step {
+        by: t,
+        before: None,
+    })
+}
+
+// Seeks a way from the transition over junctions that the search has not seen. It answers the last transition of a
+// way, and the place of the step before it; none exactly where there is no way.
+fn find_way_over<T: Fn(GuardId) -> bool>(
     machine: &Machine,
     truth: &T,
     within: Option<RegionId>,
@@ -173,7 +218,7 @@ pub fn find_way<T: Fn(GuardId) -> bool>(
     requires source { (v : VertexId) → Leaves machine.now start v
         → HasKind machine.now v kinds.Junction → ⊥ }
     ensures found { (values : Truth) → Tells machine.now (T.post truth.now) values
-        → IfSome result (IsFound machine.now values within search.new start) }
+        → IfSome result (IsFound machine.now values within search.new.steps start) }
     ensures none { (values : Truth) → Tells machine.now (T.post truth.now) values
         → SeesDeadEnds machine.now values within search.old
         → IfNone result (LeadsOut machine.now values within start → ⊥) }
@@ -197,4 +242,75 @@ pub fn find_way<T: Fn(GuardId) -> bool>(
         place += 1;
     }
     None
+}
+
+/// Seeks a way from the transition over junctions that the search has not seen. It answers the last transition of a
+/// way, and the place of the step before it; none exactly where there is no way. Where the transition ends on no
+/// junction, it takes no search.
+pub fn find_way<T: Fn(GuardId) -> bool>(
+    machine: &Machine,
+    truth: &T,
+    within: Option<RegionId>,
+    start: TransId,
+    search: &mut [Search],
+) -> Option<Step>
+    requires there { start.0 < length machine.now.transitions }
+    requires region { IfSome within (λ r. r.0 < length machine.now.regions) }
+    requires askable { CanBeAsked machine.now (T.pre truth.now) }
+    requires source { (v : VertexId) → Leaves machine.now start v
+        → HasKind machine.now v kinds.Junction → ⊥ }
+    requires room { EndsOnJunction machine.now start → 0 < length search.old }
+    ensures same { length search.new ≡ length search.old }
+    ensures found { (values : Truth) → Tells machine.now (T.post truth.now) values
+        → IfSome result (IsFound machine.now values within (steps_of search.new) start) }
+    ensures none { (values : Truth) → Tells machine.now (T.post truth.now) values
+        → KnowsDeadEnds machine.now values within search.old
+        → IfNone result (LeadsOut machine.now values within start → ⊥) }
+    ensures dead { (values : Truth) → Tells machine.now (T.post truth.now) values
+        → KnowsDeadEnds machine.now values within search.old
+        → IfNone result (KnowsDeadEnds machine.now values within search.new) }
+{
+    if ends_on_junction(machine, start) {
+        find_way_over(machine, truth, within, start, &mut search[0])
+    } else {
+        step_alone(machine, truth, within, start)
+    }
+}
+
+/// A search that has seen nothing, where one is wanted.
+///
+/// `NoMemory`: memory ran out.
+pub fn search_if(alloc: Global, wanted: bool) -> Result<Vec<Search>, NoMemory>
+    ensures room { IsTrue wanted → IfOk result (λ search. 0 < length search.items) }
+    ensures nothing { (m : DraftMachine) (truth : Truth) (within : Option RegionId)
+        → IfOk result (λ search. KnowsDeadEnds m truth within search.items) }
+{
+    if wanted {
+        one_search(alloc)
+    } else {
+        Ok(Vec::new(alloc))
+    }
+}
+
+// One search that has seen nothing. Its marks are cleared in this call alone.
+#[inline(never)]
+fn one_search(alloc: Global) -> Result<Vec<Search>, NoMemory>
+    ensures room { IfOk result (λ search. 0 < length search.items) }
+    ensures nothing { (m : DraftMachine) (truth : Truth) (within : Option RegionId)
+        → IfOk result (λ search. KnowsDeadEnds m truth within search.items) }
+{
+    let mut search = Vec::new(alloc);
+    search.push(Search::new())?;
+    Ok(search)
+}
+
+/// The steps of the search, if there is one.
+pub fn steps_of(search: &[Search]) -> &[Step]
+    ensures steps { result.now ≡ steps_of search.now }
+    ensures few { length result.now ≤ 4096 }
+{
+    match search {
+        [first, ..] => &first.steps,
+        [] => &[],
+    }
 }

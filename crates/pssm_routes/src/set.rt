@@ -13,10 +13,9 @@ ghost use Rattle.pssm_routes.specs.inner.Starts.{IsStarted};
 ghost use Rattle.pssm_routes.specs.inner.Sets.{AreApart, HasJoiner, HasJoinerFrom, AreComplete};
 
 use crate::areas::{Footprint, clash, footprint_of};
-use crate::joining::find_joiner;
+use crate::joining::has_joiner;
 use crate::reacting::candidates;
 use crate::route::check_route;
-use crate::seeking::Search;
 use crate::starting::is_started;
 use pssm_config::Config;
 use pssm_model::{Event, Firing, GuardId, Machine, Route, TransId, VertexId};
@@ -142,7 +141,6 @@ fn joins_by<T: Fn(GuardId) -> bool>(
     event: Event,
     footprints: &[Footprint],
     t: TransId,
-    search: &mut Search,
 ) -> bool
     requires legs { HasSingleLegs machine.now }
     requires fits { Fits machine.now config.now }
@@ -156,7 +154,7 @@ fn joins_by<T: Fn(GuardId) -> bool>(
     if !is_started(machine, config, event, t) {
         return false;
     }
-    find_joiner(machine, truth, footprints, t, search).is_some()
+    has_joiner(machine, truth, footprints, t)
 }
 
 // Whether a route that starts at the State could join those of the footprints.
@@ -167,7 +165,6 @@ fn joins_from<T: Fn(GuardId) -> bool>(
     event: Event,
     footprints: &[Footprint],
     source: VertexId,
-    search: &mut Search,
 ) -> bool
     requires legs { HasSingleLegs machine.now }
     requires fits { Fits machine.now config.now }
@@ -179,7 +176,7 @@ fn joins_from<T: Fn(GuardId) -> bool>(
         × HasJoiner machine.now (configuration_of config.now) values event footprints.now t)) }
 {
     for t in machine.outgoing(source) {
-        if joins_by(machine, config, truth, event, footprints, *t, search) {
+        if joins_by(machine, config, truth, event, footprints, *t) {
             return true;
         }
     }
@@ -204,9 +201,8 @@ fn joins_from_some<T: Fn(GuardId) -> bool>(
         → (IsTrue result
         ↔ HasJoinerFrom machine.now (configuration_of config.now) values event states.now footprints.now) }
 {
-    let mut search = Search::new();
     for s in states {
-        if joins_from(machine, config, truth, event, footprints, *s, &mut search) {
+        if joins_from(machine, config, truth, event, footprints, *s) {
             return true;
         }
     }

@@ -1,20 +1,20 @@
 //! The route of a way that a search has found.
-ghost use Rattle.std.specs.Prelude.{◌≡◌, ◌↔◌, ◌≢◌, List, Contains, IfOk, OnOk};
+ghost use Rattle.std.specs.Prelude.{◌≡◌, ◌↔◌, ◌≢◌, ◌≤◌, List, length, Contains, IfOk, OnOk};
 ghost use Rattle.pssm_model.specs.declared.ids.TransId.{TransId};
 ghost use Rattle.pssm_model.specs.Routes.{IsAscending};
 ghost use Rattle.pssm_routes.specs.inner.Steps.{IsTrail, IsRouteOver};
 ghost use Rattle.pssm_routes.specs.inner.Trails.{step_before};
 
-use crate::seeking::{Search, Step};
+use crate::seeking::Step;
 use pssm_model::{Route, Row, TransId};
 use std::alloc::{AllocError as NoMemory, Global};
 
 // The step before this one, if there is one.
-fn step_before(search: &Search, step: Step) -> Option<Step>
-    ensures { result ≡ step_before search.now.steps step }
+fn step_before(steps: &[Step], step: Step) -> Option<Step>
+    ensures { result ≡ step_before steps.now step }
 {
     match step.before {
-        Some(place) => search.steps.get(place as usize).copied(),
+        Some(place) => steps.get(place as usize).copied(),
         None => None,
     }
 }
@@ -24,21 +24,22 @@ fn step_before(search: &Search, step: Step) -> Option<Step>
 #[tactic(auto, using(crate::proofs::TrailLaws::traced_at_start))]
 fn later_transitions(
     alloc: Global,
-    search: &Search,
+    steps: &[Step],
     start: TransId,
     last: Step,
 ) -> Result<Vec<TransId>, NoMemory>
-    ensures { (path : List TransId) → IsTrail search.now.steps last path
+    requires { length steps.now ≤ 4096 }
+    ensures { (path : List TransId) → IsTrail steps.now last path
         → IfOk result (λ found. (u : TransId) → Contains found.items u ↔ (Contains path u × (u ≢ start))) }
 {
     let mut found = Vec::new(alloc);
     let mut next = Some(last);
-    for _ in 0..search.steps.len() + 1 {
+    for _ in 0..steps.len() + 1 {
         let Some(step) = next else { break };
         if step.by != start {
             found.push(step.by)?;
         }
-        next = step_before(search, step);
+        next = step_before(steps, step);
     }
     Ok(found)
 }
@@ -56,13 +57,14 @@ fn put_in_order(transitions: &mut Vec<TransId>) -> Result<(), NoMemory>
 /// The route that starts with this transition and takes the others of the trail, in ascending number.
 pub fn route_of_trail(
     alloc: Global,
-    search: &Search,
+    steps: &[Step],
     start: TransId,
     last: Step,
 ) -> Result<Route, NoMemory>
-    ensures { (path : List TransId) → IsTrail search.now.steps last path → IfOk result (IsRouteOver start path) }
+    requires { length steps.now ≤ 4096 }
+    ensures { (path : List TransId) → IsTrail steps.now last path → IfOk result (IsRouteOver start path) }
 {
-    let mut rest = later_transitions(alloc, search, start, last)?;
+    let mut rest = later_transitions(alloc, steps, start, last)?;
     put_in_order(&mut rest)?;
     Ok(Route {
         starts: Row::from_vec(vec![in alloc; start]?),

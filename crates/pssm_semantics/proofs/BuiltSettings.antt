@@ -4,10 +4,6 @@ use Rattle.std.specs.Option.{option_and_then}
 use Rattle.std.proofs.lemmas.List.Elements.{All-weaker}
 use Rattle.std.proofs.lemmas.Option.{slice_get_within, get_or_from_slice_get}
 use Rattle.pssm_model.specs.declared.ids.SignalId.{SignalId}
-use Rattle.pssm_model.specs.declared.elements.Element.{Element}
-use Rattle.pssm_model.specs.Shapes.{HasShape}
-use Rattle.pssm_model.specs.WellFormed.{KeepsModelRules}
-use Rattle.pssm_model.specs.NotBuilt.{IsNotBuilt}
 use Rattle.pssm_model.specs.BuiltMachine.{IsBuiltMachine}
 use Rattle.pssm_model.proofs.ElementLaws.{mapped_some}
 use Rattle.pssm_semantics.specs.declared.entry.ObjectId.{ObjectId}
@@ -18,7 +14,7 @@ use Rattle.pssm_semantics.specs.declared.setting.SignalDecl.{SignalDecl}
 use Rattle.pssm_semantics.specs.declared.setting.Setting.{Setting}
 use Rattle.pssm_semantics.specs.Settings.{class_of, HasCount}
 use Rattle.pssm_semantics.specs.Fits.{Vocabulary, ActFits}
-use Rattle.pssm_semantics.specs.Proper.{ProgramFits, CanSend, ClassFits, IsProper}
+use Rattle.pssm_semantics.specs.Proper.{CanSend, ClassFits, IsProper}
 use Rattle.pssm_semantics.specs.Classes.{IsProperClass}
 use Rattle.pssm_semantics.specs.Built.{IsBuiltClass, IsBuilt}
 use Rattle.pssm_semantics.specs.Arguments.{ActArgsFit}

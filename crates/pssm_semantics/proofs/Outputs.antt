@@ -1,5 +1,5 @@
 -- The posts, sends and marks of a journal: its signals are among them, and a built entry has at most 64.
-use Rattle.std.proofs.Common.{◌≡◌, ◌≤◌, ◌+◌, ◌*◌, ◌++◌, ℕ, List, [], ◌∷◌, length, ap, arith, length-append}
+use Rattle.std.proofs.Common.{◌≡◌, ◌≤◌, ◌+◌, ◌*◌, ◌++◌, ℕ, List, [], ◌∷◌, length, arith, length-append}
 use Rattle.std.specs.List.{AllByRecursion, flat_map}
 use Rattle.std.proofs.lemmas.List.Sums.{sum_by-cons, sum_by_push}
 use Rattle.pssm_semantics.specs.declared.entry.Out.{Out}
@@ -39,13 +39,13 @@ pub outputs_in-built : (e : Entry) → IsBuiltEntry e → outputs_in e ≤ 64
 outputs_in-built (Post o g args) is = omega arith
 outputs_in-built (Start o) is = omega arith
 outputs_in-built (Take o number firing) is = omega arith
-outputs_in-built (Done o v firing) is = absurd is.form
+outputs_in-built (Done o v firing) is = omega arith
 outputs_in-built (Exit o v outs) is = let few = is.form in omega (arith, few)
 outputs_in-built (Effect o t outs) is = let few = is.form in omega (arith, few)
 outputs_in-built (Enter o v outs) is = let few = is.form in omega (arith, few)
 outputs_in-built (Opened o r mode how) is = omega arith
-outputs_in-built (Pick o v route) is = absurd is.form
-outputs_in-built (DoStep o v k outs) is = absurd is.form
+outputs_in-built (Pick o v route) is = omega arith
+outputs_in-built (DoStep o v k outs) is = let few = is.form in omega (arith, few)
 
 -- so a journal of built entries has at most 64 times as many as it has entries
 pub output_count-built : (J : List Entry) → AllByRecursion IsBuiltEntry J → output_count J ≤ 64 * length J

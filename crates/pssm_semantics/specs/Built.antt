@@ -10,9 +10,8 @@ use Rattle.pssm_model.specs.declared.steps.How.{How}
 use Rattle.pssm_model.specs.declared.steps.How.TheVariants.{By, Nothing}
 use Rattle.pssm_model.specs.BuiltMachine.{IsBuiltMachine}
 use Rattle.pssm_model.specs.Legs.{transitions_of}
-use Rattle.pssm_model.specs.Routes.{single_route}
 use Rattle.pssm_semantics.specs.declared.entry.Entry.{Entry}
-use Rattle.pssm_semantics.specs.declared.entry.Entry.TheVariants.{Post, Start, Take, Exit, Effect, Enter, Opened}
+use Rattle.pssm_semantics.specs.declared.entry.Entry.TheVariants.{Post, Start, Take, Done, Exit, Effect, Enter, Opened, Pick, DoStep}
 use Rattle.pssm_semantics.specs.declared.setting.Class.{Class}
 use Rattle.pssm_semantics.specs.declared.setting.Setting.{Setting}
 use Rattle.pssm_semantics.specs.Proper.{IsProper}
@@ -36,21 +35,27 @@ IsBuiltRoute route = ((t : TransId) × (route.starts ≡ t ∷ [])) × AllByRecu
 abbrev pub IsBuiltFiring : Firing → Type 0
 IsBuiltFiring firing = AllByRecursion IsBuiltRoute firing.routes × (sum_by (λ route. length (transitions_of route)) firing.routes ≤ 8192)
 
--- no way, or the route of one transition
-abbrev pub IsBuiltWay : How → Type 0
-IsBuiltWay how = (how ≡ Nothing) ⊎ ((t : TransId) × (how ≡ By (single_route t)))
+-- a route of one start, with at most 8,192 transitions
+abbrev pub IsShortRoute : Route → Type 0
+IsShortRoute route = IsBuiltRoute route × (length (transitions_of route) ≤ 8192)
 
--- an entry of an object of a class that the code runs: at most 64 outputs, openings by default, by no way or by the route of one
--- transition, firings of routes of one start each, with at most 8,192 transitions in all, and no completion, pick or do step (this profile's choice of entries)
+-- by no way, or by such a route
+abbrev pub IsBuiltWay : How → Type 0
+IsBuiltWay how = (how ≡ Nothing) ⊎ ((route : Route) × (how ≡ By route) × IsShortRoute route)
+
+-- an entry of a form that runs of such settings have: at most 64 outputs; openings by default, by no way or by a route of one start, and picks
+-- by one; and firings of routes of one start each; with at most 8,192 transitions in all (this profile's choice of entries)
 abbrev pub HasBuiltForm : Entry → Type 0
 HasBuiltForm (Post o signal args) = Unit {0}
 HasBuiltForm (Start o) = Unit {0}
 HasBuiltForm (Take o number firing) = IsBuiltFiring firing
+HasBuiltForm (Done o state firing) = IsBuiltFiring firing
 HasBuiltForm (Exit o state outs) = length outs ≤ 64
 HasBuiltForm (Effect o transition outs) = length outs ≤ 64
 HasBuiltForm (Enter o state outs) = length outs ≤ 64
 HasBuiltForm (Opened o region mode how) = (mode ≡ Plain) × IsBuiltWay how
-HasBuiltForm _ = ⊥
+HasBuiltForm (Pick o choice route) = IsShortRoute route
+HasBuiltForm (DoStep o state step outs) = length outs ≤ 64
 
 -- A take names a number from 1 (this profile's choice).
 abbrev pub CountsFromOne : Entry → Type 0

@@ -78,7 +78,7 @@ task-next class x task e does places keeps signal =
 
 -- where no task is ready, what may come next is a move
 module _ (class : Class) (b : IsBuiltClass class) {J : List Entry} {x : Standing} (s : StandsAfter class J x) (signal : Option Waiting)
-    (none : ready_tasks x ≡ []) where
+    (none : ready_tasks class.machine x ≡ []) where
   not_ready : (task : Task) → IsReadyTask class.machine J x.own task → ⊥
   not_ready task ready = nothing_in_nil task (subst (λ ts. Contains ts task) none (((lists_tasks class b s).each task).1 ready))
 

@@ -39,7 +39,7 @@ use Rattle.pssm_system.proofs.Stepped.{class_exists, told_after, stands_in, stan
 
 -- what a clause sees of a setting, a journal and what is kept of it
 abbrev pub history_of : Setting → List Entry → Situation → History
-history_of setting J s = record { setting = setting; journal = J; tasks = tasks_of s.objects.items }
+history_of setting J s = record { setting = setting; journal = J; tasks = tasks_of setting s.objects.items }
 
 module _ (h : History) (setting : Setting) (J : List Entry) (s : Situation) (k : KeepsRun setting J s) (view_is : history_of setting J s ≡ h) where
   seen : (P : Setting → List Entry → Type 0) → P setting J → P h.setting h.journal
@@ -143,7 +143,7 @@ module _ (h : History) (setting : Setting) (J : List Entry) (s : Situation) (k :
   no_move_seen (Err none) found = tt
 
   -- the tasks
-  tasks_are : h.tasks ≡ tasks_of s.objects.items
+  tasks_are : h.tasks ≡ tasks_of setting s.objects.items
   tasks_are = sym (ap (λ (v : History). v.tasks) view_is)
 
   pub ready_seen : AreReady h.setting h.journal h.tasks

@@ -11,7 +11,6 @@ pub mod Completing
 pub mod Stepped
 pub mod Regions
 pub mod Pairs
-pub mod FewTasks
 pub mod AllTasks
 pub mod Named
 pub mod Choices

@@ -1,48 +1,119 @@
 -- An entry that may come next for an object names places of its machine.
-use Rattle.std.proofs.Common.{◌≡◌, ◌<◌, ℕ, List, length, Option, Some, None, IfSome, All, IsSomeAnd}
+use Rattle.std.proofs.Common.{◌≡◌, ◌<◌, ℕ, List, length, Option, Some, None, All, refl, subst, arith}
+use Rattle.std.specs.Option.{option_map_or}
+use Rattle.std.proofs.lemmas.Option.{slice_get_within}
+use Rattle.pssm_model.specs.declared.ids.RegionId.{RegionId}
+use Rattle.pssm_model.specs.declared.ids.TransId.{TransId}
+use Rattle.pssm_model.specs.declared.ids.VertexId.{VertexId}
 use Rattle.pssm_model.specs.declared.elements.DraftMachine.{DraftMachine}
+use Rattle.pssm_model.specs.declared.elements.Transition.{Transition}
+use Rattle.pssm_model.specs.declared.elements.Vertex.{Vertex}
 use Rattle.pssm_model.specs.declared.steps.Route.{Route}
+use Rattle.pssm_model.specs.declared.steps.Event.{Event}
+use Rattle.pssm_model.specs.declared.steps.Event.TheVariants.{Signal, Completion}
+use Rattle.pssm_model.specs.declared.steps.Firing.{Firing}
+use Rattle.pssm_model.specs.declared.steps.How.{How}
+use Rattle.pssm_model.specs.declared.steps.How.TheVariants.{By, Restore, Nothing}
+use Rattle.pssm_model.specs.declared.steps.Item.{Item}
 use Rattle.pssm_model.specs.declared.steps.Item.TheVariants as items
 use Rattle.pssm_model.specs.declared.steps.Mode.{Mode}
 use Rattle.pssm_model.specs.declared.steps.Mode.TheVariants.{Plain, Shallow, Deep}
-use Rattle.pssm_model.specs.declared.ids.RegionId.{RegionId}
-use Rattle.pssm_plan.proofs.StepLengths.{IsThere}
+use Rattle.pssm_model.specs.Configuration.{Configuration, IsNextDoStep}
+use Rattle.pssm_model.specs.FiringSets.{IsFiring}
+use Rattle.pssm_model.specs.Forest.{vertex_at, transition_at}
+use Rattle.pssm_model.specs.Legs.{Leaves}
+use Rattle.pssm_model.specs.Order.{course_by}
+use Rattle.pssm_model.specs.Routes.{Truth}
+use Rattle.pssm_model.specs.Shapes.{HasShape}
+use Rattle.pssm_model.specs.Ways.{Memory, IsWay}
+use Rattle.pssm_model.proofs.ElementLaws.{mapped_some}
+use Rattle.pssm_config.specs.Tables.{configuration_of}
+use Rattle.pssm_plan.specs.Agenda.{Agenda}
+use Rattle.pssm_plan.proofs.RouteItems.{called_is}
+use Rattle.pssm_plan.proofs.RouteSteps.{gone_by_routes}
+use Rattle.pssm_plan.proofs.StepLengths.{IsThere, called_there}
+use Rattle.pssm_semantics.specs.declared.entry.ObjectId.{ObjectId}
 use Rattle.pssm_semantics.specs.declared.entry.Entry.{Entry}
 use Rattle.pssm_semantics.specs.declared.entry.Entry.TheVariants.{Post, Start, Take, Done, Exit, Effect, Enter, Opened, Pick, DoStep}
+use Rattle.pssm_semantics.specs.declared.entry.Rule.TheVariants.{A5, A7, A8, A10, A11}
 use Rattle.pssm_semantics.specs.declared.setting.Class.{Class}
-use Rattle.pssm_semantics.specs.Known.{IsRouteOf}
+use Rattle.pssm_semantics.specs.Completion.{IsQueueHead}
+use Rattle.pssm_semantics.specs.Journal.{configuration_after}
+use Rattle.pssm_semantics.specs.Known.{IsFiringOf, IsRouteOf, IsVertexOf, IsWayOf}
+use Rattle.pssm_semantics.specs.Rules.{IsCalledItem}
 use Rattle.pssm_semantics.specs.Built.{IsBuiltClass}
 use Rattle.pssm_pool.specs.declared.pools.Waiting.{Waiting}
-use Rattle.pssm_object.specs.Standing.{Standing, StandsAfter}
-use Rattle.pssm_object.specs.Following.{NamesPlaces, KeepsRules, IsCandidate}
-use Rattle.pssm_object.specs.inner.Judging.{FiresHere, Judges}
-use Rattle.pssm_object.proofs.Accepted.{accepted}
-use Rattle.pssm_object.proofs.Following.{ready_there}
-use Rattle.pssm_object.proofs.Ready.{way_there}
+use Rattle.pssm_object.specs.Standing.{Standing, IsUnderWay, IsStepOf, StandsAfter}
+use Rattle.pssm_object.specs.Following.{NamesPlaces, KeepsRules, IsCandidate, stimulus_of}
+use Rattle.pssm_object.proofs.BuiltMachines.{nested}
+use Rattle.pssm_object.proofs.Rules.{no_step}
+use Rattle.pssm_object.proofs.UnderWay.{called_item_waits}
 
-region_there : (m : DraftMachine) (r : RegionId) (mode : Mode) → IsThere m (items.Opened r mode) → r.0 < length m.regions
-region_there m r Plain h = h
-region_there m r Shallow h = absurd h
-region_there m r Deep h = absurd h
+-- what a transition leaves is a vertex
+leaves_there : {m : DraftMachine} → HasShape m → (t : TransId) (v : VertexId) → Leaves m t v → IsVertexOf m v
+leaves_there {m = m} shape t v leaves =
+    let x = mapped_some (λ (x : Transition). x.source) (transition_at m t) v leaves in
+    subst (λ (w : VertexId). w.0 < length m.vertices) x.2 (shape.ends t x.0 x.1).0
+
+-- what has a next do step is one
+step_within : (m : DraftMachine) (v : VertexId) (k : ℕ) (found : Option Vertex) → vertex_at m v ≡ found
+    → k < option_map_or (λ (x : Vertex). length x.steps) found 0 → IsVertexOf m v
+step_within m v k None at lt = absurd (omega arith)
+step_within m v k (Some x) at lt = slice_get_within m.vertices v.0 x at
+
+step_there : (m : DraftMachine) (now : Configuration) (v : VertexId) (k : ℕ) → IsNextDoStep m now v k → IsVertexOf m v
+step_there m now v k next = step_within m v k (vertex_at m v) refl next.in_range
+
+-- the transitions of what fires are of the machine
+firing_there : (m : DraftMachine) (now : Configuration) (truth : Truth) (event : Event) (routes : List Route) → IsFiring m now truth event routes
+    → All (IsRouteOf m) routes
+firing_there m now truth event routes fires = λ i route lt. (fires.0.sound.enabled i route lt).route_of_states.0.in_range
+
+-- and so are those of the ways of an opening
+way_there : (m : DraftMachine) (truth : Truth) (memory : Memory) (r : RegionId) (mode : Mode) (how : How) → IsThere m (items.Opened r mode)
+    → IsWay m truth memory (items.Opened r mode) how → (r.0 < length m.regions) × IsWayOf m how
+way_there m truth memory r Plain (By route) there way = (there, way.2.route_is.in_range)
+way_there m truth memory r Plain (Restore s) there way = absurd way
+way_there m truth memory r Plain Nothing there way = (there, tt)
+way_there m truth memory r Shallow how there way = absurd there
+way_there m truth memory r Deep how there way = absurd there
 
 module _ (class : Class) (b : IsBuiltClass class) {J : List Entry} {x : Standing} (s : StandsAfter class J x) where
-  firing_there : (signal : Option Waiting) (number : ℕ) (routes : List Route) → IsSomeAnd signal (λ w. number ≡ w.number)
-      → IfSome signal (FiresHere class x routes) → All (IsRouteOf class.machine) routes
-  firing_there None number routes named fires = absurd named
-  firing_there (Some w) number routes named fires = λ i route lt. (fires.0.sound.enabled i route lt).route_of_states.0.in_range
+  abbrev m : DraftMachine
+  m = class.machine
 
-  named_by : (signal : Option Waiting) (e : Entry) → IsCandidate x.own signal e → Judges class x signal e None → NamesPlaces class.machine e
-  named_by signal (Post o g args) c h = tt
-  named_by signal (Start o) c h = tt
-  named_by signal (Take o number firing) c h = firing_there signal number firing.routes c.names h.1
-  named_by signal (Done o v firing) c h = absurd h
-  named_by signal (Exit o v outs) c h = ready_there class b s h.0.0 h.0.1 (items.Exit v) h.0.2
-  named_by signal (Effect o t outs) c h = ready_there class b s h.0.0 h.0.1 (items.Effect t) h.0.2
-  named_by signal (Enter o v outs) c h = ready_there class b s h.0.0 h.0.1 (items.Enter v) h.0.2
-  named_by signal (Opened o r mode how) c h =
-      (region_there class.machine r mode (ready_there class b s h.0.0 h.0.1 (items.Opened r mode) h.0.2), way_there class.machine r how h.1)
-  named_by signal (Pick o v route) c h = absurd h
-  named_by signal (DoStep o v k outs) c h = absurd h
+  -- an item that waits is of the machine
+  waits_in : (plan : Option Agenda) → IsStepOf m J x.own plan → (item : Item) → IsCalledItem m J x.own item → IsThere m item
+  waits_in None step item called = absurd (no_step J x.own step.posts called.step called.last)
+  waits_in (Some p) step item called =
+      let u : IsUnderWay m J x.own p.head (configuration_of p.at_head) p.ran = step.1 in
+      called_there b.machine.shape (nested b.machine) p.head (configuration_of p.at_head) p.ran u.gone item
+      (called_is (nested b.machine) b.machine.shape (course_by p.head (configuration_of p.at_head) p.ran)
+      (gone_by_routes (nested b.machine) b.machine.shape p.head (configuration_of p.at_head) p.ran u.gone) item (called_item_waits u item called).called)
 
-  pub names_places : (signal : Option Waiting) (e : Entry) → IsCandidate x.own signal e → KeepsRules class x signal J e → NamesPlaces class.machine e
-  names_places signal e c keeps = named_by signal e c (accepted class b s signal e c.own keeps)
+  waits_there : (o : ObjectId) (item : Item) → o ≡ x.own → IsCalledItem m J o item → IsThere m item
+  waits_there o item own called = waits_in x.plan s.step_is item (subst (λ q. IsCalledItem m J q item) own called)
+
+  -- a completion that waits is that of a vertex of the machine
+  head_there : (o : ObjectId) (v : VertexId) → IsQueueHead m J o v → IsVertexOf m v
+  head_there o v head = let leaves = head.1.transition in leaves_there b.machine.shape leaves.0 v leaves.1
+
+  take_there : (signal : Option Waiting) (o : ObjectId) (number : ℕ) (firing : Firing) → IsCandidate x.own signal (Take o number firing)
+      → KeepsRules class x signal J (Take o number firing) → IsFiringOf m firing
+  take_there None o number firing c keeps = absurd c.names
+  take_there (Some w) o number firing c keeps =
+      firing_there m (configuration_after m J o) _ (Signal w.signal) firing.routes (keeps A7 (stimulus_of x.own w) refl)
+
+  pub names_places : (signal : Option Waiting) (e : Entry) → IsCandidate x.own signal e → KeepsRules class x signal J e → NamesPlaces m e
+  names_places signal (Post o g args) c keeps = tt
+  names_places signal (Start o) c keeps = tt
+  names_places signal (Take o number firing) c keeps = take_there signal o number firing c keeps
+  names_places signal (Done o v firing) c keeps =
+      (head_there o v (keeps A5), firing_there m (configuration_after m J o) _ (Completion v) firing.routes (keeps A7))
+  names_places signal (Exit o v outs) c keeps = waits_there o (items.Exit v) c.own (keeps A8)
+  names_places signal (Effect o t outs) c keeps = waits_there o (items.Effect t) c.own (keeps A8)
+  names_places signal (Enter o v outs) c keeps = (waits_there o (items.Enter v) c.own (keeps A8)).0
+  names_places signal (Opened o r mode how) c keeps =
+      way_there m _ (configuration_after m J o).Remembers r mode how (waits_there o (items.Opened r mode) c.own (keeps A8)) (keeps A10)
+  names_places signal (Pick o v route) c keeps = ((waits_there o (items.Pick v) c.own (keeps A8)).0, (let way = keeps A10 in way.route_is.in_range))
+  names_places signal (DoStep o v k outs) c keeps = step_there m (configuration_after m J o) v k (keeps A11)

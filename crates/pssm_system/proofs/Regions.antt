@@ -45,7 +45,7 @@ module _ {setting : Setting} (b : IsBuilt setting) {J : List Entry} (stand : (o 
         c.one_each r v w (first, c.states v active) (second, c.states w also) active also;
     owners = λ o class r v is lies active. let c = consistent o class is in c.owners r v (lies, c.states v active) active;
     one_completes = λ before after e o class v w splits is first second.
-        one_becomes (built_class setting b o class is).0.machine before e o v w first second;
+        one_becomes class.machine before e o v w first second;
   }
 
 -- a signal that is told has a number from 1

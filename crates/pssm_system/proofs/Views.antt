@@ -63,7 +63,7 @@ pub move_is_any : (class : Class) (x : Standing) (signal : Option Waiting) (e : 
 move_is_any class x signal e n = record { wanted_is = move-no_post e n.wanted_is; candidate = n.candidate; places = n.places; keeps = n.keeps }
 
 -- where there is no move and no task is ready, there is nothing
-pub nothing_next : (class : Class) (b : IsBuiltClass class) (x : Standing) (signal : Option Waiting) → ready_tasks x ≡ [] → HasNoNext class x signal Move
+pub nothing_next : (class : Class) (b : IsBuiltClass class) (x : Standing) (signal : Option Waiting) → ready_tasks class.machine x ≡ [] → HasNoNext class x signal Move
     → HasNoNext class x signal AnyEntry
 nothing_next class b x signal empty none J e s is_wanted c keeps = none J e s (only-moves class b s signal empty e c keeps) c keeps
 

@@ -165,7 +165,7 @@ fn next_entry(
 fn task_entry(alloc: Global, object: &Object, class: &Class, i: u32) -> Result<Entry, NoMemory>
     requires class { IsBuiltClass class.now }
     requires stands { ObjectStands class.now object.now }
-    requires there { i < length (ready_tasks object.now) }
+    requires there { i < length (ready_tasks class.now.machine object.now) }
     ensures { IfOk result (IsNextAlways class.now object.now) }
 {
     object.run_task(alloc, class, object.task_at(class, i))

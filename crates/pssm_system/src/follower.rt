@@ -45,7 +45,7 @@ impl Model for Follower {
     ghost use Rattle.pssm_system.specs.inner.Keeping.{KeepsRun, tasks_of};
     ghost use Rattle.pssm_system.specs.inner.Telling.{entries_of};
 
-    ghost view = { λ s. record { setting = s.setting; journal = entries_of s.told.items; tasks = tasks_of s.situation.objects.items } };
+    ghost view = { λ s. record { setting = s.setting; journal = entries_of s.told.items; tasks = tasks_of s.setting s.situation.objects.items } };
 
     ghost invariant = { λ s. KeepsRun s.setting (entries_of s.told.items) s.situation };
 }
@@ -148,8 +148,8 @@ impl Follower {
 
     /// An entry other than a post that breaks no rule after the journal, or none where there is none.
     ///
-    /// Of the objects, of the ready tasks and openings of an object, and of several transitions that a
-    /// signal enables, the word picks one; which one is not promised. `NoMemory`: memory ran out.
+    /// Of the objects, of the ready tasks, openings and picks of an object with their ways, and of several
+    /// sets of routes that may fire, the word picks one; which one is not promised. `NoMemory`: memory ran out.
     pub fn choose(&self, word: u64) -> Result<Option<Entry>, NoMemory>
         ensures chosen { IfOk result (λ o. IfSome o
             (λ e. (IsPost e → ⊥) × MayFollow self.now.setting self.now.journal e)) }
@@ -172,7 +172,8 @@ impl Follower {
             .choose(self.alloc, &self.setting, Wanted::Move, word)
     }
 
-    /// How many tasks are ready: exits, effects and entries whose turn has come (UML 2.5.1, 14.2.3.9), of all objects.
+    /// How many tasks of all objects are ready: exits, effects and entries whose turn has come, and the next
+    /// do steps of active States; none of an object that has ended (UML 2.5.1, 14.2.3.9 and 14.2.3.4).
     pub fn task_count(&self) -> u32
         ensures count { result ≡ length self.now.tasks }
         ensures listed { AreReady self.now.setting self.now.journal self.now.tasks }

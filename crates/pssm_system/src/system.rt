@@ -130,8 +130,8 @@ impl System {
 
     /// An entry other than a post that breaks no rule after the journal, or none where there is none.
     ///
-    /// Of the objects, of the ready tasks and openings of an object, and of several transitions that a
-    /// signal enables, the word picks one; which one is not promised. `NoMemory`: memory ran out.
+    /// Of the objects, of the ready tasks, openings and picks of an object with their ways, and of several
+    /// sets of routes that may fire, the word picks one; which one is not promised. `NoMemory`: memory ran out.
     pub fn choose(&self, word: u64) -> Result<Option<Entry>, NoMemory>
         ensures chosen { IfOk result (λ o. IfSome o
             (λ e. (IsPost e → ⊥) × MayFollow self.now.setting self.now.journal e)) }
@@ -152,7 +152,8 @@ impl System {
         self.follower.choose_move(word)
     }
 
-    /// How many tasks are ready: exits, effects and entries whose turn has come (UML 2.5.1, 14.2.3.9), of all objects.
+    /// How many tasks of all objects are ready: exits, effects and entries whose turn has come, and the next
+    /// do steps of active States; none of an object that has ended (UML 2.5.1, 14.2.3.9 and 14.2.3.4).
     pub fn task_count(&self) -> u32
         ensures count { result ≡ length self.now.tasks }
         ensures listed { AreReady self.now.setting self.now.journal self.now.tasks }

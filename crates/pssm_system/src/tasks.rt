@@ -14,7 +14,7 @@ impl Situation {
     pub fn task_count(&self, setting: &Setting) -> u32
         requires built { IsBuilt setting.now }
         requires stands { Stands setting.now self.now }
-        ensures { result ≡ length (tasks_of self.now.objects.items) }
+        ensures { result ≡ length (tasks_of setting.now self.now.objects.items) }
     {
         let mut count = 0;
         for k in 0..self.objects.as_slice().len() as u8 {
@@ -28,8 +28,8 @@ impl Situation {
     pub fn task_at(&self, setting: &Setting, i: u32) -> (ObjectId, Task)
         requires built { IsBuilt setting.now }
         requires stands { Stands setting.now self.now }
-        requires there { i < length (tasks_of self.now.objects.items) }
-        ensures { slice_get (tasks_of self.now.objects.items) i ≡ Some result }
+        requires there { i < length (tasks_of setting.now self.now.objects.items) }
+        ensures { slice_get (tasks_of setting.now self.now.objects.items) i ≡ Some result }
     {
         let mut rest = i;
         for k in 0..self.objects.as_slice().len() as u8 {

@@ -1,8 +1,8 @@
 //! Shapes that no text has: owners of a wrong sort, and numbers past those of a text; and forms that are not built.
 use crate::tests::{draft_of, draft_of_a_state, machine_of, vec_of, vertex};
 use pssm_model::{
-    ActId, DraftMachine, Element, Machine, Owner, RegionId, Row, Shape, TransId, VertexId,
-    VertexKind, first_not_built,
+    ActId, DraftMachine, Element, Machine, Owner, RegionId, Row, Shape, VertexId, VertexKind,
+    first_not_built,
 };
 use std::alloc::Global;
 use std::test::Fail;
@@ -77,18 +77,28 @@ fn finds(
     Ok(found == element)
 }
 
-/// A join and a fork, each the first of two, also before a transition without a trigger; and such a transition out of a
-/// State, behind one that has a trigger. A local transition with a trigger is built.
+/// A history, fork, join, entry or exit point, each the first of two, behind a State with an initial vertex.
 #[test]
 fn forms_that_are_not_built(rt: HostRuntime) -> Result<(), Fail> {
     let alloc = rt.alloc();
-    let fourth = Some(Element::Vertex(VertexId(3)));
-    assert!(rt; finds(alloc, b"0s0s0i0j0j", b"01!20.", fourth)?);
-    assert!(rt; finds(alloc, b"0s0s0i0k0k", b"01.20.", fourth)?);
-    let third = Some(Element::Transition(TransId(2)));
-    assert!(rt; finds(alloc, b"0s0s0i", b"01!20.01.00.", third)?);
-    assert!(rt; finds(alloc, b"0s0s0i", b"01!20.00l00l", None)?);
-    assert!(rt; finds(alloc, b"0s0s0i", b"01!20.", None)?);
+    let third = Some(Element::Vertex(VertexId(2)));
+    assert!(rt; finds(alloc, b"0s0i0h0d", b"10.", third)?);
+    assert!(rt; finds(alloc, b"0s0i0d0h", b"10.", third)?);
+    assert!(rt; finds(alloc, b"0s0i0k0j", b"10.", third)?);
+    assert!(rt; finds(alloc, b"0s0i0j0k", b"10.", third)?);
+    assert!(rt; finds(alloc, b"0s0iAnAx", b"10.", third)?);
+    assert!(rt; finds(alloc, b"0s0iAxAn", b"10.", third)?);
+    Ok(())
+}
+
+/// A final state, a choice, a junction and a terminate vertex are built, and so are transitions of every form: with a
+/// trigger and without, local ones, and one from an initial vertex to a junction.
+#[test]
+fn forms_that_are_built(rt: HostRuntime) -> Result<(), Fail> {
+    let alloc = rt.alloc();
+    assert!(rt; finds(alloc, b"0s0s0i0f0c0u0t", b"01!20.", None)?);
+    assert!(rt; finds(alloc, b"0s0s0i", b"01!20.00l01.00.", None)?);
+    assert!(rt; finds(alloc, b"0s0s0i0u", b"23.30e31.", None)?);
     Ok(())
 }
 
@@ -104,10 +114,10 @@ fn doing_machine(alloc: Global) -> Result<Machine, Fail> {
 }
 
 #[test]
-fn a_state_that_does_is_not_built(rt: HostRuntime) -> Result<(), Fail> {
+fn a_state_that_does_is_built(rt: HostRuntime) -> Result<(), Fail> {
     let machine = doing_machine(rt.alloc())?;
     let found = first_not_built(&machine);
     drop(machine);
-    assert!(rt; found == Some(Element::Vertex(VertexId(0))));
+    assert!(rt; found.is_none());
     Ok(())
 }

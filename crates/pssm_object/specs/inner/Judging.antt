@@ -1,12 +1,13 @@
 -- The verdict on one more entry of an object, where it stands so.
-use Rattle.std.specs.Prelude.{◌≡◌, List, Option, Some, None, IfSome, IsSomeAnd}
-use Rattle.pssm_model.specs.declared.ids.RegionId.{RegionId}
+use Rattle.std.specs.Prelude.{◌≡◌, ◌⊎◌, ℕ, List, Option, Some, None, IfSome, IsSomeAnd, IsTrue}
+use Rattle.pssm_model.specs.declared.ids.VertexId.{VertexId}
 use Rattle.pssm_model.specs.declared.elements.DraftMachine.{DraftMachine}
 use Rattle.pssm_model.specs.declared.steps.Route.{Route}
 use Rattle.pssm_model.specs.declared.steps.How.{How}
-use Rattle.pssm_model.specs.declared.steps.Mode.{Mode}
+use Rattle.pssm_model.specs.declared.steps.How.TheVariants.{By}
 use Rattle.pssm_model.specs.declared.steps.Item.{Item}
 use Rattle.pssm_model.specs.declared.steps.Item.TheVariants as items
+use Rattle.pssm_model.specs.declared.steps.Event.TheVariants.{Signal, Completion}
 use Rattle.pssm_model.specs.Items.{HasRunOut, IsWaiting, IsCleared}
 use Rattle.pssm_model.specs.Order.{IsReady}
 use Rattle.pssm_plan.specs.Agenda.{Agenda, course_of}
@@ -14,13 +15,15 @@ use Rattle.pssm_semantics.specs.declared.entry.Out.{Out}
 use Rattle.pssm_semantics.specs.declared.entry.Entry.{Entry}
 use Rattle.pssm_semantics.specs.declared.entry.Entry.TheVariants.{Post, Start, Take, Done, Exit, Effect, Enter, Opened, Pick, DoStep}
 use Rattle.pssm_semantics.specs.declared.entry.Rule.{Rule}
-use Rattle.pssm_semantics.specs.declared.entry.Rule.TheVariants.{A3, A4, A5, A7, A8, A9, A10, A11, A12}
+use Rattle.pssm_semantics.specs.declared.entry.Rule.TheVariants.{A2, A3, A4, A5, A7, A8, A9, A10, A12}
 use Rattle.pssm_semantics.specs.declared.setting.Class.{Class}
+use Rattle.pssm_semantics.specs.Values.{eight_of, no_params}
 use Rattle.pssm_pool.specs.declared.pools.Waiting.{Waiting}
 use Rattle.pssm_object.specs.Standing.{Standing}
-use Rattle.pssm_object.specs.inner.Firing.{Fires, IsDefaultWay}
-use Rattle.pssm_object.specs.inner.Situations.{IsAtRest}
+use Rattle.pssm_object.specs.inner.Firing.{Fires, IsDefaultWay, IsWayFrom}
+use Rattle.pssm_object.specs.inner.Situations.{IsAtRest, first_waiting}
 use Rattle.pssm_object.specs.inner.Working.{Makes}
+use Rattle.pssm_object.specs.inner.Doing.{JudgesDoStep}
 
 -- something that the last step calls has not run
 abbrev pub IsBusy : DraftMachine → Option Agenda → Type 0
@@ -40,33 +43,40 @@ JudgesStart plan (Some _) = ⊥
 
 -- The routes are what this signal fires.
 abbrev pub FiresHere : Class → Standing → List Route → Waiting → Type 0
-FiresHere class x routes signal = Fires class x.config x.store signal routes
+FiresHere class x routes signal = Fires class x.config x.store (eight_of signal.args) (Signal signal.signal) routes
 
--- They are not.
+-- They are what the completion of the State fires.
+abbrev pub Completes : Class → Standing → VertexId → List Route → Type 0
+Completes class x s routes = Fires class x.config x.store no_params (Completion s) routes
+
+-- The routes are not what this signal fires.
 abbrev pub FiresOther : Class → Standing → List Route → Waiting → Type 0
 FiresOther class x routes signal = FiresHere class x routes signal → ⊥
 
--- the verdict on what a signal that is handed in fires
-abbrev pub JudgesFiring : Class → Standing → Waiting → List Route → Option Rule → Type 0
-JudgesFiring class x signal routes None = FiresHere class x routes signal
-JudgesFiring class x signal routes (Some A7) = FiresOther class x routes signal
-JudgesFiring class x signal routes (Some _) = ⊥
+-- the verdict on routes of which this says that they are what fires
+abbrev pub JudgesFiring : Type 0 → Option Rule → Type 0
+JudgesFiring Fires None = Fires
+JudgesFiring Fires (Some A7) = Fires → ⊥
+JudgesFiring Fires (Some _) = ⊥
 
 -- the verdict on a take; what the signal fires is asked where the signal is handed in
 abbrev pub JudgesTake : Class → Standing → Option Waiting → List Route → Option Rule → Type 0
-JudgesTake class x signal routes None = IsAtRest class.machine x.plan × IfSome signal (FiresHere class x routes)
+JudgesTake class x signal routes None = IsAtRest class.machine x.plan × (first_waiting x ≡ None) × IfSome signal (FiresHere class x routes)
 JudgesTake class x signal routes (Some A3) = x.plan ≡ None
 JudgesTake class x signal routes (Some A4) = IsBusy class.machine x.plan
+JudgesTake class x signal routes (Some A5) = IsAtRest class.machine x.plan × (first_waiting x ≡ None → ⊥)
 JudgesTake class x signal routes (Some A7) =
-    IsAtRest class.machine x.plan × IsSomeAnd signal (FiresOther class x routes)
+    IsAtRest class.machine x.plan × (first_waiting x ≡ None) × IsSomeAnd signal (FiresOther class x routes)
 JudgesTake class x signal routes (Some _) = ⊥
 
 -- the verdict on a dispatch of a completion
-abbrev pub JudgesDone : DraftMachine → Option Agenda → Option Rule → Type 0
-JudgesDone m plan (Some A3) = plan ≡ None
-JudgesDone m plan (Some A4) = IsBusy m plan
-JudgesDone m plan (Some A5) = IsAtRest m plan
-JudgesDone m plan _ = ⊥
+abbrev pub JudgesDone : Class → Standing → VertexId → List Route → Option Rule → Type 0
+JudgesDone class x s routes None = IsAtRest class.machine x.plan × (first_waiting x ≡ Some s) × Completes class x s routes
+JudgesDone class x s routes (Some A3) = x.plan ≡ None
+JudgesDone class x s routes (Some A4) = IsBusy class.machine x.plan
+JudgesDone class x s routes (Some A5) = IsAtRest class.machine x.plan × (first_waiting x ≡ Some s → ⊥)
+JudgesDone class x s routes (Some A7) = IsAtRest class.machine x.plan × (first_waiting x ≡ Some s) × (Completes class x s routes → ⊥)
+JudgesDone class x s routes (Some _) = ⊥
 
 -- the verdict on an item, but for its way and its outputs
 abbrev pub JudgesItem : DraftMachine → Option Agenda → Item → Option Rule → Type 0
@@ -83,27 +93,46 @@ JudgesWork class x item outs None = JudgesItem class.machine x.plan item None ×
 JudgesWork class x item outs (Some A12) = JudgesItem class.machine x.plan item None × (Makes class x item outs → ⊥)
 JudgesWork class x item outs (Some rule) = JudgesItem class.machine x.plan item (Some rule)
 
--- the verdict on an opening with its way
-abbrev pub JudgesOpened : DraftMachine → Option Agenda → RegionId → Mode → How → Option Rule → Type 0
-JudgesOpened m plan r mode how None = JudgesItem m plan (items.Opened r mode) None × IsDefaultWay m r how
-JudgesOpened m plan r mode how (Some A10) = JudgesItem m plan (items.Opened r mode) None × (IsDefaultWay m r how → ⊥)
-JudgesOpened m plan r mode how (Some rule) = JudgesItem m plan (items.Opened r mode) (Some rule)
+-- The way is one of those of an opening by default or a pick there; nothing else has a way.
+abbrev pub IsWayHere : Class → Standing → Item → How → Type 0
+IsWayHere class x (items.Opened r mode) how = IsDefaultWay class x.store x.params r how
+IsWayHere class x (items.Pick c) (By route) = IsWayFrom class x.store x.params c route
+IsWayHere class x item how = ⊥
 
--- the verdict on what never comes: a pick or a do step
-abbrev pub JudgesNever : Option Agenda → Rule → Option Rule → Type 0
-JudgesNever plan rule None = ⊥
-JudgesNever plan rule (Some A3) = plan ≡ None
-JudgesNever plan rule (Some broken) = ((p : Agenda) × (plan ≡ Some p)) × (broken ≡ rule)
+-- the verdict on an opening or a pick with its way
+abbrev pub JudgesWay : Class → Standing → Item → How → Option Rule → Type 0
+JudgesWay class x item how None = JudgesItem class.machine x.plan item None × IsWayHere class x item how
+JudgesWay class x item how (Some A10) = JudgesItem class.machine x.plan item None × (IsWayHere class x item how → ⊥)
+JudgesWay class x item how (Some rule) = JudgesItem class.machine x.plan item (Some rule)
+
+-- The object has started.
+abbrev pub HasStarted : Standing → Type 0
+HasStarted x = (p : Agenda) × (x.plan ≡ Some p)
+
+-- the verdict on a do step with its outputs
+abbrev pub JudgesDoing : Class → Standing → VertexId → ℕ → List Out → Option Rule → Type 0
+JudgesDoing class x s k outs answer =
+    ((x.plan ≡ None) × (answer ≡ Some A3)) ⊎ (HasStarted x × JudgesDoStep class x s k outs answer)
+
+-- the verdict on an entry of an object that has not ended
+abbrev pub JudgesLiving : Class → Standing → Option Waiting → Entry → Option Rule → Type 0
+JudgesLiving class x signal (Post o g args) answer = answer ≡ None
+JudgesLiving class x signal (Start o) answer = JudgesStart x.plan answer
+JudgesLiving class x signal (Take o number firing) answer = JudgesTake class x signal firing.routes answer
+JudgesLiving class x signal (Done o s firing) answer = JudgesDone class x s firing.routes answer
+JudgesLiving class x signal (Exit o s outs) answer = JudgesWork class x (items.Exit s) outs answer
+JudgesLiving class x signal (Effect o t outs) answer = JudgesWork class x (items.Effect t) outs answer
+JudgesLiving class x signal (Enter o s outs) answer = JudgesWork class x (items.Enter s) outs answer
+JudgesLiving class x signal (Opened o r mode how) answer = JudgesWay class x (items.Opened r mode) how answer
+JudgesLiving class x signal (Pick o c route) answer = JudgesWay class x (items.Pick c) (By route) answer
+JudgesLiving class x signal (DoStep o s k outs) answer = JudgesDoing class x s k outs answer
+
+-- The entry comes after the end of the object, where a post alone may come.
+abbrev pub IsPastEnd : Standing → Entry → Type 0
+IsPastEnd x (Post o g args) = ⊥
+IsPastEnd x e = IsTrue x.ended
 
 -- the verdict on an entry
 abbrev pub Judges : Class → Standing → Option Waiting → Entry → Option Rule → Type 0
-Judges class x signal (Post o g args) answer = answer ≡ None
-Judges class x signal (Start o) answer = JudgesStart x.plan answer
-Judges class x signal (Take o number firing) answer = JudgesTake class x signal firing.routes answer
-Judges class x signal (Done o state firing) answer = JudgesDone class.machine x.plan answer
-Judges class x signal (Exit o state outs) answer = JudgesWork class x (items.Exit state) outs answer
-Judges class x signal (Effect o transition outs) answer = JudgesWork class x (items.Effect transition) outs answer
-Judges class x signal (Enter o state outs) answer = JudgesWork class x (items.Enter state) outs answer
-Judges class x signal (Opened o region mode how) answer = JudgesOpened class.machine x.plan region mode how answer
-Judges class x signal (Pick o choice route) answer = JudgesNever x.plan A8 answer
-Judges class x signal (DoStep o state step outs) answer = JudgesNever x.plan A11 answer
+Judges class x signal e answer =
+    (IsPastEnd x e × (answer ≡ Some A2)) ⊎ ((IsPastEnd x e → ⊥) × JudgesLiving class x signal e answer)

@@ -15,7 +15,7 @@ use Rattle.pssm_model.specs.declared.steps.How.{How}
 use Rattle.pssm_model.specs.declared.steps.How.TheVariants.{By}
 use Rattle.pssm_model.specs.declared.steps.Item.{Item}
 use Rattle.pssm_model.specs.declared.steps.Item.TheVariants as items
-use Rattle.pssm_model.specs.Forest.{HasKind, owner_of, IsScope, LiesInRegion, LiesInState}
+use Rattle.pssm_model.specs.Forest.{HasKind, IsStateOrFinal, owner_of, IsScope, LiesInRegion, LiesInState}
 use Rattle.pssm_model.specs.Legs.{Leaves, Enters, Goes, On, Scope, LiesInScope}
 use Rattle.pssm_model.specs.Legs.Scope.{Nowhere, Inside, Within}
 use Rattle.pssm_model.specs.Course.{Course, FiresBy, HasGoneBy, HasRun, HasRestored}
@@ -48,9 +48,11 @@ LiesInArea m p s = (area : Scope) × IsArea m p area × LiesInScope m s area
 abbrev pub EndsOn : DraftMachine → Route → VertexId → Type 0
 EndsOn m p v = (t : TransId) × On p t × Enters m t v × (HasKind m v kinds.Junction → ⊥)
 
--- The route leads to the State: it ends on it, or on a vertex in it, and the State lies in the area of the route.
+-- The route leads to the State or final state: it ends on it, or on a vertex in it that is no terminate vertex, and it lies in the area of the route.
 abbrev pub IsPassedBy : DraftMachine → Route → VertexId → Type 0
-IsPassedBy m p s = (v : VertexId) × EndsOn m p v × ((v ≡ s) ⊎ (LiesInArea m p s × LiesInState m v s))
+IsPassedBy m p s =
+    (v : VertexId) × EndsOn m p v
+    × (((v ≡ s) × IsStateOrFinal m v) ⊎ (LiesInArea m p s × LiesInState m v s × (HasKind m v kinds.Terminate → ⊥)))
 
 -- The route enters the State: it leads to it, and is not internal.
 abbrev pub IsEnteredBy : DraftMachine → Route → VertexId → Type 0
@@ -67,6 +69,10 @@ LeavesOwner m p r = (s : VertexId) × IsSource m p s × (owner_of m (Region r) �
 -- The route is local, and the region is one of the State that it leaves in which it does not end: it opens it.
 abbrev pub OpensBeside : DraftMachine → Route → RegionId → Type 0
 OpensBeside m p r = GoesAs m p Local × LeavesOwner m p r × (EndsIn m p r → ⊥)
+
+-- The route ends on the choice.
+abbrev pub EndsOnChoice : DraftMachine → Route → VertexId → Type 0
+EndsOnChoice m p c = EndsOn m p c × HasKind m c kinds.Choice
 
 -- The step goes by the route.
 abbrev pub GoesBy : Course → Route → Type 0
@@ -95,6 +101,10 @@ OpensAfterEntry m course s r =
 abbrev pub IsOpenedOver : DraftMachine → Course → Route → RegionId → Type 0
 IsOpenedOver m course p r = GoesBy course p × OpensBeside m p r
 
+-- The step goes by the route, which ends on the choice.
+abbrev pub IsPickedOver : DraftMachine → Course → Route → VertexId → Type 0
+IsPickedOver m course p c = GoesBy course p × EndsOnChoice m p c
+
 -- the items that such a step calls
 abbrev pub IsCalledOver : DraftMachine → Course → Item → Type 0
 IsCalledOver m course (items.Exit s) = (p : Route) × IsExitedOver m course p s
@@ -102,6 +112,7 @@ IsCalledOver m course (items.Effect t) = (p : Route) × GoesBy course p × On p 
 IsCalledOver m course (items.Enter s) = (p : Route) × IsEnteredOver m course p s
 IsCalledOver m course (items.Opened r Plain) =
     StartOpens m course.head (items.Opened r Plain) ⊎ ((s : VertexId) × OpensAfterEntry m course s r) ⊎ ((p : Route) × IsOpenedOver m course p r)
+IsCalledOver m course (items.Pick c) = (p : Route) × IsPickedOver m course p c
 IsCalledOver m course _ = ⊥
 
 -- and which of them come before which
@@ -111,7 +122,9 @@ IsOrderedOver m course (items.Exit s) (items.Effect t) = (p : Route) × IsExited
 IsOrderedOver m course (items.Effect t) (items.Effect u) = (p : Route) × GoesBy course p × PathBefore m p t u
 IsOrderedOver m course (items.Effect t) (items.Enter s) = (p : Route) × IsEnteredOver m course p s × On p t
 IsOrderedOver m course (items.Effect t) (items.Opened r Plain) = (p : Route) × IsOpenedOver m course p r × On p t
+IsOrderedOver m course (items.Effect t) (items.Pick c) = (p : Route) × IsPickedOver m course p c × On p t
 IsOrderedOver m course (items.Enter s) (items.Enter q) = LiesInState m q s
+IsOrderedOver m course (items.Enter s) (items.Pick c) = (p : Route) × IsPickedOver m course p c × IsEnteredBy m p s
 IsOrderedOver m course _ _ = ⊥
 
 -- Once the item has run in this way, the region opens: the item is the entry of its State, or a route by which it went enters a State
@@ -128,4 +141,5 @@ IsCalledNext m course item how (items.Enter s) = (p : Route) × (how ≡ By p) �
 IsCalledNext m course item how (items.Opened r Plain) =
     ((s : VertexId) × (p : Route) × (owner_of m (Region r) ≡ Some (State s)) × OpensNext m course item how s p × (EndsIn m p r → ⊥))
     ⊎ ((p : Route) × (how ≡ By p) × OpensBeside m p r)
+IsCalledNext m course item how (items.Pick c) = (p : Route) × (how ≡ By p) × EndsOnChoice m p c
 IsCalledNext m course item how _ = ⊥

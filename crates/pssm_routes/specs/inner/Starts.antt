@@ -1,5 +1,5 @@
 -- Which transitions an event starts, and the States that react to it.
-use Rattle.std.specs.Prelude.{◌≡◌, [], ◌∷◌}
+use Rattle.std.specs.Prelude.{◌≡◌, ◌<◌, List, [], ◌∷◌, length}
 use Rattle.pssm_model.specs.declared.ids.VertexId.{VertexId}
 use Rattle.pssm_model.specs.declared.ids.TransId.{TransId}
 use Rattle.pssm_model.specs.declared.elements.DraftMachine.{DraftMachine}
@@ -11,6 +11,8 @@ use Rattle.pssm_model.specs.Forest.{HasKind, LiesInState}
 use Rattle.pssm_model.specs.Configuration.{Configuration}
 use Rattle.pssm_model.specs.Legs.{Leaves}
 use Rattle.pssm_model.specs.Routes.{Truth, IsSource, IsEnabled, Lists, HasNoTrigger}
+use Rattle.pssm_routes.specs.declared.seeking.Search.{Search}
+use Rattle.pssm_routes.specs.inner.Ways.{EndsOnJunction}
 
 -- The signal triggers the transition, or it is the completion of the transition's source, which has no trigger.
 abbrev pub IsCausedBy : DraftMachine → Event → TransId → VertexId → Type 0
@@ -39,3 +41,7 @@ IsOutranked m now truth event s = (q : VertexId) × Reacts m now truth event q �
 -- The State reacts, and no State in it does.
 abbrev pub IsCandidate : DraftMachine → Configuration → Truth → Event → VertexId → Type 0
 IsCandidate m now truth event s = Reacts m now truth event s × (IsOutranked m now truth event s → ⊥)
+
+-- There is a search, where the event starts a transition that ends on a junction.
+abbrev pub HasSearch : DraftMachine → Configuration → Event → List Search → Type 0
+HasSearch m now event search = (t : TransId) (s : VertexId) → IsStarted m now event t s → EndsOnJunction m t → 0 < length search

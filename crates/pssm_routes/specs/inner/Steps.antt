@@ -27,10 +27,20 @@ IsSeen search v = slice_index_or search.seen v.0 false ≡ true
 abbrev pub SeesDeadEnds : DraftMachine → Truth → Option RegionId → Search → Type 0
 SeesDeadEnds m truth within search = (v : VertexId) (u : TransId) → IsSeen search v → Leaves m u v → LeadsOut m truth within u → ⊥
 
--- The search has found a way out from the start, which its steps tell.
-abbrev pub IsFound : DraftMachine → Truth → Option RegionId → Search → TransId → Step → Type 0
-IsFound m truth within search start last =
-    (path : List TransId) × IsTrail search.steps last path × IsWayOut m truth within start last.by path
+-- The search, if there is one, has seen only dead ends.
+abbrev pub KnowsDeadEnds : DraftMachine → Truth → Option RegionId → List Search → Type 0
+KnowsDeadEnds m truth within [] = Unit {0}
+KnowsDeadEnds m truth within (search ∷ more) = SeesDeadEnds m truth within search
+
+-- the steps of the search, if there is one
+abbrev pub steps_of : List Search → List Step
+steps_of [] = []
+steps_of (search ∷ more) = search.steps
+
+-- A way out from the start was found, which the steps tell.
+abbrev pub IsFound : DraftMachine → Truth → Option RegionId → List Step → TransId → Step → Type 0
+IsFound m truth within steps start last =
+    (path : List TransId) × IsTrail steps last path × IsWayOut m truth within start last.by path
 
 -- the route with this start that takes the other transitions of the path, in ascending number
 pub record IsRouteOver (start : TransId) (path : List TransId) (q : Route) : Type 0 where
@@ -38,9 +48,9 @@ pub record IsRouteOver (start : TransId) (path : List TransId) (q : Route) : Typ
   pub rest : (u : TransId) → Contains q.rest u ↔ (Contains path u × (u ≢ start))
   pub ascending : IsAscending q.rest
 
--- Each route over the path that the search has found is one of States with true guards and clashes with none of the footprints.
-abbrev pub IsJoiningStep : DraftMachine → Truth → List Footprint → Search → TransId → Step → Type 0
-IsJoiningStep m truth footprints search t last =
-    (path : List TransId) × IsTrail search.steps last path
+-- Each route over the path that the steps tell is one of States with true guards and clashes with none of the footprints.
+abbrev pub IsJoiningStep : DraftMachine → Truth → List Footprint → List Step → TransId → Step → Type 0
+IsJoiningStep m truth footprints steps t last =
+    (path : List TransId) × IsTrail steps last path
     × ((q : Route) → IsRouteOver t path q
     → IsStateRoute m q × ((u : TransId) → On q u → IsTrueAt m truth u) × ((b : Footprint) → IsFootprintOf m q b → ClashesWithSome m footprints b → ⊥))

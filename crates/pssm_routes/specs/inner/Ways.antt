@@ -14,6 +14,10 @@ abbrev pub IsAllowed : DraftMachine → Option RegionId → VertexId → Type 0
 IsAllowed m None v = Unit {0}
 IsAllowed m (Some r) v = LiesInRegion m v r
 
+-- The transition ends on a junction.
+abbrev pub EndsOnJunction : DraftMachine → TransId → Type 0
+EndsOnJunction m t = (v : VertexId) × Enters m t v × HasKind m v kinds.Junction
+
 -- The transition is true and ends where it may.
 pub record IsOpen (m : DraftMachine) (truth : Truth) (within : Option RegionId) (t : TransId) : Type 0 where
   pub guard : IsTrueAt m truth t

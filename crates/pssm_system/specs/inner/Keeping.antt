@@ -1,6 +1,7 @@
 -- What a system keeps true of its parts.
-use Rattle.std.specs.Prelude.{◌≡◌, ◌+◌, ◌≤◌, ◌<◌, List, length, map, flat_map, Some, slice_get}
+use Rattle.std.specs.Prelude.{◌≡◌, ◌+◌, ◌≤◌, ◌<◌, List, [], length, map, flat_map, Some, slice_get}
 use Rattle.std.specs.List.{AllByRecursion}
+use Rattle.std.specs.Option.{option_map_or}
 use Rattle.pssm_semantics.specs.declared.entry.ObjectId.{ObjectId}
 use Rattle.pssm_semantics.specs.declared.entry.Entry.{Entry}
 use Rattle.pssm_semantics.specs.declared.setting.Class.{Class}
@@ -58,9 +59,13 @@ pub record IsUnchanged (old new : Situation) : Type 0 where
   pub pools : new.pools.waiting ≡ old.pools.waiting
   pub told : new.told ≡ old.told
 
--- the ready tasks of the objects, in their order
-abbrev pub tasks_of : List Standing → List (ObjectId × Task)
-tasks_of objects = flat_map (λ x. map (λ task. (x.own, task)) (ready_tasks x)) objects
+-- the ready tasks of an object of the setting
+abbrev pub tasks_for : Setting → Standing → List Task
+tasks_for setting x = option_map_or (λ class. ready_tasks class.machine x) (class_of setting x.own) []
+
+-- those of the objects, in their order
+abbrev pub tasks_of : Setting → List Standing → List (ObjectId × Task)
+tasks_of setting objects = flat_map (λ x. map (λ task. (x.own, task)) (tasks_for setting x)) objects
 
 -- a setting that the code runs, a journal of an admissible run of it within the limits, and what is kept of the journal
 pub record KeepsRun (setting : Setting) (J : List Entry) (s : Situation) : Type 0 where

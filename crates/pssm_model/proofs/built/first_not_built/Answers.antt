@@ -1,13 +1,16 @@
--- the first element is that of the first class that has one
-use Rattle.pssm_model.proofs.NotBuiltFirst.{vertex_first, transition_first, all_built}
+-- the vertex is the first one that the code does not run, or there is none
+use Rattle.std.proofs.Common.{arith}
+use Rattle.pssm_model.proofs.NotBuiltFirst.{first_here, all_built}
 use Rattle.pssm_model.proofs.built.first_not_built.Goals as goal
 
-pub returns-in-Some-clause-first : goal.returns-in-Some-clause-first
-returns-in-Some-clause-first c = vertex_first c.args.machine.now c.in-Some.number c.in-Some.ensures.first
-
-pub returns-in-Some-first_transition-clause-first : goal.returns-in-Some-first_transition-clause-first
-returns-in-Some-first_transition-clause-first c =
-    transition_first c.args.machine.now c.in_default.ensures.none c.in-Some-first_transition.number c.in-Some-first_transition.ensures.first
+pub returns-then-is_further_vertex-clause-first : goal.returns-then-is_further_vertex-clause-first
+returns-then-is_further_vertex-clause-first c =
+    first_here c.args.machine.now (record { 0 = c.loop-number.number }) c.vertex.result.now c.vertex.ensures
+    (c.is_further_vertex.ensures.0 c.if-is_further_vertex.true) c.loop-number.invariant
 
 pub returns-clause-none : goal.returns-clause-none
-returns-clause-none c = all_built c.args.machine.now c.in_default.ensures.none c.in_default-first_transition.ensures.none
+returns-clause-none c =
+    let last = c.loop-number-test.false in
+    let upto = c.loop-number.auto.number-end in
+    let is = c.vertices-number-end.ensures in
+    all_built c.args.machine.now c.loop-number.number (omega arith) c.loop-number.invariant

@@ -1,5 +1,5 @@
 -- each route of such a machine is one leg
-use Rattle.pssm_object.proofs.Fired.{single_legs}
+use Rattle.pssm_object.proofs.BuiltMachines.{single_legs}
 use Rattle.pssm_object.proofs.firing.pick_firing.Goals as goal
 
 pub pick_firing_set-requires-clause-legs : goal.pick_firing_set-requires-clause-legs

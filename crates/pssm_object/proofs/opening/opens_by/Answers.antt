@@ -4,5 +4,5 @@ use Rattle.pssm_object.proofs.opening.opens_by.Goals as goal
 
 pub returns-in-Nothing : goal.returns-in-Nothing
 returns-in-Nothing c =
-    opens_by_none c.args.machine.now c.args.r c.args.how.now c.initials_of.result.now c.is_empty.result c.in-Nothing.is
+    opens_by_none c.args.class.now c.args.store.now c.args.params.now c.args.r c.args.how.now c.initials_of.result.now c.is_empty.result c.in-Nothing.is
     c.initials_of.ensures.items c.is_empty.ensures

@@ -1,3 +1,4 @@
+use Rattle.pssm_routes.specs.inner.Steps.{steps_of}
 use Rattle.pssm_routes.proofs.JoiningSteps.{none_joins_shut, some_joins, none_joins}
 use Rattle.pssm_routes.proofs.joining.find_joiner.Goals as goal
 
@@ -7,10 +8,10 @@ returns-in-Shut-clause-none g c = λ values tells.
 
 pub returns-in-Open-clause-some : goal.returns-in-Open-clause-some
 returns-in-Open-clause-some g c = λ values tells.
-    some_joins c.requires.legs c.regions-shaped.ensures.shaped values _ _ c.in-Open.within c.in-Open.ensures.room c.find_way.new.search c.find_way.result
+    some_joins c.requires.legs c.regions-shaped.ensures.shaped values _ _ c.in-Open.within c.in-Open.ensures.room (steps_of c.find_way.new.search) c.find_way.result
     c.requires.there c.requires.source (c.find_way.ensures.found values tells)
 
 pub returns-in-Open-clause-none : goal.returns-in-Open-clause-none
 returns-in-Open-clause-none g c = λ values tells.
     none_joins c.requires.legs c.regions-shaped.ensures.shaped values _ _ c.in-Open.within c.in-Open.ensures.room c.find_way.result
-    (c.find_way.ensures.none values tells (c.new.ensures.nothing c.args.machine.now values c.in-Open.within))
+    (c.find_way.ensures.none values tells (c.requires.nothing values c.in-Open.within))

@@ -1,15 +1,11 @@
--- at first none goes on
-use Rattle.std.proofs.Common.{None}
-use Rattle.pssm_routes.proofs.ListPlaces.{replicated}
-use Rattle.pssm_routes.proofs.Made.{stray_makes_none}
+-- a start alone ends on no junction
+use Rattle.std.proofs.Common.{length, sym, ◌∙◌, eqb-true}
+use Rattle.std.proofs.lemmas.List.{nil_from_length}
+use Rattle.pssm_routes.proofs.Made.{alone}
 use Rattle.pssm_routes.proofs.route.makes_route.Goals as goal
 
-pub put_onward-requires-clause-none : goal.put_onward-requires-clause-none
-put_onward-requires-clause-none c v = replicated 4096 v.0 None
-
-pub returns-then-not-put_onward : goal.returns-then-not-put_onward
-returns-then-not-put_onward c = (
-  λ wrong. absurd (cc),
-  λ route. absurd (stray_makes_none c.requires.legs c.args.start c.args.rest.now c.regions-shaped.ensures.shaped
-      (c.put_onward.ensures.stray c.if-not-put_onward.true) route),
-)
+pub returns-then-is_empty : goal.returns-then-is_empty
+returns-then-is_empty c =
+    alone c.requires.legs c.args.start c.requires.source c.args.rest.now c.ends_on_junction.result
+    (nil_from_length c.args.rest.now (eqb-true (length c.args.rest.now) 0 (sym c.is_empty.ensures ∙ c.if-is_empty.true)))
+    c.requires.start c.ends_on_junction.ensures

@@ -11,9 +11,9 @@ loop-preserved c =
     let now = c.if-ne.found.items in
     let next = c.step_before-next.result in
     elim c.if-ne.branch [
-      | then-ne+in_ok-push w ↦ traced_other a.search.now.steps a.start a.last was now c.loop.next next step c.loop.counter c.ne.result c.ne.ensures w.if-ne.true
+      | then-ne+in_ok-push w ↦ traced_other a.steps.now a.start a.last was now c.loop.next next step c.loop.counter c.ne.result c.ne.ensures w.if-ne.true
           (ap (λ v. v.items) w.found-is ∙ w.in_ok-push.ensures.items) c.in-Some.is c.step_before-next.ensures c.loop.invariant
-      | else-ne w ↦ traced_skip a.search.now.steps a.start a.last was now c.loop.next next step c.loop.counter c.ne.result c.ne.ensures w.if-ne.false
+      | else-ne w ↦ traced_skip a.steps.now a.start a.last was now c.loop.next next step c.loop.counter c.ne.result c.ne.ensures w.if-ne.false
           (ap (λ v. v.items) w.found-is) c.in-Some.is c.step_before-next.ensures c.loop.invariant
     ]
 
@@ -23,9 +23,8 @@ returns c =
     let found = c.loop.found.items in
     elim c.loop-test.branch [
       | else-loop-test w ↦ (
-          let long : length a.search.now.steps ≡ 4096 = omega arith in
-          let all : c.loop.counter ≡ length a.search.now.steps + 1 = omega (arith, long, w.loop-test.false, c.loop.auto.counter-end) in
-          traced_all a.search.now.steps a.start a.last found c.loop.next c.loop.counter all c.loop.invariant
+          let all : c.loop.counter ≡ length a.steps.now + 1 = omega (arith, c.requires, w.loop-test.false, c.loop.auto.counter-end) in
+          traced_all a.steps.now a.start a.last found c.loop.next c.loop.counter all c.loop.invariant
           )
-      | then-loop-test+in_default w ↦ traced_none a.search.now.steps a.start a.last found c.loop.next c.loop.counter w.in_default.is c.loop.invariant
+      | then-loop-test+in_default w ↦ traced_none a.steps.now a.start a.last found c.loop.next c.loop.counter w.in_default.is c.loop.invariant
     ]

@@ -1,19 +1,13 @@
--- the object is quiet exactly where it rests and no signal waits
-use Rattle.std.proofs.Common.{◌&&◌, Bool, MatchBool, not, subst}
-use Rattle.pssm_object.specs.Following.{IsQuiet, HasNext}
-use Rattle.pssm_object.proofs.Views.{quiet_seen, not_quiet}
+-- the object is quiet exactly where nothing may come next
+use Rattle.pssm_object.proofs.Views.{config_fits, plan_known, quiet_seen}
 use Rattle.pssm_object.proofs.object.Object.quiet.Goals as goal
 
-pub returns-then-is_at_rest : goal.returns-then-is_at_rest
-returns-then-is_at_rest c = λ J signal s handed.
-    subst (λ (b : Bool). MatchBool (b && not c.args.waiting) (IsQuiet c.args.class.now c.args.self.now signal J) (HasNext c.args.class.now c.args.self.now signal J))
-    c.if-is_at_rest.true
-    (quiet_seen c.self.inside.situation c.args.self.now c.self.view_is c.args.class.now c.requires.class signal J s c.is_at_rest.result c.args.waiting
-    c.is_at_rest.ensures handed)
+pub returns : goal.returns
+returns c =
+    λ J signal s handed. quiet_seen c.self.inside.situation c.args.self.now c.self.view_is c.args.class.now c.requires.class signal J s c.is_quiet.result c.args.waiting c.is_quiet.ensures handed
 
-pub returns-else-is_at_rest : goal.returns-else-is_at_rest
-returns-else-is_at_rest c = λ J signal s handed.
-    not_quiet c.is_at_rest.result c.args.waiting (IsQuiet c.args.class.now c.args.self.now signal J) (HasNext c.args.class.now c.args.self.now signal J)
-    c.if-is_at_rest.false
-    (quiet_seen c.self.inside.situation c.args.self.now c.self.view_is c.args.class.now c.requires.class signal J s c.is_at_rest.result c.args.waiting
-    c.is_at_rest.ensures handed)
+pub is_quiet-requires-clause-fits : goal.is_quiet-requires-clause-fits
+is_quiet-requires-clause-fits c = config_fits c.self.inside.situation c.args.self.now c.self.view_is c.args.class.now c.requires.stands
+
+pub is_quiet-requires-clause-plan : goal.is_quiet-requires-clause-plan
+is_quiet-requires-clause-plan c = plan_known c.self.inside.situation c.args.self.now c.self.view_is c.args.class.now c.requires.stands

@@ -1,9 +1,12 @@
--- the tasks of the plan are the ready ones of the object
-use Rattle.pssm_object.proofs.TaskLists.{lists_tasks}
+-- the tasks are the ready ones of the object
+use Rattle.pssm_object.proofs.Views.{config_fits, few_seen, tasks_seen}
 use Rattle.pssm_object.proofs.object.Object.task_count.Goals as goal
 
-pub returns-in-Some-clause-listed : goal.returns-in-Some-clause-listed
-returns-in-Some-clause-listed c = λ J s. lists_tasks c.args.class.now c.requires.class s
+pub returns-clause-listed : goal.returns-clause-listed
+returns-clause-listed c = tasks_seen c.self.inside.situation c.args.self.now c.self.view_is c.args.class.now c.requires.class
 
-pub returns-in-None-clause-listed : goal.returns-in-None-clause-listed
-returns-in-None-clause-listed c = λ J s. lists_tasks c.args.class.now c.requires.class s
+pub count_tasks-requires-clause-fits : goal.count_tasks-requires-clause-fits
+count_tasks-requires-clause-fits c = config_fits c.self.inside.situation c.args.self.now c.self.view_is c.args.class.now c.requires.stands
+
+pub count_tasks-requires-clause-few : goal.count_tasks-requires-clause-few
+count_tasks-requires-clause-few c = few_seen c.self.inside.situation c.args.self.now c.self.view_is c.args.class.now c.requires.class c.requires.stands

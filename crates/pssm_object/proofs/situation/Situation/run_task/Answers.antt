@@ -1,30 +1,28 @@
--- a ready task has its place in the machine, and is no do step
+-- a ready task has its place in the machine
 use Rattle.std.proofs.Common.{Contains, subst}
 use Rattle.pssm_semantics.specs.declared.stimulus.Task.{Task}
 use Rattle.pssm_semantics.specs.declared.stimulus.Task.TheVariants as tasks
-use Rattle.pssm_object.specs.Tasks.{tasks_of_plan}
-use Rattle.pssm_object.proofs.TaskLists.{item_for, task_place, no_do_task}
+use Rattle.pssm_object.specs.Tasks.{ready_tasks}
+use Rattle.pssm_object.specs.inner.Situations.{standing_of}
+use Rattle.pssm_object.proofs.TaskLists.{ready_place}
 use Rattle.pssm_object.proofs.situation.Situation.run_task.Goals as goal
 
 pub outputs-requires-clause-place : goal.outputs-requires-clause-place
-unfolding item_for
 outputs-requires-clause-place c =
-    task_place c.requires.class.machine c.args.self.now.plan c.requires.plan (tasks.Exit c.in-Exit.state)
-    (subst (λ (t : Task). Contains (tasks_of_plan c.args.self.now.plan) t) c.in-Exit.is c.requires.ready)
+    ready_place c.requires.class.machine (standing_of c.args.self.now) c.requires.plan c.requires.fits (tasks.Exit c.in-Exit.state)
+    (subst (λ (t : Task). Contains (ready_tasks c.args.class.now.machine (standing_of c.args.self.now)) t) c.in-Exit.is c.requires.ready)
 
 pub outputs-requires-in-Effect-clause-place : goal.outputs-requires-in-Effect-clause-place
-unfolding item_for
 outputs-requires-in-Effect-clause-place c =
-    task_place c.requires.class.machine c.args.self.now.plan c.requires.plan (tasks.Effect c.in-Effect.transition)
-    (subst (λ (t : Task). Contains (tasks_of_plan c.args.self.now.plan) t) c.in-Effect.is c.requires.ready)
+    ready_place c.requires.class.machine (standing_of c.args.self.now) c.requires.plan c.requires.fits (tasks.Effect c.in-Effect.transition)
+    (subst (λ (t : Task). Contains (ready_tasks c.args.class.now.machine (standing_of c.args.self.now)) t) c.in-Effect.is c.requires.ready)
 
 pub outputs-requires-in-Enter-clause-place : goal.outputs-requires-in-Enter-clause-place
-unfolding item_for
 outputs-requires-in-Enter-clause-place c =
-    task_place c.requires.class.machine c.args.self.now.plan c.requires.plan (tasks.Enter c.in-Enter.state)
-    (subst (λ (t : Task). Contains (tasks_of_plan c.args.self.now.plan) t) c.in-Enter.is c.requires.ready)
+    ready_place c.requires.class.machine (standing_of c.args.self.now) c.requires.plan c.requires.fits (tasks.Enter c.in-Enter.state)
+    (subst (λ (t : Task). Contains (ready_tasks c.args.class.now.machine (standing_of c.args.self.now)) t) c.in-Enter.is c.requires.ready)
 
-pub unreachable-requires : goal.unreachable-requires
-unreachable-requires c =
-    no_do_task c.requires.class.machine c.args.self.now.plan c.requires.plan _ _
-    (subst (λ (t : Task). Contains (tasks_of_plan c.args.self.now.plan) t) c.in-DoStep.is c.requires.ready)
+pub step_outputs-requires-clause-vertex : goal.step_outputs-requires-clause-vertex
+step_outputs-requires-clause-vertex c =
+    ready_place c.requires.class.machine (standing_of c.args.self.now) c.requires.plan c.requires.fits (tasks.DoStep c.in-DoStep.state c.in-DoStep.step)
+    (subst (λ (t : Task). Contains (ready_tasks c.args.class.now.machine (standing_of c.args.self.now)) t) c.in-DoStep.is c.requires.ready)

@@ -1,10 +1,10 @@
 -- a take begins a plan, and brings the parameters
-use Rattle.std.proofs.Common.{◌≡◌, IsSomeAnd, refl}
+use Rattle.std.proofs.Common.{IsSomeAnd, refl}
 use Rattle.std.specs.Option.{option_copied}
 use Rattle.pssm_semantics.specs.Values.{eight_of}
 use Rattle.pssm_object.specs.Standing.{Standing}
 use Rattle.pssm_object.specs.inner.Situations.{standing_of}
-use Rattle.pssm_object.proofs.Going.{takes}
+use Rattle.pssm_object.specs.inner.Advancing.{FiresOn}
 use Rattle.pssm_object.proofs.situation.Situation.take.Goals as goal
 
 pub returns-clause-ok : goal.returns-clause-ok
@@ -17,7 +17,10 @@ returns-clause-ok c =
       plan = c.fire.new.plan;
       store = old.store;
       params = c.renew_params.new.params;
+      queue = old.queue;
+      ended = old.ended;
     } in
-    let params : IsSomeAnd (option_copied c.args.signal) (λ w. c.renew_params.new.params ≡ eight_of w.args) = rw c.in-Some.is c.renew_params.ensures in
-    takes c.args.machine.now old new c.args.firing.now (option_copied c.args.signal) fired.0.now refl fired.0.now_is refl refl fired.0.head_is fired.1
-    fired.0.ran fired.0.is_plan params
+    let fires : IsSomeAnd (option_copied c.args.signal) (λ w. FiresOn c.args.machine.now old c.args.firing.now.routes (eight_of w.args) new) =
+    rw c.in-Some.is
+    (record { own = refl; plan = fired.0; at_head = fired.1; config = refl; store = refl; params_is = c.renew_params.ensures; ended = refl }) in
+    record { fires = fires; queue = refl }

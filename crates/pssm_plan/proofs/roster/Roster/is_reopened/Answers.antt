@@ -1,5 +1,5 @@
-use Rattle.std.proofs.Common.{◌≡◌, Some, ap, ◌∙◌, false, subst, List, IsTrue, ◌↔◌}
-use Rattle.pssm_model.specs.declared.elements.Owner.TheVariants.{Region, State, Top}
+use Rattle.std.proofs.Common.{◌≡◌, Some, subst, List, IsTrue, ◌↔◌}
+use Rattle.pssm_model.specs.declared.elements.Owner.TheVariants.{Region, State}
 use Rattle.pssm_model.specs.declared.steps.Item.TheVariants.{Enter}
 use Rattle.pssm_model.specs.Forest.{owner_of}
 use Rattle.pssm_plan.specs.declared.roster.Call.{Call}

@@ -12,7 +12,7 @@ loop-number-preserved c =
     let way = c.args.way.now in
     let Holds : ℕ → Type 0 = (λ k. calls_by m way (entry_of k)) in
     grown_by_next m c.args.self.now.calls.items entry_of Holds c.loop-number.number _ _ _
-    c.way_calls-wanted.ensures c.loop-number.invariant c.add.ensures.calls c.in_ok-add.ensures.added
+    c.calls_entry-wanted.ensures c.loop-number.invariant c.add.ensures.calls c.in_ok-add.ensures.added
 
 pub returns-clause-added : goal.returns-clause-added
 returns-clause-added c =

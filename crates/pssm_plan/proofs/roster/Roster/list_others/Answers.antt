@@ -1,7 +1,5 @@
-use Rattle.std.proofs.Common.{◌⊎◌}
 use Rattle.std.proofs.lemmas.Result.{on_ok_weaker}
 use Rattle.pssm_model.specs.declared.steps.Mode.TheVariants.{Plain, Shallow, Deep}
-use Rattle.pssm_model.specs.declared.steps.Item.{Item}
 use Rattle.pssm_plan.specs.inner.Calling.{IsEffectBy, IsEntryBy, IsOpeningBy, IsPickBy, IsOtherBy}
 use Rattle.pssm_plan.proofs.Extending.{extended_same, extended_further}
 use Rattle.pssm_plan.proofs.AddedCalls.{OneOfOthers, others_are}

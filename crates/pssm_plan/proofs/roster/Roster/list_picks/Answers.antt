@@ -1,25 +1,19 @@
-use Rattle.std.proofs.Common.{◌≤◌, ℕ, length, arith}
-use Rattle.pssm_plan.specs.Ways.{calls_by}
+-- what it picks is its last vertex
+use Rattle.std.proofs.Common.{◌≡◌, IsTrue}
+use Rattle.std.proofs.lemmas.Result.{on_ok_weaker}
+use Rattle.pssm_model.specs.declared.steps.Item.{Item}
+use Rattle.pssm_model.specs.declared.steps.Item.TheVariants.{Pick}
 use Rattle.pssm_plan.specs.inner.Calling.{IsPickBy}
 use Rattle.pssm_plan.proofs.Extending.{extended_same}
-use Rattle.pssm_plan.proofs.Growing.{grown_by_next}
-use Rattle.pssm_plan.proofs.AddedCalls.{CalledBelow, pick_of, picks_all}
+use Rattle.pssm_plan.proofs.NearItems.{picked_last}
 use Rattle.pssm_plan.proofs.roster.Roster.list_picks.Goals as goal
-
-pub loop-number-preserved : goal.loop-number-preserved
-loop-number-preserved c =
-    let m = c.args.machine.now in
-    let way = c.args.way.now in
-    let Holds : ℕ → Type 0 = (λ k. calls_by m way (pick_of k)) in
-    grown_by_next m c.args.self.now.calls.items pick_of Holds c.loop-number.number _ _ _
-    c.way_calls-wanted.ensures c.loop-number.invariant c.add.ensures.calls c.in_ok-add.ensures.added
 
 pub returns-clause-added : goal.returns-clause-added
 returns-clause-added c =
     let m = c.args.machine.now in
     let way = c.args.way.now in
-    let all : length m.vertices ≤ c.loop-number.number = let past = c.loop-number-test.false in omega (arith, past) in
-    extended_same m _ _ (CalledBelow m way pick_of c.loop-number.number)
-    (IsPickBy m way)
-    (λ x. picks_all m way c.loop-number.number x all)
-    c.loop-number.invariant.extended
+    let wanted = c.way_calls-wanted.result in
+    on_ok_weaker c.add.result
+    (λ added. extended_same m _ _ (λ (x : Item). IsTrue wanted × (x ≡ Pick way.legs.last)) (IsPickBy m way)
+    (λ x. picked_last c.requires.single c.regions-shaped.ensures.shaped way c.requires.way x wanted c.way_calls-wanted.ensures) added)
+    c.add.ensures.added

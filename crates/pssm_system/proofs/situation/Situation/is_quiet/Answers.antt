@@ -4,17 +4,16 @@ use Rattle.pssm_semantics.specs.declared.entry.ObjectId.{ObjectId}
 use Rattle.pssm_object.specs.Following as objects
 use Rattle.pssm_system.specs.declared.choosing.Wanted.TheVariants.{AnyEntry}
 use Rattle.std.specs.Option.{option_copied}
-use Rattle.pssm_system.proofs.Members.{member}
+use Rattle.pssm_system.proofs.Members.{member, stands_somewhere}
 use Rattle.pssm_system.proofs.Choices.{none-both}
 use Rattle.pssm_system.proofs.Found.{copied_some, quiet_here, busy_here, all_quiet}
 use Rattle.pssm_system.proofs.situation.Situation.is_quiet.Goals as goal
 
 pub quiet-requires : goal.quiet-requires
-quiet-requires c = record {
-  class =
-      (member c.requires.built c.requires.stands.1.objects (record { 0 = c.loop-k.k }) c.class_of.result.now c.index-object.result.now c.from.result
-      c.class_of.ensures c.from.ensures c.index-object.ensures).built;
-}
+quiet-requires c =
+    let m = member c.requires.built c.requires.stands.1.objects (record { 0 = c.loop-k.k }) c.class_of.result.now c.index-object.result.now c.from.result
+    c.class_of.ensures c.from.ensures c.index-object.ensures in
+    record { class = m.built; stands = stands_somewhere m }
 
 pub returns-then-not-quiet : goal.returns-then-not-quiet
 returns-then-not-quiet c =

@@ -4,4 +4,4 @@ use Rattle.pssm_system.specs.inner.Keeping.{tasks_of}
 use Rattle.pssm_system.proofs.situation.Situation.task_at.Given as goal
 
 abbrev pub invariant-loop-k : goal.invariant-loop-k
-invariant-loop-k l = length (tasks_of (take l.k l.self.objects.items)) + l.rest ≡ l.fn.i
+invariant-loop-k l = length (tasks_of l.setting (take l.k l.self.objects.items)) + l.rest ≡ l.fn.i
