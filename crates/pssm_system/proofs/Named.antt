@@ -22,12 +22,10 @@ use Rattle.pssm_model.specs.Configuration.{Configuration, IsNextDoStep}
 use Rattle.pssm_model.specs.FiringSets.{IsFiring}
 use Rattle.pssm_model.specs.Forest.{vertex_at, transition_at}
 use Rattle.pssm_model.specs.Legs.{Leaves}
-use Rattle.pssm_model.specs.Order.{course_by}
 use Rattle.pssm_model.specs.Routes.{Truth}
 use Rattle.pssm_model.specs.Shapes.{HasShape}
 use Rattle.pssm_model.specs.Ways.{Memory, IsWay}
 use Rattle.pssm_model.proofs.ElementLaws.{mapped_some}
-use Rattle.pssm_config.specs.Tables.{configuration_of}
 use Rattle.pssm_plan.specs.Agenda.{Agenda}
 use Rattle.pssm_plan.proofs.RouteItems.{called_is}
 use Rattle.pssm_plan.proofs.RouteSteps.{gone_by_routes}
@@ -43,7 +41,7 @@ use Rattle.pssm_semantics.specs.Known.{IsFiringOf, IsRouteOf, IsVertexOf, IsWayO
 use Rattle.pssm_semantics.specs.Rules.{IsCalledItem}
 use Rattle.pssm_semantics.specs.Built.{IsBuiltClass}
 use Rattle.pssm_pool.specs.declared.pools.Waiting.{Waiting}
-use Rattle.pssm_object.specs.Standing.{Standing, IsUnderWay, IsStepOf, StandsAfter}
+use Rattle.pssm_object.specs.Standing.{Standing, IsStepOf, StandsAfter}
 use Rattle.pssm_object.specs.Following.{NamesPlaces, KeepsRules, IsCandidate, stimulus_of}
 use Rattle.pssm_object.proofs.BuiltMachines.{nested}
 use Rattle.pssm_object.proofs.Rules.{no_step}
@@ -86,10 +84,10 @@ module _ (class : Class) (b : IsBuiltClass class) {J : List Entry} {x : Standing
   waits_in : (plan : Option Agenda) → IsStepOf m J x.own plan → (item : Item) → IsCalledItem m J x.own item → IsThere m item
   waits_in None step item called = absurd (no_step J x.own step.posts called.step called.last)
   waits_in (Some p) step item called =
-      let u : IsUnderWay m J x.own p.head (configuration_of p.at_head) p.ran = step.1 in
-      called_there b.machine.shape (nested b.machine) p.head (configuration_of p.at_head) p.ran u.gone item
-      (called_is (nested b.machine) b.machine.shape (course_by p.head (configuration_of p.at_head) p.ran)
-      (gone_by_routes (nested b.machine) b.machine.shape p.head (configuration_of p.at_head) p.ran u.gone) item (called_item_waits u item called).called)
+      let u = step.1 in
+      called_there b.machine.shape (nested b.machine) p.head _ p.ran u.gone item
+      (called_is (nested b.machine) b.machine.shape _
+      (gone_by_routes (nested b.machine) b.machine.shape p.head _ p.ran u.gone) item (called_item_waits u item called).called)
 
   waits_there : (o : ObjectId) (item : Item) → o ≡ x.own → IsCalledItem m J o item → IsThere m item
   waits_there o item own called = waits_in x.plan s.step_is item (subst (λ q. IsCalledItem m J q item) own called)
