@@ -24,7 +24,7 @@ task_of (items.Effect t) = Some (tasks.Effect t)
 task_of (items.Enter s) = Some (tasks.Enter s)
 task_of _ = None
 
--- those of the ready items of a plan, in the order in which they were called
+-- those of the ready items of a plan, in the order of the plan's list
 -- (UML 2.5.1 14.2.3.9, transition execution sequence)
 abbrev pub tasks_of_plan : Option Agenda → List Task
 tasks_of_plan None = []

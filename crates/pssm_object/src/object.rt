@@ -158,8 +158,8 @@ impl Object {
         self.situation.count_tasks(&class.machine)
     }
 
-    /// The ready task with a number: the exits, effects and entries in the order in which they were called, and then the
-    /// do steps.
+    /// The ready task with a number: the exits, effects and entries in the order of the plan's list, and then the do
+    /// steps.
     pub fn task_at(&self, class: &Class, i: u32) -> Task
         requires stands { Stands class.now self.now }
         requires there { i < length (ready_tasks class.now.machine self.now) }
