@@ -47,11 +47,12 @@ routes_start (r ∷ rs) all = (route_starts r all.0, routes_start rs all.1)
 firing_starts : (firing : Firing) → IsBuiltFiring firing → HaveStarts firing
 firing_starts firing built = routes_start firing.routes built.0
 
--- an opening by no way, or by a route that has a start
+-- an opening by no way, by a route that has a start, or by a vertex
 module _ (o : ObjectId) (region : RegionId) (mode : Mode) where
   opening_starts : (how : How) → IsBuiltWay how → IsSpelledEntry (Opened o region mode how)
   opening_starts how (inl none) = subst (λ (h : How). IsSpelledEntry (Opened o region mode h)) (sym none) tt
-  opening_starts how (inr one) =
+  opening_starts how (inr (inr back)) = subst (λ (h : How). IsSpelledEntry (Opened o region mode h)) (sym back.1) tt
+  opening_starts how (inr (inl one)) =
       subst (λ (h : How). IsSpelledEntry (Opened o region mode h)) (sym one.1) (route_starts one.0 one.2.0)
 
 -- the entries of their runs
@@ -63,6 +64,6 @@ built_is_spelled (Done o state firing) is = firing_starts firing is.form
 built_is_spelled (Exit o state xs) is = is.form
 built_is_spelled (Effect o t xs) is = is.form
 built_is_spelled (Enter o state xs) is = is.form
-built_is_spelled (Opened o region mode how) is = opening_starts o region mode how is.form.1
+built_is_spelled (Opened o region mode how) is = opening_starts o region mode how is.form
 built_is_spelled (Pick o choice route) is = route_starts route is.form.0
 built_is_spelled (DoStep o state step xs) is = is.form

@@ -13,7 +13,8 @@ use Rattle.std.proofs.lemmas.Option.{same_Some}
 use Rattle.pssm_model.specs.declared.ids.TransId.{TransId}
 use Rattle.pssm_model.specs.declared.steps.Route.{Route}
 use Rattle.pssm_model.specs.declared.steps.Firing.{Firing}
-use Rattle.pssm_model.specs.declared.steps.Mode.TheVariants.{Plain}
+use Rattle.pssm_model.specs.declared.steps.Mode.{Mode}
+use Rattle.pssm_model.specs.declared.steps.Mode.TheVariants.{Plain, Shallow, Deep}
 use Rattle.pssm_model.specs.declared.steps.How.{How}
 use Rattle.pssm_model.specs.Legs.{transitions_of}
 use Rattle.pssm_semantics.specs.declared.entry.ObjectId.{ObjectId}
@@ -26,7 +27,7 @@ use Rattle.pssm_semantics.specs.declared.line.LineOut.TheVariants.{Mark, Send}
 use Rattle.pssm_semantics.specs.declared.setting.Setting.{Setting}
 use Rattle.pssm_semantics.specs.Built.{IsBuiltRoute, IsBuiltFiring, IsShortRoute, IsBuiltWay, HasBuiltForm, IsBuiltEntry}
 use Rattle.pssm_spelling.specs.Spelling.{IsName}
-use Rattle.pssm_lines.specs.LineText.{line_text, firing_text, transition_text, route_text, routes_text, how_text, args_text, call_text, out_text, outs_text}
+use Rattle.pssm_lines.specs.LineText.{line_text, firing_text, transition_text, route_text, routes_text, mode_text, how_text, args_text, call_text, out_text, outs_text}
 use Rattle.pssm_lines.specs.Grammar.{IsLine, AreArgs, IsSpelledOut, AreSpelledOuts}
 use Rattle.pssm_lines.specs.Faults.{IsJournalLine}
 use Rattle.pssm_journal.specs.Entries.{object_named, object_name, entry_at, entry_named, IsEntryOf}
@@ -51,8 +52,11 @@ short_number : (n : ℕ) → n < 4294967296 → IsShort 10 (decimal n)
 short_number n small = record { few = length-decimal-le 10 n (omega arith) (omega arith) (omega arith) }
 
 -- a word of the grammar
+short_within : (most : ℕ) (word : List ℕ) → leb (length word) most ≡ true → IsShort most word
+short_within most word few = record { few = leb-true (length word) most few }
+
 short_word : (word : List ℕ) → leb (length word) 16 ≡ true → IsShort 16 word
-short_word word few = record { few = leb-true (length word) 16 few }
+short_word word few = short_within 16 word few
 
 -- ---- lists
 
@@ -125,13 +129,31 @@ short_firing firing built = short_routes firing.routes built.0 built.1
 short_only : (route : Route) → IsShortRoute route → IsShort 49152 (route_text route)
 short_only route is = let each = short_route route is.0 in let few = is.1 in record { few = omega (arith, each, few) }
 
--- no way, or a route by itself
+-- no way, a route by itself, or a vertex
 short_way : (how : How) → IsBuiltWay how → IsShort 49168 (how_text how)
 short_way how (inl none) =
     subst (λ h. IsShort 49168 (how_text h)) (sym none) (short_more 16 49168 (codes "none") (omega arith) (short_word (codes "none") refl))
-short_way how (inr one) =
+short_way how (inr (inr back)) =
+    let number = short_number back.0.0 (let small = back.2 in omega (arith, small)) in
+    subst (λ h. IsShort 49168 (how_text h)) (sym back.1)
+    (short_more 26 49168 (codes "state v" ++ decimal back.0.0) (omega arith)
+    (short_append 16 10 (codes "state v") (decimal back.0.0) (short_word (codes "state v") refl) number))
+short_way how (inr (inl one)) =
     subst (λ h. IsShort 49168 (how_text h)) (sym one.1)
     (short_append 16 49152 (codes "by ") (route_text one.0) (short_word (codes "by ") refl) (short_only one.0 one.2))
+
+-- a mode, and a way behind it
+short_mode : (mode : Mode) → IsShort 8 (mode_text mode)
+short_mode Plain = short_within 8 (codes "default") refl
+short_mode Shallow = short_within 8 (codes "shallow") refl
+short_mode Deep = short_within 8 (codes "deep") refl
+
+short_opening : (mode : Mode) (how : How) → IsBuiltWay how → IsShort 49194 (codes " " ++ (mode_text mode ++ (codes " " ++ how_text how)))
+short_opening mode how built =
+    short_more 49178 49194 (codes " " ++ (mode_text mode ++ (codes " " ++ how_text how))) (omega arith)
+    (short_append 1 49177 (codes " ") (mode_text mode ++ (codes " " ++ how_text how)) (short_within 1 (codes " ") refl)
+    (short_append 8 49169 (mode_text mode) (codes " " ++ how_text how) (short_mode mode)
+    (short_append 1 49168 (codes " ") (how_text how) (short_within 1 (codes " ") refl) (short_way how built))))
 
 -- ---- arguments and outputs
 
@@ -206,7 +228,7 @@ IsBuiltLine (Done object state firing) = IsBuiltFiring firing
 IsBuiltLine (Exit object state outs) = Unit {0}
 IsBuiltLine (Effect object transition outs) = Unit {0}
 IsBuiltLine (Enter object state outs) = Unit {0}
-IsBuiltLine (Opened object region mode how) = (mode ≡ Plain) × IsBuiltWay how
+IsBuiltLine (Opened object region mode how) = IsBuiltWay how
 IsBuiltLine (Pick object choice route) = IsShortRoute route
 IsBuiltLine (DoStep object state step outs) = Unit {0}
 
@@ -228,10 +250,8 @@ short_line (Exit object state outs) h = short_outputs (codes "exit ") (codes " v
 short_line (Effect object t outs) h = short_outputs (codes "effect ") (codes " t") object t.0 refl refl h.1.0 h.1.1 outs h.1.2
 short_line (Enter object state outs) h = short_outputs (codes "enter ") (codes " v") object state.0 refl refl h.1.0 h.1.1 outs h.1.2
 short_line (Opened object r mode how) h =
-    let way = short_append 16 49168 (codes " default ") (how_text how) (short_word (codes " default ") refl) (short_way how h.0.1) in
-    let tail = codes " default " ++ how_text how in
-    subst (λ x. IsShort 49300 (line_text (Opened object r x how))) (sym h.0.0)
-    (short_place (codes "open ") (codes " r") object r.0 refl refl h.1.0 h.1.1 tail (short_more 49184 49194 tail (omega arith) way))
+    short_place (codes "open ") (codes " r") object r.0 refl refl h.1.0 h.1.1 (codes " " ++ (mode_text mode ++ (codes " " ++ how_text how)))
+    (short_opening mode how h.0)
 short_line (Done object state firing) h =
     short_behind (codes "done ") (codes " v") object state.0 refl refl h.1.0 h.1.1 (firing_text firing) (short_firing firing h.0)
 short_line (Pick object choice route) h =

@@ -11,19 +11,15 @@ use Rattle.pssm_model.specs.declared.elements.TransKind.TheVariants.{Local, Inte
 use Rattle.pssm_model.specs.Shapes.{HasShape}
 use Rattle.pssm_model.specs.Forest.{vertex_at, transition_at, HasKind, IsStateOrFinal}
 use Rattle.pssm_model.specs.Legs.{Leaves, Enters, Goes}
-use Rattle.pssm_model.specs.FiringSets.{IsLateOrigin}
+use Rattle.pssm_model.specs.FiringSets.{IsHistory}
 use Rattle.pssm_model.specs.WellFormed.Breaks.{E03, E13, E14}
 use Rattle.pssm_model.specs.Nested.{IsPlainlyNested}
 use Rattle.pssm_model.specs.SingleLegs.{HasSingleLegs}
 use Rattle.pssm_model.proofs.ElementLaws.{mapped_some, mapped_at, some_at, kind_unique, leaves_one}
 
--- a State or final state, a choice or a terminate vertex: where a route may end
+-- a State or final state, a choice, a history or a terminate vertex: where a route may end
 abbrev pub IsEndKind : DraftMachine → VertexId → Type 0
-IsEndKind m v = IsStateOrFinal m v ⊎ HasKind m v kinds.Choice ⊎ HasKind m v kinds.Terminate
-
--- an initial vertex or a choice: where a route may start within a step
-abbrev pub IsLateKind : DraftMachine → VertexId → Type 0
-IsLateKind m v = HasKind m v kinds.Initial ⊎ HasKind m v kinds.Choice
+IsEndKind m v = IsStateOrFinal m v ⊎ HasKind m v kinds.Choice ⊎ IsHistory m v ⊎ HasKind m v kinds.Terminate
 
 -- a vertex of one of the kinds that there are
 abbrev pub IsOfAKind : DraftMachine → VertexId → Type 0
@@ -42,19 +38,15 @@ module _ {m : DraftMachine} (b : IsPlainlyNested m) where
   kind_cases v kinds.State h = inl (inl (inl h))
   kind_cases v kinds.Final h = inl (inl (inr h))
   kind_cases v kinds.Choice h = inl (inr (inl h))
-  kind_cases v kinds.Terminate h = inl (inr (inr h))
+  kind_cases v kinds.Terminate h = inl (inr (inr (inr h)))
   kind_cases v kinds.Initial h = inr (inl h)
   kind_cases v kinds.Junction h = inr (inr h)
   kind_cases v kinds.Fork h = absurd (b.uncut v (inl h))
   kind_cases v kinds.Join h = absurd (b.uncut v (inr (inl h)))
   kind_cases v kinds.EntryPoint h = absurd (b.uncut v (inr (inr (inl h))))
   kind_cases v kinds.ExitPoint h = absurd (b.uncut v (inr (inr (inr h))))
-  kind_cases v kinds.ShallowHistory h = absurd (b.forgets v (inl h))
-  kind_cases v kinds.DeepHistory h = absurd (b.forgets v (inr h))
-
-  -- a route starts within a step at an initial vertex or a choice
-  pub late_kind : (v : VertexId) → IsLateOrigin m v → IsLateKind m v
-  late_kind v h = ⊎_elim (λ i. inl i) (⊎_elim (λ remembers. absurd (b.forgets v remembers)) (λ c. inr c)) h
+  kind_cases v kinds.ShallowHistory h = inl (inr (inr (inl (inl h))))
+  kind_cases v kinds.DeepHistory h = inl (inr (inr (inl (inr h))))
 
   module _ (shape : HasShape m) where
     pub kind_there : (v : VertexId) → v.0 < length m.vertices → IsOfAKind m v
@@ -91,7 +83,11 @@ module _ {m : DraftMachine} (b : IsPlainlyNested m) where
         (⊎_elim (λ s. inl s) (λ f. inr (other_kind m v kinds.Final kinds.State (λ e. cc) f)))
         (⊎_elim
         (λ c. inr (other_kind m v kinds.Choice kinds.State (λ e. cc) c))
-        (λ t. inr (other_kind m v kinds.Terminate kinds.State (λ e. cc) t))))
+        (⊎_elim
+        (⊎_elim
+        (λ y. inr (other_kind m v kinds.ShallowHistory kinds.State (λ e. cc) y))
+        (λ y. inr (other_kind m v kinds.DeepHistory kinds.State (λ e. cc) y)))
+        (λ t. inr (other_kind m v kinds.Terminate kinds.State (λ e. cc) t)))))
         (⊎_elim
         (λ i. inr (other_kind m v kinds.Initial kinds.State (λ e. cc) i))
         (λ j. inr (other_kind m v kinds.Junction kinds.State (λ e. cc) j)))

@@ -8,11 +8,9 @@ use Rattle.pssm_model.specs.declared.elements.Element.TheVariants as elements
 use Rattle.pssm_model.specs.Forest.{vertex_at}
 use Rattle.pssm_model.specs.Shapes.{IsEarlier}
 
--- a history, fork, join, entry or exit point
+-- a fork, join, entry or exit point
 abbrev pub IsFurtherVertex : Vertex → Type 0
-IsFurtherVertex x =
-    (x.kind ≡ kinds.ShallowHistory) ⊎ (x.kind ≡ kinds.DeepHistory) ⊎ (x.kind ≡ kinds.Fork) ⊎ (x.kind ≡ kinds.Join)
-    ⊎ (x.kind ≡ kinds.EntryPoint) ⊎ (x.kind ≡ kinds.ExitPoint)
+IsFurtherVertex x = (x.kind ≡ kinds.Fork) ⊎ (x.kind ≡ kinds.Join) ⊎ (x.kind ≡ kinds.EntryPoint) ⊎ (x.kind ≡ kinds.ExitPoint)
 
 -- The element is of a form that the code does not run yet. Regions and transitions are of none.
 abbrev pub IsNotBuilt : DraftMachine → Element → Type 0

@@ -64,13 +64,13 @@ configuration_by known = record {
 abbrev pub known_course : Head → KnownConfiguration → List (Item × How) → Course
 known_course head known ran = course_by head (configuration_by known) ran
 
--- A step of a machine without forks, joins, entry, exit and history points has come so far (UML 2.5.1 14.2.3.9, run to completion).
+-- A step of a machine without forks, joins, entry and exit points has come so far (UML 2.5.1 14.2.3.9, run to completion).
 pub record IsNestedStep (m : DraftMachine) (course : Course) : Type 0 where
   pub shape : HasShape m
   pub nested : IsPlainlyNested m
   pub gone : HasGone m course.head course.at_head course.ran
 
--- how many further entries an open step of the machine can need: an exit and an entry for each vertex (a choice has one pick and neither),
--- an opening for each region, an effect for each transition (this profile's choice)
+-- how many further entries an open step of the machine can need: an exit and an entry for each vertex (a choice has one pick and neither, and
+-- a history one opening), an opening for each region, an effect for each transition (this profile's choice)
 abbrev pub entries_at_most : DraftMachine → ℕ
 entries_at_most m = 2 * length m.vertices + length m.regions + length m.transitions

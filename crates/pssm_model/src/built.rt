@@ -7,8 +7,8 @@ use crate::elements::{Element, Vertex, VertexKind};
 use crate::ids::VertexId;
 use crate::machine::Machine;
 
-/// The first element of a form that the code does not run yet, if there is one: the first vertex that is a history,
-/// fork, join, entry or exit point. Every region and every transition is of a form that the code runs.
+/// The first element of a form that the code does not run yet, if there is one: the first vertex that is a fork,
+/// join, entry or exit point. Every region and every transition is of a form that the code runs.
 pub fn first_not_built(machine: &Machine) -> Option<Element>
     ensures first { IfSome result (IsFirstNotBuilt machine.now) }
     ensures none { IfNone result ((e : Element) → IsNotBuilt machine.now e → ⊥) }
@@ -22,12 +22,11 @@ pub fn first_not_built(machine: &Machine) -> Option<Element>
     None
 }
 
-// Whether the vertex is of a form that the code does not run yet: a history, fork, join, entry or exit point.
+// Whether the vertex is of a form that the code does not run yet: a fork, join, entry or exit point.
 fn is_further_vertex(vertex: &Vertex) -> bool
     ensures { IsTrue result ↔ IsFurtherVertex vertex.now }
 {
     match vertex.kind {
-        VertexKind::ShallowHistory | VertexKind::DeepHistory => true,
         VertexKind::Fork | VertexKind::Join => true,
         VertexKind::EntryPoint | VertexKind::ExitPoint => true,
         _ => false,

@@ -78,7 +78,7 @@ module _ (class : Class) (b : IsBuiltClass class) {J : List Entry} {x : Standing
   accepted_opened : (r : RegionId) (mode : Mode) (how : How) → KeepsRules class x signal J (Opened x.own r mode how)
       → JudgesWay class x (items.Opened r mode) how None
   accepted_opened r mode how kept =
-      let ready = ready_item (items.Opened r mode) (kept A3) (kept A8) (kept A9) in (ready, (opens_as class b s signal r mode how ready).1 (kept A10))
+      let ready = ready_item (items.Opened r mode) (kept A3) (kept A8) (kept A9) in (ready, (opens_as class b s signal r mode how).1 (kept A10))
 
   accepted_pick : (v : VertexId) (route : Route) → KeepsRules class x signal J (Pick x.own v route) → JudgesWay class x (items.Pick v) (By route) None
   accepted_pick v route kept =

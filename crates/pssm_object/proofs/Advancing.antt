@@ -55,7 +55,7 @@ use Rattle.pssm_object.specs.Queue.{CompletionQueue, IsQueueOf}
 use Rattle.pssm_object.specs.Standing.{Standing, IsUnderWay, IsStepOf, StandsAfter}
 use Rattle.pssm_object.specs.Following.{stimulus_of, stimulus_for, NamesSignal, IsTold}
 use Rattle.pssm_object.specs.inner.Doing.{step_act, step_outcome}
-use Rattle.pssm_object.specs.inner.Firing.{Fires as FiresAt, IsDefaultWay, IsWayFrom}
+use Rattle.pssm_object.specs.inner.Firing.{Fires as FiresAt, IsWayFrom, IsOpeningWay}
 use Rattle.pssm_object.specs.inner.Situations.{IsAtRest}
 use Rattle.pssm_object.specs.inner.Working.{act_for, nothing_from, outcome_for}
 use Rattle.pssm_object.specs.inner.Judging.{FiresHere, Completes, HasStarted, JudgesItem, IsPastEnd, JudgesLiving, Judges}
@@ -66,6 +66,7 @@ use Rattle.pssm_object.proofs.QueueEntries.{queue_kept, queue_done, queue_other,
 use Rattle.pssm_object.proofs.EndingLaws.{ended_left_is, ended_by_is}
 use Rattle.pssm_object.proofs.Judged.{same_some, outcome_here}
 use Rattle.pssm_object.proofs.Following.{opens_now}
+use Rattle.pssm_object.proofs.KnownMemories.{known_named}
 use Rattle.pssm_object.proofs.Signals.{same_takes, signals_taken}
 use Rattle.pssm_object.proofs.Standings.{not_begun, only_posts, plan_of, step_of, along_of, consistent_alike}
 use Rattle.pssm_object.proofs.UnderWay.{changed_alike, after_item, runs_on, goes_on_same, begins_here}
@@ -350,6 +351,9 @@ module _ (class : Class) (b : IsBuiltClass class) {J : List Entry} {x : Standing
     no_active : (v : VertexId) → (configuration_of h.plan.now.at_head).Active v → ⊥
     no_active v active = (h.at_head.active v).0 active
 
+    no_memory : (r : RegionId) (v : VertexId) → (configuration_of h.plan.now.at_head).Remembers r v → ⊥
+    no_memory r v remembered = (h.at_head.remembered r v).0 remembered
+
     starts_here : IsUnderWay mach (J ++ Start x.own ∷ []) x.own Starts (configuration_of h.plan.now.at_head) []
     starts_here =
         begins_here mach J x.own (configuration_of h.plan.now.at_head) (Start x.own) (Start x.own) (eq-eqb x.own.0 x.own.0 refl)
@@ -357,7 +361,7 @@ module _ (class : Class) (b : IsBuiltClass class) {J : List Entry} {x : Standing
         (Agree-trans (configuration_of h.plan.now.at_head) nothing_yet (configuration_after mach J x.own) h.at_head
         (Agree-symm (configuration_after mach J x.own) nothing_yet (not_begun s none).nothing))
         (configuration-changed mach J (Start x.own)) (λ route is. absurd is)
-        (begins_by_start b.machine (configuration_of h.plan.now.at_head) no_active) (λ v. inr (no_active v))
+        (begins_by_start b.machine (configuration_of h.plan.now.at_head) no_active no_memory) (λ v. inr (no_active v)) (λ r v. inr (no_memory r v))
 
     zeros_before : x.params ≡ no_params
     zeros_before = s.params_is ∙ ap (λ head. params_of_head (told_by J) head) (no_head_yet x.own J (only_posts s none))
@@ -397,8 +401,9 @@ module _ (class : Class) (b : IsBuiltClass class) {J : List Entry} {x : Standing
         (subst (λ a. (route : Route) → FiresBy a route → IsStateRoute mach route) (sym is_head)
         (λ route inside. fired_state_route b.machine (configuration_of x.config) (guards_under class x.store params) event routes fires route inside))
         (subst (λ a. BeginsWell mach a (configuration_of x.config)) (sym is_head)
-        (begins_by_firing b.machine (configuration_of x.config) (guards_under class x.store params) event routes consistent_now fires))
-        (λ v. known_true (slice_index_or x.config.active v.0 false)))
+        (begins_by_firing b.machine (configuration_of x.config) (guards_under class x.store params) event routes consistent_now s.fits.remembered fires))
+        (λ v. known_true (slice_index_or x.config.active v.0 false))
+        (λ r v. known_named (slice_index_or x.config.remembered r.0 None) v))
 
     fired_so : StandsAfter class (J ++ e ∷ []) new
     fired_so =
@@ -443,11 +448,11 @@ module _ (class : Class) (b : IsBuiltClass class) {J : List Entry} {x : Standing
 
   -- an opening
   opened : (HasEnded mach J x.own → ⊥) → (new : Standing) (r : RegionId) (mode : Mode) (how : How) → JudgesItem mach x.plan (items.Opened r mode) None
-      → IsDefaultWay class x.store x.params r how → RunsHere mach x (items.Opened r mode) how x.store new
+      → IsOpeningWay class x.config x.store x.params r mode how → RunsHere mach x (items.Opened r mode) how x.store new
       → StandsAfter class (J ++ Opened x.own r mode how ∷ []) new
-  opened living new r mode how ready default h =
+  opened living new r mode how ready opens h =
       ran_so class s living new (Opened x.own r mode how) (items.Opened r mode) how refl (λ heads. cc) refl (λ n firing is. absurd (cc)) ready
-      (guards_under class x.store x.params) (opens_now class b s r mode how default ready.0 ready.2 ready.1) x.store s.store_is h
+      (guards_under class x.store x.params) (opens_now class b s r mode how opens ready.0 ready.2 ready.1) x.store s.store_is h
 
   -- a pick
   picked : (HasEnded mach J x.own → ⊥) → (new : Standing) (v : VertexId) (route : Route) → JudgesItem mach x.plan (items.Pick v) None

@@ -1,5 +1,5 @@
--- A machine that the code runs: its regions, the kinds of its vertices, and what leaves its initial vertices and choices.
-use Rattle.std.proofs.Common.{◌≡◌, ◌⊎◌, ◌<◌, length, Option, Some, None, option_map, refl, ap, inl, inr, ⊎_elim}
+-- A machine that the code runs: its regions, the kinds of its vertices, its history vertices, and what leaves its initial vertices and choices.
+use Rattle.std.proofs.Common.{◌≡◌, ◌⊎◌, ◌<◌, length, Option, Some, None, option_map, ◌≢◌, refl, ap, inl, inr, ⊎_elim}
 use Rattle.std.proofs.lemmas.Option.{slice_get_within}
 use Rattle.pssm_model.specs.declared.ids.VertexId.{VertexId}
 use Rattle.pssm_model.specs.declared.ids.RegionId.{RegionId}
@@ -12,22 +12,26 @@ use Rattle.pssm_model.specs.declared.elements.Transition.{Transition}
 use Rattle.pssm_model.specs.declared.elements.Owner.TheVariants.{Top, Region, State}
 use Rattle.pssm_model.specs.declared.elements.Element.TheVariants as elements
 use Rattle.pssm_model.specs.declared.elements.FaultPlace.TheVariants as places
-use Rattle.pssm_model.specs.Forest.{vertex_at, transition_at, owner_of, HasKind}
+use Rattle.pssm_model.specs.Forest.{vertex_at, transition_at, owner_of, HasKind, OwnsOfKind}
 use Rattle.pssm_model.specs.Legs.{Leaves}
 use Rattle.pssm_model.specs.Paths.{HasOut, IsInitialOf}
-use Rattle.pssm_model.specs.WellFormed.Breaks.{E01_top, E03, E09}
+use Rattle.pssm_model.specs.FiringSets.{IsLateOrigin}
+use Rattle.pssm_model.specs.Ways.{IsHistoryOf}
+use Rattle.pssm_model.specs.WellFormed.{OwnsTwoOfAKind}
+use Rattle.pssm_model.specs.WellFormed.Breaks.{E01_top, E02, E03, E09}
 use Rattle.pssm_model.specs.Nested.{IsPlainlyNested}
 use Rattle.pssm_model.specs.SingleLegs.{HasSingleLegs}
 use Rattle.pssm_model.specs.BuiltMachine.{IsBuiltMachine}
 use Rattle.pssm_model.specs.inner.Listed.{vertex_number, transition_number}
 use Rattle.pssm_model.proofs.ElementLaws.{mapped_some}
-use Rattle.pssm_model.proofs.NestedFrom.{IsCutOrHistory, nested_from_rules}
+use Rattle.pssm_model.proofs.NestedFrom.{IsCutKind, nested_from_rules}
 use Rattle.pssm_model.proofs.OverJunctions.{single_legs as legs_of}
 use Rattle.pssm_config.specs.Tables.{Tables, Fits, configuration_of}
 use Rattle.pssm_plan.proofs.SteadyRules.{initials_from_rules}
 use Rattle.pssm_plan.specs.Steadiness.{KeepsInitials}
 use Rattle.pssm_plan.proofs.Known.{Known, known_as, known_both, known_below, known_vertex}
 use Rattle.pssm_plan.proofs.KnownPlaces.{known_owner, known_vertex_kind}
+use Rattle.pssm_object.specs.inner.Firing.{IsHistoryKind}
 
 -- a mapped option is known to hold a value where that is known of each value
 known_mapped : {X Y : Type 0} (f : X → Y) (o : Option X) (y : Y) → ((x : X) → Known (f x ≡ y))
@@ -70,19 +74,44 @@ known_initial m r =
     (λ k. known_both (known_vertex_kind m (vertex_number k) kinds.Initial) (known_owner m (State (vertex_number k)) (Region r)))
     (length m.vertices))
 
+-- whether some history vertex of the kind that has a transition is in a region
+pub known_history : (m : DraftMachine) (r : RegionId) (kind : VertexKind) → Known ((v : VertexId) × IsHistoryOf m r kind v)
+known_history m r kind =
+    known_as
+    (λ h. (vertex_number h.0, h.2))
+    (λ h. (h.0.0, kind_there m h.0 kind h.1.0, h.1))
+    (known_below
+    (λ k. IsHistoryOf m r kind (vertex_number k))
+    (λ k. known_as (λ h. (h.0, h.1.0, h.1.1)) (λ h. (h.0, (h.1, h.2)))
+    (known_both (known_vertex_kind m (vertex_number k) kind)
+    (known_both (known_owner m (State (vertex_number k)) (Region r)) (known_out m (vertex_number k)))))
+    (length m.vertices))
+
+-- a step goes on from a history vertex
+pub history_origin : (m : DraftMachine) (v : VertexId) (kind : VertexKind) → IsHistoryKind kind → HasKind m v kind → IsLateOrigin m v
+history_origin m v kinds.ShallowHistory is has = inr (inl (inl has))
+history_origin m v kinds.DeepHistory is has = inr (inl (inr has))
+history_origin m v _ is has = absurd is
+
+-- two of one kind in a region
+two_histories : (m : DraftMachine) (r : RegionId) (kind : VertexKind) → IsHistoryKind kind → (v w : VertexId) → v ≢ w
+    → OwnsOfKind m r kind v → OwnsOfKind m r kind w → OwnsTwoOfAKind m r
+two_histories m r kinds.ShallowHistory is v w apart first second = inr (inl (v, w, apart, first.0, second.0, first.1, second.1))
+two_histories m r kinds.DeepHistory is v w apart first second = inr (inr (v, w, apart, first.0, second.0, first.1, second.1))
+two_histories m r _ is v w apart first second = absurd is
+
 module _ {m : DraftMachine} (b : IsBuiltMachine m) where
-  -- no vertex is a fork, a join, an entry or exit point or a history
-  not_further : (v : VertexId) (x : Vertex) → vertex_at m v ≡ Some x → IsCutOrHistory x.kind → ⊥
+  -- no vertex is a fork, a join, an entry or an exit point
+  not_further : (v : VertexId) (x : Vertex) → vertex_at m v ≡ Some x → IsCutKind x.kind → ⊥
   not_further v x e cut = b.built (elements.Vertex v) (x, e, further x.kind cut)
     where
-      further : (k : VertexKind) → IsCutOrHistory k
-          → (k ≡ kinds.ShallowHistory) ⊎ (k ≡ kinds.DeepHistory) ⊎ (k ≡ kinds.Fork) ⊎ (k ≡ kinds.Join) ⊎ (k ≡ kinds.EntryPoint) ⊎ (k ≡ kinds.ExitPoint)
-      further kinds.ShallowHistory is = inl refl
-      further kinds.DeepHistory is = inr (inl refl)
-      further kinds.Fork is = inr (inr (inl refl))
-      further kinds.Join is = inr (inr (inr (inl refl)))
-      further kinds.EntryPoint is = inr (inr (inr (inr (inl refl))))
-      further kinds.ExitPoint is = inr (inr (inr (inr (inr refl))))
+      further : (k : VertexKind) → IsCutKind k → (k ≡ kinds.Fork) ⊎ (k ≡ kinds.Join) ⊎ (k ≡ kinds.EntryPoint) ⊎ (k ≡ kinds.ExitPoint)
+      further kinds.Fork is = inl refl
+      further kinds.Join is = inr (inl refl)
+      further kinds.EntryPoint is = inr (inr (inl refl))
+      further kinds.ExitPoint is = inr (inr (inr refl))
+      further kinds.ShallowHistory is = absurd is
+      further kinds.DeepHistory is = absurd is
       further kinds.State is = absurd is
       further kinds.Final is = absurd is
       further kinds.Initial is = absurd is
@@ -119,6 +148,14 @@ module _ {m : DraftMachine} (b : IsBuiltMachine m) where
       (λ out. out)
       (λ none. absurd (b.rules (places.At (elements.Vertex v)) 9 (E09 (inr k, inr none))))
       (known_out m v)
+
+  -- a region has one history vertex of a kind at most
+  pub one_history : (r : RegionId) (kind : VertexKind) → IsHistoryKind kind → (v w : VertexId) → OwnsOfKind m r kind v → OwnsOfKind m r kind w → v ≡ w
+  one_history r kind is v w first second =
+      ⊎_elim
+      (λ same. same)
+      (λ apart. absurd (b.rules (places.At (elements.Region r)) 2 (E02 (two_histories m r kind is v w apart first second))))
+      (known_vertex v w)
 
   -- a region has one initial vertex at most, and that one transition out, which ends in the region
   pub keeps_initials : KeepsInitials m

@@ -43,8 +43,9 @@ use Rattle.pssm_object.proofs.SomeFiring.{some_firing}
 use Rattle.pssm_object.proofs.Standings.{plan_or_none, step_of}
 use Rattle.pssm_object.proofs.Judged.{same_some, judged}
 use Rattle.pssm_object.proofs.Accepted.{accepted}
-use Rattle.pssm_object.proofs.Following.{ready_there, ready_plain}
-use Rattle.pssm_object.proofs.Ready.{way_there, out_or_ready}
+use Rattle.pssm_object.proofs.Following.{ready_there, ready_item_there}
+use Rattle.pssm_object.proofs.BuiltWays.{way_there}
+use Rattle.pssm_object.proofs.Ready.{out_or_ready}
 use Rattle.pssm_object.proofs.PlanItems.{rests_where}
 
 -- what comes after the end: every entry but a post
@@ -132,8 +133,8 @@ module _ (class : Class) (b : IsBuiltClass class) (x : Standing) (signal : Optio
       opening_chosen p is r mode how ready way = record {
         candidate = record { own = refl; no_post = λ post. post; names = tt };
         places = (
-          (ready_plain class b s p is (items.Opened r mode) ready).1,
-          way_there m (guards_under class x.store x.params) r how way,
+          ready_item_there class b s p is (items.Opened r mode) ready,
+          way_there b.machine (guards_under class x.store x.params) r (configuration_of x.config).Remembers mode how way,
         );
         accepts = lives (Opened x.own r mode how) ((p, is, ready), way);
       }
@@ -179,10 +180,10 @@ module _ (class : Class) (b : IsBuiltClass class) (x : Standing) (signal : Optio
           plain_next (Enter x.own v (outcome_for class x (items.Enter v)).outs) (record { own = refl; no_post = λ post. post; names = tt })
           ((p, is, ready), refl)
       item_next p is (items.Opened r mode) ready =
-          let e = some_way_entry class b.machine x (items.Opened r mode) tt (ready_plain class b s p is (items.Opened r mode) ready) in
+          let e = some_way_entry class b.machine x (items.Opened r mode) tt (ready_item_there class b s p is (items.Opened r mode) ready) in
           chosen_next e.0 (goes_chosen p is (items.Opened r mode) e.1.0 e.0 ready e.1.1 e.1.2).1
       item_next p is (items.Pick c) ready =
-          let e = some_way_entry class b.machine x (items.Pick c) tt (ready_plain class b s p is (items.Pick c) ready) in
+          let e = some_way_entry class b.machine x (items.Pick c) tt (ready_item_there class b s p is (items.Pick c) ready) in
           chosen_next e.0 (goes_chosen p is (items.Pick c) e.1.0 e.0 ready e.1.1 e.1.2).1
 
       -- and for each State that has a do step left

@@ -53,7 +53,7 @@ module _ (class : Class) (b : IsBuiltClass class) where
   no_longer : (J : List Entry) (o : ObjectId) (head : Head) (at_head : Configuration) (ran : List (Item × How)) → IsUnderWay m J o head at_head ran
       → length ran ≤ entries_at_most m
   no_longer J o head at_head ran u =
-      step_length m (course_by head at_head ran) (record { shape = b.machine.shape; nested = nested b.machine; gone = u.gone })
+      step_length m (course_by head at_head ran) (record { shape = b.machine.shape; nested = nested b.machine; gone = u.gone }) u.begins
 
   -- what is ready runs until everything has run, or the object has ended
   finishes_step : (n : ℕ) (J : List Entry) (o : ObjectId) (head : Head) (at_head : Configuration) (ran : List (Item × How))

@@ -2,11 +2,12 @@
 use Rattle.std.proofs.Common.{List, All, Contains}
 use Rattle.std.proofs.lemmas.List.Elements.{All-contains}
 use Rattle.pssm_model.specs.declared.ids.VertexId.{VertexId}
+use Rattle.pssm_model.specs.declared.ids.RegionId.{RegionId}
 use Rattle.pssm_model.specs.declared.elements.DraftMachine.{DraftMachine}
 use Rattle.pssm_model.specs.declared.steps.Route.{Route}
 use Rattle.pssm_model.specs.declared.steps.Event.{Event}
 use Rattle.pssm_model.specs.declared.steps.Event.TheVariants.{Signal, Completion}
-use Rattle.pssm_model.specs.Configuration.{Configuration}
+use Rattle.pssm_model.specs.Configuration.{Configuration, IsDirect}
 use Rattle.pssm_model.specs.Routes.{Truth, IsSource, IsStateRoute, IsEnabledBy, IsEnabled}
 use Rattle.pssm_model.specs.FiringSets.{IsFiring}
 use Rattle.pssm_model.specs.Course.Head.{Starts, Fires}
@@ -37,18 +38,20 @@ module _ {m : DraftMachine} (b : IsBuiltMachine m) where
     pub fired_from_active : (p : Route) (s : VertexId) → Contains routes p → IsSource m p s → now.Active s
     fired_from_active p s inside source = active_source m now event p (fired_enabled p inside).by_event s source
 
-  -- so a step begins well that fires, and one that starts where nothing is active
+  -- so a step begins well that fires, and one that starts where nothing is active or remembered
   pub begins_by_firing : (now : Configuration) (truth : Truth) (event : Event) (routes : List Route) → IsConsistent m now
-      → IsFiring m now truth event routes → BeginsWell m (Fires routes) now
-  begins_by_firing now truth event routes consistent h = record {
+      → ((r : RegionId) (s : VertexId) → now.Remembers r s → IsDirect m s r) → IsFiring m now truth event routes → BeginsWell m (Fires routes) now
+  begins_by_firing now truth event routes consistent remembers h = record {
     consistent = consistent;
     start = λ e. absurd (cc);
     agree = h.0.sound.agree;
     from_active = fired_from_active now truth event routes h;
+    remembers = remembers;
   }
 
-  pub begins_by_start : (now : Configuration) → ((s : VertexId) → now.Active s → ⊥) → BeginsWell m Starts now
-  begins_by_start now none = record {
+  pub begins_by_start : (now : Configuration) → ((s : VertexId) → now.Active s → ⊥) → ((r : RegionId) (s : VertexId) → now.Remembers r s → ⊥)
+      → BeginsWell m Starts now
+  begins_by_start now none forgets = record {
     consistent = record {
       states = λ s is. absurd (none s is);
       one_each = λ r s q direct other is too. absurd (none s is);
@@ -57,4 +60,5 @@ module _ {m : DraftMachine} (b : IsBuiltMachine m) where
     start = λ e. none;
     agree = λ p q first. absurd first;
     from_active = λ p s fires. absurd fires;
+    remembers = λ r s is. absurd (forgets r s is);
   }

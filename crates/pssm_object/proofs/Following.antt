@@ -1,5 +1,5 @@
 -- What the code asks of an entry that is accepted.
-use Rattle.std.proofs.Common.{◌≡◌, ℕ, List, IfSome, IsSomeAnd, Option, Some, None, refl, sym, subst, inl, inr}
+use Rattle.std.proofs.Common.{◌≡◌, ℕ, List, IfSome, IsSomeAnd, Option, Some, None, refl, inl, inr}
 use Rattle.pssm_model.specs.declared.ids.VertexId.{VertexId}
 use Rattle.pssm_model.specs.declared.ids.RegionId.{RegionId}
 use Rattle.pssm_model.specs.declared.elements.DraftMachine.{DraftMachine}
@@ -11,10 +11,8 @@ use Rattle.pssm_model.specs.declared.steps.How.TheVariants.{By, Nothing}
 use Rattle.pssm_model.specs.declared.steps.Item.{Item}
 use Rattle.pssm_model.specs.declared.steps.Item.TheVariants as items
 use Rattle.pssm_model.specs.Configuration.{Configuration}
-use Rattle.pssm_model.specs.Course.{RemembersSoFar}
 use Rattle.pssm_model.specs.Order.{IsReady, IsWayNow}
 use Rattle.pssm_model.specs.Routes.{Truth}
-use Rattle.pssm_model.specs.Ways.{Memory, IsWay}
 use Rattle.pssm_config.specs.Tables.{CanEnter, configuration_of}
 use Rattle.pssm_plan.specs.Agenda.{Agenda, course_of}
 use Rattle.pssm_plan.specs.Steadiness.{changed_along}
@@ -26,20 +24,22 @@ use Rattle.pssm_plan.proofs.Steadiness.{may_enter}
 use Rattle.pssm_semantics.specs.declared.entry.Entry.{Entry}
 use Rattle.pssm_semantics.specs.declared.entry.Entry.TheVariants.{Post, Start, Take, Done, Exit, Effect, Enter, Opened, Pick, DoStep}
 use Rattle.pssm_semantics.specs.declared.setting.Class.{Class}
+use Rattle.pssm_semantics.specs.Journal.{IsMemory}
 use Rattle.pssm_semantics.specs.Values.{eight_of, no_params}
 use Rattle.pssm_semantics.specs.Behaviours.{guards_under}
 use Rattle.pssm_semantics.specs.Built.{IsBuiltClass}
 use Rattle.pssm_pool.specs.declared.pools.Waiting.{Waiting}
 use Rattle.pssm_object.specs.Standing.{Standing, AreActiveAlike, IsUnderWay, StandsAfter}
 use Rattle.pssm_object.specs.Following.{NamesSignal}
-use Rattle.pssm_object.specs.inner.Choosing.{IsPlainItem}
-use Rattle.pssm_object.specs.inner.Firing.{IsDefaultWay}
+use Rattle.pssm_object.specs.inner.Choosing.{IsItemThere}
+use Rattle.pssm_object.specs.inner.Firing.{IsOpeningWay}
 use Rattle.pssm_object.specs.inner.Working.{HasPlace}
 use Rattle.pssm_object.specs.inner.Judging.{FiresHere, JudgesItem, JudgesLiving, Judges}
 use Rattle.pssm_object.specs.inner.Advancing.{CanChange, CanRunIn, CanTake, CanFollow}
 use Rattle.pssm_object.proofs.BuiltMachines.{nested, keeps_initials}
 use Rattle.pssm_object.proofs.Fired.{fired_state_route}
-use Rattle.pssm_object.proofs.Rules.{called_is_plain}
+use Rattle.pssm_object.proofs.Rules.{called_item_there}
+use Rattle.pssm_object.proofs.Remembering.{ways_alike, way_in_step}
 use Rattle.pssm_object.proofs.Standings.{plan_of, step_of, along_of}
 
 -- what may be entered in a configuration may be where as much is active
@@ -50,7 +50,7 @@ module _ (class : Class) (b : IsBuiltClass class) {J : List Entry} {x : Standing
   abbrev m : DraftMachine
   m = class.machine
 
-  -- a ready item is of the machine, and is one of those that such a machine calls
+  -- a ready item is of the machine
   pub ready_there : (p : Agenda) → x.plan ≡ Some p → (y : Item) → IsReady m (course_of p) y → IsThere m y
   ready_there p is y ready =
       let u = step_of s p is in
@@ -58,9 +58,9 @@ module _ (class : Class) (b : IsBuiltClass class) {J : List Entry} {x : Standing
       (called_is (nested b.machine) b.machine.shape (course_of p)
       (gone_by_routes (nested b.machine) b.machine.shape p.head (configuration_of p.at_head) p.ran u.gone) y ready.waiting.called)
 
-  pub ready_plain : (p : Agenda) → x.plan ≡ Some p → (y : Item) → IsReady m (course_of p) y → IsPlainItem m y
-  ready_plain p is y ready =
-      let u = step_of s p is in called_is_plain b.machine p.head (configuration_of p.at_head) p.ran u.gone y ready.waiting.called
+  pub ready_item_there : (p : Agenda) → x.plan ≡ Some p → (y : Item) → IsReady m (course_of p) y → IsItemThere m y
+  ready_item_there p is y ready =
+      let u = step_of s p is in called_item_there b.machine p.head (configuration_of p.at_head) p.ran u.gone y ready.waiting.called
 
   place_of : (y : Item) → IsThere m y → HasPlace m y
   place_of (items.Exit v) there = there
@@ -70,22 +70,22 @@ module _ (class : Class) (b : IsBuiltClass class) {J : List Entry} {x : Standing
   place_of (items.Pick c) there = tt
 
   -- the configuration may change as a ready item does
-  change_by : (p : Agenda) → x.plan ≡ Some p → (y : Item) → IsReady m (course_of p) y → IsPlainItem m y → CanChange m (configuration_of x.config) y
-  change_by p is y ready plain = by y ready plain
+  change_by : (p : Agenda) → x.plan ≡ Some p → (y : Item) → IsReady m (course_of p) y → IsItemThere m y → CanChange m (configuration_of x.config) y
+  change_by p is y ready there = by y ready there
     where
       u : IsUnderWay m J x.own p.head (configuration_of p.at_head) p.ran
       u = step_of s p is
 
-      by : (z : Item) → IsReady m (course_of p) z → IsPlainItem m z → CanChange m (configuration_of x.config) z
-      by (items.Exit v) ready plain =
+      by : (z : Item) → IsReady m (course_of p) z → IsItemThere m z → CanChange m (configuration_of x.config) z
+      by (items.Exit v) ready there =
           (along_of s p is v).1
           (exit_is_active b.machine.shape (nested b.machine) (keeps_initials b.machine) p.head (configuration_of p.at_head) u.begins p.ran u.gone v ready.waiting)
-      by (items.Enter v) ready plain =
+      by (items.Enter v) ready there =
           enter_alike m (changed_along m (configuration_of p.at_head) p.ran) (configuration_of x.config) v (along_of s p is)
           (may_enter b.machine.shape (nested b.machine) (keeps_initials b.machine) p.head (configuration_of p.at_head) u.begins p.ran u.gone v ready)
-      by (items.Opened r mode) ready plain = plain.1
-      by (items.Effect t) ready plain = tt
-      by (items.Pick c) ready plain = tt
+      by (items.Opened r mode) ready there = there
+      by (items.Effect t) ready there = tt
+      by (items.Pick c) ready there = tt
 
   -- the way of an item has guards that are true where the object stands
   pub can_run_here : (truth : Truth) (y : Item) (how : How)
@@ -93,7 +93,7 @@ module _ (class : Class) (b : IsBuiltClass class) {J : List Entry} {x : Standing
       → JudgesItem m x.plan y None → CanRunIn class x y how
   can_run_here truth y how way (p, is, ready) = record {
     can_run = record { here = p; here_is = is; is_plan = plan_of s p is; ready = ready; way = (truth, way p ready is) };
-    can_change = change_by p is y ready (ready_plain p is y ready);
+    can_change = change_by p is y ready (ready_item_there p is y ready);
     place = place_of y (ready_there p is y ready);
   }
 
@@ -101,12 +101,12 @@ module _ (class : Class) (b : IsBuiltClass class) {J : List Entry} {x : Standing
   abbrev pub here : Truth
   here = guards_under class x.store x.params
 
-  -- a default way is a way of a ready opening
-  pub opens_now : (r : RegionId) (mode : Mode) (how : How) → IsDefaultWay class x.store x.params r how → (p : Agenda)
+  -- a way in which a region opens there is one by what the step remembers
+  pub opens_now : (r : RegionId) (mode : Mode) (how : How) → IsOpeningWay class x.config x.store x.params r mode how → (p : Agenda)
       → IsReady m (course_of p) (items.Opened r mode) → x.plan ≡ Some p → IsWayNow m here (course_of p) (items.Opened r mode) how
-  opens_now r mode how default p ready is =
-      let memory : Memory = RemembersSoFar m (course_of p) in
-      subst (λ k. IsWay m here memory (items.Opened r k) how) (sym (ready_plain p is (items.Opened r mode) ready).0) default
+  opens_now r mode how opens p ready is =
+      way_in_step (step_of s p is) here (items.Opened r mode) how
+      (ways_alike m here (configuration_of x.config).Remembers (IsMemory m J x.own) (items.Opened r mode) how s.now_is.remembered opens)
 
   -- a take has a signal, and fires routes of States
   can_take : (signal : Option Waiting) (number : ℕ) (firing : Firing) → IsSomeAnd signal (λ w. number ≡ w.number)

@@ -2,7 +2,6 @@
 use Rattle.std.proofs.Common.{◌≡◌, ℕ, List, IfSome, IsSomeAnd, Option, Some, None, inl, inr}
 use Rattle.pssm_model.specs.declared.steps.Firing.{Firing}
 use Rattle.pssm_model.specs.declared.steps.Event.TheVariants.{Signal, Completion}
-use Rattle.pssm_model.specs.declared.steps.Item.TheVariants as items
 use Rattle.pssm_model.specs.Routes.{Truth}
 use Rattle.pssm_config.specs.Tables.{configuration_of}
 use Rattle.pssm_semantics.specs.declared.entry.Entry.{Entry}
@@ -20,10 +19,9 @@ use Rattle.pssm_object.specs.Standing.{Standing, StandsAfter}
 use Rattle.pssm_object.specs.Following.{NamesSignal, KeepsRules}
 use Rattle.pssm_object.specs.inner.Judging.{FiresHere, JudgesLiving, Judges}
 use Rattle.pssm_object.proofs.Accepted.{accepted}
-use Rattle.pssm_object.proofs.BuiltWays.{default_way_is_short}
+use Rattle.pssm_object.proofs.BuiltWays.{opening_way_is_short}
 use Rattle.pssm_object.proofs.LateRoutes.{late_is_short}
 use Rattle.pssm_object.proofs.Unshared.{built_firing}
-use Rattle.pssm_object.proofs.Following.{ready_plain}
 
 module _ (class : Class) (b : IsBuiltClass class) {J : List Entry} {x : Standing} (s : StandsAfter class J x) where
   abbrev here : Truth
@@ -44,8 +42,7 @@ module _ (class : Class) (b : IsBuiltClass class) {J : List Entry} {x : Standing
   form_of signal (Exit o v outs) kept named h = few_outs class b.well_formed.proper (told_by J) J (Exit o v outs) (kept A12)
   form_of signal (Effect o t outs) kept named h = few_outs class b.well_formed.proper (told_by J) J (Effect o t outs) (kept A12)
   form_of signal (Enter o v outs) kept named h = few_outs class b.well_formed.proper (told_by J) J (Enter o v outs) (kept A12)
-  form_of signal (Opened o r mode how) kept named h =
-      ((ready_plain class b s h.0.0 h.0.1 (items.Opened r mode) h.0.2).0, default_way_is_short b.machine here r how h.1)
+  form_of signal (Opened o r mode how) kept named h = opening_way_is_short b.machine here r (configuration_of x.config).Remembers mode how h.1
   form_of signal (Pick o v route) kept named h = late_is_short b.machine here v route h.1
   form_of signal (DoStep o v k outs) kept named h = few_outs class b.well_formed.proper (told_by J) J (DoStep o v k outs) (kept A12)
 

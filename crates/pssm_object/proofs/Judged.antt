@@ -10,7 +10,6 @@ use Rattle.pssm_model.specs.declared.steps.Firing.{Firing}
 use Rattle.pssm_model.specs.declared.steps.Event.{Event}
 use Rattle.pssm_model.specs.declared.steps.Event.TheVariants.{Signal, Completion}
 use Rattle.pssm_model.specs.declared.steps.Mode.{Mode}
-use Rattle.pssm_model.specs.declared.steps.Mode.TheVariants.{Plain}
 use Rattle.pssm_model.specs.declared.steps.How.{How}
 use Rattle.pssm_model.specs.declared.steps.How.TheVariants.{By, Nothing}
 use Rattle.pssm_model.specs.declared.steps.Item.{Item}
@@ -19,8 +18,8 @@ use Rattle.pssm_model.specs.declared.elements.DraftMachine.{DraftMachine}
 use Rattle.pssm_model.specs.Configuration.{IsNextDoStep}
 use Rattle.pssm_model.specs.Routes.{Truth}
 use Rattle.pssm_model.specs.FiringSets.{IsFiring, IsLateRoute}
-use Rattle.pssm_model.specs.Ways.{Memory, CanOpen, OpensByDefault}
-use Rattle.pssm_model.specs.Items.{Called, IsWaiting, IsCleared}
+use Rattle.pssm_model.specs.Ways.{Memory, CanOpen}
+use Rattle.pssm_model.specs.Items.{IsWaiting, IsCleared}
 use Rattle.pssm_model.proofs.Agreeing.{Agree-symm}
 use Rattle.pssm_model.proofs.AgreeingRoutes.{firing_agrees}
 use Rattle.pssm_config.specs.Tables.{configuration_of}
@@ -47,7 +46,7 @@ use Rattle.pssm_semantics.specs.Built.{IsBuiltClass}
 use Rattle.pssm_pool.specs.declared.pools.Waiting.{Waiting}
 use Rattle.pssm_object.specs.Standing.{Standing, StandsAfter}
 use Rattle.pssm_object.specs.Following.{stimulus_of, stimulus_for, KeepsRule, KeepsRules}
-use Rattle.pssm_object.specs.inner.Firing.{Fires, IsDefaultWay, IsWayFrom}
+use Rattle.pssm_object.specs.inner.Firing.{Fires, IsWayFrom, IsOpeningWay}
 use Rattle.pssm_object.specs.inner.Situations.{IsAtRest, first_waiting}
 use Rattle.pssm_object.specs.inner.Working.{act_for, nothing_from, outcome_for}
 use Rattle.pssm_object.specs.inner.Doing.{IsNextHere, JudgesDoStep, step_act, step_outcome}
@@ -57,7 +56,8 @@ use Rattle.pssm_object.proofs.Standings.{only_posts, step_of}
 use Rattle.pssm_object.proofs.UnderWay.{called_item, called_item_waits, cleared_item, cleared_item_is, step_finished, finished_step}
 use Rattle.pssm_object.proofs.DoingNext.{next_alike}
 use Rattle.pssm_object.proofs.QueueHeads.{head_of_queue, end_of_queue}
-use Rattle.pssm_object.proofs.Rules.{starts_once, has_started, not_started, called_is_plain}
+use Rattle.pssm_object.proofs.Rules.{starts_once, has_started, not_started}
+use Rattle.pssm_object.proofs.Remembering.{ways_alike}
 
 -- what a verdict says of an entry
 abbrev pub IsJudged : Class → Standing → Option Waiting → List Entry → Entry → Option Rule → Type 0
@@ -302,20 +302,18 @@ module _ (class : Class) (b : IsBuiltClass class) {J : List Entry} {x : Standing
       ap (λ (store : Store). guards_under class store x.params) s.store_is
       ∙ ap (λ (params : Params). guards_under class (store_of class (told_by J) J o) params) s.params_is
 
-  -- the way of an opening: only openings by default are called
-  pub opens_plainly : (p : Agenda) → x.plan ≡ Some p → (r : RegionId) (mode : Mode) → Called m (course_of p) (items.Opened r mode) → mode ≡ Plain
-  opens_plainly p is r mode called =
-      let u = step_of s p is in
-      (called_is_plain b.machine p.head (configuration_of p.at_head) p.ran u.gone (items.Opened r mode) called).0
-
-  pub opens_as : (r : RegionId) (mode : Mode) (how : How) → JudgesItem m x.plan (items.Opened r mode) None
-      → IsDefaultWay class x.store x.params r how ↔ Holds A10 J (Opened o r mode how)
-  opens_as r mode how ready =
-      let plain = opens_plainly ready.0 ready.1 r mode ready.2.waiting.called in
+  -- the way of an opening: what the tables hold to be remembered is what the journal remembers
+  pub opens_as : (r : RegionId) (mode : Mode) (how : How) → IsOpeningWay class x.config x.store x.params r mode how ↔ Holds A10 J (Opened o r mode how)
+  opens_as r mode how =
       let truth : Truth = guards_at class (told_by J) J o in
-      let memory : Memory = IsMemory m J o in (
-        λ way. subst (λ k. CanOpen m truth memory r k how) (sym plain) (subst (λ (t : Truth). OpensByDefault m t r how) truth_is way),
-        λ kept. subst (λ (t : Truth). OpensByDefault m t r how) (sym truth_is) (subst (λ k. CanOpen m truth memory r k how) plain kept),
+      let kept : Memory = (configuration_of x.config).Remembers in
+      let shown : Memory = IsMemory m J o in (
+        λ way.
+            ways_alike m truth kept shown (items.Opened r mode) how s.now_is.remembered
+            (subst (λ (t : Truth). CanOpen m t kept r mode how) truth_is way),
+        λ holds.
+            subst (λ (t : Truth). CanOpen m t kept r mode how) (sym truth_is)
+            (ways_alike m truth shown kept (items.Opened r mode) how (λ q v. ((s.now_is.remembered q v).1, (s.now_is.remembered q v).0)) holds),
       )
 
   -- and that of a pick
@@ -347,7 +345,7 @@ module _ (class : Class) (b : IsBuiltClass class) {J : List Entry} {x : Standing
   judged_opened : (HasEnded m J o → ⊥) → (r : RegionId) (mode : Mode) (how : How) (answer : Option Rule) → JudgesWay class x (items.Opened r mode) how answer
       → IsJudged class x signal J (Opened o r mode how) answer
   judged_opened living r mode how =
-      judged_way (Opened o r mode how) (items.Opened r mode) how (opened_work living r mode how) (λ ready. opens_as r mode how ready) tt refl
+      judged_way (Opened o r mode how) (items.Opened r mode) how (opened_work living r mode how) (λ ready. opens_as r mode how) tt refl
 
   judged_pick : (HasEnded m J o → ⊥) → (v : VertexId) (route : Route) (answer : Option Rule) → JudgesWay class x (items.Pick v) (By route) answer
       → IsJudged class x signal J (Pick o v route) answer

@@ -2,6 +2,9 @@ pub mod BuiltMachines
 pub mod PlanItems
 pub mod LateRoutes
 pub mod BuiltWays
+pub mod OpeningWays
+pub mod KnownMemories
+pub mod Remembering
 pub mod Fired
 pub mod Unshared
 pub mod KnownWays

@@ -1,5 +1,5 @@
 -- How an item stands in the plan that is kept.
-use Rattle.std.proofs.Common.{◌≡◌, ◌⊎◌, Option, Some, IfSome, refl, subst, ⊎_elim}
+use Rattle.std.proofs.Common.{◌≡◌, ◌⊎◌, Option, Some, IfSome, subst, ⊎_elim}
 use Rattle.pssm_model.specs.declared.elements.DraftMachine.{DraftMachine}
 use Rattle.pssm_model.specs.declared.steps.Mode.TheVariants.{Plain, Shallow, Deep}
 use Rattle.pssm_model.specs.declared.steps.Item.{Item}
@@ -18,7 +18,7 @@ use Rattle.pssm_plan.proofs.RouteItems.{called_is}
 use Rattle.pssm_plan.proofs.RouteSteps.{gone_by_routes}
 use Rattle.pssm_plan.proofs.StepLengths.{IsThere, called_there}
 use Rattle.pssm_object.specs.inner.Situations.{IsAtRest}
-use Rattle.pssm_object.specs.inner.Choosing.{IsPlainItem}
+use Rattle.pssm_object.specs.inner.Choosing.{IsItemThere}
 use Rattle.pssm_object.specs.inner.Working.{HasPlace}
 use Rattle.pssm_object.proofs.BuiltMachines.{nested}
 
@@ -46,15 +46,15 @@ rests_where m plan p is rests =
     let same : rests.0 ≡ p = (let e = rests.1 in cc) in
     subst (λ (q : Agenda). HasRunOut m (course_of q)) same rests.2
 
--- a ready item is an exit, an effect, an entry, a pick from a choice or an opening by default
-plain_there : (m : DraftMachine) (item : Item) → IsThere m item → IsPlainItem m item
-plain_there m (items.Exit s) there = tt
-plain_there m (items.Effect t) there = tt
-plain_there m (items.Enter s) there = tt
-plain_there m (items.Opened r Plain) there = (refl, there)
-plain_there m (items.Opened r Shallow) there = absurd there
-plain_there m (items.Opened r Deep) there = absurd there
-plain_there m (items.Pick c) there = there.1
+-- a ready item is of the machine, and a ready pick is from a choice
+item_there : (m : DraftMachine) (item : Item) → IsThere m item → IsItemThere m item
+item_there m (items.Exit s) there = tt
+item_there m (items.Effect t) there = tt
+item_there m (items.Enter s) there = tt
+item_there m (items.Opened r Plain) there = there
+item_there m (items.Opened r Shallow) there = there
+item_there m (items.Opened r Deep) there = there
+item_there m (items.Pick c) there = there.1
 
 place_there : (m : DraftMachine) (item : Item) → IsThere m item → HasPlace m item
 place_there m (items.Exit s) there = there
@@ -70,8 +70,8 @@ module _ {m : DraftMachine} (b : IsBuiltMachine m) (p : Agenda) (item : Item) (p
       called_there b.shape (nested b) p.head now p.ran plan.step item
       (called_is (nested b) b.shape (course_of p) (gone_by_routes (nested b) b.shape p.head now p.ran plan.step) item ready.waiting.called)
 
-  pub ready_is_plain : IsPlainItem m item
-  ready_is_plain = plain_there m item ready_is_there
+  pub ready_item_there : IsItemThere m item
+  ready_item_there = item_there m item ready_is_there
 
   pub ready_has_place : HasPlace m item
   ready_has_place = place_there m item ready_is_there

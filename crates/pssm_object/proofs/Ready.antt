@@ -7,16 +7,16 @@ use Rattle.pssm_model.specs.declared.elements.DraftMachine.{DraftMachine}
 use Rattle.pssm_model.specs.declared.steps.Route.{Route}
 use Rattle.pssm_model.specs.declared.steps.Mode.{Mode}
 use Rattle.pssm_model.specs.declared.steps.How.{How}
-use Rattle.pssm_model.specs.declared.steps.How.TheVariants.{By, Restore, Nothing}
+use Rattle.pssm_model.specs.declared.steps.How.TheVariants.{By, Nothing}
 use Rattle.pssm_model.specs.declared.steps.Item.{Item}
 use Rattle.pssm_model.specs.declared.steps.Item.TheVariants as items
 use Rattle.pssm_model.specs.Configuration.{Configuration}
-use Rattle.pssm_model.specs.Course.{Head, RemembersSoFar}
+use Rattle.pssm_model.specs.Course.{Head}
 use Rattle.pssm_model.specs.Items.{HasRunOut}
 use Rattle.pssm_model.specs.Order.{course_by, IsReady, IsWayNow}
 use Rattle.pssm_model.specs.Routes.{Truth}
 use Rattle.pssm_model.specs.FiringSets.{IsLateRoute}
-use Rattle.pssm_model.specs.Ways.{Memory, IsWay, OpensByDefault}
+use Rattle.pssm_model.specs.Ways.{CanOpen}
 use Rattle.pssm_plan.proofs.StepLengths.{IsThere, called_there}
 use Rattle.pssm_plan.proofs.RouteSteps.{gone_by_routes}
 use Rattle.pssm_plan.proofs.RouteItems.{called_is}
@@ -31,7 +31,6 @@ use Rattle.pssm_semantics.specs.declared.setting.Class.{Class}
 use Rattle.pssm_semantics.specs.Journal.{Heads, IsStart, IsMemory, object_of}
 use Rattle.pssm_semantics.specs.Completion.{HasEnded}
 use Rattle.pssm_semantics.specs.Steps.{item_of}
-use Rattle.pssm_semantics.specs.Known.{IsWayOf}
 use Rattle.pssm_semantics.specs.Pool.{told_by}
 use Rattle.pssm_semantics.specs.Behaviours.{store_of, outcome_at, guards_at}
 use Rattle.pssm_semantics.specs.Rules.{KeepsOwn, IsCalledItem, IsClearedItem}
@@ -39,19 +38,14 @@ use Rattle.pssm_semantics.specs.Verdict.{number_of}
 use Rattle.pssm_semantics.specs.Built.{IsBuiltClass}
 use Rattle.pssm_object.specs.Standing.{IsUnderWay}
 use Rattle.pssm_object.specs.Laws.{GoesOn}
-use Rattle.pssm_object.specs.inner.Choosing.{IsPlainItem}
+use Rattle.pssm_object.specs.inner.Choosing.{IsItemThere}
 use Rattle.pssm_object.proofs.BuiltMachines.{nested}
-use Rattle.pssm_object.proofs.BuiltWays.{some_default_way}
+use Rattle.pssm_object.proofs.BuiltWays.{some_opening_way, way_there}
 use Rattle.pssm_object.proofs.Kept.{IsKeptBelow, kept_more, kept_first, follows}
 use Rattle.pssm_object.proofs.LateRoutes.{from_choice}
-use Rattle.pssm_object.proofs.Rules.{has_started, called_is_plain}
+use Rattle.pssm_object.proofs.Rules.{has_started, called_item_there}
 use Rattle.pssm_object.proofs.UnderWay.{called_item, cleared_item}
-
--- a default way names what is of the machine, and so does a late route
-pub way_there : (m : DraftMachine) (truth : Truth) (r : RegionId) (how : How) → OpensByDefault m truth r how → IsWayOf m how
-way_there m truth r (By route) (v, initial, late) = late.route_is.in_range
-way_there m truth r (Restore s) h = absurd h
-way_there m truth r Nothing h = tt
+use Rattle.pssm_object.proofs.Remembering.{known_memory, way_in_step}
 
 module _ (class : Class) (b : IsBuiltClass class) {J : List Entry} {o : ObjectId} {head : Head} {at_head : Configuration} {ran : List (Item × How)}
     (u : IsUnderWay class.machine J o head at_head ran) where
@@ -70,8 +64,8 @@ module _ (class : Class) (b : IsBuiltClass class) {J : List Entry} {o : ObjectId
       (called_is (nested b.machine) b.machine.shape (course_by head at_head ran)
       (gone_by_routes (nested b.machine) b.machine.shape head at_head ran u.gone) y ready.waiting.called)
 
-  ready_plain : (y : Item) → IsReady m (course_by head at_head ran) y → IsPlainItem m y
-  ready_plain y ready = called_is_plain b.machine head at_head ran u.gone y ready.waiting.called
+  ready_item_there : (y : Item) → IsReady m (course_by head at_head ran) y → IsItemThere m y
+  ready_item_there y ready = called_item_there b.machine head at_head ran u.gone y ready.waiting.called
 
   -- the rules that are not about the way or the outputs
   work_keeps : (e : Entry) (y : Item) (how : How) → object_of e ≡ o → item_of e ≡ Some (y, how) → Holds A2 J e
@@ -151,25 +145,21 @@ module _ (class : Class) (b : IsBuiltClass class) {J : List Entry} {o : ObjectId
     };
   }
 
-  opens_next : (HasEnded m J o → ⊥) → (r : RegionId) (mode : Mode) (how : How) → OpensByDefault m guards r how
+  opens_next : (HasEnded m J o → ⊥) → (r : RegionId) (mode : Mode) (how : How) → CanOpen m guards (IsMemory m J o) r mode how
       → IsReady m (course_by head at_head ran) (items.Opened r mode) → RunsNext (items.Opened r mode) (Opened o r mode how)
-  opens_next living r mode how default ready =
-      let plain = ready_plain (items.Opened r mode) ready in
-      let way : (memory : Memory) → IsWay m guards memory (items.Opened r mode) how = λ memory.
-      subst (λ k. IsWay m guards memory (items.Opened r k) how) (sym plain.0) default in
-      record {
-        how = how;
-        runs = refl;
-        no_head = λ heads. cc;
-        truth = guards;
-        way = way (RemembersSoFar m (course_by head at_head ran));
-        goes_on = record {
-          own = refl;
-          works = tt;
-          places = (plain.1, way_there m guards r how default);
-          keeps = work_keeps (Opened o r mode how) (items.Opened r mode) how refl refl living (λ f. f) tt tt tt (way (IsMemory m J o)) tt refl ready;
-        };
-      }
+  opens_next living r mode how opens ready = record {
+    how = how;
+    runs = refl;
+    no_head = λ heads. cc;
+    truth = guards;
+    way = way_in_step u guards (items.Opened r mode) how opens;
+    goes_on = record {
+      own = refl;
+      works = tt;
+      places = (ready_item_there (items.Opened r mode) ready, way_there b.machine guards r (IsMemory m J o) mode how opens);
+      keeps = work_keeps (Opened o r mode how) (items.Opened r mode) how refl refl living (λ f. f) tt tt tt opens tt refl ready;
+    };
+  }
 
   picks_next : (HasEnded m J o → ⊥) → (c : VertexId) (route : Route) → IsLateRoute m guards c route
       → IsReady m (course_by head at_head ran) (items.Pick c) → RunsNext (items.Pick c) (Pick o c route)
@@ -193,9 +183,10 @@ module _ (class : Class) (b : IsBuiltClass class) {J : List Entry} {o : ObjectId
   runs_ready living (items.Effect t) ready = (Effect o t (made (Effect o t [])), effect_next living t ready)
   runs_ready living (items.Enter v) ready = (Enter o v (made (Enter o v [])), enter_next living v ready)
   runs_ready living (items.Opened r mode) ready =
-      let way = some_default_way b.machine guards r in (Opened o r mode way.0, opens_next living r mode way.0 way.1 ready)
+      let way = some_opening_way b.machine guards r (IsMemory m J o) mode (λ v. known_memory u r v) in
+      (Opened o r mode way.0, opens_next living r mode way.0 way.1 ready)
   runs_ready living (items.Pick c) ready =
-      let route = from_choice b.machine guards c (ready_plain (items.Pick c) ready) in (Pick o c route.0, picks_next living c route.0 route.1 ready)
+      let route = from_choice b.machine guards c (ready_item_there (items.Pick c) ready) in (Pick o c route.0, picks_next living c route.0 route.1 ready)
 
   -- everything has run, or something is ready
   pub out_or_ready : HasRunOut m (course_by head at_head ran) ⊎ ((y : Item) × IsReady m (course_by head at_head ran) y)

@@ -1,5 +1,5 @@
 -- What each rule asks of an object of a class that the code runs.
-use Rattle.std.proofs.Common.{◌≡◌, List, ◌∷◌, Contains, refl, sym, subst, inl}
+use Rattle.std.proofs.Common.{◌≡◌, List, ◌∷◌, Contains, sym, subst, inl}
 use Rattle.std.specs.List.{AllByRecursion}
 use Rattle.std.proofs.lemmas.List.Elements.{All-contains, All-from_recursion, Contains-append_right}
 use Rattle.pssm_model.specs.declared.elements.DraftMachine.{DraftMachine}
@@ -25,7 +25,7 @@ use Rattle.pssm_semantics.specs.Rules.{KeepsStart}
 use Rattle.pssm_semantics.proofs.Members.{first_in}
 use Rattle.pssm_semantics.proofs.Stores.{head_own}
 use Rattle.pssm_object.specs.Standing.{IsUnderWay}
-use Rattle.pssm_object.specs.inner.Choosing.{IsPlainItem}
+use Rattle.pssm_object.specs.inner.Choosing.{IsItemThere}
 use Rattle.pssm_object.proofs.BuiltMachines.{nested}
 
 -- a fact about each element is one about an element that is there
@@ -86,18 +86,18 @@ module _ {m : DraftMachine} {J : List Entry} {o : ObjectId} {head : Head} {at_he
   has_started = (u.start, u.started.0, u.started.1)
 
 module _ {m : DraftMachine} (b : IsBuiltMachine m) where
-  -- what such a machine calls are exits, effects, entries, picks from choices and openings by default
-  pub called_is_plain : (head : Head) (now : Configuration) (ran : List (Item × How)) → HasGone m head now ran → (item : Item)
-      → Called m (course_by head now ran) item → IsPlainItem m item
-  called_is_plain head now ran gone item called =
-      plain item (called_there b.shape (nested b) head now ran gone item
+  -- what such a machine calls is of it, and its picks are from choices
+  pub called_item_there : (head : Head) (now : Configuration) (ran : List (Item × How)) → HasGone m head now ran → (item : Item)
+      → Called m (course_by head now ran) item → IsItemThere m item
+  called_item_there head now ran gone item called =
+      there item (called_there b.shape (nested b) head now ran gone item
       (called_is (nested b) b.shape (course_by head now ran) (gone_by_routes (nested b) b.shape head now ran gone) item called))
     where
-      plain : (x : Item) → IsThere m x → IsPlainItem m x
-      plain (items.Exit s) h = tt
-      plain (items.Effect t) h = tt
-      plain (items.Enter s) h = tt
-      plain (items.Opened r Plain) h = (refl, h)
-      plain (items.Opened r Shallow) h = absurd h
-      plain (items.Opened r Deep) h = absurd h
-      plain (items.Pick c) h = h.1
+      there : (x : Item) → IsThere m x → IsItemThere m x
+      there (items.Exit s) h = tt
+      there (items.Effect t) h = tt
+      there (items.Enter s) h = tt
+      there (items.Opened r Plain) h = h
+      there (items.Opened r Shallow) h = h
+      there (items.Opened r Deep) h = h
+      there (items.Pick c) h = h.1

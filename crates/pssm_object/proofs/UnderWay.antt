@@ -3,6 +3,7 @@ use Rattle.std.proofs.Common.{◌≡◌, ◌⊎◌, ◌↔◌, ◌++◌, List, [
 use Rattle.std.proofs.lemmas.List.Elements.{Contains-append_left}
 use Rattle.pssm_model.specs.declared.elements.DraftMachine.{DraftMachine}
 use Rattle.pssm_model.specs.declared.ids.VertexId.{VertexId}
+use Rattle.pssm_model.specs.declared.ids.RegionId.{RegionId}
 use Rattle.pssm_model.specs.declared.steps.Route.{Route}
 use Rattle.pssm_model.specs.declared.steps.How.{How}
 use Rattle.pssm_model.specs.declared.steps.How.TheVariants.{By, Restore, Nothing}
@@ -184,6 +185,7 @@ module _ {m : DraftMachine} {J : List Entry} {o : ObjectId} {head : Head} {at_he
     gone = gone_more item how u.gone ready truth way;
     begins = u.begins;
     known = u.known;
+    memory_known = u.memory_known;
     along = along_more e item how own runs;
   }
 
@@ -202,6 +204,7 @@ module _ {m : DraftMachine} {J : List Entry} {o : ObjectId} {head : Head} {at_he
     gone = u.gone;
     begins = u.begins;
     known = u.known;
+    memory_known = u.memory_known;
     along = λ v. ((λ active. (u.along v).0 ((same v).0 active)), (λ active. (same v).1 ((u.along v).1 active)));
   }
 
@@ -211,8 +214,9 @@ pub begins_here : (m : DraftMachine) (J : List Entry) (o : ObjectId) (at_head : 
     → Agree (configuration_after m (J ++ e ∷ []) o) (configuration_after m J o)
     → ((route : Route) → FiresBy (head_of e) route → IsStateRoute m route)
     → BeginsWell m (head_of e) at_head → ((s : VertexId) → at_head.Active s ⊎ (at_head.Active s → ⊥))
+    → ((r : RegionId) (s : VertexId) → at_head.Remembers r s ⊎ (at_head.Remembers r s → ⊥))
     → IsUnderWay m (J ++ e ∷ []) o (head_of e) at_head []
-begins_here m J o at_head e start heads started same kept routes well known = record {
+begins_here m J o at_head e start heads started same kept routes well known remembers = record {
   step = record { before = J; head = e; after = [] };
   start = start;
   started = started;
@@ -223,5 +227,6 @@ begins_here m J o at_head e start heads started same kept routes well known = re
   gone = begun routes;
   begins = well;
   known = known;
+  memory_known = remembers;
   along = λ v. ((λ active. (same.active v).1 ((kept.active v).0 active)), (λ active. (kept.active v).1 ((same.active v).0 active)));
 }

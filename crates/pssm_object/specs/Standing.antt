@@ -2,6 +2,7 @@
 use Rattle.std.specs.Prelude.{◌≡◌, ◌⊎◌, ◌↔◌, ◌≤◌, ℕ, Bool, List, length, filter_map, Option, Some, None, Contains, IsTrue}
 use Rattle.std.specs.List.{AllByRecursion}
 use Rattle.pssm_model.specs.declared.ids.VertexId.{VertexId}
+use Rattle.pssm_model.specs.declared.ids.RegionId.{RegionId}
 use Rattle.pssm_model.specs.declared.elements.DraftMachine.{DraftMachine}
 use Rattle.pssm_model.specs.declared.steps.Firing.{Firing}
 use Rattle.pssm_model.specs.declared.steps.How.{How}
@@ -43,7 +44,7 @@ abbrev pub AreActiveAlike : Configuration → Configuration → Type 0
 AreActiveAlike a b = (s : VertexId) → a.Active s ↔ b.Active s
 
 -- The object has started, and its last step began so, in this configuration, and has come so far; what is active is what the
--- items that have run leave active (UML 2.5.1 14.2.3.9, run to completion).
+-- items that have run leave active; and what was active and remembered at its beginning is known (UML 2.5.1 14.2.3.9, run to completion).
 pub record IsUnderWay (m : DraftMachine) (J : List Entry) (o : ObjectId) (head : Head) (at_head : Configuration)
     (ran : List (Item × How)) : Type 0 where
   pub step : StepAt
@@ -56,6 +57,7 @@ pub record IsUnderWay (m : DraftMachine) (J : List Entry) (o : ObjectId) (head :
   pub gone : HasGone m head at_head ran
   pub begins : BeginsWell m head at_head
   pub known : (s : VertexId) → at_head.Active s ⊎ (at_head.Active s → ⊥)
+  pub memory_known : (r : RegionId) (s : VertexId) → at_head.Remembers r s ⊎ (at_head.Remembers r s → ⊥)
   pub along : AreActiveAlike (configuration_after m J o) (changed_along m at_head ran)
 
 -- The object has not started: its entries are posts alone, and nothing is active, remembered or left empty

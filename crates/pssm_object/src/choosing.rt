@@ -13,10 +13,10 @@ ghost use Rattle.pssm_object.specs.inner.Situations.{standing_of, IsAtRest, firs
 ghost use Rattle.pssm_semantics.specs.Arguments.{ActArgsFit};
 ghost use Rattle.pssm_object.specs.inner.Working.{HasPlace, Makes, MakesBy};
 ghost use Rattle.pssm_object.specs.inner.Judging.{Completes};
-ghost use Rattle.pssm_object.specs.inner.Choosing.{IsPlainItem, HasWays, IsReadyChoice, HasNoChoice, GoesSomeWay, TakesSignal, ServesCompletion, ChoosesNext, ChoosesInStep, Chooses, DoesTask, LacksChoices, IsDeferredHere};
+ghost use Rattle.pssm_object.specs.inner.Choosing.{IsItemThere, HasWays, IsReadyChoice, HasNoChoice, GoesSomeWay, TakesSignal, ServesCompletion, ChoosesNext, ChoosesInStep, Chooses, DoesTask, LacksChoices, IsDeferredHere};
 
 use crate::firing::{is_deferred, pick_firing};
-use crate::opening::default_way;
+use crate::opening::some_way;
 use crate::routes::route_from;
 use crate::situation::Situation;
 use crate::working::stated_act;
@@ -207,8 +207,9 @@ impl Situation {
         word: u64,
     ) -> Result<Entry, NoMemory>
         requires class { IsBuiltClass class.now }
+        requires fits { Fits class.now.machine self.now.config }
         requires item { HasWays item }
-        requires plain { IsPlainItem class.now.machine item }
+        requires there { IsItemThere class.now.machine item }
         ensures { IfOk result (GoesSomeWay class.now (standing_of self.now) item) }
     {
         match item {
@@ -228,11 +229,21 @@ impl Situation {
         word: u64,
     ) -> Result<Entry, NoMemory>
         requires class { IsBuiltClass class.now }
+        requires fits { Fits class.now.machine self.now.config }
         requires region { region.0 < length class.now.machine.regions }
         ensures { IfOk result (GoesSomeWay class.now (standing_of self.now) (Item.Opened region mode)) }
     {
         let store = self.store.as_slice();
-        let how = default_way(alloc, class, store, &self.params, region, word)?;
+        let how = some_way(
+            alloc,
+            class,
+            &self.config,
+            store,
+            &self.params,
+            region,
+            mode,
+            word,
+        )?;
         Ok(Entry::Opened {
             object: self.own,
             region,

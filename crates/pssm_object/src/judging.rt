@@ -10,7 +10,7 @@ ghost use Rattle.pssm_object.specs.Following.{NamesPlaces};
 ghost use Rattle.pssm_object.specs.inner.Situations.{standing_of, IsAtRest};
 ghost use Rattle.pssm_semantics.specs.Arguments.{ActArgsFit};
 ghost use Rattle.pssm_object.specs.inner.Working.{HasPlace, Makes, MakesBy};
-ghost use Rattle.pssm_object.specs.inner.Judging.{FiresHere, Completes, JudgesRest, JudgesStart, JudgesFiring, JudgesTake, JudgesDone, JudgesItem, JudgesWork, JudgesWay, JudgesDoing, IsPastEnd, JudgesLiving, Judges};
+ghost use Rattle.pssm_object.specs.inner.Judging.{FiresHere, Completes, JudgesRest, JudgesStart, JudgesFiring, JudgesTake, JudgesDone, JudgesItem, JudgesWork, IsWayHere, JudgesWay, JudgesDoing, IsPastEnd, JudgesLiving, Judges};
 
 use crate::firing::fires;
 use crate::opening::opens_by;
@@ -318,6 +318,7 @@ impl Situation {
     // The verdict on an opening with its way.
     fn judge_opened(&self, class: &Class, region: RegionId, mode: Mode, how: &How) -> Option<Rule>
         requires class { IsBuiltClass class.now }
+        requires fits { Fits class.now.machine self.now.config }
         requires plan { IfSome self.now.plan (IsPlanOf class.now.machine) }
         requires region { region.0 < length class.now.machine.regions }
         requires way { IsWayOf class.now.machine how.now }
@@ -326,13 +327,25 @@ impl Situation {
         match self.judge_item(Item::Opened(region, mode)) {
             Some(rule) => Some(rule),
             None => {
-                if opens_by(class, self.store.as_slice(), &self.params, region, how) {
+                if self.opens(class, region, mode, how) {
                     None
                 } else {
                     Some(Rule::A10)
                 }
             }
         }
+    }
+
+    // Whether the region opens in this mode by the way.
+    fn opens(&self, class: &Class, region: RegionId, mode: Mode, how: &How) -> bool
+        requires class { IsBuiltClass class.now }
+        requires fits { Fits class.now.machine self.now.config }
+        requires region { region.0 < length class.now.machine.regions }
+        requires way { IsWayOf class.now.machine how.now }
+        ensures { IsTrue result ↔ IsWayHere class.now (standing_of self.now) (Item.Opened region mode) how.now }
+    {
+        let store = self.store.as_slice();
+        opens_by(class, &self.config, store, &self.params, region, mode, how)
     }
 
     // The verdict on a pick with its route.

@@ -42,8 +42,8 @@ pub fn active_states()
         → IsBuiltMachine m → BecomesComplete m before e o s → BecomesComplete m before e o q → s ≡ q }
 {}
 
-/// An entry of an object that keeps every rule has at most 64 outputs, and its routes have one start each (this
-/// profile's choice).
+/// An entry of an object that keeps every rule has at most 64 outputs, its routes have one start each and at most 8,192
+/// transitions in all, and a vertex that it restores is one of the first 4,096 (this profile's choice).
 pub fn entry_forms()
     ensures { (class : Class) (J : List Entry) (x : Standing) (signal : Option Waiting) (e : Entry)
         → IsBuiltClass class → StandsAfter class J x → object_of e ≡ x.own → NamesSignal signal e → KeepsRules class x signal J e → HasBuiltForm e }

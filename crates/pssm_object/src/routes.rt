@@ -11,7 +11,7 @@ use pssm_routes::{check_late, pick_late};
 use pssm_semantics::{Args, Class};
 use std::alloc::{AllocError as NoMemory, Global};
 
-/// Whether a step goes on by the route from the vertex: an initial vertex or a choice.
+/// Whether a step goes on by the route from the vertex: an initial vertex, a history vertex or a choice.
 pub fn goes_on_by(
     class: &Class,
     store: &[i64],

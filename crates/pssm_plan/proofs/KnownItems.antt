@@ -1,5 +1,5 @@
 -- What a step calls is known where the configuration at its head is, and so is on which item another waits.
-use Rattle.std.proofs.Common.{List, Bool, true, false, IsTrue, ◌≡◌, ◌⊎◌, ◌<◌, ℕ, length, Contains, Some, refl, sym, subst, inl, inr, ⊎_elim}
+use Rattle.std.proofs.Common.{List, Bool, true, false, IsTrue, ◌≡◌, ◌⊎◌, ◌<◌, ℕ, length, Contains, Some, refl, sym, ap, subst, inl, inr, ⊎_elim}
 use Rattle.std.proofs.lemmas.Option.{slice_get_within}
 use Rattle.pssm_model.specs.declared.ids.VertexId.{VertexId}
 use Rattle.pssm_model.specs.declared.ids.RegionId.{RegionId}
@@ -16,7 +16,7 @@ use Rattle.pssm_model.specs.declared.steps.Item.{Item}
 use Rattle.pssm_model.specs.declared.steps.Item.TheVariants as items
 use Rattle.pssm_model.specs.Forest.{vertex_at, HasKind, owner_of, LiesUnder, LiesInState}
 use Rattle.pssm_model.specs.Shapes.{HasShape}
-use Rattle.pssm_model.specs.Course.{Head, Course, FiresBy, HasGoneBy, HasRun}
+use Rattle.pssm_model.specs.Course.{Head, Course, FiresBy, HasGoneBy, HasRun, HasRestored}
 use Rattle.pssm_model.specs.Course.Head.{Starts, Fires}
 use Rattle.pssm_model.specs.Legs.{On, transitions_of}
 use Rattle.pssm_model.specs.Items.{PathBefore, HasRunOut, Before, IsWaiting, IsCleared}
@@ -24,7 +24,8 @@ use Rattle.pssm_model.specs.Items.PathBefore.{after}
 use Rattle.pssm_model.specs.Nested.{IsPlainlyNested}
 use Rattle.pssm_model.specs.Order.{IsReady, IsAtOrBefore, HasReadyAtOrBefore, KnownConfiguration, known_course, IsNestedStep}
 use Rattle.pssm_model.specs.Routes.{IsRoute}
-use Rattle.pssm_plan.specs.inner.OverRoutes.{GoesByRoutes, LiesInArea, GoesBy, IsEnteredBy, IsEnteredOver, EndsOnChoice, IsPickedOver, OpensBeside, IsOpenedOver, IsCalledOver, IsOrderedOver}
+use Rattle.pssm_plan.specs.inner.OverRoutes.{GoesByRoutes, LiesInArea, GoesBy, IsEnteredBy, IsEnteredOver, EndsOnChoice, IsPickedOver, EndsOnHistory, OpensBeside, IsRestoredOver, IsOpenedOver, IsOpenedAtEnd, IsCalledOver, IsOrderedOver}
+use Rattle.pssm_model.specs.declared.steps.Mode.{Mode}
 use Rattle.pssm_model.specs.declared.steps.Mode.TheVariants.{Plain, Shallow, Deep}
 use Rattle.pssm_model.proofs.ElementLaws.{mapped_some}
 use Rattle.pssm_model.proofs.StateRoutes.{start_of}
@@ -33,17 +34,11 @@ use Rattle.pssm_plan.proofs.Depths.{owner_under}
 use Rattle.pssm_plan.proofs.RouteItems.{called_is, called_of, before_is, before_of}
 use Rattle.pssm_plan.proofs.RoutePaths.{path_begins_on, path_ends_on, no_round_path, path_order}
 use Rattle.pssm_plan.proofs.RouteCourses.{area_there, entered_there}
-use Rattle.pssm_plan.proofs.Known.{Known, known_as, known_both, known_either, known_not, known_below, known_among, known_inside, known_transition}
-use Rattle.pssm_plan.proofs.KnownPlaces.{known_in_state, known_in_area, known_entered, known_choice, known_beside}
+use Rattle.pssm_plan.proofs.Known.{Known, known_as, known_both, known_either, known_not, known_below, known_among, known_inside, known_vertex, known_transition}
+use Rattle.pssm_plan.proofs.KnownPlaces.{known_in_state, known_in_area, known_entered, known_choice, known_end_history, known_beside}
 use Rattle.pssm_plan.proofs.RouteSteps.{gone_by_routes}
 use Rattle.pssm_plan.proofs.Known.{run_known}
 use Rattle.pssm_plan.proofs.RouteReady.{ready_at_or_before, nothing_ready}
-
--- an opening of a history, which is in no order with the others
-abbrev IsUnordered : Item → Type 0
-IsUnordered (items.Opened r Shallow) = Unit {0}
-IsUnordered (items.Opened r Deep) = Unit {0}
-IsUnordered _ = ⊥
 
 -- the vertex of a number
 abbrev vertex_of : ℕ → VertexId
@@ -93,6 +88,70 @@ known_late course P each =
     pair : (x : Item × How) (how : How) → x.1 ≡ how → x ≡ (x.0, how)
     pair x how e = λ i. (x.0, e i)
 
+-- two modes are the same, or not; and whether some mode is such
+pub known_mode : (a b : Mode) → Known (a ≡ b)
+known_mode Plain Plain = inl refl
+known_mode Plain Shallow = inr (λ e. cc)
+known_mode Plain Deep = inr (λ e. cc)
+known_mode Shallow Plain = inr (λ e. cc)
+known_mode Shallow Shallow = inl refl
+known_mode Shallow Deep = inr (λ e. cc)
+known_mode Deep Plain = inr (λ e. cc)
+known_mode Deep Shallow = inr (λ e. cc)
+known_mode Deep Deep = inl refl
+
+one_of_three : (P : Mode → Type 0) (mode : Mode) → P mode → P Plain ⊎ P Shallow ⊎ P Deep
+one_of_three P Plain h = inl h
+one_of_three P Shallow h = inr (inl h)
+one_of_three P Deep h = inr (inr h)
+
+pub known_some_mode : (P : Mode → Type 0) → ((mode : Mode) → Known (P mode)) → Known ((mode : Mode) × P mode)
+known_some_mode P each =
+    known_as
+    (λ h. ⊎_elim (λ plain. (Plain, plain)) (⊎_elim (λ shallow. (Shallow, shallow)) (λ deep. (Deep, deep))) h)
+    (λ h. one_of_three P h.0 h.1)
+    (known_either (each Plain) (known_either (each Shallow) (each Deep)))
+
+-- What has run is an opening in the mode that has restored the State.
+abbrev RestoresBy : VertexId → Mode → Item × How → Type 0
+RestoresBy s mode x = (r : RegionId) × (x ≡ (items.Opened r mode, Restore s))
+
+-- some opening has restored the State
+pub known_restored_as : (course : Course) (s : VertexId) (mode : Mode) → Known (HasRestored course mode s)
+known_restored_as course s mode =
+    known_as
+    (λ h. (h.2.0, subst (λ x. Contains course.ran x) h.2.1 h.1))
+    (λ h. ((items.Opened h.0 mode, Restore s), h.1, (h.0, refl)))
+    (known_among (λ x. RestoresBy s mode x) course.ran (λ x inside. known_by x))
+  where
+    known_back : (how : How) → Known (how ≡ Restore s)
+    known_back (By p) = inr (λ e. cc)
+    known_back (Restore q) = known_as (λ e. ap Restore e) (λ e. cc) (known_vertex q s)
+    known_back Nothing = inr (λ e. cc)
+
+    is_such : (r : RegionId) (was : Mode) (how : How) → was ≡ mode → how ≡ Restore s → RestoresBy s mode (items.Opened r was, how)
+    is_such r was how e f = (r, λ i. (items.Opened r (e i), f i))
+
+    mode_of : (r q : RegionId) (was : Mode) → items.Opened r was ≡ items.Opened q mode → was ≡ mode
+    mode_of r q was e = cc
+
+    no_opening : (item : Item) (how : How) → ((r : RegionId) → item ≡ items.Opened r mode → ⊥) → RestoresBy s mode (item, how) → ⊥
+    no_opening item how none h = none h.0 (ap (λ (y : Item × How). y.0) h.1)
+
+    known_by : (x : Item × How) → Known (RestoresBy s mode x)
+    known_by (items.Opened r was, how) =
+        known_as
+        (λ h. is_such r was how h.0 h.1)
+        (λ h. (mode_of r h.0 was (ap (λ (y : Item × How). y.0) h.1), ap (λ (y : Item × How). y.1) h.1))
+        (known_both (known_mode was mode) (known_back how))
+    known_by (items.Exit q, how) = inr (no_opening (items.Exit q) how (λ r e. cc))
+    known_by (items.Effect t, how) = inr (no_opening (items.Effect t) how (λ r e. cc))
+    known_by (items.Enter q, how) = inr (no_opening (items.Enter q) how (λ r e. cc))
+    known_by (items.Pick c, how) = inr (no_opening (items.Pick c) how (λ r e. cc))
+
+known_restored : (course : Course) (s : VertexId) → Known (IsRestoredOver course s)
+known_restored course s = known_some_mode (λ mode. HasRestored course mode s) (known_restored_as course s)
+
 -- whether a transition is of a route
 known_on : (p : Route) (t : TransId) → Known (On p t)
 known_on p t = known_inside known_transition (transitions_of p) t
@@ -129,10 +188,12 @@ module _ {m : DraftMachine} (nested : IsPlainlyNested m) (shape : HasShape m) (c
 
   pub known_enter : (s : VertexId) → Known (IsCalledOver m course (items.Enter s))
   known_enter s =
-      known_as
+      known_either
+      (known_as
       (λ h. (h.0, (h.1, h.2)))
       (λ h. (h.0, h.1.0, h.1.1))
-      (known_over_some (λ p. IsEnteredBy m p s) (λ p. known_entered shape p s))
+      (known_over_some (λ p. IsEnteredBy m p s) (λ p. known_entered shape p s)))
+      (known_restored course s)
 
   -- and which picks
   pub known_pick : (c : VertexId) → Known (IsCalledOver m course (items.Pick c))
@@ -242,13 +303,38 @@ module _ {m : DraftMachine} (nested : IsPlainlyNested m) (shape : HasShape m) (c
       (λ h. (h.0, h.1.0, (h.1.1, h.2)))
       (known_over_some (λ p. IsEnteredBy m p s × HasUnrun p) (λ p. known_both (known_entered shape p s) (known_unrun p)))
 
-  -- an effect for which an opening waits
-  known_beside_effect : (r : RegionId) → Known ((p : Route) × IsOpenedOver m course p r × HasUnrun p)
-  known_beside_effect r =
+  -- an effect and an entry for which an opening waits
+  known_opening_effect : (r : RegionId) (mode : Mode)
+      → Known ((p : Route) × (IsOpenedOver m course p r mode ⊎ IsOpenedAtEnd m course p r mode) × HasUnrun p)
+  known_opening_effect r mode =
+      known_as
+      (λ h. (h.0, ⊎_elim (λ beside. inl (h.1, beside.0, beside.1)) (λ ends. inr (h.1, ends)) h.2.0, h.2.1))
+      (λ h. (h.0, ⊎_elim (λ beside. beside.0) (λ ends. ends.0) h.1, (⊎_elim (λ beside. inl (beside.1, beside.2)) (λ ends. inr ends.1) h.1, h.2)))
+      (known_over_some
+      (λ p. ((OpensBeside m p r × (mode ≡ Plain)) ⊎ EndsOnHistory m p r mode) × HasUnrun p)
+      (λ p. known_both
+      (known_either (known_both (known_beside shape p r) (known_mode mode Plain)) (known_end_history shape p r mode))
+      (known_unrun p)))
+
+  known_enter_opening : (s : VertexId) (r : RegionId) (mode : Mode) → Known (IsOrderedOver m course (items.Enter s) (items.Opened r mode))
+  known_enter_opening s r mode =
       known_as
       (λ h. (h.0, (h.1, h.2.0), h.2.1))
       (λ h. (h.0, h.1.0, (h.1.1, h.2)))
-      (known_over_some (λ p. OpensBeside m p r × HasUnrun p) (λ p. known_both (known_beside shape p r) (known_unrun p)))
+      (known_over_some
+      (λ p. EndsOnHistory m p r mode × IsEnteredBy m p s)
+      (λ p. known_both (known_end_history shape p r mode) (known_entered shape p s)))
+
+  known_opening_enter : (r : RegionId) (mode : Mode)
+      → Known ((s : VertexId) × IsOrderedOver m course (items.Enter s) (items.Opened r mode) × (HasRun course (items.Enter s) → ⊥))
+  known_opening_enter r mode =
+      known_as
+      (λ h. (h.0, h.1.0, h.1.1))
+      (λ h. (h.0, (h.1, h.2)))
+      (known_vertex_some
+      (λ s. IsOrderedOver m course (items.Enter s) (items.Opened r mode) × (HasRun course (items.Enter s) → ⊥))
+      (λ s h. entered_there m shape h.0.0 s h.0.2)
+      (λ s. known_both (known_enter_opening s r mode) (known_not (known_run (items.Enter s)))))
 
   -- an effect and an entry for which a pick waits
   known_pick_effect : (c : VertexId) → Known ((p : Route) × IsPickedOver m course p c × HasUnrun p)
@@ -327,13 +413,15 @@ module _ {m : DraftMachine} (nested : IsPlainlyNested m) (shape : HasShape m) (c
   no_enter_before q no_effect no_outer (items.Opened r mode) h called not = h
   no_enter_before q no_effect no_outer (items.Pick c) h called not = h
 
-  no_opening_before : (r : RegionId) → ((p : Route) × IsOpenedOver m course p r × HasUnrun p → ⊥)
-      → (x : Item) → IsOrderedOver m course x (items.Opened r Plain) → IsCalledOver m course x → (HasRun course x → ⊥) → ⊥
-  no_opening_before r none (items.Effect t) h called not = none (h.0, h.1, (t, h.2, not))
-  no_opening_before r none (items.Exit s) h called not = h
-  no_opening_before r none (items.Enter s) h called not = h
-  no_opening_before r none (items.Opened q mode) h called not = h
-  no_opening_before r none (items.Pick c) h called not = h
+  no_opening_before : (r : RegionId) (mode : Mode)
+      → ((p : Route) × (IsOpenedOver m course p r mode ⊎ IsOpenedAtEnd m course p r mode) × HasUnrun p → ⊥)
+      → ((s : VertexId) × IsOrderedOver m course (items.Enter s) (items.Opened r mode) × (HasRun course (items.Enter s) → ⊥) → ⊥)
+      → (x : Item) → IsOrderedOver m course x (items.Opened r mode) → IsCalledOver m course x → (HasRun course x → ⊥) → ⊥
+  no_opening_before r mode no_effect no_enter (items.Effect t) h called not = no_effect (h.0, h.1, (t, h.2, not))
+  no_opening_before r mode no_effect no_enter (items.Enter s) h called not = no_enter (s, h, not)
+  no_opening_before r mode no_effect no_enter (items.Exit s) h called not = h
+  no_opening_before r mode no_effect no_enter (items.Opened q way) h called not = h
+  no_opening_before r mode no_effect no_enter (items.Pick c) h called not = h
 
   no_pick_before : (c : VertexId) → ((p : Route) × IsPickedOver m course p c × HasUnrun p → ⊥)
       → ((s : VertexId) × IsOrderedOver m course (items.Enter s) (items.Pick c) × (HasRun course (items.Enter s) → ⊥) → ⊥)
@@ -343,23 +431,6 @@ module _ {m : DraftMachine} (nested : IsPlainlyNested m) (shape : HasShape m) (c
   no_pick_before c no_effect no_enter (items.Exit s) h called not = h
   no_pick_before c no_effect no_enter (items.Opened r mode) h called not = h
   no_pick_before c no_effect no_enter (items.Pick v) h called not = h
-
-  nothing_before : (y x : Item) → IsUnordered y → IsOrderedOver m course x y → ⊥
-  nothing_before (items.Opened r Shallow) (items.Exit s) is h = h
-  nothing_before (items.Opened r Shallow) (items.Effect t) is h = h
-  nothing_before (items.Opened r Shallow) (items.Enter s) is h = h
-  nothing_before (items.Opened r Shallow) (items.Opened q way) is h = h
-  nothing_before (items.Opened r Shallow) (items.Pick c) is h = h
-  nothing_before (items.Opened r Deep) (items.Exit s) is h = h
-  nothing_before (items.Opened r Deep) (items.Effect t) is h = h
-  nothing_before (items.Opened r Deep) (items.Enter s) is h = h
-  nothing_before (items.Opened r Deep) (items.Opened q way) is h = h
-  nothing_before (items.Opened r Deep) (items.Pick c) is h = h
-  nothing_before (items.Opened r Plain) x is h = is
-  nothing_before (items.Pick c) x is h = is
-  nothing_before (items.Exit s) x is h = is
-  nothing_before (items.Effect t) x is h = is
-  nothing_before (items.Enter s) x is h = is
 
   -- an item is cleared, or waits for one
   waits_for : (x y : Item) → IsOrderedOver m course x y → IsCalledOver m course x → (HasRun course x → ⊥)
@@ -395,17 +466,21 @@ module _ {m : DraftMachine} (nested : IsPlainlyNested m) (shape : HasShape m) (c
       (λ no_outer. inl (cleared (items.Enter q) (no_enter_before q no_effect no_outer)))
       (known_outer_enter q))
       (known_leg_effect q)
-  cleared_or_waits (items.Opened r Plain) =
+  cleared_or_waits (items.Opened r mode) =
       ⊎_elim
       (λ on. (
       let effect = on.2 in
-      waits_for (items.Effect effect.0) (items.Opened r Plain) (on.0, on.1, effect.1) (on.0, on.1.0, effect.1) effect.2
+      waits_for (items.Effect effect.0) (items.Opened r mode) (on.0, on.1, effect.1)
+      (on.0, ⊎_elim (λ beside. beside.0) (λ ends. ends.0) on.1, effect.1) effect.2
       ))
-      (λ none. inl (cleared (items.Opened r Plain) (no_opening_before r none)))
-      (known_beside_effect r)
-  cleared_or_waits (items.Opened r Shallow) =
-      inl (cleared (items.Opened r Shallow) (λ x h called not. nothing_before (items.Opened r Shallow) x tt h))
-  cleared_or_waits (items.Opened r Deep) = inl (cleared (items.Opened r Deep) (λ x h called not. nothing_before (items.Opened r Deep) x tt h))
+      (λ no_effect. ⊎_elim
+      (λ on. (
+      let enter = on.1 in
+      waits_for (items.Enter on.0) (items.Opened r mode) enter (inl (enter.0, (enter.1.0, enter.2))) on.2
+      ))
+      (λ no_enter. inl (cleared (items.Opened r mode) (no_opening_before r mode no_effect no_enter)))
+      (known_opening_enter r mode))
+      (known_opening_effect r mode)
   cleared_or_waits (items.Pick c) =
       ⊎_elim
       (λ on. (
@@ -415,7 +490,7 @@ module _ {m : DraftMachine} (nested : IsPlainlyNested m) (shape : HasShape m) (c
       (λ no_effect. ⊎_elim
       (λ on. (
       let enter = on.1 in
-      waits_for (items.Enter on.0) (items.Pick c) enter (enter.0, (enter.1.0, enter.2)) on.2
+      waits_for (items.Enter on.0) (items.Pick c) enter (inl (enter.0, (enter.1.0, enter.2))) on.2
       ))
       (λ no_enter. inl (cleared (items.Pick c) (no_pick_before c no_effect no_enter)))
       (known_pick_enter c))

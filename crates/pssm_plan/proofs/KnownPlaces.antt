@@ -17,14 +17,16 @@ use Rattle.pssm_model.specs.declared.elements.VertexKind.TheVariants as kinds
 use Rattle.pssm_model.specs.declared.elements.TransKind.{TransKind}
 use Rattle.pssm_model.specs.declared.elements.TransKind.TheVariants.{External, Local, Internal}
 use Rattle.pssm_model.specs.declared.steps.Route.{Route}
+use Rattle.pssm_model.specs.declared.steps.Mode.{Mode}
+use Rattle.pssm_model.specs.declared.steps.Mode.TheVariants.{Plain, Shallow, Deep}
 use Rattle.pssm_model.specs.Legs.{Leaves, Enters, Goes, transitions_of, Scope, LiesInScope}
 use Rattle.pssm_model.specs.Legs.Scope.{Nowhere, Inside, Within}
 use Rattle.pssm_model.specs.Shapes.{HasShape}
 use Rattle.pssm_model.specs.Equal.{vertex_kind_same}
 use Rattle.pssm_model.specs.contracts.elements.VertexKindPartialEq.TheImpl.{eq-value as vertex_kind_eq}
 use Rattle.pssm_model.specs.Routes.{IsSource}
-use Rattle.pssm_plan.specs.inner.OverRoutes.{GoesAs, IsEndOf, IsSpan, IsArea, LiesInArea, EndsOn, IsPassedBy, IsEnteredBy, EndsIn, LeavesOwner, EndsOnChoice, OpensBeside}
-use Rattle.pssm_model.proofs.ElementLaws.{mapped_at, leaves_at, enters_at, kind_at}
+use Rattle.pssm_plan.specs.inner.OverRoutes.{GoesAs, IsEndOf, IsSpan, IsArea, LiesInArea, EndsOn, IsPassedBy, IsEnteredBy, EndsIn, LeavesOwner, EndsOnChoice, IsHistoryFor, EndsOnHistory, OpensBeside}
+use Rattle.pssm_model.proofs.ElementLaws.{mapped_some, mapped_at, leaves_at, enters_at, kind_at}
 use Rattle.pssm_model.proofs.OwnerChains.{top_lies_nowhere, counted_is_place}
 use Rattle.pssm_model.proofs.Nesting.{under_cases, shallower}
 use Rattle.pssm_plan.proofs.Depths.{owner_under, depth_under}
@@ -33,6 +35,10 @@ use Rattle.pssm_plan.proofs.Known.{Known, known_as, known_both, known_either, kn
 -- the region of a number
 abbrev region_of : ℕ → RegionId
 region_of k = record { 0 = k }
+
+-- the vertex of a number
+abbrev vertex_of : ℕ → VertexId
+vertex_of k = record { 0 = k }
 
 known_some : (o : Option Owner) (p : Owner) → Known (o ≡ Some p)
 known_some None p = inr (λ e. cc)
@@ -295,6 +301,43 @@ module _ {m : DraftMachine} (shape : HasShape m) where
       known_both
       (known_as (λ h. subst (EndsOn m p) h.2 h.1) (λ h. (c, h, refl)) (known_end m (λ v. v ≡ c) (λ v. known_vertex v c) p))
       (known_vertex_kind m c kinds.Choice)
+
+  -- a history vertex on which it ends
+  known_history_kind : (v : VertexId) (mode : Mode) → Known (IsHistoryFor m v mode)
+  known_history_kind v Plain = inr (λ none. none)
+  known_history_kind v Shallow = known_vertex_kind m v kinds.ShallowHistory
+  known_history_kind v Deep = known_vertex_kind m v kinds.DeepHistory
+
+  pub known_end_history : (p : Route) (r : RegionId) (mode : Mode) → Known (EndsOnHistory m p r mode)
+  known_end_history p r mode =
+      known_as
+      (λ h. (h.0, h.1, h.2.0, h.2.1))
+      (λ h. (h.0, h.1, (h.2, h.3)))
+      (known_end m
+      (λ v. IsHistoryFor m v mode × (owner_of m (State v) ≡ Some (Region r)))
+      (λ v. known_both (known_history_kind v mode) (known_owner m (State v) (Region r)))
+      p)
+
+  -- a history vertex of the region
+  pub known_history : (r : RegionId) (mode : Mode) → Known ((v : VertexId) × IsHistoryFor m v mode × (owner_of m (State v) ≡ Some (Region r)))
+  known_history r mode =
+      known_as
+      (λ h. (vertex_of h.0, h.2.0, h.2.1))
+      (λ h. (h.0.0, history_there h.0 mode h.1, (h.1, h.2)))
+      (known_below
+      (λ k. IsHistoryFor m (vertex_of k) mode × (owner_of m (State (vertex_of k)) ≡ Some (Region r)))
+      (λ k. known_both (known_history_kind (vertex_of k) mode) (known_owner m (State (vertex_of k)) (Region r)))
+      (length m.vertices))
+    where
+      kind_there : (v : VertexId) (kind : VertexKind) → HasKind m v kind → v.0 < length m.vertices
+      kind_there v kind h =
+          let at = mapped_some (λ (x : Vertex). x.kind) (vertex_at m v) kind h in
+          slice_get_within m.vertices v.0 at.0 at.1
+
+      history_there : (v : VertexId) (way : Mode) → IsHistoryFor m v way → v.0 < length m.vertices
+      history_there v Plain h = absurd h
+      history_there v Shallow h = kind_there v kinds.ShallowHistory h
+      history_there v Deep h = kind_there v kinds.DeepHistory h
 
   pub known_beside : (p : Route) (r : RegionId) → Known (OpensBeside m p r)
   known_beside p r =

@@ -30,6 +30,7 @@ pub mod KnownItems
 pub mod StepLengths
 pub mod ReadyOrOut
 pub mod SteadyPlaces
+pub mod Arrivals
 pub mod SteadyApart
 pub mod SteadyItems
 pub mod SteadyStems

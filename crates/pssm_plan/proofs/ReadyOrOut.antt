@@ -1,34 +1,38 @@
 -- A step of a plainly nested machine has run out, or has a ready item, where the configuration at its head is known.
-use Rattle.std.proofs.Common.{List, ◌⊎◌, ◌<◌, ℕ, length, inl, inr, ⊎_elim}
+use Rattle.std.proofs.Common.{List, ◌≡◌, ◌⊎◌, ◌<◌, ℕ, length, inl, inr, ⊎_elim}
 use Rattle.pssm_model.specs.declared.ids.VertexId.{VertexId}
 use Rattle.pssm_model.specs.declared.ids.RegionId.{RegionId}
 use Rattle.pssm_model.specs.declared.ids.TransId.{TransId}
 use Rattle.pssm_model.specs.declared.elements.DraftMachine.{DraftMachine}
 use Rattle.pssm_model.specs.declared.elements.Owner.TheVariants.{Top, Region, State}
+use Rattle.pssm_model.specs.declared.steps.Route.{Route}
+use Rattle.pssm_model.specs.declared.steps.Mode.{Mode}
 use Rattle.pssm_model.specs.declared.steps.Mode.TheVariants.{Plain, Shallow, Deep}
 use Rattle.pssm_model.specs.declared.steps.How.{How}
 use Rattle.pssm_model.specs.declared.steps.Item.{Item}
 use Rattle.pssm_model.specs.declared.steps.Item.TheVariants as items
 use Rattle.pssm_model.specs.Shapes.{HasShape}
 use Rattle.pssm_model.specs.Configuration.{Configuration}
-use Rattle.pssm_model.specs.Course.{Head, Course, HasRun}
+use Rattle.pssm_model.specs.Course.{Head, Course, HasRun, HasRestored}
 use Rattle.pssm_model.specs.Course.Head.{Starts, Fires}
-use Rattle.pssm_model.specs.Items.{StartOpens, IsWaiting, HasRunOut}
+use Rattle.pssm_model.specs.Items.{restored_mode, StartOpens, IsWaiting, HasRunOut}
 use Rattle.pssm_model.specs.Order.{HasGone, IsReady, course_by}
 use Rattle.pssm_model.specs.Nested.{IsPlainlyNested}
-use Rattle.pssm_plan.specs.inner.OverRoutes.{GoesByRoutes, EndsIn, IsEnteredBy, OpensBeside, OpensAfterEntry, IsCalledOver}
+use Rattle.pssm_plan.specs.inner.OverRoutes.{GoesByRoutes, EndsIn, IsEnteredBy, OpensBeside, EndsOnHistory, OpensFor, OpensAfterEntry, IsOpenedOver, IsOpenedFor, IsCalledOver}
 use Rattle.pssm_plan.proofs.Known.{Known, known_as, known_both, known_either, known_not, known_below}
-use Rattle.pssm_plan.proofs.KnownPlaces.{known_owner, known_entered, known_ends, known_beside}
-use Rattle.pssm_plan.proofs.KnownItems.{known_over_some, known_over, known_exit, known_enter, known_pick, owning_there, some_ready}
+use Rattle.pssm_plan.proofs.KnownPlaces.{known_owner, known_entered, known_ends, known_end_history, known_beside}
+use Rattle.pssm_plan.proofs.KnownItems.{known_mode, known_some_mode, known_restored_as, known_over_some, known_over, known_exit, known_enter, known_pick, owning_there, some_ready}
 use Rattle.pssm_plan.proofs.Known.{run_known}
 use Rattle.pssm_plan.proofs.RouteItems.{called_is, called_of}
 use Rattle.pssm_plan.proofs.RouteSteps.{gone_by_routes}
 use Rattle.pssm_plan.proofs.StepLengths.{IsThere, called_there}
 
 -- what a start opens is known
-start_known : (m : DraftMachine) (head : Head) (r : RegionId) → Known (StartOpens m head (items.Opened r Plain))
-start_known m Starts r = known_owner m (Region r) Top
-start_known m (Fires routes) r = inr (λ h. h)
+start_known : (m : DraftMachine) (head : Head) (r : RegionId) (mode : Mode) → Known (StartOpens m head (items.Opened r mode))
+start_known m Starts r Plain = known_owner m (Region r) Top
+start_known m Starts r Shallow = inr (λ h. h)
+start_known m Starts r Deep = inr (λ h. h)
+start_known m (Fires routes) r mode = inr (λ h. h)
 
 -- the vertices, regions and transitions of numbers, and their items
 abbrev vertex_of : ℕ → VertexId
@@ -49,8 +53,8 @@ effect_of k = items.Effect (transition_of k)
 abbrev enter_of : ℕ → Item
 enter_of k = items.Enter (vertex_of k)
 
-abbrev opening_of : ℕ → Item
-opening_of k = items.Opened (region_of k) Plain
+abbrev opening_of : Mode → ℕ → Item
+opening_of mode k = items.Opened (region_of k) mode
 
 abbrev pick_of : ℕ → Item
 pick_of k = items.Pick (vertex_of k)
@@ -58,32 +62,60 @@ pick_of k = items.Pick (vertex_of k)
 module _ {m : DraftMachine} (nested : IsPlainlyNested m) (shape : HasShape m) (course : Course) (g : GoesByRoutes m course)
     (active : (s : VertexId) → Known (course.at_head.Active s)) where
   -- which openings are called
-  after_entry_known : (s : VertexId) (r : RegionId) → Known (OpensAfterEntry m course s r)
-  after_entry_known s r =
-      known_as
-      (λ h. (h.0, h.1.0, (h.1.1.0, (h.1.1.1, h.1.1.2.0), h.1.1.2.1)))
-      (λ h. (h.0, (h.1, (h.2.0, h.2.1.0, (h.2.1.1, h.2.2)))))
-      (known_both
-      (run_known course (items.Enter s))
-      (known_both
-      (known_owner m (Region r) (State s))
-      (known_over_some nested shape course g active
-      (λ p. IsEnteredBy m p s × (EndsIn m p r → ⊥))
-      (λ p. known_both (known_entered shape p s) (known_not (known_ends shape p r))))))
-
-  opening_known : (r : RegionId) → Known (IsCalledOver m course (items.Opened r Plain))
-  opening_known r =
+  opens_known : (s : VertexId) (r : RegionId) (mode : Mode) → Known (OpensFor m course s r mode)
+  opens_known s r mode =
       known_either
-      (start_known m course.head r)
+      (known_as
+      (λ h. (h.0, (h.1, h.2.0), h.2.1, h.2.2))
+      (λ h. (h.0, h.1.0, (h.1.1, h.2, h.3)))
+      (known_over_some nested shape course g active
+      (λ p. IsEnteredBy m p s × (EndsIn m p r → ⊥) × (mode ≡ Plain))
+      (λ p. known_as
+      (λ h. (h.0, h.1.0, h.1.1))
+      (λ h. (h.0, (h.1, h.2)))
+      (known_both (known_entered shape p s) (known_both (known_not (known_ends shape p r)) (known_mode mode Plain))))))
+      (known_as
+      (λ h. (h.0, h.1.0, h.1.1))
+      (λ h. (h.0, (h.1, h.2)))
+      (known_some_mode
+      (λ was. HasRestored course was s × (mode ≡ restored_mode was))
+      (λ was. known_both (known_restored_as course s was) (known_mode mode (restored_mode was)))))
+
+  after_entry_known : (s : VertexId) (r : RegionId) (mode : Mode) → Known (OpensAfterEntry m course s r mode)
+  after_entry_known s r mode =
+      known_as
+      (λ h. (h.0, h.1.0, h.1.1))
+      (λ h. (h.0, (h.1, h.2)))
+      (known_both (run_known course (items.Enter s)) (known_both (known_owner m (Region r) (State s)) (opens_known s r mode)))
+
+  beside_known : (r : RegionId) (mode : Mode) → Known ((p : Route) × IsOpenedOver m course p r mode)
+  beside_known r mode =
+      known_as
+      (λ h. (h.0, (h.1, h.2.0, h.2.1)))
+      (λ h. (h.0, h.1.0, (h.1.1, h.1.2)))
+      (known_over_some nested shape course g active
+      (λ p. OpensBeside m p r × (mode ≡ Plain))
+      (λ p. known_both (known_beside shape p r) (known_mode mode Plain)))
+
+  opened_for_known : (r : RegionId) (mode : Mode) → Known (IsOpenedFor m course r mode)
+  opened_for_known r mode =
+      known_either
+      (start_known m course.head r mode)
       (known_either
       (known_as
       (λ h. (vertex_of h.0, h.2))
       (λ h. (h.0.0, owning_there shape h.0 r h.1.1, h.1))
-      (known_below (λ k. OpensAfterEntry m course (vertex_of k) r) (λ k. after_entry_known (vertex_of k) r) (length m.vertices)))
+      (known_below (λ k. OpensAfterEntry m course (vertex_of k) r mode) (λ k. after_entry_known (vertex_of k) r mode) (length m.vertices)))
+      (beside_known r mode))
+
+  opening_known : (r : RegionId) (mode : Mode) → Known (IsCalledOver m course (items.Opened r mode))
+  opening_known r mode =
+      known_either
+      (opened_for_known r mode)
       (known_as
       (λ h. (h.0, (h.1, h.2)))
       (λ h. (h.0, h.1.0, h.1.1))
-      (known_over_some nested shape course g active (λ p. OpensBeside m p r) (λ p. known_beside shape p r))))
+      (known_over_some nested shape course g active (λ p. EndsOnHistory m p r mode) (λ p. known_end_history shape p r mode)))
 
   -- some item of a kind waits, or none does
   waiting_known : (item : ℕ → Item) → ((k : ℕ) → Known (IsCalledOver m course (item k))) → (n : ℕ)
@@ -97,19 +129,44 @@ module _ {m : DraftMachine} (nested : IsPlainlyNested m) (shape : HasShape m) (c
       (λ k. known_both (called k) (known_not (run_known course (item k))))
       n)
 
+  -- and so of the openings in all modes
+  in_each_mode : (P : Mode → Type 0) → P Plain → P Shallow → P Deep → (mode : Mode) → P mode
+  in_each_mode P plain shallow deep Plain = plain
+  in_each_mode P plain shallow deep Shallow = shallow
+  in_each_mode P plain shallow deep Deep = deep
+
+  openings_in : (mode : Mode)
+      → ((x : Item) × IsWaiting m course x)
+      ⊎ ((k : ℕ) → k < length m.regions → IsCalledOver m course (opening_of mode k) → HasRun course (opening_of mode k))
+  openings_in mode = waiting_known (opening_of mode) (λ k. opening_known (region_of k) mode) (length m.regions)
+
+  openings_known : ((x : Item) × IsWaiting m course x)
+      ⊎ ((mode : Mode) (k : ℕ) → k < length m.regions → IsCalledOver m course (opening_of mode k) → HasRun course (opening_of mode k))
+  openings_known =
+      ⊎_elim
+      (λ waits. inl waits)
+      (λ plain. ⊎_elim
+      (λ waits. inl waits)
+      (λ shallow. ⊎_elim
+      (λ waits. inl waits)
+      (λ deep. inr (in_each_mode
+      (λ mode. (k : ℕ) → k < length m.regions → IsCalledOver m course (opening_of mode k) → HasRun course (opening_of mode k))
+      plain shallow deep))
+      (openings_in Deep))
+      (openings_in Shallow))
+      (openings_in Plain)
+
   -- where what is called is there, and nothing that is there waits, everything called has run
   all_ran : ((k : ℕ) → k < length m.vertices → IsCalledOver m course (exit_of k) → HasRun course (exit_of k))
       → ((k : ℕ) → k < length m.transitions → IsCalledOver m course (effect_of k) → HasRun course (effect_of k))
       → ((k : ℕ) → k < length m.vertices → IsCalledOver m course (enter_of k) → HasRun course (enter_of k))
-      → ((k : ℕ) → k < length m.regions → IsCalledOver m course (opening_of k) → HasRun course (opening_of k))
+      → ((mode : Mode) (k : ℕ) → k < length m.regions → IsCalledOver m course (opening_of mode k) → HasRun course (opening_of mode k))
       → ((k : ℕ) → k < length m.vertices → IsCalledOver m course (pick_of k) → HasRun course (pick_of k))
       → (x : Item) → IsThere m x → IsCalledOver m course x → HasRun course x
   all_ran exits effects entries openings picks (items.Exit s) there h = exits s.0 there h
   all_ran exits effects entries openings picks (items.Effect t) there h = effects t.0 there h
   all_ran exits effects entries openings picks (items.Enter s) there h = entries s.0 there.0 h
-  all_ran exits effects entries openings picks (items.Opened r Plain) there h = openings r.0 there h
-  all_ran exits effects entries openings picks (items.Opened r Shallow) there h = absurd h
-  all_ran exits effects entries openings picks (items.Opened r Deep) there h = absurd h
+  all_ran exits effects entries openings picks (items.Opened r mode) there h = openings mode r.0 there h
   all_ran exits effects entries openings picks (items.Pick c) there h = picks c.0 there.0 h
 
   -- some item waits, or everything called has run
@@ -131,7 +188,7 @@ module _ {m : DraftMachine} (nested : IsPlainlyNested m) (shape : HasShape m) (c
       all_ran exits effects entries openings picks x (there x is) is
       )))
       (waiting_known pick_of (λ k. known_pick nested shape course g active (vertex_of k)) (length m.vertices)))
-      (waiting_known opening_of (λ k. opening_known (region_of k)) (length m.regions)))
+      openings_known)
       (waiting_known enter_of (λ k. known_enter nested shape course g active (vertex_of k)) (length m.vertices)))
       (waiting_known effect_of (λ k. known_over nested shape course g active (transition_of k)) (length m.transitions)))
       (waiting_known exit_of (λ k. known_exit nested shape course g active (vertex_of k)) (length m.vertices))

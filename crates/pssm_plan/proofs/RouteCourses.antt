@@ -1,18 +1,23 @@
 -- What a step over junctions calls names parts of the machine.
 use Rattle.std.proofs.Common.{◌<◌, length, subst, ◌∙◌, ⊎_elim}
 use Rattle.std.proofs.lemmas.List.Elements.{All-contains}
+use Rattle.std.proofs.lemmas.Option.{slice_get_within}
 use Rattle.pssm_model.specs.declared.ids.VertexId.{VertexId}
 use Rattle.pssm_model.specs.declared.ids.RegionId.{RegionId}
 use Rattle.pssm_model.specs.declared.ids.TransId.{TransId}
 use Rattle.pssm_model.specs.declared.elements.DraftMachine.{DraftMachine}
 use Rattle.pssm_model.specs.declared.elements.Transition.{Transition}
+use Rattle.pssm_model.specs.declared.elements.Vertex.{Vertex}
+use Rattle.pssm_model.specs.declared.elements.VertexKind.TheVariants as kinds
 use Rattle.pssm_model.specs.declared.elements.Owner.TheVariants.{Top, Region, State}
 use Rattle.pssm_model.specs.declared.steps.Route.{Route}
+use Rattle.pssm_model.specs.declared.steps.Mode.{Mode}
 use Rattle.pssm_model.specs.declared.steps.Mode.TheVariants.{Plain, Shallow, Deep}
 use Rattle.pssm_model.specs.declared.steps.Item.{Item}
 use Rattle.pssm_model.specs.declared.steps.Item.TheVariants as items
 use Rattle.pssm_model.specs.Shapes.{HasShape}
-use Rattle.pssm_model.specs.Forest.{transition_at}
+use Rattle.pssm_model.specs.Forest.{vertex_at, transition_at}
+use Rattle.pssm_model.specs.Forest.LiesUnder.{owned}
 use Rattle.pssm_model.specs.Legs.{transitions_of}
 use Rattle.pssm_model.specs.Course.{Head, Course}
 use Rattle.pssm_model.specs.Course.Head.{Starts, Fires}
@@ -21,7 +26,7 @@ use Rattle.pssm_plan.specs.inner.OverRoutes.{LiesInArea, IsEnteredBy, EndsOnChoi
 use Rattle.pssm_legs.specs.Calls.{IsItemIn}
 use Rattle.pssm_model.proofs.ElementLaws.{mapped_some}
 use Rattle.pssm_model.proofs.OwnerChains.{owned_is_place}
-use Rattle.pssm_plan.proofs.Depths.{scope_there}
+use Rattle.pssm_plan.proofs.Depths.{scope_there, region_there}
 
 module _ (m : DraftMachine) where
   -- what lies where a route exits and enters is a vertex of the machine, and so is what it enters
@@ -47,23 +52,36 @@ module _ (m : DraftMachine) where
       subst (λ (v : VertexId). v.0 < length m.vertices) x.2 (shape.ends last.0 x.0 x.1).1
 
 module _ {m : DraftMachine} (shape : HasShape m) (course : Course) (g : GoesByRoutes m course) where
+  -- a region that is opened
+  region_at : (head : Head) (r : RegionId) (mode : Mode) → StartOpens m head (items.Opened r mode) → r.0 < length m.regions
+  region_at Starts r Plain starts = owned_is_place m (Region r) Top starts
+  region_at Starts r Shallow starts = absurd starts
+  region_at Starts r Deep starts = absurd starts
+  region_at (Fires routes) r mode starts = absurd starts
+
+  opened_there : (r : RegionId) (mode : Mode) → IsCalledOver m course (items.Opened r mode) → r.0 < length m.regions
+  opened_there r mode h =
+      ⊎_elim
+      (⊎_elim
+      (λ starts. region_at course.head r mode starts)
+      (⊎_elim
+      (λ after. owned_is_place m (Region r) (State after.0) after.1.1)
+      (λ beside. (let owner = beside.1.1.1 in owned_is_place m (Region r) (State owner.0) owner.2))))
+      (λ over. (let ends = over.1.1 in region_there m shape ends.0 r (owned ends.3)))
+      h
+
   -- what it calls
   pub called_there : (x : Item) → IsCalledOver m course x → IsItemIn m x
   called_there (items.Exit s) h = area_there m h.0 s h.1.2
   called_there (items.Effect t) h =
       All-contains (λ (u : TransId). u.0 < length m.transitions) (transitions_of h.0) t (g.routes h.0 h.1).in_range h.2
-  called_there (items.Enter s) h = entered_there m shape h.0 s h.1.1
-  called_there (items.Opened r Plain) h =
+  called_there (items.Enter s) h =
       ⊎_elim
-      (λ starts. region_at course.head r starts)
-      (⊎_elim
-      (λ after. owned_is_place m (Region r) (State after.0) after.1.1)
-      (λ beside. (let owner = beside.1.1.1 in owned_is_place m (Region r) (State owner.0) owner.2)))
+      (λ over. entered_there m shape over.0 s over.1.1)
+      (λ back. (
+      let at = mapped_some (λ (x : Vertex). x.kind) (vertex_at m s) kinds.State (g.restored back.0 s back.1) in
+      slice_get_within m.vertices s.0 at.0 at.1
+      ))
       h
-    where
-      region_at : (head : Head) (q : RegionId) → StartOpens m head (items.Opened q Plain) → q.0 < length m.regions
-      region_at Starts q starts = owned_is_place m (Region q) Top starts
-      region_at (Fires routes) q starts = absurd starts
-  called_there (items.Opened r Shallow) h = absurd h
-  called_there (items.Opened r Deep) h = absurd h
+  called_there (items.Opened r mode) h = opened_there r mode h
   called_there (items.Pick c) h = picked_there m shape h.0 c h.1.1

@@ -23,7 +23,7 @@ use Rattle.pssm_model.specs.Items.{IsAimedAt, LegEnds, LegOpens}
 use Rattle.pssm_model.specs.Routes.{IsRoute, IsSource}
 use Rattle.pssm_model.specs.SingleLegs.{HasSingleLegs}
 use Rattle.pssm_model.specs.Nested.{IsPlainlyNested}
-use Rattle.pssm_plan.specs.inner.OverRoutes.{GoesAs, IsEndOf, IsArea, LiesInArea, EndsOn, IsEnteredBy, EndsIn, EndsOnChoice, OpensBeside}
+use Rattle.pssm_plan.specs.inner.OverRoutes.{GoesAs, IsEndOf, IsArea, LiesInArea, EndsOn, IsEnteredBy, EndsIn, CallsAtEnd, OpensBeside}
 use Rattle.pssm_model.proofs.ElementLaws.{mapped_at}
 use Rattle.pssm_model.proofs.StateRoutes.{is_start, source_is_left}
 use Rattle.pssm_model.proofs.OverJunctions.{single_legs, IsEndKind, end_kind, other_kind, internal_leaves, local_leaves}
@@ -190,18 +190,24 @@ module _ {m : DraftMachine} (nested : IsPlainlyNested m) (shape : HasShape m) (p
     pub aimed_of : (a : TransId) (r : RegionId) → On p a → EndsIn m p r → IsAimedAt m p a r
     aimed_of a r on h = (a, h.0, inl (itself on), last_vertex_of a h.0 on h.1, h.2)
 
-    -- at its end the choice is picked on which it ends, and nothing else is called there
-    pub leg_end_is : (a : TransId) (item : Item) → LegEnds m p a item → (c : VertexId) × (item ≡ items.Pick c) × On p a × EndsOnChoice m p c
+    -- at its end it calls what its route calls there
+    pub leg_end_is : (a : TransId) (item : Item) → LegEnds m p a item → On p a × CallsAtEnd m p item
     leg_end_is a (items.Exit s) h = absurd h
     leg_end_is a (items.Effect u) h = absurd h
     leg_end_is a (items.Enter s) h = absurd h
     leg_end_is a (items.Opened r Plain) h = absurd h
-    leg_end_is a (items.Opened r Shallow) h = absurd (nested.forgets h.0 (inl h.2))
-    leg_end_is a (items.Opened r Deep) h = absurd (nested.forgets h.0 (inr h.2))
-    leg_end_is a (items.Pick c) h = (c, refl, leg_begins_on m p a h.0.0 h.0.1, (last_vertex_is a c h.0, h.1))
+    leg_end_is a (items.Opened r Shallow) h = (leg_begins_on m p a h.1.0 h.1.1, (h.0, last_vertex_is a h.0 h.1, h.2, h.3))
+    leg_end_is a (items.Opened r Deep) h = (leg_begins_on m p a h.1.0 h.1.1, (h.0, last_vertex_is a h.0 h.1, h.2, h.3))
+    leg_end_is a (items.Pick c) h = (leg_begins_on m p a h.0.0 h.0.1, (last_vertex_is a c h.0, h.1))
 
-    pub leg_end_of : (a : TransId) (c : VertexId) → On p a → EndsOnChoice m p c → LegEnds m p a (items.Pick c)
-    leg_end_of a c on h = (last_vertex_of a c on h.0, h.1)
+    pub leg_end_of : (a : TransId) (item : Item) → On p a → CallsAtEnd m p item → LegEnds m p a item
+    leg_end_of a (items.Exit s) on h = absurd h
+    leg_end_of a (items.Effect u) on h = absurd h
+    leg_end_of a (items.Enter s) on h = absurd h
+    leg_end_of a (items.Opened r Plain) on h = absurd h.2
+    leg_end_of a (items.Opened r Shallow) on h = (h.0, last_vertex_of a h.0 on h.1, h.2, h.3)
+    leg_end_of a (items.Opened r Deep) on h = (h.0, last_vertex_of a h.0 on h.1, h.2, h.3)
+    leg_end_of a (items.Pick c) on h = (last_vertex_of a c on h.0, h.1)
 
     -- a local one opens the regions of its State in which it does not end
     pub leg_opening_is : (a : TransId) (item : Item) → LegOpens m p a item → (r : RegionId) × (item ≡ items.Opened r Plain) × On p a × OpensBeside m p r

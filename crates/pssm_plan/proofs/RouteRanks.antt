@@ -19,7 +19,6 @@ use Rattle.pssm_model.specs.declared.elements.Owner.TheVariants.{Region, State}
 use Rattle.pssm_model.specs.declared.elements.FaultPlace.TheVariants as places
 use Rattle.pssm_model.specs.declared.elements.Element.TheVariants as elements
 use Rattle.pssm_model.specs.declared.steps.Route.{Route}
-use Rattle.pssm_model.specs.declared.steps.Mode.TheVariants.{Plain, Shallow, Deep}
 use Rattle.pssm_model.specs.declared.steps.Item.{Item}
 use Rattle.pssm_model.specs.declared.steps.Item.TheVariants as items
 use Rattle.pssm_model.specs.Shapes.{HasShape}
@@ -127,7 +126,7 @@ abbrev pub HasRank : DraftMachine → Item → ℕ → Type 0
 HasRank m (items.Exit s) n = (d : ℕ) × HasRegionsAbove m (State s) d × (n + d ≡ 32)
 HasRank m (items.Effect t) n = (d : ℕ) × (n ≡ 33 + d) × (d ≤ length m.vertices) × ((vs : List ℕ) → LeadsBack m t vs → length vs ≤ d)
 HasRank m (items.Enter s) n = (d : ℕ) × HasRegionsAbove m (State s) d × (n ≡ 34 + length m.vertices + d)
-HasRank m (items.Opened r mode) n = n ≡ 34 + length m.vertices
+HasRank m (items.Opened r mode) n = n ≡ 67 + length m.vertices
 HasRank m (items.Pick c) n = n ≡ 67 + length m.vertices
 
 module _ {m : DraftMachine} (nested : IsPlainlyNested m) (shape : HasShape m) where
@@ -161,9 +160,12 @@ module _ {m : DraftMachine} (nested : IsPlainlyNested m) (shape : HasShape m) wh
       (rank.0, rank.1)
   called_rank course g (items.Effect t) h = (33 + length m.vertices, effect_rank t)
   called_rank course g (items.Enter s) h =
-      let rank = enter_rank s (entered_depth h.0 s h.1.1) in
+      let rank = enter_rank s (⊎_elim
+      (λ over. entered_depth over.0 s over.1.1)
+      (λ back. depth_of_kind shape s kinds.State (g.restored back.0 s back.1))
+      h) in
       (rank.0, rank.1)
-  called_rank course g (items.Opened r mode) h = (34 + length m.vertices, refl)
+  called_rank course g (items.Opened r mode) h = (67 + length m.vertices, refl)
   called_rank course g (items.Pick c) h = (67 + length m.vertices, refl)
 
   pub rank_of_called : (course : Course) → GoesByRoutes m course → (item : Item) → Called m course item → (n : ℕ) × HasRank m item n
@@ -221,18 +223,19 @@ module _ {m : DraftMachine} (nested : IsPlainlyNested m) (shape : HasShape m) wh
       (mine.0, mine.1, omega (arith, rank.1))
   ordered_rank course (items.Effect t) (items.Effect u) k h rank = path_rank h.0 t u k h.2 rank
   ordered_rank course (items.Effect t) (items.Enter s) k h rank = (33 + length m.vertices, effect_rank t, omega (arith, rank.2))
-  ordered_rank course (items.Effect t) (items.Opened r Plain) k h rank = (33 + length m.vertices, effect_rank t, omega (arith, rank))
+  ordered_rank course (items.Effect t) (items.Opened r mode) k h rank = (33 + length m.vertices, effect_rank t, omega (arith, rank))
   ordered_rank course (items.Enter s) (items.Enter q) k h rank = outer_enter_rank s q k h rank
   ordered_rank course (items.Exit s) (items.Enter q) k h rank = absurd h
   ordered_rank course (items.Exit s) (items.Opened r mode) k h rank = absurd h
   ordered_rank course (items.Exit s) (items.Pick c) k h rank = absurd h
   ordered_rank course (items.Effect t) (items.Exit q) k h rank = absurd h
-  ordered_rank course (items.Effect t) (items.Opened r Shallow) k h rank = absurd h
-  ordered_rank course (items.Effect t) (items.Opened r Deep) k h rank = absurd h
   ordered_rank course (items.Effect t) (items.Pick c) k h rank = (33 + length m.vertices, effect_rank t, omega (arith, rank))
   ordered_rank course (items.Enter s) (items.Exit q) k h rank = absurd h
   ordered_rank course (items.Enter s) (items.Effect t) k h rank = absurd h
-  ordered_rank course (items.Enter s) (items.Opened r mode) k h rank = absurd h
+  ordered_rank course (items.Enter s) (items.Opened r mode) k h rank =
+      let mine = enter_rank s (entered_depth h.0 s h.2) in
+      let lt : mine.0 < 67 + length m.vertices = mine.2 in
+      (mine.0, mine.1, omega (arith, rank, lt))
   ordered_rank course (items.Enter s) (items.Pick c) k h rank =
       let mine = enter_rank s (entered_depth h.0 s h.2) in
       let lt : mine.0 < 67 + length m.vertices = mine.2 in

@@ -11,10 +11,10 @@ use Rattle.pssm_model.specs.declared.steps.How.{How}
 use Rattle.pssm_model.specs.declared.steps.How.TheVariants.{By, Restore, Nothing}
 use Rattle.pssm_model.specs.declared.steps.Item.{Item}
 use Rattle.pssm_model.specs.declared.steps.Item.TheVariants as items
-use Rattle.pssm_model.specs.Forest.{HasKind, IsStateOrFinal, owner_of, LiesUnder, LiesInRegion}
+use Rattle.pssm_model.specs.Forest.{HasKind, IsStateOrFinal, owner_of, LiesUnder, LiesInRegion, IsWithin}
 use Rattle.pssm_model.specs.Forest.LiesUnder.{owned, further}
 use Rattle.pssm_model.specs.Shapes.{HasShape}
-use Rattle.pssm_model.specs.declared.steps.Mode.TheVariants.{Plain}
+use Rattle.pssm_model.specs.declared.steps.Mode.{Mode}
 use Rattle.pssm_model.specs.Configuration.{Configuration, IsDirect}
 use Rattle.pssm_model.specs.Changes.{entered, exited}
 use Rattle.pssm_model.specs.Course.{Head, FiresBy, HasRun}
@@ -24,7 +24,7 @@ use Rattle.pssm_model.specs.Nested.{IsPlainlyNested}
 use Rattle.pssm_model.specs.Routes.{IsSource}
 use Rattle.pssm_config.specs.Tables.{CanEnter}
 use Rattle.pssm_plan.specs.Steadiness.{IsConsistent, KeepsInitials, BeginsWell, changed_by_item, changed_along}
-use Rattle.pssm_plan.specs.inner.OverRoutes.{IsArea, GoesBy, IsEnteredBy, IsEnteredOver, IsCalledOver}
+use Rattle.pssm_plan.specs.inner.OverRoutes.{IsArea, IsEnteredBy, IsEnteredOver, IsOpenedFor, IsCalledOver}
 use Rattle.pssm_model.specs.Legs.{Scope}
 use Rattle.pssm_model.specs.Legs.Scope.{Nowhere, Inside, Within}
 use Rattle.pssm_model.proofs.OwnerChains.{one_owner, owner_above, under_further}
@@ -32,10 +32,12 @@ use Rattle.pssm_model.proofs.StateRoutes.{is_start, state_route_from}
 use Rattle.pssm_model.proofs.OverJunctions.{other_kind, single_legs}
 use Rattle.pssm_plan.proofs.RouteItems.{called_is, called_of, before_of}
 use Rattle.pssm_plan.proofs.RouteSteps.{gone_by_routes}
-use Rattle.pssm_plan.proofs.SteadyPlaces.{IsRegionIn, IsEdge, same_state, one_reached, home_of_state, home_above, edge_or_outer, home_in_scope, region_in_scope, around_in_scope, source_is_end, beside_at_edge, late_in, late_area, choice_in_area, choice_enters, entered_fills, entered_reached}
+use Rattle.pssm_plan.proofs.SteadyPlaces.{IsRegionIn, IsEdge, same_state, same_region_place, no_circle, one_reached, home_of_state, home_above, edge_or_outer, home_in_scope, region_in_scope, around_in_scope, source_is_end, beside_at_edge, late_end_in_area, late_end_enters}
+use Rattle.pssm_plan.proofs.Arrivals.{Arrival, Arrives, EntersBy, IsPlace, IsProper, enterer_of, entered_stand, entered_under, entered_is_state, entered_fill, comes_area}
+use Rattle.pssm_plan.proofs.Arrivals.Arrival.{Along, Back}
 use Rattle.pssm_plan.proofs.SteadyApart.{IsFired, IsFiredAround, edge_owner_stays}
-use Rattle.pssm_plan.proofs.SteadyStems.{IsPickedBy, Stems, ran_was_called, stems, step_route}
-use Rattle.pssm_plan.proofs.SteadyStems.Stems.{fires as stem_fires, opens as stem_opens, picks as stem_picks}
+use Rattle.pssm_plan.proofs.SteadyStems.{IsNextBy, Stems, ran_was_called, stems, proper, step_route}
+use Rattle.pssm_plan.proofs.SteadyStems.Stems.{fires as stem_fires, opens as stem_opens, goes_on as stem_goes_on}
 use Rattle.pssm_plan.proofs.SteadyChains.{Continues, entered_along}
 use Rattle.pssm_plan.proofs.SteadyItems.{starts_at, is_fired, exited_around, ready_after_exits, over_area, beside_fires, inside_fired}
 use Rattle.pssm_plan.proofs.SteadyFilling.{one_fills}
@@ -72,42 +74,40 @@ module _ {m : DraftMachine} (shape : HasShape m) (now : Configuration) (consiste
 
 module _ {m : DraftMachine} (shape : HasShape m) (nested : IsPlainlyNested m) (initials : KeepsInitials m)
     (head : Head) (now : Configuration) (begins : BeginsWell m head now) where
-  -- what is entered is a State or final state
-  entered_is_state : (p : Route) (s : VertexId) → IsEnteredBy m p s → IsStateOrFinal m s
-  entered_is_state p s h =
-      ⊎_elim
-      (λ same. subst (λ v. IsStateOrFinal m v) same.0 same.1)
-      (λ inside. inl (shape.regions inside.1.0 (State s) inside.1.1).0)
-      h.1.2
+  -- what the step comes by
+  came_by : (ran : List (Item × How)) → HasGone m head now ran → (x : Arrival) → Arrives (course_by head now ran) x → IsProper m x
+  came_by ran gone x came = proper shape nested head now begins ran gone x came
 
-  -- two States of one region that routes on one chain enter are the same
-  entered_on_chain : (ran : List (Item × How)) → HasGone m head now ran → (r : RegionId) (s v : VertexId) (p u : Route)
+  -- two States of one region that arrivals on one chain enter are the same
+  entered_on_chain : (ran : List (Item × How)) → HasGone m head now ran → (r : RegionId) (s v : VertexId) (x u : Arrival)
       → owner_of m (State s) ≡ Some (Region r) → owner_of m (State v) ≡ Some (Region r)
-      → IsEnteredOver m (course_by head now ran) p s → IsEnteredOver m (course_by head now ran) u v
-      → Continues m (course_by head now ran) p u → s ≡ v
-  entered_on_chain ran gone r s v p u e f first second chain =
-      let target = second.1.1 in
-      let step = step_route shape nested head now ran gone u second.0 in
+      → Arrives (course_by head now ran) x → Arrives (course_by head now ran) u → EntersBy m x s → EntersBy m u v
+      → Continues m (course_by head now ran) x u → s ≡ v
+  entered_on_chain ran gone r s v x u e f came too first second chain =
+      let target = entered_stand shape nested u v second in
+      let is = came_by ran gone u too in
       one_reached shape target.0 s v r e f
       (⊎_elim
-      (λ same. entered_reached shape nested u s target.0 step (subst (λ x. IsEnteredBy m x s) same first.1) target.1)
+      (λ same. entered_under shape nested u s target.0 is (subst (λ y. EntersBy m y s) same first) target.1)
       (λ under. inr (under_further (under.3 target.0 target.1) (owned under.1)))
-      (entered_along shape nested head now ran gone p u s first.0 chain first.1))
-      (entered_reached shape nested u v target.0 step second.1 target.1)
+      (entered_along shape nested head now begins ran gone x u s came chain first))
+      (entered_under shape nested u v target.0 is second target.1)
 
   -- and so are any two of one region that are entered
   entered_once : (ran : List (Item × How)) → HasGone m head now ran → (r : RegionId) (s v : VertexId)
       → owner_of m (State s) ≡ Some (Region r) → owner_of m (State v) ≡ Some (Region r)
       → IsCalledOver m (course_by head now ran) (items.Enter s)
       → IsCalledOver m (course_by head now ran) (items.Enter v) → s ≡ v
-  entered_once ran gone r s v e f first second =
+  entered_once ran gone r s v e f called also =
+      let first = enterer_of m (course_by head now ran) s called in
+      let second = enterer_of m (course_by head now ran) v also in
       let above = home_above shape s r e in
       ⊎_elim
-      (λ ahead. entered_on_chain ran gone r s v first.0 second.0 e f first.1 second.1 ahead)
-      (λ behind. sym (entered_on_chain ran gone r v s second.0 first.0 f e second.1 first.1 behind))
-      (one_fills shape nested head now begins ran gone r above.0 above.1 first.0 second.0 first.1.0 second.1.0
-      (entered_fills shape nested first.0 s r (step_route shape nested head now ran gone first.0 first.1.0) e first.1.1)
-      (entered_fills shape nested second.0 v r (step_route shape nested head now ran gone second.0 second.1.0) f second.1.1))
+      (λ ahead. entered_on_chain ran gone r s v first.0 second.0 e f first.1 second.1 first.2 second.2 ahead)
+      (λ behind. sym (entered_on_chain ran gone r v s second.0 first.0 f e second.1 first.1 second.2 first.2 behind))
+      (one_fills shape nested head now begins ran gone r above.0 above.1 first.0 second.0 first.1 second.1
+      (entered_fill shape nested first.0 s r (came_by ran gone first.0 first.1) e first.2)
+      (entered_fill shape nested second.0 v r (came_by ran gone second.0 second.1) f second.2))
 
   -- the region of a State whose entry is ready has no active direct vertex
   vacant : (ran : List (Item × How)) → HasGone m head now ran → (r : RegionId) (s v : VertexId)
@@ -115,10 +115,11 @@ module _ {m : DraftMachine} (shape : HasShape m) (nested : IsPlainlyNested m) (i
       → (changed_along m now ran).Active v → ⊥
   vacant ran gone r s v ready e f active =
       let course = course_by head now ran in
-      let over = called_is nested shape course (gone_by_routes nested shape head now ran gone) (items.Enter s) ready.waiting.called in
+      let called = called_is nested shape course (gone_by_routes nested shape head now ran gone) (items.Enter s) ready.waiting.called in
+      let over = enterer_of m course s called in
       ⊎_elim
       (λ entry. (
-      let same = entered_once ran gone r s v e.0 f.0 over (ran_was_called shape nested head now ran gone (items.Enter v) entry) in
+      let same = entered_once ran gone r s v e.0 f.0 called (ran_was_called shape nested head now ran gone (items.Enter v) entry) in
       ready.waiting.not_run (subst (λ x. HasRun course (items.Enter x)) (sym same) entry)
       ))
       (λ left. ⊎_elim
@@ -130,7 +131,7 @@ module _ {m : DraftMachine} (shape : HasShape m) (nested : IsPlainlyNested m) (i
       left.1 (ready_after_exits shape nested head now begins ran gone fires.0 s v fires.1 around ready
       (fires.0, (fires.1.0.0, left.0, around.1)))
       ))
-      (inside_fired shape nested head now ran gone over.0 s over.1))
+      (inside_fired shape nested head now begins ran gone over.0 s over.1 over.2))
       ((active_is shape nested initials head now begins ran gone v).0 active)
 
   -- a State whose entry is ready may become active
@@ -138,9 +139,10 @@ module _ {m : DraftMachine} (shape : HasShape m) (nested : IsPlainlyNested m) (i
       → IsReady m (course_by head now ran) (items.Enter s)
       → CanEnter m (changed_along m now ran) s
   may_enter ran gone s ready =
-      let over = called_is nested shape (course_by head now ran) (gone_by_routes nested shape head now ran gone) (items.Enter s) ready.waiting.called in
+      let course = course_by head now ran in
+      let over = enterer_of m course s (called_is nested shape course (gone_by_routes nested shape head now ran gone) (items.Enter s) ready.waiting.called) in
       record {
-        state = entered_is_state over.0 s over.1.1;
+        state = entered_is_state shape nested over.0 s (came_by ran gone over.0 over.1) over.2;
         vacant = λ r v e f active. vacant ran gone r s v ready e f active;
       }
 
@@ -216,49 +218,48 @@ module _ {m : DraftMachine} (shape : HasShape m) (nested : IsPlainlyNested m) (i
         )),
       )
 
-  -- so where a region is opened
-  opened_owner : (ran : List (Item × How)) → HasGone m head now ran → (r : RegionId) → IsCalledOver m (course_by head now ran) (items.Opened r Plain)
+  -- so where a region is opened by the start, for an entry or beside what is entered
+  opened_owner : (ran : List (Item × How)) → HasGone m head now ran → (r : RegionId) (mode : Mode) → IsOpenedFor m (course_by head now ran) r mode
       → IsOwnerActive ran r
-  opened_owner ran gone r called =
+  opened_owner ran gone r mode called =
       ⊎_elim
-      (λ starts. inl (starts_at m head r starts).1)
+      (λ starts. inl (starts_at m head r mode starts).1)
       (⊎_elim
       (λ at. inr (at.0, at.1.1, (active_is shape nested initials head now begins ran gone at.0).1 (inl at.1.0)))
       (λ beside. (
-      let fires = beside_fires shape nested head now ran gone beside.0 r beside.1 in
+      let fires = beside_fires shape nested head now ran gone beside.0 r mode beside.1 in
       let wide = over_area shape nested head now ran gone beside.0 (inl fires) in
       let at = (beside_at_edge m beside.0 r wide.0 beside.1.1 wide.1).0 in
       fired_owner ran gone beside.0 r beside.1.1.1.0 wide.0 fires wide.1 at beside.1.1.1.2
       )))
       called
 
-  -- a State around a choice that has been left is entered, where what has ended on the choice enters it
-  around_choice : (ran : List (Item × How)) → HasGone m head now ran → (w u : Route) (c o : VertexId) (r h : RegionId) (area : Scope)
-      → IsPickedBy m (course_by head now ran) w u c → IsArea m w area → IsRegionIn m h area → owner_of m (Region r) ≡ Some (State o)
-      → owner_of m (State o) ≡ Some (Region h) → owner_of m (State c) ≡ Some (Region r) → IsOwnerActive ran r
-  around_choice ran gone w u c o r h area by is inside e f home =
+  -- a State around a choice or history from which the step has gone on is entered, where what has ended there enters it
+  around_end : (ran : List (Item × How)) → HasGone m head now ran → (w : Route) (u : Arrival) (c o : VertexId) (r h : RegionId) (area : Scope)
+      → IsNextBy m (course_by head now ran) w u c r → IsArea m w area → IsRegionIn m h area → owner_of m (Region r) ≡ Some (State o)
+      → owner_of m (State o) ≡ Some (Region h) → IsOwnerActive ran r
+  around_end ran gone w u c o r h area by is inside e f =
       let lies = region_in_scope shape o h area (owned f) inside in
       let step = step_route shape nested head now ran gone w by.goes in
-      let entry = by.entries o (choice_enters shape nested w c o step by.ends (area, is, lies) (r, e, owned home)) in
+      let entry = by.entries o (late_end_enters shape nested w c o step by.ends (area, is, lies) (r, e, owned by.home)) in
       inr (o, e, (active_is shape nested initials head now begins ran gone o).1 (inl entry))
 
-  -- so it is where a region is all of the place of a route
-  stem_owner : (ran : List (Item × How)) → HasGone m head now ran → (p : Route) (r : RegionId) (o : VertexId) (area : Scope)
-      → Stems m (course_by head now ran) p → IsArea m p area → IsEdge m r area → owner_of m (Region r) ≡ Some (State o) → IsOwnerActive ran r
-  stem_owner ran gone p r o area (stem_fires fires) is edge e = fired_owner ran gone p r o area fires is edge e
-  stem_owner ran gone p r o area (stem_opens {r = k} {v = v} by) is edge e =
-      let same : r ≡ k = subst (λ x. IsEdge m r x) (late_area shape nested p k v by.0.1 area is) edge in
-      opened_owner ran gone r (subst (λ x. IsCalledOver m (course_by head now ran) (items.Opened x Plain)) (sym same) by.0.2)
-  stem_owner ran gone p r o area (stem_picks {w = w} {c = c} before by) is edge e =
-      let at = late_in shape nested p c by.late in
-      let same : r ≡ at.0 = subst (λ x. IsEdge m r x) (late_area shape nested p at.0 c at.1 area is) edge in
-      let home = subst (λ x. owner_of m (State c) ≡ Some (Region x)) (sym same) at.1.1 in
-      let wide = choice_in_area shape nested w c (step_route shape nested head now ran gone w by.goes) by.ends in
+  -- so it is where a region is all of the place of an arrival
+  stem_owner : (ran : List (Item × How)) → HasGone m head now ran → (x : Arrival) (r : RegionId) (o : VertexId) (area : Scope)
+      → Stems m (course_by head now ran) x → IsPlace m x area → IsEdge m r area → owner_of m (Region r) ≡ Some (State o) → IsOwnerActive ran r
+  stem_owner ran gone _ r o area (stem_fires {p = p} fires) is edge e = fired_owner ran gone p r o area fires is edge e
+  stem_owner ran gone x r o area (stem_opens {r = k} {mode = mode} by) is edge e =
+      let same : r ≡ k = subst (λ a. IsEdge m r a) (comes_area shape nested x k area by.1 is) edge in
+      opened_owner ran gone r mode (subst (λ q. IsOpenedFor m (course_by head now ran) q mode) (sym same) by.0)
+  stem_owner ran gone x r o area (stem_goes_on {w = w} {c = c} {r = k} before by) is edge e =
+      let same : r ≡ k = subst (λ a. IsEdge m r a) (comes_area shape nested x k area by.comes is) edge in
+      let next = subst (λ q. IsNextBy m (course_by head now ran) w x c q) (sym same) by in
+      let wide = late_end_in_area shape nested w c (step_route shape nested head now ran gone w by.goes) by.ends in
       let outer = home_of_state shape o (inl (shape.regions r (State o) e).0) in
       ⊎_elim
-      (λ edges. stem_owner ran gone w r o wide.0 before wide.1 edges e)
-      (λ out. around_choice ran gone w p c o r outer.0 wide.0 by wide.1 out e outer.1 home)
-      (edge_or_outer shape r outer.0 o wide.0 e outer.1 (home_in_scope m c r wide.0 home wide.2))
+      (λ edges. stem_owner ran gone (Along w) r o wide.0 before wide.1 edges e)
+      (λ out. around_end ran gone w x c o r outer.0 wide.0 next wide.1 out e outer.1)
+      (edge_or_outer shape r outer.0 o wide.0 e outer.1 (home_in_scope m c r wide.0 next.home wide.2))
 
   -- where a route enters a State, it ends in the region that owns that, and on no terminate vertex
   end_of_entered : (p : Route) (q : VertexId) (r : RegionId) (h : IsEnteredBy m p q) → owner_of m (State q) ≡ Some (Region r)
@@ -285,10 +286,27 @@ module _ {m : DraftMachine} (shape : HasShape m) (nested : IsPlainlyNested m) (i
       let lies = region_in_scope shape o h area (owned home) inside in
       let last = end_of_entered p q r over.1 f in
       let called : IsCalledOver m course (items.Enter o) =
-      (p, (over.0, (over.1.0, (over.1.1.0, over.1.1.1, inr ((area, is, lies), (r, e, last.0), last.1))))) in
+      inl (p, (over.0, (over.1.0, (over.1.1.0, over.1.1.1, inr ((area, is, lies), (r, e, last.0), last.1))))) in
       let entry = ready.cleared (items.Enter o) (called_of nested shape course g (items.Enter o) called)
       (before_of nested shape course g (items.Enter o) (items.Enter q) (r, e, owned f)) in
       inr (o, e, (active_is shape nested initials head now begins ran gone o).1 (inl entry))
+
+  inner_owner_by : (ran : List (Item × How)) → HasGone m head now ran → (x : Arrival) (q o : VertexId) (r h : RegionId) (area : Scope)
+      → IsReady m (course_by head now ran) (items.Enter q) → owner_of m (State q) ≡ Some (Region r)
+      → owner_of m (Region r) ≡ Some (State o) → owner_of m (State o) ≡ Some (Region h) → Arrives (course_by head now ran) x → EntersBy m x q
+      → IsPlace m x area → IsRegionIn m h area → IsOwnerActive ran r
+  inner_owner_by ran gone (Along p) q o r h area ready f e home came enters is inside =
+      inner_owner ran gone p q o r h area ready f e home (came, enters) is inside
+  inner_owner_by ran gone (Back k mode s) q o r h area ready f e home came enters is inside =
+      let direct : IsDirect m s k = came_by ran gone (Back k mode s) came in
+      let own = subst (λ v. owner_of m (State v) ≡ Some (Region k)) enters direct.0 in
+      let same = same_region_place r k (one_owner m (State q) (Region r) (Region k) f own) in
+      let within : IsWithin m h k = subst (λ a. IsRegionIn m h a) is inside in
+      let around : LiesUnder m (Region r) (Region h) = further e (owned home) in
+      absurd (no_circle shape r (⊎_elim
+      (λ all. subst (λ z. LiesUnder m (Region r) (Region z)) (all ∙ sym same) around)
+      (λ under. under_further around (subst (λ z. LiesUnder m (Region h) (Region z)) (sym same) under))
+      within))
 
   owner_of_entered : (ran : List (Item × How)) → HasGone m head now ran → (r : RegionId) (q : VertexId) (p : Owner)
       → IsReady m (course_by head now ran) (items.Enter q) → owner_of m (State q) ≡ Some (Region r) → owner_of m (Region r) ≡ Some p
@@ -298,14 +316,14 @@ module _ {m : DraftMachine} (shape : HasShape m) (nested : IsPlainlyNested m) (i
   owner_of_entered ran gone r q (State o) ready f e =
       let course = course_by head now ran in
       let called = called_is nested shape course (gone_by_routes nested shape head now ran gone) (items.Enter q) ready.waiting.called in
-      let p = called.0 in
-      let over : GoesBy course p = called.1.0 in
-      let fills = entered_fills shape nested p q r (step_route shape nested head now ran gone p over) f called.1.1 in
+      let over = enterer_of m course q called in
+      let x = over.0 in
+      let fills = entered_fill shape nested x q r (came_by ran gone x over.1) f over.2 in
       let area = fills.1 in
       let home = home_of_state shape o (inl (shape.regions r (State o) e).0) in
       ⊎_elim
-      (λ edge. stem_owner ran gone p r o area.0 (stems shape nested head now ran gone p over) area.1 edge e)
-      (λ outer. inner_owner ran gone p q o r home.0 area.0 ready f e home.1 called.1 area.1 outer)
+      (λ edge. stem_owner ran gone x r o area.0 (stems shape nested head now begins ran gone x over.1) area.1 edge e)
+      (λ outer. inner_owner_by ran gone x q o r home.0 area.0 ready f e home.1 over.1 over.2 area.1 outer)
       (edge_or_outer shape r home.0 o area.0 e home.1 area.2)
 
   owner_active : (ran : List (Item × How)) → HasGone m head now ran → (r : RegionId) (q : VertexId)

@@ -7,15 +7,15 @@ use Rattle.pssm_model.specs.declared.ids.TransId.{TransId}
 use Rattle.pssm_model.specs.declared.elements.DraftMachine.{DraftMachine}
 use Rattle.pssm_model.specs.declared.elements.Owner.TheVariants.{Top, Region, State}
 use Rattle.pssm_model.specs.declared.steps.Route.{Route}
-use Rattle.pssm_model.specs.declared.steps.Mode.TheVariants.{Plain}
+use Rattle.pssm_model.specs.declared.steps.Mode.{Mode}
+use Rattle.pssm_model.specs.declared.steps.Mode.TheVariants.{Plain, Shallow, Deep}
 use Rattle.pssm_model.specs.declared.steps.How.{How}
-use Rattle.pssm_model.specs.declared.steps.How.TheVariants.{By}
 use Rattle.pssm_model.specs.declared.steps.Item.{Item}
 use Rattle.pssm_model.specs.declared.steps.Item.TheVariants as items
 use Rattle.pssm_model.specs.Forest.{owner_of, LiesInRegion}
 use Rattle.pssm_model.specs.Shapes.{HasShape}
 use Rattle.pssm_model.specs.Configuration.{Configuration}
-use Rattle.pssm_model.specs.Course.{Head, FiresBy, HasGoneBy, HasRun}
+use Rattle.pssm_model.specs.Course.{Head, FiresBy, HasRun}
 use Rattle.pssm_model.specs.Course.Head.{Starts, Fires}
 use Rattle.pssm_model.specs.Items.{StartOpens, Before}
 use Rattle.pssm_model.specs.Order.{HasGone, IsReady, course_by}
@@ -23,28 +23,32 @@ use Rattle.pssm_model.specs.Order.HasGone.{begun as gone_begun, more as gone_mor
 use Rattle.pssm_model.specs.Nested.{IsPlainlyNested}
 use Rattle.pssm_plan.specs.Steadiness.{BeginsWell}
 use Rattle.pssm_model.specs.Legs.{On, Scope, LiesInScope}
-use Rattle.pssm_plan.specs.inner.OverRoutes.{IsArea, LiesInArea, IsPickedOver, OpensBeside, GoesBy, IsExitedOver, IsEnteredOver, IsOpenedOver, IsCalledOver}
+use Rattle.pssm_plan.specs.inner.OverRoutes.{IsArea, LiesInArea, OpensBeside, GoesBy, IsExitedOver, IsOpenedOver, IsOpenedFor, IsCalledOver}
 use Rattle.pssm_model.proofs.ElementLaws.{nothing_in_nil}
 use Rattle.pssm_model.proofs.StateRoutes.{start_is_on, state_route_from}
 use Rattle.pssm_model.proofs.OverJunctions.{single_legs}
 use Rattle.pssm_plan.proofs.RouteItems.{called_of, before_of}
-use Rattle.pssm_plan.proofs.RouteSteps.{gone_by_routes, fires_states, gone_late}
-use Rattle.pssm_plan.proofs.MoreRan.{nothing_ran, gone_by_more, run_more}
-use Rattle.pssm_plan.proofs.SteadyPlaces.{IsRegionIn, IsLateIn, has_area, late_in, late_area, one_late_region, entered_in_area, choice_in_area, beside_at_edge, under_is_in, home_in_scope, region_in_scope, around_in_scope, owned_under}
-use Rattle.pssm_plan.proofs.SteadyStems.{IsLateBy, Stems, called_ready, newly_late, stems, step_route, fires_from_state}
-use Rattle.pssm_plan.proofs.SteadyStems.Stems.{fires as stem_fires, opens as stem_opens, picks as stem_picks}
+use Rattle.pssm_plan.proofs.RouteSteps.{gone_by_routes, fires_states}
+use Rattle.pssm_plan.proofs.MoreRan.{nothing_ran, run_more}
+use Rattle.pssm_plan.proofs.SteadyPlaces.{IsRegionIn, EndsLate, has_area, late_end_in_area, beside_at_edge, under_is_in, home_in_scope, region_in_scope, around_in_scope, owned_under}
+use Rattle.pssm_plan.proofs.Arrivals.{Arrival, Arrives, IsFiring, EntersBy, LiesInPlace, IsComingIn, how_of, enterer_of, entered_in_place, comes_area, one_coming, opener_of}
+use Rattle.pssm_plan.proofs.Arrivals.Arrival.{Along, Back}
+use Rattle.pssm_plan.proofs.SteadyStems.{ComesWithin, IsNewIn, Stems, brought_was, called_ready, newly, stems, fires_or_comes, proper, step_route, fires_from_state}
+use Rattle.pssm_plan.proofs.SteadyStems.Stems.{fires as stem_fires, opens as stem_opens, goes_on as stem_goes_on}
 use Rattle.pssm_plan.proofs.SteadyApart.{IsFired, IsFiredAround, one_around}
 
 -- what starts does not fire
-pub starts_alone : (m : DraftMachine) (head : Head) (r : RegionId) (route : Route)
-    → StartOpens m head (items.Opened r Plain) → FiresBy head route → ⊥
-starts_alone m Starts r route starts fires = fires
-starts_alone m (Fires routes) r route starts fires = starts
+pub starts_alone : (m : DraftMachine) (head : Head) (r : RegionId) (mode : Mode) (route : Route)
+    → StartOpens m head (items.Opened r mode) → FiresBy head route → ⊥
+starts_alone m Starts r mode route starts fires = fires
+starts_alone m (Fires routes) r mode route starts fires = starts
 
-pub starts_at : (m : DraftMachine) (head : Head) (r : RegionId) → StartOpens m head (items.Opened r Plain)
-    → (head ≡ Starts) × (owner_of m (Region r) ≡ Some Top)
-starts_at m Starts r starts = (refl, starts)
-starts_at m (Fires routes) r starts = absurd starts
+pub starts_at : (m : DraftMachine) (head : Head) (r : RegionId) (mode : Mode) → StartOpens m head (items.Opened r mode)
+    → (head ≡ Starts) × (owner_of m (Region r) ≡ Some Top) × (mode ≡ Plain)
+starts_at m Starts r Plain starts = (refl, starts, refl)
+starts_at m Starts r Shallow starts = absurd starts
+starts_at m Starts r Deep starts = absurd starts
+starts_at m (Fires routes) r mode starts = absurd starts
 
 -- The region lies where the route fires.
 abbrev pub IsFiredOver : DraftMachine → Head → RegionId → Route → Type 0
@@ -98,26 +102,26 @@ module _ {m : DraftMachine} (shape : HasShape m) (nested : IsPlainlyNested m) (h
       ((run_more course item how (items.Effect t)).0 h)))
 
   -- what opens a region beside what it enters fires
-  pub beside_fires : (ran : List (Item × How)) → HasGone m head now ran → (p : Route) (r : RegionId)
-      → IsOpenedOver m (course_by head now ran) p r → FiresBy head p
-  beside_fires ran gone p r h =
+  pub beside_fires : (ran : List (Item × How)) → HasGone m head now ran → (p : Route) (r : RegionId) (mode : Mode)
+      → IsOpenedOver m (course_by head now ran) p r mode → FiresBy head p
+  beside_fires ran gone p r mode h =
       let owner = h.1.1 in
       fires_from_state shape nested head now ran gone p owner.0 h.0 owner.1 (shape.regions r (State owner.0) owner.2).0
 
   -- once such a region is open, the effects of what opens it have run
-  opened_after_effect : (ran : List (Item × How)) → HasGone m head now ran → (p : Route) (t : TransId) (r : RegionId)
-      → FiresBy head p → On p t → OpensBeside m p r → HasRun (course_by head now ran) (items.Opened r Plain)
+  opened_after_effect : (ran : List (Item × How)) → HasGone m head now ran → (p : Route) (t : TransId) (r : RegionId) (mode : Mode)
+      → FiresBy head p → On p t → OpensBeside m p r → mode ≡ Plain → HasRun (course_by head now ran) (items.Opened r mode)
       → HasRun (course_by head now ran) (items.Effect t)
-  opened_after_effect _ (gone_begun all) p t r is on beside h = absurd (nothing_ran head now (items.Opened r Plain) h)
-  opened_after_effect _ (gone_more {ran = ran} item how before ready truth way) p t r is on beside h =
+  opened_after_effect _ (gone_begun all) p t r mode is on beside plain h = absurd (nothing_ran head now (items.Opened r mode) h)
+  opened_after_effect _ (gone_more {ran = ran} item how before ready truth way) p t r mode is on beside plain h =
       let course = course_by head now ran in
       let g = gone_by_routes nested shape head now ran before in
       (run_more course item how (items.Effect t)).1 (inl (⊎_elim
-      (λ was. opened_after_effect ran before p t r is on beside was)
+      (λ was. opened_after_effect ran before p t r mode is on beside plain was)
       (λ same. ready.cleared (items.Effect t) (called_of nested shape course g (items.Effect t) (p, inl is, on))
       (subst (λ x. Before m course (items.Effect t) x) same
-      (before_of nested shape course g (items.Effect t) (items.Opened r Plain) (p, (inl is, beside), on))))
-      ((run_more course item how (items.Opened r Plain)).0 h)))
+      (before_of nested shape course g (items.Effect t) (items.Opened r mode) (p, inl (inl is, beside, plain), on))))
+      ((run_more course item how (items.Opened r mode)).0 h)))
 
   -- each route by which the step goes exits and enters in a place
   pub over_area : (ran : List (Item × How)) → HasGone m head now ran → (p : Route)
@@ -126,109 +130,116 @@ module _ {m : DraftMachine} (shape : HasShape m) (nested : IsPlainlyNested m) (h
   over_area ran gone p over = has_area shape nested p (step_route shape nested head now ran gone p over)
 
   -- a region that is opened beside what is entered lies where what opens it fires
-  pub beside_within : (ran : List (Item × How)) → HasGone m head now ran → (p : Route) (r : RegionId)
-      → IsOpenedOver m (course_by head now ran) p r → IsFiredOver m head r p
-  beside_within ran gone p r h =
-      let fires = beside_fires ran gone p r h in
+  pub beside_within : (ran : List (Item × How)) → HasGone m head now ran → (p : Route) (r : RegionId) (mode : Mode)
+      → IsOpenedOver m (course_by head now ran) p r mode → IsFiredOver m head r p
+  beside_within ran gone p r mode h =
+      let fires = beside_fires ran gone p r mode h in
       let area = over_area ran gone p (inl fires) in
       (is_fired ran gone p fires, (area.0, area.1, under_is_in m r area.0 (beside_at_edge m p r area.0 h.1 area.1).1))
 
-  -- All places where what the step goes by exits and enters lie where something fires, or the step is a start.
-  abbrev AllFired : List (Item × How) → Type 0
-  AllFired ran =
-      (u : Route) → GoesBy (course_by head now ran) u → StartsOr head ((p : Route) × ((v : VertexId) → LiesInArea m u v → IsFiredAround m head v p))
-
-  -- And so do all regions in which it starts late.
-  abbrev AllLateFired : List (Item × How) → Type 0
-  AllLateFired ran =
-      (u : Route) (r : RegionId) (v : VertexId) → HasGoneBy (course_by head now ran) u → IsLateIn m u r v
-      → StartsOr head ((p : Route) × IsFiredOver m head r p)
-
-  all_from_late : (ran : List (Item × How)) → HasGone m head now ran → AllLateFired ran → AllFired ran
-  all_from_late ran gone all u goes =
-      ⊎_elim
-      (λ fires. inr (u, λ v lies. (is_fired ran gone u fires, lies)))
-      (λ late. (
-      let from = gone_late nested shape head now ran gone u late in
-      let at = late_in shape nested u from.origin (from.route, (from.first, from.starts, from.leaves), from.kind) in
-      ⊎_elim
-      (λ starts. inl starts)
-      (λ over. inr (
-        over.0,
-        λ v lies. around_of shape head v at.0 over.0
-            (subst (λ x. LiesInScope m v x) (late_area shape nested u at.0 from.origin at.1 lies.0 lies.1) lies.2) over.1,
-      ))
-      (all u at.0 from.origin late at.1)
-      ))
-      goes
-
-  -- what is entered then does
-  entered_where : (ran : List (Item × How)) → HasGone m head now ran → AllFired ran
-      → (u : Route) (s : VertexId) → IsEnteredOver m (course_by head now ran) u s → StartsOr head ((p : Route) × IsFiredAround m head s p)
-  entered_where ran gone all u s h =
-      let lies = entered_in_area shape nested u s (step_route shape nested head now ran gone u h.0) h.1 in
-      ⊎_elim (λ starts. inl starts) (λ over. inr (over.0, over.1 s lies)) (all u h.0)
-
-  -- and what is opened
-  opened_where : (ran : List (Item × How)) → HasGone m head now ran → AllFired ran
-      → (r : RegionId) → IsCalledOver m (course_by head now ran) (items.Opened r Plain) → StartsOr head ((p : Route) × IsFiredOver m head r p)
-  opened_where ran gone all r called =
-      ⊎_elim
-      (λ starts. inl (starts_at m head r starts).0)
-      (⊎_elim
-      (λ at. ⊎_elim
-      (λ starts. inl starts)
-      (λ around. (
-      let area = around.1.1 in
-      inr (around.0, (around.1.0, (area.0, area.1, under_is_in m r area.0 (owned_under m r at.0 area.0 at.1.1 area.2))))
-      ))
-      (entered_where ran gone all at.1.2.0 at.0 at.1.2.1))
-      (λ beside. inr (beside.0, beside_within ran gone beside.0 r beside.1)))
-      called
-
-  -- and the region of a choice on which it ends
-  picked_where : (ran : List (Item × How)) → HasGone m head now ran → AllFired ran → (w : Route) (c : VertexId) (r : RegionId)
-      → IsPickedOver m (course_by head now ran) w c → owner_of m (State c) ≡ Some (Region r) → StartsOr head ((p : Route) × IsFiredOver m head r p)
-  picked_where ran gone all w c r h e =
-      let lies = choice_in_area shape nested w c (step_route shape nested head now ran gone w h.0) h.1 in
-      ⊎_elim
-      (λ starts. inl starts)
-      (λ over. (
-      let around = over.1 c lies in
-      inr (over.0, (around.0, (around.1.0, around.1.1, home_in_scope m c r around.1.0 e around.1.2)))
-      ))
-      (all w h.0)
-
-  -- so all of them do
-  pub late_fired : (ran : List (Item × How)) → HasGone m head now ran → AllLateFired ran
-  late_fired _ (gone_begun all) u r v late from = absurd (nothing_in_nil (late.0, By u) late.1)
-  late_fired _ (gone_more {ran = ran} item how before ready truth way) u r v late from =
-      let course = course_by head now ran in
-      let all = all_from_late ran before (late_fired ran before) in
-      ⊎_elim
-      (λ was. late_fired ran before u r v was from)
-      (λ is. ⊎_elim
-      (λ opening. (
-      let same = one_late_region shape nested u r v from opening.0 opening.1 opening.2.1 in
-      subst (λ x. StartsOr head ((p : Route) × IsFiredOver m head x p)) (sym same) (opened_where ran before all opening.0 opening.2.2)
-      ))
-      (λ pick. (
-      let at = late_in shape nested u pick.0 pick.3 in
-      let same = one_late_region shape nested u r v from at.0 pick.0 at.1 in
-      picked_where ran before all pick.1 pick.0 r pick.2 (subst (λ x. owner_of m (State pick.0) ≡ Some (Region x)) (sym same) at.1.1)
-      ))
-      (newly_late shape nested head now ran item how before ready truth way u is))
-      ((gone_by_more course item how u).0 late)
-
-  pub inside_fired : (ran : List (Item × How)) → HasGone m head now ran
-      → (u : Route) (s : VertexId) → IsEnteredOver m (course_by head now ran) u s → StartsOr head ((p : Route) × IsFiredAround m head s p)
-  inside_fired ran gone u s h = entered_where ran gone (all_from_late ran gone (late_fired ran gone)) u s h
-
-  pub opened_fired : (ran : List (Item × How)) → HasGone m head now ran
-      → (r : RegionId) → IsCalledOver m (course_by head now ran) (items.Opened r Plain) → StartsOr head ((p : Route) × IsFiredOver m head r p)
-  opened_fired ran gone r called = opened_where ran gone (all_from_late ran gone (late_fired ran gone)) r called
-
   module _ (begins : BeginsWell m head now) where
+    -- All places where what the step comes by exits and enters lie where something fires, or the step is a start.
+    abbrev AllFired : List (Item × How) → Type 0
+    AllFired ran =
+        (x : Arrival) → Arrives (course_by head now ran) x
+        → StartsOr head ((p : Route) × ((v : VertexId) → LiesInPlace m x v → IsFiredAround m head v p))
+
+    -- And so do all regions in which it begins within the step.
+    abbrev AllLateFired : List (Item × How) → Type 0
+    AllLateFired ran =
+        (x : Arrival) (r : RegionId) → ComesWithin m (course_by head now ran) x r → StartsOr head ((p : Route) × IsFiredOver m head r p)
+
+    firing_all : (ran : List (Item × How)) → HasGone m head now ran → (x : Arrival) → IsFiring head x
+        → StartsOr head ((p : Route) × ((v : VertexId) → LiesInPlace m x v → IsFiredAround m head v p))
+    firing_all ran gone (Along u) fires = inr (u, λ v lies. (is_fired ran gone u fires, lies))
+    firing_all ran gone (Back r mode s) fires = absurd fires
+
+    all_from_late : (ran : List (Item × How)) → HasGone m head now ran → AllLateFired ran → AllFired ran
+    all_from_late ran gone all x came =
+        ⊎_elim
+        (λ fires. firing_all ran gone x fires)
+        (λ comes. ⊎_elim
+        (λ starts. inl starts)
+        (λ over. inr (
+          over.0,
+          λ v lies. around_of shape head v comes.0 over.0
+              (subst (λ a. LiesInScope m v a) (comes_area shape nested x comes.0 lies.0 comes.1.0 lies.1) lies.2) over.1,
+        ))
+        (all x comes.0 comes.1))
+        (fires_or_comes shape nested head now begins ran gone x came)
+
+    -- what is entered then does
+    entered_where : (ran : List (Item × How)) → HasGone m head now ran → AllFired ran
+        → (x : Arrival) (s : VertexId) → Arrives (course_by head now ran) x → EntersBy m x s
+        → StartsOr head ((p : Route) × IsFiredAround m head s p)
+    entered_where ran gone all x s came enters =
+        let lies = entered_in_place shape nested x s (proper shape nested head now begins ran gone x came) enters in
+        ⊎_elim (λ starts. inl starts) (λ over. inr (over.0, over.1 s lies)) (all x came)
+
+    -- and what is opened
+    opened_where : (ran : List (Item × How)) → HasGone m head now ran → AllFired ran
+        → (r : RegionId) (mode : Mode) → IsOpenedFor m (course_by head now ran) r mode → StartsOr head ((p : Route) × IsFiredOver m head r p)
+    opened_where ran gone all r mode called =
+        ⊎_elim
+        (λ starts. inl (starts_at m head r mode starts).0)
+        (⊎_elim
+        (λ at. (
+        let opener = opener_of shape (course_by head now ran) at.0 r mode at.1.1 at.1.2 in
+        ⊎_elim
+        (λ starts. inl starts)
+        (λ around. (
+        let area = around.1.1 in
+        inr (around.0, (around.1.0, (area.0, area.1, under_is_in m r area.0 (owned_under m r at.0 area.0 at.1.1 area.2))))
+        ))
+        (entered_where ran gone all opener.0 at.0 opener.1.arrives opener.1.enters)
+        ))
+        (λ beside. inr (beside.0, beside_within ran gone beside.0 r mode beside.1)))
+        called
+
+    -- and the region of a choice or history on which a route ends
+    ended_where : (ran : List (Item × How)) → HasGone m head now ran → AllFired ran → (w : Route) (c : VertexId) (r : RegionId)
+        → GoesBy (course_by head now ran) w → EndsLate m w c → owner_of m (State c) ≡ Some (Region r)
+        → StartsOr head ((p : Route) × IsFiredOver m head r p)
+    ended_where ran gone all w c r goes ends e =
+        let lies = late_end_in_area shape nested w c (step_route shape nested head now ran gone w goes) ends in
+        ⊎_elim
+        (λ starts. inl starts)
+        (λ over. (
+        let around = over.1 c lies in
+        inr (over.0, (around.0, (around.1.0, around.1.1, home_in_scope m c r around.1.0 e around.1.2)))
+        ))
+        (all (Along w) goes)
+
+    -- and so the region in which something new begins
+    new_where : (ran : List (Item × How)) → HasGone m head now ran → AllFired ran → (x : Arrival) (r : RegionId) → IsComingIn m x r
+        → IsNewIn m (course_by head now ran) x → StartsOr head ((p : Route) × IsFiredOver m head r p)
+    new_where ran gone all x r comes new =
+        ⊎_elim
+        (λ opened. (
+        let same = one_coming shape nested x opened.0 r opened.3 comes in
+        subst (λ q. StartsOr head ((p : Route) × IsFiredOver m head q p)) same (opened_where ran gone all opened.0 opened.1 opened.2)
+        ))
+        (λ ended. (
+        let same = one_coming shape nested x ended.2 r ended.6 comes in
+        subst (λ q. StartsOr head ((p : Route) × IsFiredOver m head q p)) same (ended_where ran gone all ended.0 ended.1 ended.2 ended.3 ended.4 ended.5)
+        ))
+        new
+
+    -- so all of them do
+    pub late_fired : (ran : List (Item × How)) → HasGone m head now ran → AllLateFired ran
+    late_fired _ (gone_begun all) x r h = absurd (nothing_in_nil (h.1.0, how_of x) h.1.1.0)
+    late_fired _ (gone_more {ran = ran} item how before ready truth way) x r h =
+        let course = course_by head now ran in
+        ⊎_elim
+        (λ was. late_fired ran before x r (h.0, (h.1.0, was)))
+        (λ is. new_where ran before (all_from_late ran before (late_fired ran before)) x r h.0
+        (newly shape nested head now begins ran item how before ready truth way x is.0 is.1))
+        (brought_was m course item how x h.1.0 h.1.1)
+
+    pub inside_fired : (ran : List (Item × How)) → HasGone m head now ran
+        → (x : Arrival) (s : VertexId) → Arrives (course_by head now ran) x → EntersBy m x s → StartsOr head ((p : Route) × IsFiredAround m head s p)
+    inside_fired ran gone x s came enters = entered_where ran gone (all_from_late ran gone (late_fired ran gone)) x s came enters
+
     same_place : (s : VertexId) (p u : Route) → IsFiredAround m head s p → IsFiredAround m head s u → p ≡ u
     same_place s p u first second = one_around shape nested head now begins s p u first second
 
@@ -250,6 +261,10 @@ module _ {m : DraftMachine} (shape : HasShape m) (nested : IsPlainlyNested m) (h
     abbrev HasActed : List (Item × How) → Route → Type 0
     HasActed ran u = FiresBy head u → (t : TransId) → On u t → HasRun (course_by head now ran) (items.Effect t)
 
+    abbrev HasActedBy : List (Item × How) → Arrival → Type 0
+    HasActedBy ran (Along u) = HasActed ran u
+    HasActedBy ran (Back r mode s) = Unit {0}
+
     -- by what the step goes, once it is under way, every called exit of its place has run: by what fires
     fired_acted : (ran : List (Item × How)) → HasGone m head now ran → (p u : Route) (s q : VertexId) → IsFiredAround m head s p
         → IsFiredAround m head q p → LiesInArea m u s → FiresBy head u → HasActed ran u
@@ -259,17 +274,18 @@ module _ {m : DraftMachine} (shape : HasShape m) (nested : IsPlainlyNested m) (h
         let first = first_on u fires in
         fired_after ran gone p u first.0 s q here place (fires, lies) first.1 (acted is first.0 first.1) called
 
-    -- by a route that leaves a region that the step has opened
+    -- by an arrival in a region that the step has opened
     opened_after : (ran : List (Item × How)) → HasGone m head now ran → IsEntryAfterExits ran
-        → (p u : Route) (s q : VertexId) (r : RegionId) (v : VertexId) → IsFiredAround m head s p → IsFiredAround m head q p → LiesInRegion m s r
-        → IsLateBy m (course_by head now ran) u r v
+        → (p : Route) (s q : VertexId) (r : RegionId) (mode : Mode) → IsFiredAround m head s p → IsFiredAround m head q p → LiesInRegion m s r
+        → IsOpenedFor m (course_by head now ran) r mode → HasRun (course_by head now ran) (items.Opened r mode)
         → IsCalledOver m (course_by head now ran) (items.Exit q) → HasRun (course_by head now ran) (items.Exit q)
-    opened_after ran gone earlier p u s q r v here place lies by called =
+    opened_after ran gone earlier p s q r mode here place lies opened has called =
         ⊎_elim
-        (λ starts. absurd (starts_alone m head r p starts here.0.0))
+        (λ starts. absurd (starts_alone m head r mode p starts here.0.0))
         (⊎_elim
         (λ at. (
-        let around = not_starting head p here.0.0 (inside_fired ran gone at.1.2.0 at.0 at.1.2.1) in
+        let opener = opener_of shape (course_by head now ran) at.0 r mode at.1.1 at.1.2 in
+        let around = not_starting head p here.0.0 (inside_fired ran gone opener.0 at.0 opener.1.arrives opener.1.enters) in
         let area = around.1.1 in
         let inner : IsFiredAround m head s around.0 =
         (around.1.0, (area.0, area.1, around_in_scope m s at.0 r area.0 lies at.1.1 area.2)) in
@@ -277,43 +293,48 @@ module _ {m : DraftMachine} (shape : HasShape m) (nested : IsPlainlyNested m) (h
         earlier p at.0 q (subst (λ x. IsFiredAround m head at.0 x) same around.1) place at.1.0 called
         ))
         (λ beside. (
-        let over = beside_within ran gone beside.0 r beside.1 in
+        let over = beside_within ran gone beside.0 r mode beside.1 in
         let first = first_on beside.0 over.0 in
         fired_after ran gone p beside.0 first.0 s q here place (around_of shape head s r beside.0 lies over) first.1
-        (opened_after_effect ran gone beside.0 first.0 r over.0.0 first.1 beside.1.1 (By u, by.1)) called
+        (opened_after_effect ran gone beside.0 first.0 r mode over.0.0 first.1 beside.1.1 beside.1.2 has) called
         )))
-        by.0.2
+        opened
 
-    -- by a route that leaves a choice: by what has ended on that
+    -- by one that goes on from a choice or history: by what has ended on that
     stems_after : (ran : List (Item × How)) → HasGone m head now ran → IsEntryAfterExits ran
-        → (p u : Route) (s q : VertexId) → IsFiredAround m head s p → IsFiredAround m head q p → LiesInArea m u s
-        → Stems m (course_by head now ran) u → HasActed ran u
+        → (p : Route) (x : Arrival) (s q : VertexId) → IsFiredAround m head s p → IsFiredAround m head q p → LiesInPlace m x s
+        → Stems m (course_by head now ran) x → HasActedBy ran x
         → IsCalledOver m (course_by head now ran) (items.Exit q) → HasRun (course_by head now ran) (items.Exit q)
-    stems_after ran gone earlier p u s q here place lies (stem_fires is) acted called = fired_acted ran gone p u s q here place lies is acted called
-    stems_after ran gone earlier p u s q here place lies (stem_opens {r = r} {v = v} by) acted called =
-        let inside = subst (λ x. LiesInScope m s x) (late_area shape nested u r v by.0.1 lies.0 lies.1) lies.2 in
-        opened_after ran gone earlier p u s q r v here place inside by called
-    stems_after ran gone earlier p u s q here place lies (stem_picks {w = w} {c = c} before by) acted called =
-        let at = late_in shape nested u c by.late in
-        let inside = subst (λ x. LiesInScope m s x) (late_area shape nested u at.0 c at.1 lies.0 lies.1) lies.2 in
-        let area = choice_in_area shape nested w c (step_route shape nested head now ran gone w by.goes) by.ends in
-        let around : LiesInArea m w s = (area.0, area.1, region_in_scope shape s at.0 area.0 inside (home_in_scope m c at.0 area.0 at.1.1 area.2)) in
-        stems_after ran gone earlier p w s q here place around before (λ is t on. by.effects t on) called
+    stems_after ran gone earlier p _ s q here place lies (stem_fires {p = u} is) acted called = fired_acted ran gone p u s q here place lies is acted called
+    stems_after ran gone earlier p x s q here place lies (stem_opens {r = r} {mode = mode} by) acted called =
+        let inside = subst (λ a. LiesInScope m s a) (comes_area shape nested x r lies.0 by.1 lies.1) lies.2 in
+        opened_after ran gone earlier p s q r mode here place inside by.0 (how_of x, by.2.0) called
+    stems_after ran gone earlier p x s q here place lies (stem_goes_on {w = w} {c = c} {r = r} before by) acted called =
+        let inside = subst (λ a. LiesInScope m s a) (comes_area shape nested x r lies.0 by.comes lies.1) lies.2 in
+        let area = late_end_in_area shape nested w c (step_route shape nested head now ran gone w by.goes) by.ends in
+        let around : LiesInArea m w s = (area.0, area.1, region_in_scope shape s r area.0 inside (home_in_scope m c r area.0 by.home area.2)) in
+        stems_after ran gone earlier p (Along w) s q here place around before (λ is t on. by.effects t on) called
 
     -- a ready entry finds every called exit of its place run
+    acted_by : (ran : List (Item × How)) → HasGone m head now ran → (x : Arrival) (s : VertexId) → IsReady m (course_by head now ran) (items.Enter s)
+        → Arrives (course_by head now ran) x → EntersBy m x s → HasActedBy ran x
+    acted_by ran gone (Along u) s ready came enters =
+        let course = course_by head now ran in
+        let g = gone_by_routes nested shape head now ran gone in
+        λ is t on. ready.cleared (items.Effect t) (called_of nested shape course g (items.Effect t) (u, came, on))
+        (before_of nested shape course g (items.Effect t) (items.Enter s) (u, (came, enters), on))
+    acted_by ran gone (Back r mode q) s ready came enters = tt
+
     ready_after : (ran : List (Item × How)) → HasGone m head now ran → IsEntryAfterExits ran
         → (p : Route) (s q : VertexId) → IsFiredAround m head s p → IsFiredAround m head q p → IsReady m (course_by head now ran) (items.Enter s)
         → IsCalledOver m (course_by head now ran) (items.Exit q)
         → HasRun (course_by head now ran) (items.Exit q)
     ready_after ran gone earlier p s q here place ready called =
         let course = course_by head now ran in
-        let g = gone_by_routes nested shape head now ran gone in
-        let over = called_ready shape nested head now ran gone (items.Enter s) ready in
-        let lies = entered_in_area shape nested over.0 s (step_route shape nested head now ran gone over.0 over.1.0) over.1.1 in
-        stems_after ran gone earlier p over.0 s q here place lies (stems shape nested head now ran gone over.0 over.1.0)
-        (λ is t on. ready.cleared (items.Effect t) (called_of nested shape course g (items.Effect t) (over.0, over.1.0, on))
-        (before_of nested shape course g (items.Effect t) (items.Enter s) (over.0, over.1, on)))
-        called
+        let over = enterer_of m course s (called_ready shape nested head now ran gone (items.Enter s) ready) in
+        let lies = entered_in_place shape nested over.0 s (proper shape nested head now begins ran gone over.0 over.1) over.2 in
+        stems_after ran gone earlier p over.0 s q here place lies (stems shape nested head now begins ran gone over.0 over.1)
+        (acted_by ran gone over.0 s ready over.1 over.2) called
 
     -- once an entry has run, every called exit of its place has
     pub entry_after_exits : (ran : List (Item × How)) → HasGone m head now ran

@@ -21,6 +21,7 @@ use Rattle.pssm_model.specs.Forest.LiesUnder.{owned, further}
 use Rattle.pssm_model.specs.Legs.{Leaves, Enters, Goes, On, IsPoint, Scope, LiesInScope}
 use Rattle.pssm_model.specs.Legs.Scope.{Nowhere, Inside, Within}
 use Rattle.pssm_model.specs.Nested.{IsPlainlyNested}
+use Rattle.pssm_model.specs.FiringSets.{IsHistory, IsLateOrigin}
 use Rattle.pssm_model.specs.Paths.{ComesAfter, IsJunctionPath}
 use Rattle.pssm_model.specs.Paths.ComesAfter.{end as after_end, inner as after_inner}
 use Rattle.pssm_model.specs.Paths.IsJunctionPath.{one, more}
@@ -28,7 +29,7 @@ use Rattle.pssm_model.specs.Routes.{IsRoute, IsSource, IsStateRoute, IsReached}
 use Rattle.pssm_model.specs.Routes.IsReached.{start as reached_first, on as reached_after}
 use Rattle.pssm_model.specs.Shapes.{HasShape, OwnsVertex}
 use Rattle.pssm_model.specs.WellFormed.Breaks.{E13, E14, E20}
-use Rattle.pssm_plan.specs.inner.OverRoutes.{GoesAs, IsEndOf, IsSpan, IsArea, LiesInArea, EndsOn, IsEnteredBy, EndsIn, OpensBeside, EndsOnChoice}
+use Rattle.pssm_plan.specs.inner.OverRoutes.{GoesAs, IsEndOf, IsSpan, IsArea, LiesInArea, EndsOn, IsEnteredBy, EndsIn, OpensBeside}
 use Rattle.pssm_model.proofs.ElementLaws.{mapped_some, mapped_at, leaves_one, enters_one}
 use Rattle.pssm_model.proofs.RouteLaws.{reached_is_on}
 use Rattle.pssm_model.proofs.Nesting.{under_cases, region_cases, outer_of_region, lies_within}
@@ -36,7 +37,7 @@ use Rattle.pssm_model.proofs.OwnerChains.{one_owner, under_further, circle_is_en
 use Rattle.pssm_model.proofs.RegionChains.{on_one_chain}
 use Rattle.pssm_model.proofs.Scopes.{one_scope}
 use Rattle.pssm_model.proofs.StateRoutes.{is_start as start_inside, source_is_left, state_route_from}
-use Rattle.pssm_model.proofs.OverJunctions.{IsLateKind, other_kind, single_legs, internal_leaves, local_leaves}
+use Rattle.pssm_model.proofs.OverJunctions.{other_kind, single_legs, internal_leaves, local_leaves}
 use Rattle.pssm_model.proofs.OneLeg.{on_start, is_start, start_or_rest, source_of, passes_junction, comes_from, alone}
 use Rattle.pssm_model.proofs.LegScopes.{some_scope}
 use Rattle.pssm_plan.proofs.KnownPlaces.{known_in_region, known_in_state}
@@ -70,9 +71,9 @@ Fills m p r = EndsIn m p r × ((area : Scope) × IsArea m p area × IsRegionIn m
 abbrev pub IsStartFrom : DraftMachine → Route → VertexId → Type 0
 IsStartFrom m p v = (t : TransId) × (p.starts ≡ t ∷ []) × Leaves m t v
 
--- The route starts at the vertex, an initial vertex or a choice.
+-- The route starts at the vertex, an initial vertex, a history or a choice.
 abbrev pub IsLateFrom : DraftMachine → Route → VertexId → Type 0
-IsLateFrom m p v = IsRoute m p × IsStartFrom m p v × IsLateKind m v
+IsLateFrom m p v = IsRoute m p × IsStartFrom m p v × IsLateOrigin m v
 
 -- The region owns that vertex.
 abbrev pub IsLateIn : DraftMachine → Route → RegionId → VertexId → Type 0
@@ -85,6 +86,23 @@ IsStepRoute m p = IsStateRoute m p ⊎ ((v : VertexId) × IsLateFrom m p v)
 -- The vertex is the State, or lies on an owner chain that passes it.
 abbrev pub IsAtOrUnder : DraftMachine → VertexId → VertexId → Type 0
 IsAtOrUnder m v s = (v ≡ s) ⊎ LiesUnder m (State v) (State s)
+
+-- a choice or a history, from which a step goes on
+abbrev pub IsGoOn : DraftMachine → VertexId → Type 0
+IsGoOn m c = HasKind m c kinds.Choice ⊎ IsHistory m c
+
+-- The route ends on the vertex, from which the step goes on.
+abbrev pub EndsLate : DraftMachine → Route → VertexId → Type 0
+EndsLate m p c = EndsOn m p c × IsGoOn m c
+
+-- such a vertex is of no other kind
+pub go_on_is_no : (m : DraftMachine) (c : VertexId) (k : VertexKind) → k ≢ kinds.Choice → k ≢ kinds.ShallowHistory → k ≢ kinds.DeepHistory → IsGoOn m c
+    → HasKind m c k → ⊥
+go_on_is_no m c k no_choice no_shallow no_deep is h =
+    ⊎_elim
+    (other_kind m c k kinds.Choice no_choice h)
+    (⊎_elim (other_kind m c k kinds.ShallowHistory no_shallow h) (other_kind m c k kinds.DeepHistory no_deep h))
+    is
 
 -- names of States and regions as places
 pub same_state : (s q : VertexId) → State s ≡ State q → s ≡ q
@@ -194,9 +212,19 @@ module _ {m : DraftMachine} (shape : HasShape m) where
   home_of_state s is =
       ⊎_elim (home_of_kind s kinds.State (λ e. cc) (λ e. cc)) (home_of_kind s kinds.Final (λ e. cc) (λ e. cc)) is
 
-  pub home_of_late : (v : VertexId) → IsLateKind m v → (h : RegionId) × (owner_of m (State v) ≡ Some (Region h))
+  home_of_history : (v : VertexId) → IsHistory m v → (h : RegionId) × (owner_of m (State v) ≡ Some (Region h))
+  home_of_history v is =
+      ⊎_elim (home_of_kind v kinds.ShallowHistory (λ e. cc) (λ e. cc)) (home_of_kind v kinds.DeepHistory (λ e. cc) (λ e. cc)) is
+
+  pub home_of_late : (v : VertexId) → IsLateOrigin m v → (h : RegionId) × (owner_of m (State v) ≡ Some (Region h))
   home_of_late v is =
-      ⊎_elim (home_of_kind v kinds.Initial (λ e. cc) (λ e. cc)) (home_of_kind v kinds.Choice (λ e. cc) (λ e. cc)) is
+      ⊎_elim
+      (home_of_kind v kinds.Initial (λ e. cc) (λ e. cc))
+      (⊎_elim (home_of_history v) (home_of_kind v kinds.Choice (λ e. cc) (λ e. cc)))
+      is
+
+  pub home_of_end : (c : VertexId) → IsGoOn m c → (h : RegionId) × (owner_of m (State c) ≡ Some (Region h))
+  home_of_end c is = ⊎_elim (home_of_kind c kinds.Choice (λ e. cc) (λ e. cc)) (home_of_history c) is
 
   -- a region that lies in a State is one of it, or lies in one of it
   pub under_state : (r : RegionId) (w : VertexId) → LiesUnder m (Region r) (State w)
@@ -421,9 +449,9 @@ module _ {m : DraftMachine} (shape : HasShape m) (nested : IsPlainlyNested m) wh
       let leg = some_scope (single_legs nested) shape p is.0 from.0 from.2.starts from.1 from.2.leaves in
       (leg.0, (leg_scope_is nested shape p is.0 from.0 from.2.starts from.0 leg.0 leg.1).1)
 
-  -- an internal route ends on the State that it leaves, so on no choice
-  internal_stays : (t : TransId) (s c : VertexId) → Goes m t Internal → Leaves m t s → Enters m t c → HasKind m c kinds.Choice → ⊥
-  internal_stays t s c goes l e choice =
+  -- an internal route ends on the State that it leaves, so on no choice or history
+  internal_stays : (t : TransId) (s c : VertexId) → Goes m t Internal → Leaves m t s → Enters m t c → IsGoOn m c → ⊥
+  internal_stays t s c goes l e on =
       nested.rules _ 13 (E13 (
         goes,
         (
@@ -431,33 +459,38 @@ module _ {m : DraftMachine} (shape : HasShape m) (nested : IsPlainlyNested m) wh
           l,
           inr (λ back. (
               let state = internal_leaves nested shape t s goes l in
-              other_kind m c kinds.Choice kinds.State (λ same. cc) choice (subst (λ x. HasKind m x kinds.State) (enters_one m t s c back e) state)
+              go_on_is_no m c kinds.State (λ same. cc) (λ same. cc) (λ same. cc) on
+              (subst (λ x. HasKind m x kinds.State) (enters_one m t s c back e) state)
               )),
         ),
       ))
 
-  choice_not_internal : (p : Route) (c : VertexId) → IsStepRoute m p → EndsOnChoice m p c → GoesAs m p Internal → ⊥
-  choice_not_internal p c step ends goes =
+  late_not_internal : (p : Route) (c : VertexId) → IsStepRoute m p → EndsLate m p c → GoesAs m p Internal → ⊥
+  late_not_internal p c step ends goes =
       let route = is_route p step in
       let from = source_of (single_legs nested) shape p route goes.0 goes.1 goes.0 (on_start (single_legs nested) shape p route goes.0 goes.1) in
       let state = internal_leaves nested shape goes.0 from.0 goes.2 from.1 in
       let only = alone (single_legs nested) shape p route goes.0 goes.1 from.0 ends.0.0 from.1 state goes.2 ends.0.1 in
       internal_stays goes.0 from.0 c goes.2 from.1 (subst (λ u. Enters m u c) only ends.0.2) ends.1
 
-  -- the kind of a transition that leaves an initial vertex or a choice is external
-  pub no_state : (v : VertexId) → IsLateKind m v → HasKind m v kinds.State → ⊥
+  -- the kind of a transition that leaves an initial vertex, a history or a choice is external
+  pub no_state : (v : VertexId) → IsLateOrigin m v → HasKind m v kinds.State → ⊥
   no_state v late state =
       ⊎_elim
       (λ i. other_kind m v kinds.Initial kinds.State (λ e. cc) i state)
-      (λ c. other_kind m v kinds.Choice kinds.State (λ e. cc) c state)
+      (⊎_elim
+      (⊎_elim
+      (λ y. other_kind m v kinds.ShallowHistory kinds.State (λ e. cc) y state)
+      (λ y. other_kind m v kinds.DeepHistory kinds.State (λ e. cc) y state))
+      (λ c. other_kind m v kinds.Choice kinds.State (λ e. cc) c state))
       late
 
-  external_from : (v : VertexId) (t : TransId) (k : TransKind) → IsLateKind m v → Leaves m t v → Goes m t k → Goes m t External
+  external_from : (v : VertexId) (t : TransId) (k : TransKind) → IsLateOrigin m v → Leaves m t v → Goes m t k → Goes m t External
   external_from v t External late l goes = goes
   external_from v t Local late l goes = absurd (no_state v late (local_leaves nested shape t v goes l))
   external_from v t Internal late l goes = absurd (no_state v late (internal_leaves nested shape t v goes l))
 
-  goes_externally : (v : VertexId) (t : TransId) → IsLateKind m v → Leaves m t v → Goes m t External
+  goes_externally : (v : VertexId) (t : TransId) → IsLateOrigin m v → Leaves m t v → Goes m t External
   goes_externally v t late l =
       let x = mapped_some (λ (y : Transition). y.source) (transition_at m t) v l in
       external_from v t x.0.kind late l (mapped_at (λ (y : Transition). y.kind) (transition_at m t) x.0 x.1)
@@ -484,7 +517,7 @@ module _ {m : DraftMachine} (shape : HasShape m) (nested : IsPlainlyNested m) (p
       ⊎_elim
       (λ lies. lies)
       (λ out. absurd (nested.rules (places.At (elements.Vertex v)) 20 (E20 (inl (
-        ⊎_elim (λ i. inl i) (λ c. inr (inr c)) late.0.2,
+        late.0.2,
         (from.0, r, from.2, late.1, (w, comes_after u w (route.reached u is) e, out)),
       )))))
       (known_in_region shape w r)
@@ -512,7 +545,7 @@ module _ {m : DraftMachine} (shape : HasShape m) (nested : IsPlainlyNested m) (p
   }
 
   -- it is external, so it exits and enters there
-  late_is_area : IsArea m p (Within r)
+  pub late_is_area : IsArea m p (Within r)
   late_is_area = ((from.0, from.1, goes_externally shape nested v from.0 late.0.2 from.2), late_span)
 
   pub late_area : (area : Scope) → IsArea m p area → area ≡ Within r
@@ -579,24 +612,24 @@ module _ {m : DraftMachine} (shape : HasShape m) (nested : IsPlainlyNested m) wh
         (inside.0, inside.1, home_in_scope m s r inside.0 e inside.2),
       )
 
-  -- a choice on which it ends lies there, and it fills the region that owns that
-  pub choice_in_area : (p : Route) (c : VertexId) → IsStepRoute m p → EndsOnChoice m p c → LiesInArea m p c
-  choice_in_area p c step ends =
+  -- a choice or history on which it ends lies there, and it fills the region that owns that
+  pub late_end_in_area : (p : Route) (c : VertexId) → IsStepRoute m p → EndsLate m p c → LiesInArea m p c
+  late_end_in_area p c step ends =
       let area = has_area p step in
-      (area.0, area.1, target_in_area p c area.0 step ends.0 (choice_not_internal shape nested p c step ends) area.1)
+      (area.0, area.1, target_in_area p c area.0 step ends.0 (late_not_internal shape nested p c step ends) area.1)
 
-  pub choice_fills : (p : Route) (c : VertexId) (r : RegionId) → IsStepRoute m p → owner_of m (State c) ≡ Some (Region r)
-      → EndsOnChoice m p c → Fills m p r
-  choice_fills p c r step e ends =
-      let inside = choice_in_area p c step ends in
+  pub late_end_fills : (p : Route) (c : VertexId) (r : RegionId) → IsStepRoute m p → owner_of m (State c) ≡ Some (Region r)
+      → EndsLate m p c → Fills m p r
+  late_end_fills p c r step e ends =
+      let inside = late_end_in_area p c step ends in
       ((c, ends.0, owned e), (inside.0, inside.1, home_in_scope m c r inside.0 e inside.2))
 
-  -- it enters the States around the choice that lie there
-  pub choice_enters : (p : Route) (c o : VertexId) → IsStepRoute m p → EndsOnChoice m p c → LiesInArea m p o → LiesInState m c o
+  -- it enters the States around that which lie there
+  pub late_end_enters : (p : Route) (c o : VertexId) → IsStepRoute m p → EndsLate m p c → LiesInArea m p o → LiesInState m c o
       → IsEnteredBy m p o
-  choice_enters p c o step ends inside lies = (
-    choice_not_internal shape nested p c step ends,
-    (c, ends.0, inr (inside, lies, λ terminates. other_kind m c kinds.Choice kinds.Terminate (λ e. cc) ends.1 terminates)),
+  late_end_enters p c o step ends inside lies = (
+    late_not_internal shape nested p c step ends,
+    (c, ends.0, inr (inside, lies, λ terminates. go_on_is_no m c kinds.Terminate (λ e. cc) (λ e. cc) (λ e. cc) ends.1 terminates)),
   )
 
 module _ (m : DraftMachine) where

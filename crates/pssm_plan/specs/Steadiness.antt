@@ -39,13 +39,15 @@ pub record KeepsInitials (m : DraftMachine) : Type 0 where
       → LiesInRegion m w r
   pub shared : (t : TransId) (v w : VertexId) → Leaves m t v → Enters m t w → ShareRegion m v w
 
--- A step begins so: with a start where nothing is active, or with routes that fire, no two of which conflict, and whose sources are active
--- (UML 2.5.1 14.2.3.9, run to completion and conflicting transitions; PSSM 1.0 8.5, the initial run-to-completion step).
+-- A step begins so: with a start where nothing is active, or with routes that fire, no two of which conflict, and whose sources are active; and
+-- what a region remembers is a direct vertex of it (UML 2.5.1 14.2.3.9, run to completion and conflicting transitions; 14.2.3.4, State history;
+-- PSSM 1.0 8.5, the initial run-to-completion step).
 pub record BeginsWell (m : DraftMachine) (head : Head) (now : Configuration) : Type 0 where
   pub consistent : IsConsistent m now
   pub start : head ≡ Starts → (s : VertexId) → now.Active s → ⊥
   pub agree : (p q : Route) → FiresBy head p → FiresBy head q → Conflict m now.Active p q → ⊥
   pub from_active : (p : Route) (s : VertexId) → FiresBy head p → IsSource m p s → now.Active s
+  pub remembers : (r : RegionId) (s : VertexId) → now.Remembers r s → IsDirect m s r
 
 -- the configuration once the item has run in this way: an entry, an exit and an opening change it, an effect and a
 -- pick do not (UML 2.5.1 14.2.3.4, entering and exiting a State; openings are this profile's choice)

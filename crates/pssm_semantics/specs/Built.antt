@@ -2,12 +2,12 @@
 -- definition changes with them.
 use Rattle.std.specs.Prelude.{◌≡◌, ◌⊎◌, ◌<◌, ◌≤◌, [], ◌∷◌, length, All}
 use Rattle.std.specs.List.{AllByRecursion, sum_by}
+use Rattle.pssm_model.specs.declared.ids.VertexId.{VertexId}
 use Rattle.pssm_model.specs.declared.ids.TransId.{TransId}
 use Rattle.pssm_model.specs.declared.steps.Route.{Route}
 use Rattle.pssm_model.specs.declared.steps.Firing.{Firing}
-use Rattle.pssm_model.specs.declared.steps.Mode.TheVariants.{Plain}
 use Rattle.pssm_model.specs.declared.steps.How.{How}
-use Rattle.pssm_model.specs.declared.steps.How.TheVariants.{By, Nothing}
+use Rattle.pssm_model.specs.declared.steps.How.TheVariants.{By, Restore, Nothing}
 use Rattle.pssm_model.specs.BuiltMachine.{IsBuiltMachine}
 use Rattle.pssm_model.specs.Legs.{transitions_of}
 use Rattle.pssm_semantics.specs.declared.entry.Entry.{Entry}
@@ -39,12 +39,13 @@ IsBuiltFiring firing = AllByRecursion IsBuiltRoute firing.routes × (sum_by (λ 
 abbrev pub IsShortRoute : Route → Type 0
 IsShortRoute route = IsBuiltRoute route × (length (transitions_of route) ≤ 8192)
 
--- by no way, or by such a route
+-- by no way, by such a route, or by one of the first 4,096 vertices that is restored
 abbrev pub IsBuiltWay : How → Type 0
-IsBuiltWay how = (how ≡ Nothing) ⊎ ((route : Route) × (how ≡ By route) × IsShortRoute route)
+IsBuiltWay how =
+    (how ≡ Nothing) ⊎ ((route : Route) × (how ≡ By route) × IsShortRoute route) ⊎ ((s : VertexId) × (how ≡ Restore s) × (s.0 < 4096))
 
--- an entry of a form that runs of such settings have: at most 64 outputs; openings by default, by no way or by a route of one start, and picks
--- by one; and firings of routes of one start each; with at most 8,192 transitions in all (this profile's choice of entries)
+-- an entry of a form that runs of such settings have: at most 64 outputs; openings by no way, by a route of one start or by a vertex that is restored,
+-- and picks by such a route; and firings of routes of one start each; with at most 8,192 transitions in all (this profile's choice of entries)
 abbrev pub HasBuiltForm : Entry → Type 0
 HasBuiltForm (Post o signal args) = Unit {0}
 HasBuiltForm (Start o) = Unit {0}
@@ -53,7 +54,7 @@ HasBuiltForm (Done o state firing) = IsBuiltFiring firing
 HasBuiltForm (Exit o state outs) = length outs ≤ 64
 HasBuiltForm (Effect o transition outs) = length outs ≤ 64
 HasBuiltForm (Enter o state outs) = length outs ≤ 64
-HasBuiltForm (Opened o region mode how) = (mode ≡ Plain) × IsBuiltWay how
+HasBuiltForm (Opened o region mode how) = IsBuiltWay how
 HasBuiltForm (Pick o choice route) = IsShortRoute route
 HasBuiltForm (DoStep o state step outs) = length outs ≤ 64
 

@@ -2,7 +2,6 @@
 use Rattle.std.proofs.Common.{◌≡◌, ◌<◌, ℕ, List, length, Option, Some, None, All, refl, subst, arith}
 use Rattle.std.specs.Option.{option_map_or}
 use Rattle.std.proofs.lemmas.Option.{slice_get_within}
-use Rattle.pssm_model.specs.declared.ids.RegionId.{RegionId}
 use Rattle.pssm_model.specs.declared.ids.TransId.{TransId}
 use Rattle.pssm_model.specs.declared.ids.VertexId.{VertexId}
 use Rattle.pssm_model.specs.declared.elements.DraftMachine.{DraftMachine}
@@ -12,19 +11,14 @@ use Rattle.pssm_model.specs.declared.steps.Route.{Route}
 use Rattle.pssm_model.specs.declared.steps.Event.{Event}
 use Rattle.pssm_model.specs.declared.steps.Event.TheVariants.{Signal, Completion}
 use Rattle.pssm_model.specs.declared.steps.Firing.{Firing}
-use Rattle.pssm_model.specs.declared.steps.How.{How}
-use Rattle.pssm_model.specs.declared.steps.How.TheVariants.{By, Restore, Nothing}
 use Rattle.pssm_model.specs.declared.steps.Item.{Item}
 use Rattle.pssm_model.specs.declared.steps.Item.TheVariants as items
-use Rattle.pssm_model.specs.declared.steps.Mode.{Mode}
-use Rattle.pssm_model.specs.declared.steps.Mode.TheVariants.{Plain, Shallow, Deep}
 use Rattle.pssm_model.specs.Configuration.{Configuration, IsNextDoStep}
 use Rattle.pssm_model.specs.FiringSets.{IsFiring}
 use Rattle.pssm_model.specs.Forest.{vertex_at, transition_at}
 use Rattle.pssm_model.specs.Legs.{Leaves}
 use Rattle.pssm_model.specs.Routes.{Truth}
 use Rattle.pssm_model.specs.Shapes.{HasShape}
-use Rattle.pssm_model.specs.Ways.{Memory, IsWay}
 use Rattle.pssm_model.proofs.ElementLaws.{mapped_some}
 use Rattle.pssm_plan.specs.Agenda.{Agenda}
 use Rattle.pssm_plan.proofs.RouteItems.{called_is}
@@ -37,13 +31,14 @@ use Rattle.pssm_semantics.specs.declared.entry.Rule.TheVariants.{A5, A7, A8, A10
 use Rattle.pssm_semantics.specs.declared.setting.Class.{Class}
 use Rattle.pssm_semantics.specs.Completion.{IsQueueHead}
 use Rattle.pssm_semantics.specs.Journal.{configuration_after}
-use Rattle.pssm_semantics.specs.Known.{IsFiringOf, IsRouteOf, IsVertexOf, IsWayOf}
+use Rattle.pssm_semantics.specs.Known.{IsFiringOf, IsRouteOf, IsVertexOf}
 use Rattle.pssm_semantics.specs.Rules.{IsCalledItem}
 use Rattle.pssm_semantics.specs.Built.{IsBuiltClass}
 use Rattle.pssm_pool.specs.declared.pools.Waiting.{Waiting}
 use Rattle.pssm_object.specs.Standing.{Standing, IsStepOf, StandsAfter}
 use Rattle.pssm_object.specs.Following.{NamesPlaces, KeepsRules, IsCandidate, stimulus_of}
 use Rattle.pssm_object.proofs.BuiltMachines.{nested}
+use Rattle.pssm_object.proofs.BuiltWays.{way_there}
 use Rattle.pssm_object.proofs.Rules.{no_step}
 use Rattle.pssm_object.proofs.UnderWay.{called_item_waits}
 
@@ -66,15 +61,6 @@ step_there m now v k next = step_within m v k (vertex_at m v) refl next.in_range
 firing_there : (m : DraftMachine) (now : Configuration) (truth : Truth) (event : Event) (routes : List Route) → IsFiring m now truth event routes
     → All (IsRouteOf m) routes
 firing_there m now truth event routes fires = λ i route lt. (fires.0.sound.enabled i route lt).route_of_states.0.in_range
-
--- and so are those of the ways of an opening
-way_there : (m : DraftMachine) (truth : Truth) (memory : Memory) (r : RegionId) (mode : Mode) (how : How) → IsThere m (items.Opened r mode)
-    → IsWay m truth memory (items.Opened r mode) how → (r.0 < length m.regions) × IsWayOf m how
-way_there m truth memory r Plain (By route) there way = (there, way.2.route_is.in_range)
-way_there m truth memory r Plain (Restore s) there way = absurd way
-way_there m truth memory r Plain Nothing there way = (there, tt)
-way_there m truth memory r Shallow how there way = absurd there
-way_there m truth memory r Deep how there way = absurd there
 
 module _ (class : Class) (b : IsBuiltClass class) {J : List Entry} {x : Standing} (s : StandsAfter class J x) where
   abbrev m : DraftMachine
@@ -112,6 +98,6 @@ module _ (class : Class) (b : IsBuiltClass class) {J : List Entry} {x : Standing
   names_places signal (Effect o t outs) c keeps = waits_there o (items.Effect t) c.own (keeps A8)
   names_places signal (Enter o v outs) c keeps = (waits_there o (items.Enter v) c.own (keeps A8)).0
   names_places signal (Opened o r mode how) c keeps =
-      way_there m _ (configuration_after m J o).Remembers r mode how (waits_there o (items.Opened r mode) c.own (keeps A8)) (keeps A10)
+      (waits_there o (items.Opened r mode) c.own (keeps A8), way_there b.machine _ r (configuration_after m J o).Remembers mode how (keeps A10))
   names_places signal (Pick o v route) c keeps = ((waits_there o (items.Pick v) c.own (keeps A8)).0, (let way = keeps A10 in way.route_is.in_range))
   names_places signal (DoStep o v k outs) c keeps = step_there m (configuration_after m J o) v k (keeps A11)

@@ -77,13 +77,11 @@ fn finds(
     Ok(found == element)
 }
 
-/// A history, fork, join, entry or exit point, each the first of two, behind a State with an initial vertex.
+/// A fork, join, entry or exit point, each the first of two, behind a State with an initial vertex.
 #[test]
 fn forms_that_are_not_built(rt: HostRuntime) -> Result<(), Fail> {
     let alloc = rt.alloc();
     let third = Some(Element::Vertex(VertexId(2)));
-    assert!(rt; finds(alloc, b"0s0i0h0d", b"10.", third)?);
-    assert!(rt; finds(alloc, b"0s0i0d0h", b"10.", third)?);
     assert!(rt; finds(alloc, b"0s0i0k0j", b"10.", third)?);
     assert!(rt; finds(alloc, b"0s0i0j0k", b"10.", third)?);
     assert!(rt; finds(alloc, b"0s0iAnAx", b"10.", third)?);
@@ -91,12 +89,13 @@ fn forms_that_are_not_built(rt: HostRuntime) -> Result<(), Fail> {
     Ok(())
 }
 
-/// A final state, a choice, a junction and a terminate vertex are built, and so are transitions of every form: with a
-/// trigger and without, local ones, and one from an initial vertex to a junction.
+/// A final state, a choice, a junction, a terminate vertex and histories are built, and so are transitions of every
+/// form: with a trigger and without, local ones, and one from an initial vertex to a junction.
 #[test]
 fn forms_that_are_built(rt: HostRuntime) -> Result<(), Fail> {
     let alloc = rt.alloc();
     assert!(rt; finds(alloc, b"0s0s0i0f0c0u0t", b"01!20.", None)?);
+    assert!(rt; finds(alloc, b"0s0i0h0d", b"10.", None)?);
     assert!(rt; finds(alloc, b"0s0s0i", b"01!20.00l01.00.", None)?);
     assert!(rt; finds(alloc, b"0s0s0i0u", b"23.30e31.", None)?);
     Ok(())

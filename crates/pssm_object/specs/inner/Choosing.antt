@@ -6,7 +6,6 @@ use Rattle.pssm_model.specs.declared.elements.VertexKind.TheVariants as kinds
 use Rattle.pssm_model.specs.declared.steps.Firing.{Firing}
 use Rattle.pssm_model.specs.declared.steps.How.{How}
 use Rattle.pssm_model.specs.declared.steps.How.TheVariants.{By}
-use Rattle.pssm_model.specs.declared.steps.Mode.TheVariants.{Plain}
 use Rattle.pssm_model.specs.declared.steps.Item.{Item}
 use Rattle.pssm_model.specs.declared.steps.Item.TheVariants as items
 use Rattle.pssm_model.specs.Forest.{HasKind}
@@ -28,11 +27,11 @@ use Rattle.pssm_object.specs.inner.Judging.{FiresHere, Completes, IsWayHere}
 use Rattle.pssm_object.specs.inner.Doing.{step_outcome}
 use Rattle.pssm_object.specs.inner.Working.{outcome_for}
 
--- an exit, an effect, an entry, a pick from a choice of the machine, or an opening by default of a region of the machine
-abbrev pub IsPlainItem : DraftMachine → Item → Type 0
-IsPlainItem m (items.Opened r mode) = (mode ≡ Plain) × (r.0 < length m.regions)
-IsPlainItem m (items.Pick c) = HasKind m c kinds.Choice
-IsPlainItem m _ = Unit {0}
+-- an exit, an effect, an entry, a pick from a choice of the machine, or an opening of a region of the machine
+abbrev pub IsItemThere : DraftMachine → Item → Type 0
+IsItemThere m (items.Opened r mode) = r.0 < length m.regions
+IsItemThere m (items.Pick c) = HasKind m c kinds.Choice
+IsItemThere m _ = Unit {0}
 
 -- an opening or a pick
 abbrev pub HasWays : Item → Type 0

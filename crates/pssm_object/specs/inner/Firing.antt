@@ -1,13 +1,17 @@
 -- What an event fires where an object stands so, which States defer a signal there, and by which ways a step goes on within itself.
-use Rattle.std.specs.Prelude.{List}
+use Rattle.std.specs.Prelude.{◌⊎◌, List}
 use Rattle.pssm_model.specs.declared.ids.VertexId.{VertexId}
 use Rattle.pssm_model.specs.declared.ids.RegionId.{RegionId}
+use Rattle.pssm_model.specs.declared.elements.VertexKind.{VertexKind}
+use Rattle.pssm_model.specs.declared.elements.VertexKind.TheVariants as kinds
 use Rattle.pssm_model.specs.declared.steps.Route.{Route}
+use Rattle.pssm_model.specs.declared.steps.Mode.{Mode}
 use Rattle.pssm_model.specs.declared.steps.How.{How}
+use Rattle.pssm_model.specs.declared.steps.How.TheVariants.{By}
 use Rattle.pssm_model.specs.declared.steps.Event.{Event}
 use Rattle.pssm_model.specs.Routes.{Truth}
 use Rattle.pssm_model.specs.FiringSets.{IsFiring, IsLateRoute, Overrides}
-use Rattle.pssm_model.specs.Ways.{OpensByDefault}
+use Rattle.pssm_model.specs.Ways.{IsHistoryOf, OpensByDefault, OpensByHistory, CanOpen}
 use Rattle.pssm_config.specs.Tables.{Tables, configuration_of}
 use Rattle.pssm_semantics.specs.declared.setting.Class.{Class}
 use Rattle.pssm_semantics.specs.Values.{Store, Params, eight_of}
@@ -38,10 +42,37 @@ StateDefers class tables store signal s =
 abbrev pub IsDeferredThere : Class → Tables → Store → Waiting → Type 0
 IsDeferredThere class tables store signal = (s : VertexId) × StateDefers class tables store signal s
 
--- A step goes on by the route from the vertex, an initial vertex or a choice, where the variables and the parameters have these values.
+-- A step goes on by the route from the vertex, an initial, history or choice vertex, where the variables and the parameters have these values.
 abbrev pub IsWayFrom : Class → Store → Params → VertexId → Route → Type 0
 IsWayFrom class store params origin route = IsLateRoute class.machine (guards_under class store params) origin route
+
+-- The way is such a route.
+abbrev pub GoesFrom : Class → Store → Params → VertexId → How → Type 0
+GoesFrom class store params origin (By route) = IsWayFrom class store params origin route
+GoesFrom class store params origin _ = ⊥
 
 -- The region opens by default in this way there.
 abbrev pub IsDefaultWay : Class → Store → Params → RegionId → How → Type 0
 IsDefaultWay class store params r how = OpensByDefault class.machine (guards_under class store params) r how
+
+-- a kind of history vertices
+abbrev pub IsHistoryKind : VertexKind → Type 0
+IsHistoryKind kinds.ShallowHistory = Unit {0}
+IsHistoryKind kinds.DeepHistory = Unit {0}
+IsHistoryKind _ = ⊥
+
+-- The region opens in this way there where it remembers no State: by its history vertex of the kind where this has a transition, and else by default.
+abbrev pub IsFreshWay : Class → Store → Params → RegionId → VertexKind → How → Type 0
+IsFreshWay class store params r kind how =
+    ((v : VertexId) × IsHistoryOf class.machine r kind v × GoesFrom class store params v how)
+    ⊎ (((v : VertexId) → IsHistoryOf class.machine r kind v → ⊥) × IsDefaultWay class store params r how)
+
+-- The region opens in this way by its history vertices of the kind, where the tables hold what it remembers.
+abbrev pub IsHistoryWay : Class → Tables → Store → Params → RegionId → VertexKind → How → Type 0
+IsHistoryWay class tables store params r kind how =
+    OpensByHistory class.machine (guards_under class store params) (configuration_of tables).Remembers r kind how
+
+-- The region opens in this way in the mode, where the tables hold what it remembers.
+abbrev pub IsOpeningWay : Class → Tables → Store → Params → RegionId → Mode → How → Type 0
+IsOpeningWay class tables store params r mode how =
+    CanOpen class.machine (guards_under class store params) (configuration_of tables).Remembers r mode how

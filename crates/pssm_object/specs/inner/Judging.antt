@@ -20,7 +20,7 @@ use Rattle.pssm_semantics.specs.declared.setting.Class.{Class}
 use Rattle.pssm_semantics.specs.Values.{eight_of, no_params}
 use Rattle.pssm_pool.specs.declared.pools.Waiting.{Waiting}
 use Rattle.pssm_object.specs.Standing.{Standing}
-use Rattle.pssm_object.specs.inner.Firing.{Fires, IsDefaultWay, IsWayFrom}
+use Rattle.pssm_object.specs.inner.Firing.{Fires, IsWayFrom, IsOpeningWay}
 use Rattle.pssm_object.specs.inner.Situations.{IsAtRest, first_waiting}
 use Rattle.pssm_object.specs.inner.Working.{Makes}
 use Rattle.pssm_object.specs.inner.Doing.{JudgesDoStep}
@@ -93,9 +93,9 @@ JudgesWork class x item outs None = JudgesItem class.machine x.plan item None ×
 JudgesWork class x item outs (Some A12) = JudgesItem class.machine x.plan item None × (Makes class x item outs → ⊥)
 JudgesWork class x item outs (Some rule) = JudgesItem class.machine x.plan item (Some rule)
 
--- The way is one of those of an opening by default or a pick there; nothing else has a way.
+-- The way is one of those of an opening or a pick there; nothing else has a way.
 abbrev pub IsWayHere : Class → Standing → Item → How → Type 0
-IsWayHere class x (items.Opened r mode) how = IsDefaultWay class x.store x.params r how
+IsWayHere class x (items.Opened r mode) how = IsOpeningWay class x.config x.store x.params r mode how
 IsWayHere class x (items.Pick c) (By route) = IsWayFrom class x.store x.params c route
 IsWayHere class x item how = ⊥
 

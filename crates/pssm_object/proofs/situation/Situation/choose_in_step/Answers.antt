@@ -4,7 +4,7 @@ use Rattle.std.specs.Option.{option_copied}
 use Rattle.std.proofs.lemmas.Bool.{false≢true}
 use Rattle.std.proofs.lemmas.Result.{IfOk-weaker}
 use Rattle.pssm_object.specs.inner.Situations.{standing_of}
-use Rattle.pssm_object.proofs.Choices.{chooses_next, chooses_way, choice_is_plain}
+use Rattle.pssm_object.proofs.Choices.{chooses_next, chooses_way, choice_item_there}
 use Rattle.pssm_object.proofs.situation.Situation.choose_in_step.Goals as goal
 
 pub returns-then-finished : goal.returns-then-finished
@@ -15,9 +15,9 @@ returns-then-finished c =
 pub go_some_way-requires-clause-item : goal.go_some_way-requires-clause-item
 go_some_way-requires-clause-item c = (c.in-Some.ensures.ready c.args.class.now.machine c.requires.plan).0
 
-pub go_some_way-requires-clause-plain : goal.go_some_way-requires-clause-plain
-go_some_way-requires-clause-plain c =
-    choice_is_plain c.requires.class.machine c.args.plan.now c.in-Some.item c.requires.plan (c.in-Some.ensures.ready c.args.class.now.machine c.requires.plan)
+pub go_some_way-requires-clause-there : goal.go_some_way-requires-clause-there
+go_some_way-requires-clause-there c =
+    choice_item_there c.requires.class.machine c.args.plan.now c.in-Some.item c.requires.plan (c.in-Some.ensures.ready c.args.class.now.machine c.requires.plan)
 
 pub returns-in_ok-go_some_way-in-Some : goal.returns-in_ok-go_some_way-in-Some
 returns-in_ok-go_some_way-in-Some c =

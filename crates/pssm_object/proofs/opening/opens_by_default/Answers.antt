@@ -1,6 +1,6 @@
 -- a region opens by none where it has no initial vertex
-use Rattle.pssm_object.proofs.BuiltWays.{opens_by_none}
-use Rattle.pssm_object.proofs.opening.opens_by.Goals as goal
+use Rattle.pssm_object.proofs.OpeningWays.{opens_by_none}
+use Rattle.pssm_object.proofs.opening.opens_by_default.Goals as goal
 
 pub returns-in-Nothing : goal.returns-in-Nothing
 returns-in-Nothing c =
