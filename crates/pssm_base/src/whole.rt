@@ -7,7 +7,10 @@ use crate::{Inputs, WholeFault};
 use std::alloc::Global;
 
 // How many bytes are read at a time, at most.
-const PIECE: usize = 65536;
+const PIECE: usize = 8192;
+
+// For how many bytes there is room from the start: most paths hold fewer, and what is read of them is never moved.
+const ROOM: usize = 262_144;
 
 /// Reads all that stands under `path`, where that is at most `limit` bytes. It reads at least one byte a turn,
 /// and no more than one byte past `limit`.
@@ -39,7 +42,7 @@ pub fn read_whole<I: Inputs>(
     ensures counts { NoneFell (I.faults inputs.old) (I.faults inputs.new) }
     ensures same { SameContent (I.content inputs.old) (I.content inputs.new) }
 {
-    let mut bytes = Vec::new(alloc);
+    let mut bytes = Vec::with_capacity(alloc, ROOM)?;
     let mut piece = vec![in alloc; 0u8; PIECE]?;
     fill(inputs, path, limit, &mut bytes, &mut piece)?;
     Ok(bytes)

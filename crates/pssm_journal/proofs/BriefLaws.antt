@@ -1,11 +1,8 @@
 -- Brief entries: how their names are looked up, and that they name what the setting has.
-use Rattle.std.proofs.Common.{◌≡◌, ℕ, ◌<◌, Bool, List, [], ◌∷◌, ◌++◌, length, Option, Some, None, refl, sym, ap, subst, ◌∙◌, arith, ◌↔◌}
-use Rattle.std.specs.Prelude.{IsTrue, All, slice_get, ◌==◌}
+use Rattle.std.proofs.Common.{◌≡◌, ℕ, ◌<◌, Bool, List, [], ◌∷◌, length, Option, Some, refl, sym, ap, subst, ◌∙◌, ◌↔◌}
+use Rattle.std.specs.Prelude.{IsTrue, All, slice_get}
 use Rattle.std.specs.Option.{option_map_or}
-use Rattle.std.proofs.lemmas.Bool.{eqb-true}
-use Rattle.std.proofs.lemmas.List.{append-nil}
 use Rattle.std.proofs.lemmas.List.Elements.{All-nil, All-head}
-use Rattle.std.proofs.lemmas.Option.{same_Some}
 use Rattle.pssm_model.specs.declared.ids.SignalId.{SignalId}
 use Rattle.pssm_model.specs.declared.ids.TransId.{TransId}
 use Rattle.pssm_model.specs.declared.elements.DraftMachine.{DraftMachine}
@@ -18,8 +15,6 @@ use Rattle.pssm_semantics.specs.declared.setting.Setting.{Setting}
 use Rattle.pssm_semantics.specs.Journal.{object_of}
 use Rattle.pssm_semantics.specs.Known.{IsRouteOf, IsFiringOf}
 use Rattle.pssm_semantics.specs.Names.{NamesDiffer}
-use Rattle.pssm_spelling.specs.SpellingReading.{stripped}
-use Rattle.pssm_spelling.proofs.SpellingLaws.{stripped_takes, stripped_again}
 use Rattle.pssm_lines.specs.declared.parts.BriefAct.{BriefAct}
 use Rattle.pssm_lines.specs.declared.parts.BriefAct.TheVariants as acts
 use Rattle.pssm_lines.specs.Parts.{firing_of_one, line_of_act}
@@ -31,27 +26,6 @@ use Rattle.pssm_journal.specs.inner.EntryLine.{name_of_object, name_of_signal}
 use Rattle.pssm_journal.proofs.NameLaws.{object_named_back, signal_named_back}
 
 -- ---- names
-
--- one name strips another
-pub name_same : (own name rest : List ℕ) → stripped own name ≡ Some rest → IsTrue (length rest == 0) ↔ (own ≡ name)
-name_same own name rest e = (
-  (λ none. sym (stripped_takes own name rest e ∙ ap (λ (t : List ℕ). own ++ t) (empty rest none) ∙ append-nil own)),
-  (λ same.
-      let all : stripped own name ≡ Some [] = ap (λ (t : List ℕ). stripped own t) (sym same ∙ sym (append-nil own)) ∙ stripped_again own [] in
-      let none : rest ≡ [] = same_Some rest [] (sym e ∙ all) in
-      ap (λ (t : List ℕ). length t == 0) none),
-)
-  where
-    empty : (t : List ℕ) → IsTrue (length t == 0) → t ≡ []
-    empty [] none = refl
-    empty (c ∷ t) none =
-        let zero_is : length (c ∷ t) ≡ 0 = eqb-true (length (c ∷ t)) 0 none in
-        absurd (omega arith)
-
-pub name_other : (own name : List ℕ) → stripped own name ≡ None → own ≡ name → ⊥
-name_other own name e same =
-    let all : stripped own name ≡ Some [] = ap (λ (t : List ℕ). stripped own t) (sym same ∙ sym (append-nil own)) ∙ stripped_again own [] in
-    absurd cc
 
 -- the object of its own name
 pub object_here : (setting : Setting) (o : ObjectId) (d : ObjectDecl) (name : List ℕ) → NamesDiffer setting → slice_get setting.objects o.0 ≡ Some d → d.name ≡ name → Some o ≡ object_named setting name

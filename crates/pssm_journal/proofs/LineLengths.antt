@@ -4,7 +4,6 @@ use Rattle.std.specs.Prelude.{codes, FitsSigned}
 use Rattle.std.specs.Int.{w64}
 use Rattle.std.specs.List.{AllByRecursion, flat_map, join_with_byte, sum_by}
 use Rattle.std.specs.Fmt.{decimal, signed_decimal}
-use Rattle.std.proofs.lemmas.Bool.{leb-true}
 use Rattle.std.proofs.lemmas.List.{length-append}
 use Rattle.std.proofs.lemmas.List.Concat.{length-flat_map}
 use Rattle.std.proofs.lemmas.List.Sums.{sum_by-cons}
@@ -30,33 +29,9 @@ use Rattle.pssm_spelling.specs.Spelling.{IsName}
 use Rattle.pssm_lines.specs.LineText.{line_text, firing_text, transition_text, route_text, routes_text, mode_text, how_text, args_text, call_text, out_text, outs_text}
 use Rattle.pssm_lines.specs.Grammar.{IsLine, AreArgs, IsSpelledOut, AreSpelledOuts}
 use Rattle.pssm_lines.specs.Faults.{IsJournalLine}
+use Rattle.pssm_lines.proofs.Lengths.{IsShort, short_append, short_more, short_name, short_number, short_within, short_word}
 use Rattle.pssm_journal.specs.Entries.{object_named, object_name, entry_at, entry_named, IsEntryOf}
 use Rattle.pssm_journal.proofs.OutputCounts.{step_some}
-
--- ---- lengths
-
--- at most so many bytes
-pub record IsShort (most : ℕ) (bytes : List ℕ) : Type 0 where
-  pub few : length bytes ≤ most
-
-short_append : (j k : ℕ) (a b : List ℕ) → IsShort j a → IsShort k b → IsShort (j + k) (a ++ b)
-short_append j k a b p q = record { few = omega (arith, length-append a b, p.few, q.few) }
-
-short_more : (j k : ℕ) (a : List ℕ) → j ≤ k → IsShort j a → IsShort k a
-short_more j k a le p = record { few = omega (arith, p.few) }
-
-short_name : (text : List ℕ) → IsName text → IsShort 64 text
-short_name text name = record { few = name.short }
-
-short_number : (n : ℕ) → n < 4294967296 → IsShort 10 (decimal n)
-short_number n small = record { few = length-decimal-le 10 n (omega arith) (omega arith) (omega arith) }
-
--- a word of the grammar
-short_within : (most : ℕ) (word : List ℕ) → leb (length word) most ≡ true → IsShort most word
-short_within most word few = record { few = leb-true (length word) most few }
-
-short_word : (word : List ℕ) → leb (length word) 16 ≡ true → IsShort 16 word
-short_word word few = short_within 16 word few
 
 -- ---- lists
 

@@ -13,7 +13,6 @@ use crate::namespace::Namespace;
 use pssm_lines::{BriefAct, BriefParts};
 use pssm_model::{SignalId, TransId, VertexId};
 use pssm_semantics::{Class, ObjectId, Setting};
-use pssm_spelling::strip;
 
 /// What a brief entry tells of its object.
 #[derive(Clone, Copy)]
@@ -45,10 +44,7 @@ pub struct Near {
 fn is_named(own: &[u8], name: &[u8]) -> bool
     ensures { IsTrue result ↔ (own.now ≡ name.now) }
 {
-    match strip(name, own) {
-        Some(rest) => rest.is_empty(),
-        None => false,
-    }
+    own == name
 }
 
 // The object of a name.

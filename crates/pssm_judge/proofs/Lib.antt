@@ -5,3 +5,5 @@ pub mod JudgingLaws
 pub mod AnswerLaws
 pub mod SomeFault
 pub mod EveryJournal
+pub mod RoomLaws
+pub mod TurnLaws

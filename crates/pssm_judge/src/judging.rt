@@ -1,10 +1,10 @@
 //! `judge`: what a journal deserves under a setting.
-ghost use Rattle.std.specs.Prelude.{◌≡◌, ℕ, List, [], true, IfOk, IfErr};
+ghost use Rattle.std.specs.Prelude.{◌≡◌, ◌≤◌, ℕ, List, [], true, length, IfOk, IfErr};
 ghost use Rattle.pssm_base.specs.Faults.{NoneFell};
 ghost use Rattle.pssm_base.specs.Reading.{SameContent};
 ghost use Rattle.pssm_semantics.specs.declared.setting.Setting.{Setting};
 ghost use Rattle.pssm_semantics.specs.Built.{IsBuilt};
-ghost use Rattle.pssm_judge.specs.inner.Judging.{IsJudging, IsTurn, IsShorter};
+ghost use Rattle.pssm_judge.specs.inner.Judging.{IsJudging, IsTurn, IsShorter, IsBehind, IsLessLeft};
 ghost use Rattle.pssm_judge.specs.Verdicts.{IsVerdictOn, IsVerdictFor, IsFaultOn, IsFaultFor};
 
 use crate::run::{Run, Stop};
@@ -77,14 +77,13 @@ fn judge_lines(alloc: Global, run: &mut Run, journal: &[u8]) -> Result<Verdict, 
     let mut line = 1;
     let mut rest = journal;
     while !(begun && rest.is_empty()) {
-        match next_turn(alloc, run, begun, line, rest)? {
-            Turn::On { rest: after } => {
-                begun = true;
-                rest = after;
-            }
-            Turn::Stop(stop) => return stop.answer(),
+        let behind = next_turn(alloc, run, begun, line, rest)?;
+        if let Some(stop) = behind.stop {
+            return stop.answer();
         }
-        line += 1;
+        begun = true;
+        rest = behind.rest;
+        line = behind.line;
     }
     Ok(Verdict::Accept { entries: run.len() })
 }
@@ -95,34 +94,77 @@ pub enum Turn<'a> {
     Stop(Stop),
 }
 
-// Takes the line that begins here, the first one of the text included.
-#[inline(always)]
+/// How the judging goes on behind brief lines: with these bytes, and a line of this number, or it stops.
+#[derive(Clone, Copy)]
+pub struct Behind<'a> {
+    pub rest: &'a [u8],
+    pub line: u32,
+    pub stop: Option<Stop>,
+}
+
+// Takes the line that begins here, the first one of the text included, and the brief lines behind it.
 fn next_turn<'a>(
     alloc: Global,
     run: &mut Run,
     begun: bool,
     line: u32,
     rest: &'a [u8],
-) -> Result<Turn<'a>, JudgeFault>
+) -> Result<Behind<'a>, JudgeFault>
     requires open { begun ≡ true → rest.now ≡ [] → ⊥ }
-    ensures goes_on { IfOk result (λ turn. (setting : Setting) (bytes : List ℕ) →
-        IsJudging setting bytes rest.now begun line run.old → IsTurn setting bytes line run.new turn) }
-    ensures shorter { IfOk result (IsShorter rest.now) }
+    requires judging { (setting : Setting) × (bytes : List ℕ) × IsJudging setting bytes rest.now begun line run.old }
+    ensures goes_on { IfOk result (λ behind. (setting : Setting) (bytes : List ℕ) →
+        IsJudging setting bytes rest.now begun line run.old → IsBehind setting bytes run.new behind) }
+    ensures shorter { IfOk result (IsLessLeft rest.now) }
     ensures fault { IfErr result (λ fault. (setting : Setting) (bytes : List ℕ) →
         IsJudging setting bytes rest.now begun line run.old → IsFaultOn setting bytes fault) }
 {
-    if begun {
-        if let Some((parts, after)) = brief_at(rest) {
-            return match run.take_brief(alloc, parts)? {
-                Some(stop) => Ok(Turn::Stop(stop)),
-                None => Ok(Turn::On { rest: after }),
-            };
-        }
+    let next = line + 1;
+    match any_turn(alloc, run, begun, line, rest)? {
+        Turn::On { rest: after } => take_briefs(alloc, run, next, after),
+        Turn::Stop(stop) => Ok(Behind {
+            rest,
+            line,
+            stop: Some(stop),
+        }),
     }
-    any_turn(alloc, run, begun, line, rest)
 }
 
-// The same, whatever the line is.
+// Takes the brief lines that begin here, one after the other, up to a line that is none.
+#[inline(never)]
+fn take_briefs<'a>(
+    alloc: Global,
+    run: &mut Run,
+    line: u32,
+    rest: &'a [u8],
+) -> Result<Behind<'a>, JudgeFault>
+    requires judging { (setting : Setting) × (bytes : List ℕ) × IsJudging setting bytes rest.now true line run.old }
+    ensures goes_on { IfOk result (λ behind. (setting : Setting) (bytes : List ℕ) →
+        IsJudging setting bytes rest.now true line run.old → IsBehind setting bytes run.new behind) }
+    ensures within { IfOk result (λ behind. length behind.rest.now ≤ length rest.now) }
+    ensures fault { IfErr result (λ fault. (setting : Setting) (bytes : List ℕ) →
+        IsJudging setting bytes rest.now true line run.old → IsFaultOn setting bytes fault) }
+{
+    let mut left = rest;
+    let mut number = line;
+    while let Some((parts, after)) = brief_at(left) {
+        if let Some(stop) = run.take_brief(alloc, parts)? {
+            return Ok(Behind {
+                rest: left,
+                line: number,
+                stop: Some(stop),
+            });
+        }
+        left = after;
+        number += 1;
+    }
+    Ok(Behind {
+        rest: left,
+        line: number,
+        stop: None,
+    })
+}
+
+// Takes the line that begins here, whatever it is.
 #[inline(never)]
 fn any_turn<'a>(
     alloc: Global,

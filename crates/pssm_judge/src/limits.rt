@@ -39,6 +39,7 @@ pub fn output_count(parts: &LineParts<'_>) -> usize
 }
 
 /// How many posts, sends and marks a brief line writes.
+#[inline(always)]
 pub fn brief_output_count(parts: &BriefParts<'_>) -> usize
     ensures { result ≡ line_output_count (brief_line parts.now) }
 {
@@ -50,6 +51,7 @@ pub fn brief_output_count(parts: &BriefParts<'_>) -> usize
 
 /// Whether a journal of so many entries and outputs passes its limits by one entry more, with so many `further`
 /// outputs.
+#[inline(always)]
 pub fn passes_limits(entries: usize, outputs: usize, further: usize) -> bool
     requires { outputs ≤ 2000000 }
     ensures { IsTrue result ↔ ((1000000 < entries + 1) ⊎ (2000000 < outputs + further)) }

@@ -2,6 +2,7 @@
 ghost use Rattle.std.specs.Prelude.{◌≡◌, [], length, IfOk, IfNone, IfSome};
 ghost use Rattle.pssm_semantics.specs.declared.entry.Entry.TheVariants as entries;
 ghost use Rattle.pssm_semantics.specs.declared.line.Line.{Line};
+ghost use Rattle.pssm_semantics.specs.declared.line.Line.TheVariants as lines;
 ghost use Rattle.pssm_semantics.specs.Built.{IsBuilt};
 ghost use Rattle.pssm_semantics.specs.Laws.{CompletesInTime};
 ghost use Rattle.pssm_lines.specs.Grammar.{IsLine};
@@ -16,7 +17,7 @@ use crate::limits::{brief_output_count, output_count, passes_limits};
 use crate::room::{firing_in, firing_out};
 use crate::verdict::{JudgeFault, Verdict};
 use pssm_journal::{
-    BriefEntry, BriefParts, Entry, EntryAct, LineParts, Namespace, Near, entry_of_brief,
+    BriefAct, BriefEntry, BriefParts, Entry, EntryAct, LineParts, Namespace, Near, entry_of_brief,
     entry_of_parts,
 };
 use pssm_model::{Firing, Row, SignalId, TransId, VertexId};
@@ -24,6 +25,7 @@ use pssm_semantics::{Args, ObjectId, Rule, Setting};
 use pssm_system::Follower;
 use std::alloc::{AllocError as NoMemory, Global};
 use std::marker::Model;
+use std::mem;
 
 /// Why the judging ends at a line. Entries are counted from 1.
 #[derive(Clone, Copy)]
@@ -52,6 +54,12 @@ impl Stop {
             Stop::Refuse { entry, rule } => Ok(Verdict::Refuse { entry, rule }),
         }
     }
+}
+
+// Lets go of an entry that holds no memory: there is nothing of it to give back.
+#[inline(always)]
+fn let_go(told: Entry) {
+    mem::forget(told);
 }
 
 /// The run that a journal has told so far, the namespace of its setting, what the last brief line named, the firing of
@@ -130,12 +138,125 @@ impl Run {
         let Some(told) = entry_of_parts(alloc, setting, &self.namespace, parts)? else {
             return Ok(Some(Stop::unknown(entry)));
         };
-        self.add(entry, outputs, &told)
+        self.add_any(entry, outputs, &told)
     }
 
-    /// The same for a brief line.
+    /// The same for a brief line. Each kind has code of its own from here on.
     #[inline(always)]
     pub fn take_brief(
+        &mut self,
+        alloc: Global,
+        parts: BriefParts<'_>,
+    ) -> Result<Option<Stop>, NoMemory>
+        requires { IsLine (brief_line parts) }
+        ensures takes { IfOk result (λ stop. IfNone stop (TakesLine self.old self.new (brief_line parts.entry))) }
+        ensures stops { IfOk result (λ stop. IfSome stop
+            (StopsAt self.old.setting self.old.journal (brief_line parts.entry))) }
+    {
+        let object = parts.object;
+        match parts.act {
+            BriefAct::Post { signal } => self.take_post(alloc, object, signal),
+            BriefAct::Take { number, start } => self.take_start(alloc, object, number, start),
+            BriefAct::Exit { state } => self.take_exit(alloc, object, state),
+            BriefAct::Effect { transition } => self.take_effect(alloc, object, transition),
+            BriefAct::Enter { state } => self.take_enter(alloc, object, state),
+        }
+    }
+
+    // Takes a post without arguments.
+    #[inline(never)]
+    fn take_post(
+        &mut self,
+        alloc: Global,
+        object: &[u8],
+        signal: &[u8],
+    ) -> Result<Option<Stop>, NoMemory>
+        requires { IsLine (lines.Post object.now signal.now []) }
+        ensures takes { IfOk result (λ stop. IfNone stop
+            (TakesLine self.old self.new (lines.Post object.now signal.now []))) }
+        ensures stops { IfOk result (λ stop. IfSome stop
+            (StopsAt self.old.setting self.old.journal (lines.Post object.now signal.now []))) }
+    {
+        let act = BriefAct::Post { signal };
+        self.take_kind(alloc, BriefParts { object, act })
+    }
+
+    // Takes a take by one route of one start.
+    #[inline(never)]
+    fn take_start(
+        &mut self,
+        alloc: Global,
+        object: &[u8],
+        number: u32,
+        start: TransId,
+    ) -> Result<Option<Stop>, NoMemory>
+        requires { IsLine (lines.Take object.now number (firing_of_one start)) }
+        ensures takes { IfOk result (λ stop. IfNone stop
+            (TakesLine self.old self.new (lines.Take object.now number (firing_of_one start)))) }
+        ensures stops { IfOk result (λ stop. IfSome stop
+            (StopsAt self.old.setting self.old.journal (lines.Take object.now number (firing_of_one start)))) }
+    {
+        let act = BriefAct::Take { number, start };
+        self.take_kind(alloc, BriefParts { object, act })
+    }
+
+    // Takes an exit without outputs.
+    #[inline(never)]
+    fn take_exit(
+        &mut self,
+        alloc: Global,
+        object: &[u8],
+        state: VertexId,
+    ) -> Result<Option<Stop>, NoMemory>
+        requires { IsLine (lines.Exit object.now state []) }
+        ensures takes { IfOk result (λ stop. IfNone stop
+            (TakesLine self.old self.new (lines.Exit object.now state []))) }
+        ensures stops { IfOk result (λ stop. IfSome stop
+            (StopsAt self.old.setting self.old.journal (lines.Exit object.now state []))) }
+    {
+        let act = BriefAct::Exit { state };
+        self.take_kind(alloc, BriefParts { object, act })
+    }
+
+    // Takes an effect without outputs.
+    #[inline(never)]
+    fn take_effect(
+        &mut self,
+        alloc: Global,
+        object: &[u8],
+        transition: TransId,
+    ) -> Result<Option<Stop>, NoMemory>
+        requires { IsLine (lines.Effect object.now transition []) }
+        ensures takes { IfOk result (λ stop. IfNone stop
+            (TakesLine self.old self.new (lines.Effect object.now transition []))) }
+        ensures stops { IfOk result (λ stop. IfSome stop
+            (StopsAt self.old.setting self.old.journal (lines.Effect object.now transition []))) }
+    {
+        let act = BriefAct::Effect { transition };
+        self.take_kind(alloc, BriefParts { object, act })
+    }
+
+    // Takes an entry of a State without outputs.
+    #[inline(never)]
+    fn take_enter(
+        &mut self,
+        alloc: Global,
+        object: &[u8],
+        state: VertexId,
+    ) -> Result<Option<Stop>, NoMemory>
+        requires { IsLine (lines.Enter object.now state []) }
+        ensures takes { IfOk result (λ stop. IfNone stop
+            (TakesLine self.old self.new (lines.Enter object.now state []))) }
+        ensures stops { IfOk result (λ stop. IfSome stop
+            (StopsAt self.old.setting self.old.journal (lines.Enter object.now state []))) }
+    {
+        let act = BriefAct::Enter { state };
+        self.take_kind(alloc, BriefParts { object, act })
+    }
+
+    // Takes a brief line of one kind.
+    #[inline(always)]
+    fn take_kind(
         &mut self,
         alloc: Global,
         parts: BriefParts<'_>,
@@ -211,7 +332,9 @@ impl Run {
             signal,
             args,
         };
-        self.add(entry, outputs, &told)
+        let outcome = self.add(entry, outputs, &told);
+        let_go(told);
+        outcome
     }
 
     // Adds a take by one route of one start.
@@ -264,7 +387,9 @@ impl Run {
             state,
             outs,
         };
-        self.add(entry, outputs, &told)
+        let outcome = self.add(entry, outputs, &told);
+        let_go(told);
+        outcome
     }
 
     // Adds an effect without outputs.
@@ -289,7 +414,9 @@ impl Run {
             transition,
             outs,
         };
-        self.add(entry, outputs, &told)
+        let outcome = self.add(entry, outputs, &told);
+        let_go(told);
+        outcome
     }
 
     // Adds an entry of a State without outputs.
@@ -314,11 +441,30 @@ impl Run {
             state,
             outs,
         };
-        self.add(entry, outputs, &told)
+        let outcome = self.add(entry, outputs, &told);
+        let_go(told);
+        outcome
+    }
+
+    // Adds the entry that a line of any kind writes, unless it breaks a rule.
+    #[inline(never)]
+    fn add_any(
+        &mut self,
+        entry: u32,
+        outputs: usize,
+        told: &Entry,
+    ) -> Result<Option<Stop>, NoMemory>
+        requires { (line : Line) × IsTold self.old line entry outputs told.now }
+        ensures takes { IfOk result (λ stop. (line : Line) → IsTold self.old line entry outputs told.now
+            → IfNone stop (TakesLine self.old self.new line)) }
+        ensures stops { IfOk result (λ stop. (line : Line) → IsTold self.old line entry outputs told.now
+            → IfSome stop (StopsAt self.old.setting self.old.journal line)) }
+    {
+        self.add(entry, outputs, told)
     }
 
     // Adds the entry that a line writes, unless it breaks a rule.
-    #[inline(never)]
+    #[inline(always)]
     fn add(&mut self, entry: u32, outputs: usize, told: &Entry) -> Result<Option<Stop>, NoMemory>
         requires { (line : Line) × IsTold self.old line entry outputs told.now }
         ensures takes { IfOk result (λ stop. (line : Line) → IsTold self.old line entry outputs told.now

@@ -80,7 +80,7 @@ fn is_passed_or_end(machine: &Machine, legs: &Legs, s: VertexId) -> bool
     requires state { s.0 < length machine.now.vertices }
     ensures { IsTrue result ↔ (IsPassed machine.now legs.now s ⊎ IsEndState machine.now legs.now.last s) }
 {
-    is_passed(machine, legs, s) || is_end_state(machine, legs.last, s)
+    is_end_state(machine, legs.last, s) || is_passed(machine, legs, s)
 }
 
 // Whether the leg enters the State.
@@ -134,6 +134,7 @@ fn is_history_end(machine: &Machine, legs: &Legs, kind: VertexKind, r: RegionId)
 }
 
 // Whether the leg calls the item, by what is told of it.
+#[inline(always)]
 fn is_called(machine: &Machine, legs: &Legs, fires: bool, item: Item) -> bool
     requires legs { AreLegsIn machine.now legs.now }
     requires item { IsItemIn machine.now item }
@@ -156,6 +157,7 @@ fn is_called(machine: &Machine, legs: &Legs, fires: bool, item: Item) -> bool
 }
 
 // Whether items of these kinds come in this order where one leg calls both.
+#[inline(always)]
 fn comes_first(first: Item, second: Item) -> bool
     ensures { IsTrue result ↔ ComesFirst first second }
 {
@@ -172,6 +174,7 @@ fn comes_first(first: Item, second: Item) -> bool
 }
 
 // Whether the items are effects, the first of which stands in the path before the second.
+#[inline(always)]
 fn are_path_pair(path: &[TransId], first: Item, second: Item) -> bool
     ensures { IsTrue result ↔ IsPathPair path.now first second }
 {
@@ -181,7 +184,20 @@ fn are_path_pair(path: &[TransId], first: Item, second: Item) -> bool
     }
 }
 
+// Whether the leg calls both items.
+#[inline(never)]
+fn are_both_called(machine: &Machine, legs: &Legs, fires: bool, first: Item, second: Item) -> bool
+    requires legs { AreLegsIn machine.now legs.now }
+    requires first { IsItemIn machine.now first }
+    requires second { IsItemIn machine.now second }
+    ensures { IsTrue result ↔ (IsCalledAsTold machine.now legs.now fires first
+        × IsCalledAsTold machine.now legs.now fires second) }
+{
+    is_called(machine, legs, fires, first) && is_called(machine, legs, fires, second)
+}
+
 // Whether the items come in this order by their kinds, and the leg calls both.
+#[inline(always)]
 fn are_called_in_order(
     machine: &Machine,
     legs: &Legs,
@@ -195,12 +211,11 @@ fn are_called_in_order(
     ensures { IsTrue result ↔ (ComesFirst first second × IsCalledAsTold machine.now legs.now fires first
         × IsCalledAsTold machine.now legs.now fires second) }
 {
-    comes_first(first, second)
-        && is_called(machine, legs, fires, first)
-        && is_called(machine, legs, fires, second)
+    comes_first(first, second) && are_both_called(machine, legs, fires, first, second)
 }
 
 // Whether the leg orders the items so, by what is told of it.
+#[inline(always)]
 fn are_ordered(machine: &Machine, legs: &Legs, fires: bool, first: Item, second: Item) -> bool
     requires legs { AreLegsIn machine.now legs.now }
     requires first { IsItemIn machine.now first }
@@ -213,6 +228,7 @@ fn are_ordered(machine: &Machine, legs: &Legs, fires: bool, first: Item, second:
 
 /// Whether a leg of a route calls the item, itself or at its end. Exits are called only where the route fires, and here
 /// of all that lies where the leg exits, whether it is active or not (UML 2.5.1, 14.2.3.9).
+#[inline(always)]
 pub fn calls(machine: &Machine, legs: &Legs, fires: bool, item: Item) -> bool
     requires single { HasSingleLegs machine.now }
     requires legs { AreLegsIn machine.now legs.now }
@@ -238,6 +254,7 @@ pub fn opens_for(machine: &Machine, legs: &Legs, s: VertexId, r: RegionId) -> bo
 
 /// Whether a route puts the first of two items before the second, since one of its legs calls both, or a later leg the
 /// second (UML 2.5.1, 14.2.3.9, transition execution sequence).
+#[inline(always)]
 pub fn orders(machine: &Machine, legs: &Legs, fires: bool, first: Item, second: Item) -> bool
     requires single { HasSingleLegs machine.now }
     requires legs { AreLegsIn machine.now legs.now }

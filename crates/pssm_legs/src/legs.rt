@@ -40,8 +40,20 @@ pub fn legs_of(alloc: Global, machine: &Machine, route: &Route) -> Result<Legs, 
     requires route { IsRoute machine.now route.now }
     ensures { IfOk result (AreLegsOf machine.now route.now) }
 {
+    legs_in(Vec::new(alloc), machine, route)
+}
+
+/// The same, with the path in the room of a vector without items.
+///
+/// `NoMemory`: memory ran out.
+pub fn legs_in(room: Vec<TransId>, machine: &Machine, route: &Route) -> Result<Legs, NoMemory>
+    requires none { room.items ≡ [] }
+    requires legs { HasSingleLegs machine.now }
+    requires route { IsRoute machine.now route.now }
+    ensures { IfOk result (AreLegsOf machine.now route.now) }
+{
     let start = start_of(machine, route);
-    let path = path_of(alloc, machine, route, start)?;
+    let path = path_of(room, machine, route, start)?;
     let last = last_of(machine, path.as_slice(), start);
     let area = area_of(machine, route, start);
     Ok(Legs {

@@ -12,4 +12,4 @@ mod path;
 
 pub use areas::{Area, area_of, covers};
 pub use asking::{calls, opens_for, orders};
-pub use legs::{Legs, legs_of};
+pub use legs::{Legs, legs_in, legs_of};

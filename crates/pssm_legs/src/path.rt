@@ -12,7 +12,7 @@ ghost use Rattle.pssm_model.specs.SingleLegs.{HasSingleLegs};
 ghost use Rattle.pssm_legs.specs.LegsOf.{StandsBefore};
 
 use pssm_model::{Machine, Route, TransId, VertexId, VertexKind};
-use std::alloc::{AllocError as NoMemory, Global};
+use std::alloc::AllocError as NoMemory;
 
 // Whether the vertex is a junction.
 fn is_junction(machine: &Machine, v: VertexId) -> bool
@@ -54,15 +54,27 @@ fn next_of(machine: &Machine, route: &Route, t: TransId) -> Option<TransId>
     }
 }
 
-/// The transitions of a route that starts with this one, in the order in which they are taken.
+// The path of the first transition alone, in the room of a vector without items.
+fn begun(room: Vec<TransId>, start: TransId) -> Result<Vec<TransId>, NoMemory>
+    requires none { room.items ≡ [] }
+    ensures items { IfOk result (λ path. path.items ≡ start ∷ []) }
+{
+    let mut path = room;
+    path.push(start)?;
+    Ok(path)
+}
+
+/// The transitions of a route that starts with this one, in the order in which they are taken. They come into the room of
+/// a vector without items.
 ///
 /// `NoMemory`: memory ran out.
 pub fn path_of(
-    alloc: Global,
+    room: Vec<TransId>,
     machine: &Machine,
     route: &Route,
     start: TransId,
 ) -> Result<Vec<TransId>, NoMemory>
+    requires none { room.items ≡ [] }
     requires legs { HasSingleLegs machine.now }
     requires route { IsRoute machine.now route.now }
     requires start { route.now.starts ≡ start ∷ [] }
@@ -70,7 +82,7 @@ pub fn path_of(
     ensures order { (t u : TransId) → IfOk result (λ path. PathBefore machine.now route.now t u ↔ StandsBefore path.items t u) }
 {
     let _shaped = machine.regions();
-    let mut path = vec![in alloc; start]?;
+    let mut path = begun(room, start)?;
     let mut last = start;
     while let Some(next) = next_of(machine, route, last) {
         path.push(next)?;

@@ -1,12 +1,11 @@
 -- Brief lines: what is read of one stands at the front.
-use Rattle.std.proofs.Common.{◌≡◌, ◌≤◌, ℕ, List, [], ◌∷◌, ◌++◌, length, Some, refl, ap, ◌∙◌, append_assoc, arith, length-append}
+use Rattle.std.proofs.Common.{◌≡◌, ℕ, List, [], ◌++◌, Some, refl, ap, ◌∙◌, append_assoc, arith}
 use Rattle.std.specs.Prelude.{codes}
 use Rattle.pssm_model.specs.declared.ids.TransId.{TransId}
-use Rattle.pssm_semantics.specs.declared.line.Line.{Line}
 use Rattle.pssm_semantics.specs.declared.line.Line.TheVariants as lines
 use Rattle.pssm_spelling.specs.SpellingReading.{stripped}
 use Rattle.pssm_spelling.proofs.SpellingLaws.{stripped_takes}
-use Rattle.pssm_lines.specs.LineText.{line_text, firing_text}
+use Rattle.pssm_lines.specs.LineText.{firing_text}
 use Rattle.pssm_lines.specs.Parts.{firing_of_one}
 use Rattle.pssm_lines.specs.inner.Lines.{StandsAt}
 use Rattle.pssm_lines.specs.inner.LineReading.{vertex, transition, called_taken, place_taken, turn_taken, firing_taken}
@@ -57,9 +56,3 @@ brief_enter bytes place object end rest n word read feed =
       (p.1.0, p.1.1, (omega arith, tt)),
       stripped_takes (codes "enter ") bytes place word ∙ ap (λ (t : List ℕ). codes "enter " ++ t) (p.0 ∙ ap (λ (t : List ℕ). place_text (codes " v") (object, n) ++ t) (stripped_takes (codes "\n") end rest feed)) ∙ simp append_assoc,
     )
-
--- A line at the front is no longer than the bytes before the rest.
-pub standing_length : (bytes rest : List ℕ) (line : Line) → StandsAt bytes line rest → length rest ≤ length bytes
-standing_length bytes rest line at =
-    let all : length bytes ≡ length (line_text line ++ 10 ∷ rest) = ap length at.1 in
-    omega (arith, all, length-append (line_text line) (10 ∷ rest))

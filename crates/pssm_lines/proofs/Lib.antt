@@ -19,3 +19,5 @@ pub mod Spellings
 pub mod OneFault
 pub mod EachText
 pub mod BriefLaws
+pub mod Lengths
+pub mod BriefLengths

@@ -7,7 +7,6 @@ ghost use Rattle.pssm_lines.specs.Faults.{IsJournalLine};
 ghost use Rattle.pssm_lines.specs.Parts.{brief_line};
 ghost use Rattle.pssm_lines.specs.inner.Lines.{StandsAt};
 
-use crate::front::LINE_LEN;
 use crate::groups::{called_at, lone_start_at, place_at, turn_at};
 use crate::parts::{BriefAct, BriefParts};
 use crate::pieces::behind;
@@ -82,7 +81,7 @@ fn enter_at(bytes: &[u8]) -> ReadBrief<'_>
     Some((BriefParts { object, act }, rest))
 }
 
-// A brief line of any length, by its first letters.
+// A brief line, by its first letters.
 #[inline(always)]
 fn form_at(bytes: &[u8]) -> ReadBrief<'_>
     ensures { IfSome result (λ x. StandsAt bytes.now (brief_line x.0) x.1.now) }
@@ -97,7 +96,8 @@ fn form_at(bytes: &[u8]) -> ReadBrief<'_>
     }
 }
 
-/// The brief line at the front of the bytes, and what follows its line feed.
+/// The brief line at the front of the bytes, and what follows its line feed. Made of names and numbers
+/// alone, it is never too long.
 ///
 /// Where it finds none, [`front_of`](crate::front_of) says what stands there.
 #[inline(always)]
@@ -105,9 +105,5 @@ pub fn brief_at(bytes: &[u8]) -> Option<(BriefParts<'_>, &[u8])>
     ensures journal { IfSome result (λ x. IsJournalLine (brief_line x.0)) }
     ensures text { IfSome result (λ x. bytes.now ≡ line_text (brief_line x.0) ++ 10 ∷ x.1.now) }
 {
-    let (parts, rest) = form_at(bytes)?;
-    if bytes.len() - rest.len() > LINE_LEN + 1 {
-        return None;
-    }
-    Some((parts, rest))
+    form_at(bytes)
 }

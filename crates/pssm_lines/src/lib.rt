@@ -23,8 +23,6 @@ mod pieces;
 mod reader;
 mod signed;
 mod spelled;
-#[cfg(test)]
-mod tests;
 mod whole;
 mod writing;
 

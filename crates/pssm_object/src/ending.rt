@@ -13,6 +13,7 @@ use pssm_config::Config;
 use pssm_model::{Item, Machine, Owner, RegionId, TransId, VertexId, VertexKind};
 
 /// Whether an item that has just run ends its object, which had not ended before (UML 2.5.1, 14.2.3.6 and 14.2.3.7).
+#[inline(always)]
 pub fn ends_by(machine: &Machine, config: &Config, item: Item) -> bool
     requires fits { Fits machine.now config.now }
     requires place { HasPlace machine.now item }
@@ -93,6 +94,7 @@ fn are_final(machine: &Machine, config: &Config, regions: &[RegionId]) -> bool
 }
 
 // Whether every top region has an active final state.
+#[inline(never)]
 fn tops_are_final(machine: &Machine, config: &Config) -> bool
     requires { Fits machine.now config.now }
     ensures { IsTrue result ↔ AllTopsAreFinal machine.now (configuration_of config.now) }

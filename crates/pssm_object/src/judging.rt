@@ -25,6 +25,7 @@ use std::alloc::{AllocError as NoMemory, Global};
 
 impl Situation {
     /// The first rule that the entry breaks, if it breaks one.
+    #[inline(always)]
     pub fn judge(
         &self,
         alloc: Global,
@@ -46,6 +47,7 @@ impl Situation {
     }
 
     // Whether the entry comes after the end of the object, where a post alone may come.
+    #[inline(always)]
     fn is_past_end(&self, entry: &Entry) -> bool
         ensures { IsTrue result ↔ IsPastEnd (standing_of self.now) entry.now }
     {
@@ -64,6 +66,7 @@ impl Situation {
     }
 
     // The first rule that the entry breaks where the object has not ended.
+    #[inline(always)]
     fn judge_living(
         &self,
         alloc: Global,
@@ -120,6 +123,7 @@ impl Situation {
     }
 
     // The verdict on a take; without its signal what it fires is not asked.
+    #[inline(always)]
     fn judge_take(
         &self,
         alloc: Global,
@@ -146,6 +150,7 @@ impl Situation {
     }
 
     // The verdict on what this signal fires, where the object rests and no completion waits.
+    #[inline(always)]
     fn judge_firing(
         &self,
         alloc: Global,
@@ -175,6 +180,7 @@ impl Situation {
     }
 
     // The verdict on a dispatch of the completion of a State.
+    #[inline(never)]
     fn judge_done(
         &self,
         alloc: Global,
@@ -234,6 +240,7 @@ impl Situation {
     }
 
     // Whether the last step is finished, or the rule that a head entry breaks.
+    #[inline(always)]
     fn at_rest(&self) -> Result<(), Rule>
         ensures { (m : DraftMachine) → IfSome self.now.plan (IsPlanOf m)
             → MatchResult result (λ _. IsAtRest m self.now.plan) (λ rule. JudgesRest m self.now.plan rule) }
@@ -251,6 +258,7 @@ impl Situation {
     }
 
     // The verdict on an item, but for its way and its outputs.
+    #[inline(always)]
     fn judge_item(&self, item: Item) -> Option<Rule>
         ensures { (m : DraftMachine) → IfSome self.now.plan (IsPlanOf m) → JudgesItem m self.now.plan item result }
     {
@@ -265,6 +273,7 @@ impl Situation {
     }
 
     // The verdict on an exit, an effect or an entry: its outputs are those of its behaviour.
+    #[inline(always)]
     fn judge_work(
         &self,
         alloc: Global,
@@ -288,6 +297,7 @@ impl Situation {
     }
 
     // Whether these are the outputs of the item's behaviour.
+    #[inline(always)]
     fn makes(
         &self,
         alloc: Global,
@@ -316,6 +326,7 @@ impl Situation {
     }
 
     // The verdict on an opening with its way.
+    #[inline(never)]
     fn judge_opened(&self, class: &Class, region: RegionId, mode: Mode, how: &How) -> Option<Rule>
         requires class { IsBuiltClass class.now }
         requires fits { Fits class.now.machine self.now.config }
@@ -349,6 +360,7 @@ impl Situation {
     }
 
     // The verdict on a pick with its route.
+    #[inline(never)]
     fn judge_pick(&self, class: &Class, choice: VertexId, route: &Route) -> Option<Rule>
         requires class { IsBuiltClass class.now }
         requires plan { IfSome self.now.plan (IsPlanOf class.now.machine) }
@@ -369,6 +381,7 @@ impl Situation {
     }
 
     // The verdict on a do step with its outputs.
+    #[inline(never)]
     fn judge_doing(
         &self,
         alloc: Global,

@@ -74,6 +74,7 @@ impl Object {
     /// The rules are those that the object itself shows: the names of the entry (A1) and the choice of a signal (A6)
     /// are the caller's. With a take the waiting signal with its number is handed in; without it what the signal
     /// fires is not asked. `NoMemory`: memory ran out.
+    #[inline(always)]
     pub fn allows(
         &self,
         class: &Class,
@@ -93,6 +94,7 @@ impl Object {
     /// Goes on by an entry of the object that may come next; with a take its signal is handed in.
     ///
     /// `NoMemory`: memory ran out; nothing has changed.
+    #[inline(always)]
     pub fn apply(
         &mut self,
         class: &Class,

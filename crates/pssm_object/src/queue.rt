@@ -78,6 +78,7 @@ impl Queue {
     }
 
     // Takes the State out, if there is one.
+    #[inline(always)]
     fn leave(&mut self, leaves: Option<VertexId>)
         ensures states { self.new.states ≡ without leaves self.old.states }
         ensures room { self.new.room ≡ self.old.room }
@@ -88,6 +89,7 @@ impl Queue {
     }
 
     // Puts the State at the end if its completion comes to wait: it is complete, and not in the queue.
+    #[inline(never)]
     fn join(&mut self, machine: &Machine, config: &Config, s: VertexId)
         requires fits { Fits machine.now config.now }
         requires queue { QueueFits machine.now self.old }
@@ -106,6 +108,7 @@ impl Queue {
     /// Brings the queue on after an entry: the one State is taken out, and the other, which was due to become
     /// complete, is put at the end if it is complete now, a transition without triggers leaves it and it is not in
     /// the queue.
+    #[inline(always)]
     pub fn settle(
         &mut self,
         machine: &Machine,
@@ -129,6 +132,7 @@ impl Queue {
     }
 
     /// Brings the queue on after an item has run.
+    #[inline(always)]
     pub fn settle_by(
         &mut self,
         machine: &Machine,
@@ -191,6 +195,7 @@ fn state_above(machine: &Machine, r: RegionId) -> Option<VertexId>
 }
 
 // The State that may become complete where the vertex is entered.
+#[inline(always)]
 fn completing_by_entry(machine: &Machine, s: VertexId) -> Option<VertexId>
     requires shape { HasShape machine.now }
     requires vertex { s.0 < length machine.now.vertices }
@@ -208,6 +213,7 @@ fn completing_by_entry(machine: &Machine, s: VertexId) -> Option<VertexId>
 }
 
 // The State that an item may make complete.
+#[inline(always)]
 fn completing_by(machine: &Machine, item: Item, how: &How) -> Option<VertexId>
     requires shape { HasShape machine.now }
     requires places { ItemIsThere machine.now item }
@@ -225,6 +231,7 @@ fn completing_by(machine: &Machine, item: Item, how: &How) -> Option<VertexId>
 }
 
 // The State that an item takes out of the queue.
+#[inline(always)]
 fn leaving_by(item: Item) -> Option<VertexId>
     ensures { result ≡ leaving item }
 {
@@ -235,6 +242,7 @@ fn leaving_by(item: Item) -> Option<VertexId>
 }
 
 /// This State, which something may make complete, if it is not complete before that or is taken out by it.
+#[inline(always)]
 pub fn due_of(
     machine: &Machine,
     config: &Config,
@@ -259,6 +267,7 @@ pub fn due_of(
 }
 
 /// The State that an item may make complete, if it is not complete before that or is entered by it.
+#[inline(always)]
 pub fn due_by(machine: &Machine, config: &Config, item: Item, how: &How) -> Option<VertexId>
     requires fits { Fits machine.now config.now }
     requires places { ItemIsThere machine.now item }

@@ -12,7 +12,7 @@ ghost use Rattle.pssm_object.specs.inner.Queueing.{QueueFits};
 ghost use Rattle.pssm_object.specs.inner.Working.{HasPlace, act_for};
 ghost use Rattle.pssm_object.specs.inner.Doing.{IsNextHere};
 ghost use Rattle.pssm_object.specs.inner.Situations.{standing_of};
-ghost use Rattle.pssm_object.specs.inner.Advancing.{CanRun, HasRunOn, HasFired, CanChange, AreStateRoutes, CanTake, CanFollow, CanRunHere, Settles, RunsHere, WorksHere, StepsHere, Takes, Dispatches, Advances};
+ghost use Rattle.pssm_object.specs.inner.Advancing.{Begins, CanRun, HasRunOn, HasFired, CanChange, AreStateRoutes, CanTake, CanFollow, CanRunHere, Settles, RunsHere, WorksHere, StepsHere, Takes, Dispatches, Advances};
 
 use crate::ending::ends_by;
 use crate::queue::{due_by, due_of};
@@ -29,6 +29,7 @@ impl Situation {
     /// Goes on by an entry that may follow; with a take its signal is handed in.
     ///
     /// On want of memory nothing has changed.
+    #[inline(always)]
     pub fn apply(
         &mut self,
         alloc: Global,
@@ -47,10 +48,7 @@ impl Situation {
     {
         match entry {
             Entry::Post { .. } => Ok(()),
-            Entry::Start { .. } => {
-                self.plan = Some(Plan::of_start(alloc, &class.machine)?);
-                Ok(())
-            }
+            Entry::Start { .. } => self.start(alloc, &class.machine),
             Entry::Take { firing, .. } => self.take(alloc, &class.machine, firing, signal),
             Entry::Done { state, firing, .. } => {
                 self.dispatch(alloc, &class.machine, *state, firing)
@@ -65,13 +63,25 @@ impl Situation {
                 mode,
                 how,
                 ..
-            } => self.run(alloc, &class.machine, Item::Opened(*region, *mode), how),
+            } => self.run_way(alloc, &class.machine, Item::Opened(*region, *mode), how),
             Entry::Pick { choice, route, .. } => self.pick(alloc, &class.machine, *choice, route),
             Entry::DoStep { state, step, .. } => self.step_on(alloc, class, *state, *step),
         }
     }
 
+    // Makes the plan that of the start.
+    #[inline(never)]
+    fn start(&mut self, alloc: Global, machine: &Machine) -> Result<(), NoMemory>
+        requires built { IsBuiltMachine machine.now }
+        ensures ok { OnOk result (Begins machine.now (standing_of self.old) (standing_of self.new)) }
+        ensures err { OnErr result (standing_of self.new ≡ standing_of self.old) }
+    {
+        self.plan = Some(Plan::of_start(alloc, machine)?);
+        Ok(())
+    }
+
     // Takes the signal, and begins the step of what it fires.
+    #[inline(always)]
     fn take(
         &mut self,
         alloc: Global,
@@ -96,6 +106,7 @@ impl Situation {
     }
 
     // Dispatches the completion of the first State of the queue, and begins the step of what it fires.
+    #[inline(never)]
     fn dispatch(
         &mut self,
         alloc: Global,
@@ -168,6 +179,7 @@ impl Situation {
     }
 
     // Runs a ready pick by this route.
+    #[inline(never)]
     fn pick(
         &mut self,
         alloc: Global,
@@ -184,10 +196,31 @@ impl Situation {
         ensures err { OnErr result (standing_of self.new ≡ standing_of self.old) }
     {
         let how = How::By(route.duplicate(alloc)?);
-        self.run(alloc, machine, Item::Pick(choice), &how)
+        self.run_way(alloc, machine, Item::Pick(choice), &how)
+    }
+
+    // Runs a ready opening or pick in one of its ways, and changes the configuration as it does.
+    #[inline(never)]
+    fn run_way(
+        &mut self,
+        alloc: Global,
+        machine: &Machine,
+        item: Item,
+        how: &How,
+    ) -> Result<(), NoMemory>
+        requires built { IsBuiltMachine machine.now }
+        requires fits { Fits machine.now self.old.config }
+        requires room { QueueFits machine.now self.old.queue }
+        requires can { CanRunHere machine.now self.old.plan self.old.config item how.now }
+        ensures ok { OnOk result (RunsHere machine.now (standing_of self.old) item how.now self.old.store.items
+            (standing_of self.new)) }
+        ensures err { OnErr result (standing_of self.new ≡ standing_of self.old) }
+    {
+        self.run(alloc, machine, item, how)
     }
 
     // Runs a ready item in one of its ways, and changes the configuration as it does.
+    #[inline(always)]
     fn run(
         &mut self,
         alloc: Global,
@@ -209,6 +242,7 @@ impl Situation {
     }
 
     // Changes the configuration as the item does that runs in this way, and brings on the queue and the end.
+    #[inline(always)]
     fn settle(&mut self, machine: &Machine, item: Item, how: &How)
         requires built { IsBuiltMachine machine.now }
         requires fits { Fits machine.now self.old.config }
@@ -225,6 +259,7 @@ impl Situation {
     }
 
     // Does the next do step of an active State with its behaviour, and brings on the queue.
+    #[inline(never)]
     fn step_on(
         &mut self,
         alloc: Global,
@@ -247,6 +282,7 @@ impl Situation {
 }
 
 // Makes the plan that of the routes that fire in this configuration.
+#[inline(always)]
 fn fire(
     plan: &mut Option<Plan>,
     alloc: Global,
@@ -262,14 +298,31 @@ fn fire(
 {
     match plan {
         Some(plan) => plan.fire(alloc, machine, config, firing),
-        None => {
-            *plan = Some(Plan::of_firing(alloc, machine, config, firing)?);
-            Ok(())
-        }
+        None => fire_first(plan, alloc, machine, config, firing),
     }
 }
 
+// The same where there is no plan to take over the room of.
+#[inline(never)]
+fn fire_first(
+    plan: &mut Option<Plan>,
+    alloc: Global,
+    machine: &Machine,
+    config: &Config,
+    firing: &Firing,
+) -> Result<(), NoMemory>
+    requires built { IsBuiltMachine machine.now }
+    requires fits { Fits machine.now config.now }
+    requires routes { AreStateRoutes machine.now firing.now.routes }
+    ensures ok { OnOk result (HasFired machine.now config.now firing.now.routes plan.new) }
+    ensures err { OnErr result (plan.new ≡ plan.old) }
+{
+    *plan = Some(Plan::of_firing(alloc, machine, config, firing)?);
+    Ok(())
+}
+
 // Runs a ready item of the plan in one of its ways.
+#[inline(always)]
 fn run_item(
     plan: &mut Option<Plan>,
     alloc: Global,
@@ -289,6 +342,7 @@ fn run_item(
 }
 
 // Changes the configuration as the item does that runs in this way.
+#[inline(always)]
 fn change(config: &mut Config, machine: &Machine, item: Item, how: &How)
     requires fits { Fits machine.now config.old }
     requires can { CanChange machine.now (configuration_of config.old) item }

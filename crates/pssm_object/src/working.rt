@@ -25,7 +25,7 @@ impl Situation {
 }
 
 /// The behaviour of the item, if it has one with a statement; what has none makes nothing.
-#[inline]
+#[inline(always)]
 pub fn stated_act(class: &Class, item: Item) -> Option<&Act>
     requires class { IsBuiltClass class.now }
     requires place { HasPlace class.now.machine item }
@@ -40,6 +40,7 @@ pub fn stated_act(class: &Class, item: Item) -> Option<&Act>
 }
 
 // The behaviour of an exit, an effect or an entry; an opening and a pick have none.
+#[inline(always)]
 fn behaviour_of(class: &Class, item: Item) -> Option<&Act>
     requires { HasPlace class.now.machine item }
     ensures { option_copied result ≡ act_for class.now item }
@@ -53,6 +54,7 @@ fn behaviour_of(class: &Class, item: Item) -> Option<&Act>
 }
 
 // The behaviour with a number.
+#[inline(always)]
 fn act_at(class: &Class, number: ActId) -> Option<&Act>
     ensures { option_copied result ≡ behaviour_at class.now number }
 {

@@ -9,6 +9,7 @@ pub mod Following
 pub mod Looking
 pub mod SomeWay
 pub mod BetweenWays
+pub mod OrderedKinds
 pub mod NearWays
 pub mod NearItems
 pub mod Telling

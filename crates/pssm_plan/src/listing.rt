@@ -348,6 +348,7 @@ impl Roster {
     }
 
     /// Lists what an item calls once it has run, besides what it calls by its way.
+    #[inline(always)]
     #[tactic(auto, using(crate::proofs::Extending::extended_none, crate::proofs::Growing::longer_same))]
     pub fn list_entered(
         &mut self,

@@ -67,6 +67,7 @@ impl Model for Plan {
 
 impl Plan {
     /// How an item stands: not called, run, ready, or waiting for a called item that comes before it and has not run.
+    #[inline(always)]
     pub fn standing(&self, item: Item) -> Standing
         ensures { (m : DraftMachine) → IsPlanOf m self.now → StandsAs m (course_of self.now) item result }
     {

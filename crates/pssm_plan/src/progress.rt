@@ -20,10 +20,11 @@ ghost use Rattle.pssm_plan.specs.inner.Going.{IsLongerProgress, IsFinished, IsRu
 
 use crate::listing::meets;
 use crate::roster::Roster;
-use crate::ways::{Way, way_of};
+use crate::ways::{Way, room_of, way_in, way_of};
 use pssm_config::Config;
-use pssm_model::{How, Item, Machine, Mode, Route, VertexId};
+use pssm_model::{How, Item, Machine, Mode, Route, TransId, VertexId};
 use std::alloc::{AllocError as NoMemory, Global};
+use std::mem;
 
 /// A State that an opening has restored, in the mode of that opening.
 #[derive(Clone, Copy, PartialEq, Eq, Debug)]
@@ -63,10 +64,12 @@ fn list_all_fired(
     Ok(())
 }
 
-// Puts the ways of routes that fire into a list that is empty.
+// Puts the ways of routes that fire into a list that is empty. The path of the first takes the room of a vector without
+// items.
 #[tactic(auto, using(crate::proofs::Firing::fired_none))]
 fn add_ways(
     alloc: Global,
+    room: Vec<TransId>,
     ways: &mut Vec<Way>,
     machine: &Machine,
     routes: &[Route],
@@ -74,13 +77,26 @@ fn add_ways(
     requires single { HasSingleLegs machine.now }
     requires routes { (p : TheRoute) → Contains routes.now p → IsRoute machine.now p }
     requires none { ways.old.items ≡ [] }
+    requires empty { room.items ≡ [] }
     ensures fired { OnOk result (AreFired machine.now routes.now ways.new.items) }
 {
+    let mut room = room;
     for route in routes {
-        let way = way_of(alloc, machine, route, true)?;
+        let path = mem::replace(&mut room, Vec::new(alloc));
+        let way = way_in(path, machine, route, true)?;
         ways.push(way)?;
     }
     Ok(())
+}
+
+// The room of the path of the last way, which goes, without items.
+fn last_room(alloc: Global, ways: &mut Vec<Way>) -> Vec<TransId>
+    ensures { result.items ≡ [] }
+{
+    match ways.pop() {
+        Some(way) => room_of(way),
+        None => Vec::new(alloc),
+    }
 }
 
 // Settles a roster of items of which none has looked at the others yet, if they are not too many.
@@ -173,9 +189,10 @@ impl Progress {
             self.new.roster.calls.items) }
     {
         self.roster.calls.clear();
+        let room = last_room(alloc, &mut self.ways);
         self.ways.clear();
         self.restored.clear();
-        add_ways(alloc, &mut self.ways, machine, routes)?;
+        add_ways(alloc, room, &mut self.ways, machine, routes)?;
         let ways = self.ways.as_slice();
         list_all_fired(&mut self.roster, machine, config, ways)?;
         settle_first(&mut self.roster, machine, ways)?;
@@ -195,6 +212,7 @@ impl Progress {
 
     // Goes by a late route, and lists what this calls. It is true where the route calls something
     // that was listed already, so that none may rely on what it has seen.
+    #[inline(never)]
     fn follow_route(
         &mut self,
         alloc: Global,
@@ -230,6 +248,7 @@ impl Progress {
     }
 
     // Restores a State as the item says, which is an opening, and lists what this calls.
+    #[inline(never)]
     fn follow_opening(&mut self, machine: &Machine, item: Item, s: VertexId) -> Result<(), NoMemory>
         requires roster { IsRoster machine.now self.old.roster.calls.items }
         requires way { CanRunSo machine.now item (Restore s) }
@@ -244,6 +263,7 @@ impl Progress {
     }
 
     // Lists what an item calls that runs without a way.
+    #[inline(always)]
     fn follow_plainly(&mut self, machine: &Machine, item: Item) -> Result<(), NoMemory>
         requires single { HasSingleLegs machine.now }
         requires roster { IsRoster machine.now self.old.roster.calls.items }
@@ -259,6 +279,7 @@ impl Progress {
 
     // Lists what an item calls that runs in this way. It is true where none may rely on what it
     // has seen.
+    #[inline(always)]
     fn follow(
         &mut self,
         alloc: Global,
@@ -292,6 +313,7 @@ impl Progress {
 
     // Lists what an item calls that runs in this way, if this is not too much. It is true where
     // none may rely on what it has seen.
+    #[inline(always)]
     fn follow_few(
         &mut self,
         alloc: Global,
@@ -320,6 +342,7 @@ impl Progress {
 
     // Lists what an item calls that runs in this way, all of it or nothing. It is true where none
     // may rely on what it has seen.
+    #[inline(always)]
     fn follow_whole(
         &mut self,
         alloc: Global,
@@ -352,6 +375,7 @@ impl Progress {
 
     /// Notes that a listed item runs in this way, and lists what it calls, all of it or nothing.
     /// The item is looked for from the hint on first.
+    #[inline(always)]
     pub fn run(
         &mut self,
         alloc: Global,
@@ -386,6 +410,7 @@ impl Progress {
 }
 
 // Notes that an item has run, and has each call forget what it has seen.
+#[inline(never)]
 #[tactic(auto, using(crate::proofs::Following::forgotten_noted, crate::proofs::Following::forgotten_fresh))]
 fn note_anew(roster: &mut Roster, item: Item, hint: usize)
     requires once { AllPairs (λ a b. a.item ≢ b.item) roster.old.calls.items }
@@ -397,6 +422,7 @@ fn note_anew(roster: &mut Roster, item: Item, hint: usize)
 }
 
 // Notes that an item has run; `anew` where none may rely on what it has seen.
+#[inline(always)]
 #[tactic(auto, using(crate::proofs::Following::told_noted))]
 fn note(roster: &mut Roster, machine: &Machine, ways: &[Way], item: Item, hint: usize, anew: bool)
     requires roster { IsRoster machine.now roster.old.calls.items }
@@ -415,6 +441,7 @@ fn note(roster: &mut Roster, machine: &Machine, ways: &[Way], item: Item, hint: 
 
 // Notes that an item has run, and says of each call once more for which one it waits; `anew` where
 // none may rely on what it has seen.
+#[inline(always)]
 #[tactic(auto, using(crate::proofs::Following::noted_items))]
 fn finish(roster: &mut Roster, machine: &Machine, ways: &[Way], item: Item, hint: usize, anew: bool)
     requires single { HasSingleLegs machine.now }

@@ -23,6 +23,7 @@ pub struct Call {
 }
 
 /// Whether two items are one and the same.
+#[inline(always)]
 pub fn same_item(a: Item, b: Item) -> bool
     ensures { IsTrue result ↔ (a ≡ b) }
 {
@@ -42,6 +43,7 @@ pub fn is_listed(calls: &[Call], item: Item) -> bool
 }
 
 // The place of an item, where it is listed at a place from the first one on.
+#[inline(always)]
 fn place_from(calls: &[Call], item: Item, first: usize) -> Option<usize>
     ensures { IfSome result (λ k. (k < length calls.now) × ((d : Call) → (slice_index_or calls.now k d).item ≡ item)) }
 {
@@ -54,6 +56,7 @@ fn place_from(calls: &[Call], item: Item, first: usize) -> Option<usize>
 }
 
 // The place of an item, where it is listed.
+#[inline(never)]
 fn first_place(calls: &[Call], item: Item) -> Option<usize>
     ensures { MatchOption result (IsListed calls.now item → ⊥)
         (λ k. (k < length calls.now) × ((d : Call) → (slice_index_or calls.now k d).item ≡ item)) }
@@ -67,6 +70,7 @@ fn first_place(calls: &[Call], item: Item) -> Option<usize>
 }
 
 // The place of an item, where it is listed. It is looked for from the hint on, and then everywhere.
+#[inline(always)]
 fn place_of(calls: &[Call], item: Item, hint: usize) -> Option<usize>
     ensures { MatchOption result (IsListed calls.now item → ⊥)
         (λ k. (k < length calls.now) × ((d : Call) → (slice_index_or calls.now k d).item ≡ item)) }
@@ -78,6 +82,7 @@ fn place_of(calls: &[Call], item: Item, hint: usize) -> Option<usize>
 }
 
 /// The call of an item, where it is listed. It is looked for from the hint on first.
+#[inline(always)]
 pub fn call_of(calls: &[Call], item: Item, hint: usize) -> Option<Call>
     ensures { MatchOption result (IsListed calls.now item → ⊥) (λ call. Contains calls.now call × (call.item ≡ item)) }
 {
@@ -123,6 +128,7 @@ pub fn have_all_run(calls: &[Call]) -> bool
 }
 
 // Says of the call of an item that it has run. It is looked for from the hint on first.
+#[inline(always)]
 fn tell_one(calls: &mut [Call], item: Item, hint: usize)
     requires once { AllPairs (λ a b. a.item ≢ b.item) calls.old }
     ensures { ArePairwise (IsTold item) calls.old calls.new }
@@ -179,7 +185,23 @@ impl Roster {
         Ok(())
     }
 
+    // Lists an item where it is not listed yet.
+    #[inline(never)]
+    fn add_wanted(&mut self, machine: &Machine, item: Item) -> Result<(), NoMemory>
+        requires roster { IsRoster machine.now self.old.calls.items }
+        requires item { IsItemIn machine.now item }
+        ensures calls { IsLonger self.old.calls.items self.new.calls.items }
+        ensures added { OnOk result (IsExtended machine.now self.old.calls.items (λ x. x ≡ item) self.new.calls.items) }
+    {
+        if !is_listed(self.calls.as_slice(), item) {
+            self.push(machine, item)
+        } else {
+            Ok(())
+        }
+    }
+
     /// Lists an item where it is wanted and not listed yet.
+    #[inline(always)]
     pub fn add(&mut self, machine: &Machine, item: Item, wanted: bool) -> Result<(), NoMemory>
         requires roster { IsRoster machine.now self.old.calls.items }
         requires item { IsTrue wanted → IsItemIn machine.now item }
@@ -187,8 +209,8 @@ impl Roster {
         ensures added { OnOk result (IsExtended machine.now self.old.calls.items
             (λ x. IsTrue wanted × (x ≡ item)) self.new.calls.items) }
     {
-        if wanted && !is_listed(self.calls.as_slice(), item) {
-            self.push(machine, item)
+        if wanted {
+            self.add_wanted(machine, item)
         } else {
             Ok(())
         }
@@ -202,6 +224,7 @@ impl Roster {
     }
 
     /// Says of an item that it has run. It is looked for from the hint on first.
+    #[inline(always)]
     pub fn tell(&mut self, item: Item, hint: usize)
         requires once { AllPairs (λ a b. a.item ≢ b.item) self.old.calls.items }
         ensures told { ArePairwise (IsTold item) self.old.calls.items self.new.calls.items }

@@ -93,6 +93,7 @@ fn settle_all(machine: &Machine, ways: &[Way], calls: &mut [Call])
 
 impl Roster {
     /// Says of each call whether it waits, and for which one.
+    #[inline(never)]
     pub fn settle(&mut self, machine: &Machine, ways: &[Way])
         requires single { HasSingleLegs machine.now }
         requires ways { AreWaysIn machine.now ways.now }

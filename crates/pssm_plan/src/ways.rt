@@ -1,15 +1,15 @@
 //! `Way`: a route by which a step goes, with its legs.
-ghost use Rattle.std.specs.Prelude.{◌≡◌, ◌≤◌, ◌<◌, ◌↔◌, ℕ, IsTrue, IfOk, Contains, length, slice_get, Some};
+ghost use Rattle.std.specs.Prelude.{◌≡◌, ◌≤◌, ◌<◌, ◌↔◌, ℕ, [], IsTrue, IfOk, Contains, length, slice_get, Some};
 ghost use Rattle.pssm_model.specs.Forest.{LiesInState};
 ghost use Rattle.pssm_model.specs.Routes.{IsRoute};
 ghost use Rattle.pssm_model.specs.SingleLegs.{HasSingleLegs};
 ghost use Rattle.pssm_legs.specs.Calls.{IsItemIn};
 ghost use Rattle.pssm_plan.specs.declared.ways.Way.{Way as TakenWay};
 ghost use Rattle.pssm_plan.specs.Ways.{IsWayIn, AreWaysIn, calls_by, opens_by, orders_by};
-ghost use Rattle.pssm_plan.specs.inner.Sequence.{IsNestedPair, IsSequence, IsOrderedBySome, IsOpenedBySome};
+ghost use Rattle.pssm_plan.specs.inner.Sequence.{MayOrder, IsNestedPair, IsSequence, IsOrderedBySome, IsOpenedBySome};
 
-use pssm_legs::{Legs, calls, legs_of, opens_for, orders};
-use pssm_model::{Item, Machine, RegionId, Route, VertexId};
+use pssm_legs::{Legs, calls, legs_in, opens_for, orders};
+use pssm_model::{Item, Machine, RegionId, Route, TransId, VertexId};
 use std::alloc::{AllocError as NoMemory, Global};
 use std::snapshot::Snapshot;
 
@@ -33,7 +33,26 @@ pub fn way_of(alloc: Global, machine: &Machine, route: &Route, fires: bool) -> R
     ensures route { IfOk result (λ way. way.route.value ≡ route.now) }
     ensures fires { IfOk result (λ way. way.fires ≡ fires) }
 {
-    let legs = legs_of(alloc, machine, route)?;
+    way_in(Vec::new(alloc), machine, route, fires)
+}
+
+/// The same, with the path of its legs in the room of a vector without items.
+///
+/// `NoMemory`: memory ran out.
+pub fn way_in(
+    room: Vec<TransId>,
+    machine: &Machine,
+    route: &Route,
+    fires: bool,
+) -> Result<Way, NoMemory>
+    requires none { room.items ≡ [] }
+    requires single { HasSingleLegs machine.now }
+    requires route { IsRoute machine.now route.now }
+    ensures way { IfOk result (IsWayIn machine.now) }
+    ensures route { IfOk result (λ way. way.route.value ≡ route.now) }
+    ensures fires { IfOk result (λ way. way.fires ≡ fires) }
+{
+    let legs = legs_in(room, machine, route)?;
     Ok(Way {
         fires,
         route: Snapshot::of(route),
@@ -41,7 +60,28 @@ pub fn way_of(alloc: Global, machine: &Machine, route: &Route, fires: bool) -> R
     })
 }
 
+/// The room of the path of a way, without items.
+pub fn room_of(way: Way) -> Vec<TransId>
+    ensures { result.items ≡ [] }
+{
+    let Way {
+        fires: _,
+        route: _,
+        legs,
+    } = way;
+    let Legs {
+        start: _,
+        area: _,
+        path,
+        last: _,
+    } = legs;
+    let mut room = path;
+    room.clear();
+    room
+}
+
 /// Whether a way calls an item; exits of all that lies where it exits, whether that is active or not.
+#[inline(always)]
 pub fn way_calls(machine: &Machine, way: &Way, item: Item) -> bool
     requires single { HasSingleLegs machine.now }
     requires way { IsWayIn machine.now way.now }
@@ -79,6 +119,7 @@ pub fn some_way_opens(machine: &Machine, ways: &[Way], s: VertexId, r: RegionId)
 }
 
 // Whether the first of two items comes before the second by a way that calls both.
+#[inline(always)]
 fn way_orders(machine: &Machine, way: &Way, first: Item, second: Item) -> bool
     requires single { HasSingleLegs machine.now }
     requires way { IsWayIn machine.now way.now }
@@ -105,8 +146,38 @@ fn some_way_orders(machine: &Machine, ways: &[Way], first: Item, second: Item) -
     false
 }
 
+// Whether items of these kinds may be ordered by a way.
+#[inline(always)]
+fn may_order(first: Item, second: Item) -> bool
+    ensures { IsTrue result ↔ MayOrder first second }
+{
+    match (first, second) {
+        (Item::Exit(_), Item::Effect(_)) => true,
+        (Item::Effect(_), Item::Exit(_)) => false,
+        (Item::Effect(_), _) => true,
+        (Item::Enter(_), Item::Opened(_, _)) => true,
+        (Item::Enter(_), Item::Pick(_)) => true,
+        _ => false,
+    }
+}
+
+// Whether the first of two items comes before the second by one of the ways. Their kinds are asked first.
+#[inline(always)]
+#[tactic(auto, using(crate::proofs::OrderedKinds::ordered_by_some))]
+fn are_ordered(machine: &Machine, ways: &[Way], first: Item, second: Item) -> bool
+    requires single { HasSingleLegs machine.now }
+    requires ways { AreWaysIn machine.now ways.now }
+    requires first { IsItemIn machine.now first }
+    requires second { IsItemIn machine.now second }
+    ensures { IsTrue result ↔ IsOrderedBySome machine.now ways.now first second }
+{
+    let _shaped = machine.regions();
+    may_order(first, second) && some_way_orders(machine, ways, first, second)
+}
+
 // Whether the first of two items comes before the second since one of their States lies in the other: exits from
 // within, entries from without.
+#[inline(always)]
 fn nests(machine: &Machine, first: Item, second: Item) -> bool
     requires first { IsItemIn machine.now first }
     requires second { IsItemIn machine.now second }
@@ -129,6 +200,7 @@ pub fn lies_in(machine: &Machine, v: VertexId, s: VertexId) -> bool
 }
 
 /// Whether the first of two items that a step calls comes before the second, in a step that goes by these ways.
+#[inline(always)]
 pub fn comes_before(machine: &Machine, ways: &[Way], first: Item, second: Item) -> bool
     requires single { HasSingleLegs machine.now }
     requires ways { AreWaysIn machine.now ways.now }
@@ -136,7 +208,7 @@ pub fn comes_before(machine: &Machine, ways: &[Way], first: Item, second: Item) 
     requires second { IsItemIn machine.now second }
     ensures { IsTrue result ↔ IsSequence machine.now ways.now first second }
 {
-    nests(machine, first, second) || some_way_orders(machine, ways, first, second)
+    nests(machine, first, second) || are_ordered(machine, ways, first, second)
 }
 
 // How many of the ways stand before the first that calls an item.

@@ -7,8 +7,6 @@
 mod laws;
 mod pool;
 mod pools;
-#[cfg(test)]
-mod tests;
 
 pub use laws::own_slots;
 pub use pools::{Pools, SlotId, Waiting};

@@ -75,7 +75,23 @@ impl Pool {
         ensures waiting { self.new.waiting ≡ remove self.old.waiting place }
         ensures room { self.old.room ≤ self.new.room }
     {
+        if place == 0 {
+            return self.take_first();
+        }
         match self.signals.remove(place) {
+            Some(signal) => signal,
+            None => unreachable!(),
+        }
+    }
+
+    // The first signal leaves.
+    fn take_first(&mut self) -> Waiting
+        requires { 0 < length self.old.waiting }
+        ensures taken { slice_get self.old.waiting 0 ≡ Some result }
+        ensures waiting { self.new.waiting ≡ remove self.old.waiting 0 }
+        ensures room { self.old.room ≤ self.new.room }
+    {
+        match self.signals.pop_front() {
             Some(signal) => signal,
             None => unreachable!(),
         }

@@ -4,6 +4,7 @@ pub mod Routed
 pub mod Conflicts
 pub mod Settling
 pub mod LoneCandidates
+pub mod LoneReacting
 pub mod Sought
 pub mod OneSearch
 pub mod Ceilings

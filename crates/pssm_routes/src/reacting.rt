@@ -14,7 +14,7 @@ ghost use Rattle.pssm_model.specs.FiringSets.{Overrides};
 ghost use Rattle.pssm_config.specs.Tables.{Fits, configuration_of};
 ghost use Rattle.pssm_routes.specs.Telling.{CanBeAsked, Tells};
 ghost use Rattle.pssm_model.specs.SingleLegs.{HasSingleLegs};
-ghost use Rattle.pssm_routes.specs.inner.Starts.{IsStarted, Reacts, IsCandidate, HasSearch};
+ghost use Rattle.pssm_routes.specs.inner.Starts.{IsStarted, Reacts, IsCandidate, HasSearch, IsFirstReacting, NoneReactsFrom, ReactsAlone};
 ghost use Rattle.pssm_routes.specs.inner.Ways.{EndsOnJunction, LeadsOut};
 ghost use Rattle.pssm_routes.specs.inner.Steps.{KnowsDeadEnds};
 
@@ -262,6 +262,85 @@ fn reacts_afresh<T: Fn(GuardId) -> bool>(
         return true;
     }
     false
+}
+
+// The first vertex from a number on that reacts to the event, if one does.
+fn reacting_from<T: Fn(GuardId) -> bool>(
+    machine: &Machine,
+    config: &Config,
+    truth: &T,
+    event: Event,
+    first: u16,
+    search: &mut [Search],
+) -> Option<VertexId>
+    requires legs { HasSingleLegs machine.now }
+    requires fits { Fits machine.now config.now }
+    requires askable { CanBeAsked machine.now (T.pre truth.now) }
+    requires room { HasSearch machine.now (configuration_of config.now) event search.old }
+    ensures there { IfSome result (λ s. s.0 < length machine.now.vertices) }
+    ensures same { length search.new ≡ length search.old }
+    ensures some { (values : Truth) → Tells machine.now (T.post truth.now) values
+        → KnowsDeadEnds machine.now values None search.old
+        → IfSome result (IsFirstReacting machine.now (configuration_of config.now) values event first) }
+    ensures none { (values : Truth) → Tells machine.now (T.post truth.now) values
+        → KnowsDeadEnds machine.now values None search.old
+        → IfNone result (NoneReactsFrom machine.now (configuration_of config.now) values event first) }
+    ensures dead { (values : Truth) → Tells machine.now (T.post truth.now) values
+        → KnowsDeadEnds machine.now values None search.old
+        → KnowsDeadEnds machine.now values None search.new }
+{
+    for number in first..machine.vertices() {
+        let source = VertexId(number);
+        if reacts_afresh(machine, config, truth, event, source, search) {
+            return Some(source);
+        }
+    }
+    None
+}
+
+// The vertex that reacts to the event, where it is the only one, by this search.
+fn lone_with<T: Fn(GuardId) -> bool>(
+    machine: &Machine,
+    config: &Config,
+    truth: &T,
+    event: Event,
+    search: &mut [Search],
+) -> Option<VertexId>
+    requires legs { HasSingleLegs machine.now }
+    requires fits { Fits machine.now config.now }
+    requires askable { CanBeAsked machine.now (T.pre truth.now) }
+    requires room { HasSearch machine.now (configuration_of config.now) event search.old }
+    requires nothing { (values : Truth) → KnowsDeadEnds machine.now values None search.old }
+    ensures there { IfSome result (λ s. s.0 < length machine.now.vertices) }
+    ensures alone { (values : Truth) → Tells machine.now (T.post truth.now) values
+        → IfSome result (ReactsAlone machine.now (configuration_of config.now) values event) }
+{
+    let alone = reacting_from(machine, config, truth, event, 0, search)?;
+    match reacting_from(machine, config, truth, event, alone.0 + 1, search) {
+        Some(_) => None,
+        None => Some(alone),
+    }
+}
+
+/// The vertex that reacts to the event, where it is the only one and no start of the event ends on a junction. It takes no
+/// memory.
+pub fn lone_reacting<T: Fn(GuardId) -> bool>(
+    machine: &Machine,
+    config: &Config,
+    truth: &T,
+    event: Event,
+) -> Option<VertexId>
+    requires legs { HasSingleLegs machine.now }
+    requires fits { Fits machine.now config.now }
+    requires askable { CanBeAsked machine.now (T.pre truth.now) }
+    ensures there { IfSome result (λ s. s.0 < length machine.now.vertices) }
+    ensures alone { (values : Truth) → Tells machine.now (T.post truth.now) values
+        → IfSome result (ReactsAlone machine.now (configuration_of config.now) values event) }
+{
+    if starts_over_junction(machine, config, event) {
+        return None;
+    }
+    lone_with(machine, config, truth, event, &mut [])
 }
 
 // The States that react to the event.

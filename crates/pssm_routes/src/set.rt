@@ -1,5 +1,5 @@
 //! Whether routes are what fires: a largest set of enabled ones that do not conflict (UML 2.5.1, 14.2.3.9).
-ghost use Rattle.std.specs.Prelude.{◌≢◌, ◌↔◌, ◌<◌, [], length, All, Contains, IsTrue, IfOk};
+ghost use Rattle.std.specs.Prelude.{◌≢◌, ◌↔◌, ◌<◌, [], length, All, Contains, IsTrue, IfOk, IfSome};
 ghost use Rattle.pssm_model.specs.declared.ids.VertexId.{VertexId};
 ghost use Rattle.pssm_model.specs.declared.ids.TransId.{TransId};
 ghost use Rattle.pssm_model.specs.declared.steps.Route.{Route};
@@ -14,7 +14,7 @@ ghost use Rattle.pssm_routes.specs.inner.Sets.{AreApart, HasJoiner, HasJoinerFro
 
 use crate::areas::{Footprint, clash, footprint_of};
 use crate::joining::has_joiner;
-use crate::reacting::candidates;
+use crate::reacting::{candidates, lone_reacting};
 use crate::route::check_route;
 use crate::starting::is_started;
 use pssm_config::Config;
@@ -233,6 +233,67 @@ fn are_complete<T: Fn(GuardId) -> bool>(
         && !joins_from_some(machine, config, truth, event, footprints, states)
 }
 
+// Whether the one route is what the event fires, where one State reacts alone. It says nothing elsewhere, and takes no
+// memory.
+fn told_by_lone<T: Fn(GuardId) -> bool>(
+    machine: &Machine,
+    config: &Config,
+    truth: &T,
+    event: Event,
+    routes: &[Route],
+) -> Option<bool>
+    requires legs { HasSingleLegs machine.now }
+    requires fits { Fits machine.now config.now }
+    requires askable { CanBeAsked machine.now (T.pre truth.now) }
+    requires routes { All (IsStateRoute machine.now) routes.now }
+    ensures { (values : Truth) → Tells machine.now (T.post truth.now) values
+        → All (IsEnabled machine.now (configuration_of config.now) values event) routes.now
+        → IfSome result (λ is. IsTrue is
+        ↔ IsFiring machine.now (configuration_of config.now) values event routes.now) }
+{
+    match routes {
+        [route] => {
+            let state = lone_reacting(machine, config, truth, event)?;
+            let footprint = footprint_of(machine, route);
+            Some(are_complete(machine, config, truth, event, &[footprint], &[state]))
+        }
+        _ => None,
+    }
+}
+
+// Whether enabled routes are what the event fires.
+fn is_set_of_enabled<T: Fn(GuardId) -> bool>(
+    alloc: Global,
+    machine: &Machine,
+    config: &Config,
+    truth: &T,
+    event: Event,
+    routes: &[Route],
+) -> Result<bool, NoMemory>
+    requires legs { HasSingleLegs machine.now }
+    requires fits { Fits machine.now config.now }
+    requires askable { CanBeAsked machine.now (T.pre truth.now) }
+    requires routes { All (IsStateRoute machine.now) routes.now }
+    ensures { (values : Truth) → Tells machine.now (T.post truth.now) values
+        → All (IsEnabled machine.now (configuration_of config.now) values event) routes.now
+        → IfOk result (λ is. IsTrue is
+        ↔ IsFiring machine.now (configuration_of config.now) values event routes.now) }
+{
+    if !are_listed(routes) {
+        return Ok(false);
+    }
+    let footprints = footprints_of(alloc, machine, routes)?;
+    let states = candidates(alloc, machine, config, truth, event)?;
+    Ok(are_complete(
+        machine,
+        config,
+        truth,
+        event,
+        footprints.as_slice(),
+        states.as_slice(),
+    ))
+}
+
 /// Whether these routes are what the event fires: enabled routes no two of which conflict, none of which conflicts with
 /// an enabled one that has priority over it, and to which none can be added; listed in ascending number of their first
 /// starts (UML 2.5.1, 14.2.3.9, transition selection; the order is this profile's choice).
@@ -257,17 +318,8 @@ pub fn is_firing_set<T: Fn(GuardId) -> bool>(
     if !are_enabled(machine, config, truth, event, routes) {
         return Ok(false);
     }
-    if !are_listed(routes) {
-        return Ok(false);
+    match told_by_lone(machine, config, truth, event, routes) {
+        Some(fires) => Ok(fires),
+        None => is_set_of_enabled(alloc, machine, config, truth, event, routes),
     }
-    let footprints = footprints_of(alloc, machine, routes)?;
-    let states = candidates(alloc, machine, config, truth, event)?;
-    Ok(are_complete(
-        machine,
-        config,
-        truth,
-        event,
-        footprints.as_slice(),
-        states.as_slice(),
-    ))
 }

@@ -27,6 +27,3 @@ pub use stimulus::{Stimulus, Task};
 pub use tree::{Act, Cond, Expr, Rel, Stmt};
 pub use value::truth;
 pub use worked::{Worked, run};
-
-#[cfg(test)]
-mod tests;

@@ -12,7 +12,7 @@ use Rattle.pssm_spelling.proofs.SpellingLaws.{stripped_takes, stripped_again, fr
 -- ---- runs of characters
 
 -- A front of characters of one kind is within the run of them.
-within_run : (p : ℕ → Bool) (xs rest : List ℕ) → list_all p xs ≡ true → length xs ≤ prefix_len p (xs ++ rest)
+pub within_run : (p : ℕ → Bool) (xs rest : List ℕ) → list_all p xs ≡ true → length xs ≤ prefix_len p (xs ++ rest)
 within_run p [] rest all = omega arith
 within_run p (x ∷ xs) rest all =
     let both = and_parts (p x) (list_all p xs) all in
@@ -20,7 +20,7 @@ within_run p (x ∷ xs) rest all =
     subst (λ (b : Bool). suc (length xs) ≤ cond b (1 + prefix_len p (xs ++ rest)) 0) (sym both.0) (omega (arith, more))
 
 -- A run with one character of its kind more.
-one_more : (p : ℕ → Bool) (xs : List ℕ) (c : ℕ) → list_all p xs ≡ true → p c ≡ true → list_all p (xs ++ c ∷ []) ≡ true
+pub one_more : (p : ℕ → Bool) (xs : List ℕ) (c : ℕ) → list_all p xs ≡ true → p c ≡ true → list_all p (xs ++ c ∷ []) ≡ true
 one_more p [] c all here = and_from (p c) true here refl
 one_more p (x ∷ xs) c all here =
     let both = and_parts (p x) (list_all p xs) all in

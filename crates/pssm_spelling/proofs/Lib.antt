@@ -1,5 +1,7 @@
 pub mod SpellingLaws
 pub mod WordNumbers
 pub mod FrontLaws
-pub mod StripLaws
 pub mod NameLaws
+pub mod Runs
+pub mod DigitRuns
+pub mod NumberReading

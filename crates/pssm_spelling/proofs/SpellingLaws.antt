@@ -1,9 +1,8 @@
 -- What is taken from the front of a text is spelled so, and what is spelled so is taken again.
-use Rattle.std.proofs.Common.{◌≡◌, ℕ, suc, ◌+◌, ◌-◌, ◌*◌, ◌^◌, ◌<◌, ◌≤◌, Bool, true, false, cond, eqb, ltb, leb, ◌&&◌, List, [], ◌∷◌, ◌++◌, length, get_or, take, drop, Option, Some, None, refl, sym, ap, subst, ◌∙◌, arith, rules, inl, inr}
+use Rattle.std.proofs.Common.{◌≡◌, ℕ, suc, ◌+◌, ◌-◌, ◌*◌, ◌<◌, ◌≤◌, Bool, true, false, cond, eqb, ltb, leb, ◌&&◌, List, [], ◌∷◌, ◌++◌, length, get_or, take, drop, Option, Some, None, refl, sym, ap, subst, ◌∙◌, arith, rules, inl, inr}
 use Rattle.std.specs.Prelude.{MatchOption}
 use Rattle.std.specs.List.{prefix_len, list_all}
 use Rattle.std.specs.Int.{IsInRange}
-use Rattle.std.proofs.Math.Nat.{pow-le-pow_right}
 use Rattle.std.specs.Char.{digit_value}
 use Rattle.std.specs.Option.{option_copied}
 use Rattle.std.specs.Cmp.Lexicographic.{pointwise}
@@ -16,8 +15,8 @@ use Rattle.std.proofs.lemmas.Bool.{cases_lt, le-ltb, and_parts, and_from, leb-tr
 use Rattle.std.proofs.lemmas.List.{take_at, drop_at, take-append-drop, length-take-le}
 use Rattle.std.proofs.lemmas.List.Sums.{prefix_len-le-length}
 use Rattle.std.proofs.lemmas.Option.{cond_some}
-use Rattle.std.proofs.lemmas.Str.Parse.{digit_at, digits_value-take-le, IsNumeralModel, IsDigitsTest, numerals_by_value}
-use Rattle.std.proofs.lemmas.Int.Digits.{digits_value-lt, digits_value_more}
+use Rattle.std.proofs.lemmas.Str.Parse.{digit_at, IsNumeralModel, IsDigitsTest, numerals_by_value}
+use Rattle.std.proofs.lemmas.Int.Digits.{digits_value_more}
 use Rattle.std.proofs.lemmas.Fmt.{decimal-digits_value, digits_decimal, digits_value-decimal, length-decimal-le, decimal_nonempty, first_decimal, decimal_digit}
 use Rattle.pssm_spelling.specs.Spelling.{begins_name, continues_name, is_name_text, IsName}
 use Rattle.pssm_spelling.specs.SpellingReading.{is_digit, EndsRun, stripped, starts_name, name_taken, is_plain, number_below}
@@ -188,13 +187,8 @@ strip_gives front bytes (Some x) h =
     let parts : bytes ≡ front ++ x.now = strip_prefix_is Decides-eqb bytes front (Some x) h in
     sym (ap (λ (t : List ℕ). stripped front t) parts ∙ stripped_again front x.now)
 
--- one more digit of at most ten
-pub record IsDigitStep (ds : List ℕ) (i : ℕ) : Type 0 where
-  pub value : digits_value 10 (take (i + 1) ds) ≡ digits_value 10 (take i ds) * 10 + (get_or ds i 0 - 48)
-  pub low : 48 ≤ get_or ds i 0
-  pub small : digits_value 10 (take (i + 1) ds) < 10000000000
-
-digit_value_is : (c : ℕ) → IsInRange 48 57 c → digit_value c ≡ c - 48
+-- the value of a digit
+pub digit_value_is : (c : ℕ) → IsInRange 48 57 c → digit_value c ≡ c - 48
 digit_value_is c range = let low = range.0 in let high = range.1 in rw (le-ltb c 48 low, lt-ltb c 58 (omega arith)) refl
 
 -- one more digit
@@ -205,16 +199,6 @@ digit_more ds i all within =
 
 pub digit_low : (ds : List ℕ) (i : ℕ) → list_all is_digit ds ≡ true → i < length ds → 48 ≤ get_or ds i 0
 digit_low ds i all within = (digit_at ds i (digits_model.to ds all) within).0
-
-pub digit_step : (ds : List ℕ) (i : ℕ) → list_all is_digit ds ≡ true → length ds ≤ 10 → i < length ds → IsDigitStep ds i
-digit_step ds i all few within =
-    let digits = digits_model.to ds all in
-    let range = digit_at ds i digits within in
-    let more = digits_value_more 10 ds i within in
-    let at_most = digits_value-take-le 10 ds (i + 1) (omega arith) in
-    let below = digits_value-lt 10 ds digits in
-    let power : 10 ^ length ds ≤ 10 ^ 10 = pow-le-pow_right {n = 10} (omega arith) few in
-    record { value = more ∙ ap (λ (d : ℕ). digits_value 10 (take i ds) * 10 + d) (digit_value_is (get_or ds i 0) range); low = range.0; small = omega arith }
 
 -- the digits at the front are digits
 pub digits_front : (bytes : List ℕ) → list_all is_digit (take (prefix_len is_digit bytes) bytes) ≡ true

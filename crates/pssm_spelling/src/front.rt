@@ -2,8 +2,8 @@
 //!
 //! Each function reads from the left and gives the value with the bytes after it, or `None` where the text
 //! does not begin so. None of them takes memory.
-ghost use Rattle.std.specs.Prelude.{◌≡◌, ◌≤◌, ◌<◌, ◌^◌, ◌↔◌, IsTrue, IfSome, [], ◌∷◌, length};
-ghost use Rattle.std.specs.List.{prefix_len, list_all};
+ghost use Rattle.std.specs.Prelude.{◌≡◌, ◌≤◌, ◌<◌, IfSome, IfNone, take};
+ghost use Rattle.std.specs.List.{prefix_len};
 ghost use Rattle.std.specs.Option.{option_map, option_copied};
 ghost use Rattle.std.specs.Str.Parse.{digits_value};
 ghost use Rattle.pssm_spelling.specs.Spelling.{begins_name, continues_name};
@@ -17,33 +17,17 @@ pub const NAME_LEN: usize = 64;
 pub fn strip<'a>(bytes: &'a [u8], front: &[u8]) -> Option<&'a [u8]>
     ensures { option_copied result ≡ stripped front.now bytes.now }
 {
-    let mut rest = bytes;
-    for c in front {
-        let Some(more) = behind(rest, *c) else {
-            return None;
-        };
-        rest = more;
-    }
-    Some(rest)
+    bytes.strip_prefix(front)
 }
 
-// What follows the byte, where it stands at the front.
 #[inline(always)]
-fn behind(bytes: &[u8], byte: u8) -> Option<&[u8]>
-    ensures { option_copied result ≡ stripped (byte ∷ []) bytes.now }
-{
-    match bytes.split_first() {
-        Some((first, rest)) if *first == byte => Some(rest),
-        _ => None,
-    }
-}
-
 fn begins(c: u8) -> bool
     ensures { result ≡ begins_name c }
 {
-    matches!(c, b'A'..=b'Z' | b'a'..=b'z' | b'_')
+    c.is_ascii_alphabetic() || c == b'_'
 }
 
+#[inline(always)]
 fn continues(c: u8) -> bool
     ensures { result ≡ continues_name c }
 {
@@ -51,6 +35,7 @@ fn continues(c: u8) -> bool
 }
 
 /// Whether this is a decimal digit.
+#[inline(always)]
 pub fn is_decimal(c: u8) -> bool
     ensures { result ≡ is_digit c }
 {
@@ -58,10 +43,18 @@ pub fn is_decimal(c: u8) -> bool
 }
 
 /// How many bytes from the first on go on with a name.
+#[inline(always)]
 pub fn name_len(bytes: &[u8]) -> usize
     ensures { result ≡ prefix_len continues_name bytes.now }
 {
-    bytes.iter().take_while(|c| continues(**c)).count()
+    let mut len = 0;
+    for c in bytes {
+        if !continues(*c) {
+            return len;
+        }
+        len += 1;
+    }
+    len
 }
 
 /// How many bytes from the first on are digits.
@@ -102,6 +95,7 @@ pub fn name_at(bytes: &[u8]) -> Option<(&[u8], &[u8])>
 }
 
 /// Whether these are digits of a number without leading zeros.
+#[inline(always)]
 pub fn is_plain_number(digits: &[u8]) -> bool
     ensures { result ≡ is_plain digits.now }
 {
@@ -112,34 +106,43 @@ pub fn is_plain_number(digits: &[u8]) -> bool
     }
 }
 
-/// The number that at most ten digits spell.
-fn value_of(digits: &[u8]) -> u64
-    requires digits { IsTrue (list_all is_digit digits.now) }
-    requires few { length digits.now ≤ 10 }
-    ensures { result ≡ digits_value 10 digits.now }
+// The number that the digits at the front spell, and how many they are; none where they are more than ten.
+#[inline(always)]
+fn digits_at(bytes: &[u8]) -> Option<(u64, usize)>
+    ensures value { IfSome result (λ x. x.0 ≡ digits_value 10 (take x.1 bytes.now)) }
+    ensures count { IfSome result (λ x. x.1 ≡ prefix_len is_digit bytes.now) }
+    ensures few { IfSome result (λ x. x.1 ≤ 10) }
+    ensures many { IfNone result (10 < prefix_len is_digit bytes.now) }
 {
     let mut value = 0u64;
-    for digit in digits {
-        value = value * 10 + u64::from(*digit - b'0');
+    let mut len = 0;
+    for c in bytes {
+        if !is_decimal(*c) {
+            return Some((value, len));
+        }
+        if len == 10 {
+            return None;
+        }
+        let digit = *c - b'0';
+        value = value * 10 + u64::from(digit);
+        len += 1;
     }
-    value
+    Some((value, len))
 }
 
 /// A number below the limit, and the bytes after it.
-#[tactic(auto, unfolding(crate::specs::SpellingReading::number_below))]
+#[inline(always)]
 fn below(bytes: &[u8], limit: u64) -> Option<(u64, &[u8])>
     ensures gives { option_map (λ x. (x.0, x.1.now)) result ≡ number_below limit bytes.now }
     ensures small { IfSome result (λ x. x.0 < limit) }
 {
-    let len = digits_len(bytes);
-    if len > 10 {
+    let Some((value, len)) = digits_at(bytes) else {
         return None;
-    }
+    };
     let (digits, rest) = bytes.split_at(len);
     if !is_plain_number(digits) {
         return None;
     }
-    let value = value_of(digits);
     if value < limit {
         Some((value, rest))
     } else {

@@ -20,6 +20,3 @@ pub use laws::longest_front;
 pub use numbers::{magnitude, spells_natural};
 pub use words::number_of;
 pub use writing::{put_number, put_signed};
-
-#[cfg(test)]
-mod tests;

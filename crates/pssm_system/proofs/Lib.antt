@@ -19,3 +19,4 @@ pub mod Views
 pub mod Found
 pub mod Fresh
 pub mod Histories
+pub mod Slots

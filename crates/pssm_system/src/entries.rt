@@ -10,6 +10,7 @@ use pssm_semantics::{Class, Entry, ObjectId, Out, Setting, Stimulus};
 use std::alloc::{AllocError as NoMemory, Global};
 
 /// The class of an object of the setting.
+#[inline(always)]
 pub fn class_of(setting: &Setting, object: ObjectId) -> &Class
     requires proper { IsProper setting.now }
     requires there { object.0 < length setting.now.objects }
@@ -20,6 +21,7 @@ pub fn class_of(setting: &Setting, object: ObjectId) -> &Class
 }
 
 /// The object whose entry it is.
+#[inline(always)]
 pub fn object_of(entry: &Entry) -> ObjectId
     ensures { result ≡ object_in entry.now }
 {
@@ -67,6 +69,7 @@ pub fn signals_of(alloc: Global, entry: &Entry) -> Result<Vec<Stimulus>, NoMemor
 }
 
 /// Whether the entry has no signals. One with outputs counts as one that may have some.
+#[inline(always)]
 pub fn sends_nothing(entry: &Entry) -> bool
     ensures { IsTrue result → signals_of_entry entry.now ≡ [] }
 {

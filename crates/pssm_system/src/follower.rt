@@ -84,6 +84,7 @@ impl Follower {
     }
 
     /// The setting, which is proper and whose machines break no rule of models.
+    #[inline(always)]
     pub fn setting(&self) -> &Setting
         ensures setting { result.now ≡ self.now.setting }
         ensures built { IsBuilt self.now.setting }
@@ -97,6 +98,7 @@ impl Follower {
     /// There are at most 1,000,000 of them, with at most 2,000,000 posts, sends and marks. The open steps
     /// can be finished by further entries: for each of these objects at most two for each vertex of its
     /// machine, one for each region and one for each transition.
+    #[inline(always)]
     pub fn len(&self) -> usize
         ensures count { result ≡ length self.now.journal }
         ensures admissible { IsAdmissibleIn self.now.setting self.now.journal }
@@ -112,6 +114,7 @@ impl Follower {
     /// The first rule that the entry breaks after the journal, if it breaks one.
     ///
     /// What the entry names is known (A1). `NoMemory`: memory ran out.
+    #[inline(always)]
     pub fn allows(&self, entry: &Entry) -> Result<Option<Rule>, NoMemory>
         requires names { Holds self.now.setting A1 self.now.journal entry.now }
         ensures keeps { IfOk result (λ rule. IfNone rule (MayFollow self.now.setting self.now.journal entry.now)) }
@@ -124,6 +127,7 @@ impl Follower {
     /// Goes on by an entry that breaks no rule after the journal, and keeps it within the limits.
     ///
     /// `NoMemory`: memory ran out; the follower is as before.
+    #[inline(always)]
     pub fn apply(&mut self, entry: &Entry) -> Result<(), NoMemory>
         requires follows { MayFollow self.old.setting self.old.journal entry.now }
         requires limits { KeepsJournalLimits (self.old.journal ++ entry.now ∷ []) }

@@ -16,6 +16,7 @@ impl Situation {
     ghost use Rattle.pssm_system.specs.inner.Deferring.{ComesWith};
 
     /// The first rule that the entry breaks, if it breaks one. What it names is known (A1).
+    #[inline(always)]
     pub fn judge(&self, setting: &Setting, entry: &Entry) -> Result<Option<Rule>, NoMemory>
         requires built { IsBuilt setting.now }
         requires stands { Stands setting.now self.now }
@@ -31,6 +32,7 @@ impl Situation {
     }
 
     // The signal that a take may take: the first that is not deferred, if it has the number that the take names.
+    #[inline(always)]
     fn signal_for(&self, setting: &Setting, entry: &Entry) -> Option<&Waiting>
         requires built { IsBuilt setting.now }
         requires stands { Stands setting.now self.now }
@@ -47,6 +49,7 @@ impl Situation {
     }
 
     // What its object says of the entry, where a take comes with its signal.
+    #[inline(always)]
     fn ask(
         &self,
         setting: &Setting,
@@ -65,6 +68,7 @@ impl Situation {
 }
 
 // The signal, if it has this number.
+#[inline(always)]
 fn if_numbered(signal: Option<&Waiting>, number: u32) -> Option<&Waiting>
     ensures { option_copied result ≡ numbered_so number (option_copied signal.entry) }
 {

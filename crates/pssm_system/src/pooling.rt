@@ -1,13 +1,15 @@
 //! What an entry takes from the pools and adds to them.
 ghost use Rattle.std.specs.Prelude.{◌≡◌, ◌≤◌, ◌<◌, ◌+◌, ◌^◌, length, IfSome, IfNone};
 ghost use Rattle.std.specs.Option.{option_copied};
-ghost use Rattle.pssm_pool.specs.Waits.{waiting_for};
-ghost use Rattle.pssm_system.specs.inner.Pooling.{HasNoNumber, IsSlotWith, HavePools, delivered, left_by, signal_taken};
+ghost use Rattle.pssm_semantics.specs.declared.entry.Entry.{Entry as AnEntry};
+ghost use Rattle.pssm_pool.specs.Waits.{waiting_for, IsSlot};
+ghost use Rattle.pssm_system.specs.inner.Pooling.{HasNoNumber, IsSlotWith, IsSlotTaken, HavePools, delivered, left_by, signal_taken};
 
 use pssm_pool::{Pools, SlotId, Waiting};
 use pssm_semantics::{Entry, ObjectId, Stimulus};
 
 /// The signal that a take takes: the one in its object's pool with the number that the take names.
+#[inline(always)]
 pub fn taken_signal<'a>(pools: &'a Pools, entry: &Entry) -> Option<&'a Waiting>
     ensures { option_copied result ≡ signal_taken pools.now.waiting entry.now }
 {
@@ -21,6 +23,7 @@ pub fn taken_signal<'a>(pools: &'a Pools, entry: &Entry) -> Option<&'a Waiting>
 }
 
 /// The signal that a take takes leaves its pool, wherever it stands there.
+#[inline(always)]
 pub fn leave(pools: &mut Pools, entry: &Entry)
     ensures waiting { pools.new.waiting ≡ left_by entry.now pools.old.waiting }
     ensures spare { pools.old.spare ≤ pools.new.spare }
@@ -29,6 +32,43 @@ pub fn leave(pools: &mut Pools, entry: &Entry)
         if let Some(slot) = numbered(pools, *object, *number) {
             let _ = pools.take(slot);
         }
+    }
+}
+
+/// The slot of the signal that a take takes, where it waits.
+#[inline(always)]
+pub fn taken_slot(pools: &Pools, entry: &Entry) -> Option<SlotId>
+    ensures { IsSlotTaken pools.now.waiting entry.now result }
+{
+    match entry {
+        Entry::Take { object, number, .. } => numbered(pools, *object, *number),
+        _ => None,
+    }
+}
+
+/// The signal at the slot, where there is one.
+#[inline(always)]
+pub fn signal_at(pools: &Pools, slot: Option<SlotId>) -> Option<&Waiting>
+    requires { IfSome slot (IsSlot pools.now.waiting) }
+    ensures { (e : AnEntry) → IsSlotTaken pools.now.waiting e slot
+        → option_copied result ≡ signal_taken pools.now.waiting e }
+{
+    match slot {
+        Some(slot) => Some(pools.at(slot)),
+        None => None,
+    }
+}
+
+/// The signal at the slot leaves its pool, where there is one.
+#[inline(always)]
+pub fn leave_slot(pools: &mut Pools, slot: Option<SlotId>)
+    requires { IfSome slot (IsSlot pools.old.waiting) }
+    ensures waiting { (e : AnEntry) → IsSlotTaken pools.old.waiting e slot
+        → pools.new.waiting ≡ left_by e pools.old.waiting }
+    ensures spare { pools.old.spare ≤ pools.new.spare }
+{
+    if let Some(slot) = slot {
+        drop(pools.take(slot));
     }
 }
 
@@ -52,6 +92,7 @@ pub fn deliver(pools: &mut Pools, told: u32, signals: Vec<Stimulus>)
 }
 
 // The slot of the signal of the object with the number, if it waits.
+#[inline(always)]
 fn numbered(pools: &Pools, object: ObjectId, number: u32) -> Option<SlotId>
     ensures there { IfSome result (IsSlotWith number pools.now.waiting object) }
     ensures none { IfNone result (HasNoNumber number (waiting_for pools.now.waiting object)) }

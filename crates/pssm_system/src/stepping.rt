@@ -7,7 +7,7 @@ ghost use Rattle.pssm_pool.specs.Waits.{held_in};
 ghost use Rattle.pssm_system.specs.inner.Stepping.{CanStep, HaveStepped};
 
 use crate::entries::{class_of, object_of, sends_nothing, signals_of};
-use crate::pooling::{deliver, leave, taken_signal};
+use crate::pooling::{deliver, leave, leave_slot, signal_at, taken_signal, taken_slot};
 use crate::situation::Situation;
 use pssm_model::{Duplicate, SignalId};
 use pssm_object::Object;
@@ -22,6 +22,7 @@ impl Situation {
     /// Goes on by an entry that may follow.
     ///
     /// On want of memory nothing has changed but room.
+    #[inline(always)]
     pub fn apply(&mut self, alloc: Global, setting: &Setting, entry: &Entry) -> Result<(), NoMemory>
         requires built { IsBuilt setting.now }
         requires can { CanCome setting.now self.old entry.now }
@@ -66,6 +67,7 @@ impl Situation {
     }
 
     // Goes on by an entry that posts and sends nothing.
+    #[inline(always)]
     fn go_on(&mut self, setting: &Setting, entry: &Entry) -> Result<(), NoMemory>
         requires built { IsBuilt setting.now }
         requires can { CanCome setting.now self.old entry.now }
@@ -73,9 +75,10 @@ impl Situation {
         ensures ok { OnOk result (Brings setting.now self.old entry.now self.new) }
         ensures err { OnErr result (IsUnchanged self.old self.new) }
     {
-        let taken = taken_signal(&self.pools, entry);
+        let slot = taken_slot(&self.pools, entry);
+        let taken = signal_at(&self.pools, slot);
         step(self.objects.as_mut_slice(), setting, entry, taken)?;
-        leave(&mut self.pools, entry);
+        leave_slot(&mut self.pools, slot);
         Ok(())
     }
 
@@ -100,6 +103,7 @@ impl Situation {
 }
 
 // The object of the entry goes on by it; a take comes with its signal.
+#[inline(always)]
 fn step(
     objects: &mut [Object],
     setting: &Setting,

@@ -10,8 +10,6 @@
 mod laws;
 mod marks;
 mod settling;
-#[cfg(test)]
-mod tests;
 mod totals;
 mod walking;
 

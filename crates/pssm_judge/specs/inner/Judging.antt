@@ -1,5 +1,5 @@
 -- Where the judging of a journal's bytes stands.
-use Rattle.std.specs.Prelude.{◌≡◌, ◌<◌, ℕ, ◌+◌, Bool, true, List, length}
+use Rattle.std.specs.Prelude.{◌≡◌, ◌<◌, ℕ, ◌+◌, Bool, true, List, length, MatchOption}
 use Rattle.pssm_semantics.specs.declared.line.Line.{Line}
 use Rattle.pssm_semantics.specs.declared.setting.Setting.{Setting}
 use Rattle.pssm_semantics.specs.Admissible.{IsAdmissibleIn, KeepsJournalLimits}
@@ -9,6 +9,7 @@ use Rattle.pssm_journal.specs.Judged.{IsJudged}
 use Rattle.pssm_system.specs.History.{History}
 use Rattle.pssm_judge.specs.declared.judging.Turn.{Turn}
 use Rattle.pssm_judge.specs.declared.judging.Turn.TheVariants.{On, Stop}
+use Rattle.pssm_judge.specs.declared.judging.Behind.{Behind}
 use Rattle.pssm_judge.specs.Verdicts.{said_at}
 
 -- The run has taken the lines that were read so far, and the rest of the bytes is still to be read, from the line with this number on.
@@ -31,3 +32,11 @@ IsTurn setting bytes number run (Stop stop) = IsJudged setting bytes (said_at st
 abbrev pub IsShorter : List ℕ → Turn → Type 0
 IsShorter bytes (On rest) = length rest.now < length bytes
 IsShorter bytes (Stop stop) = Unit {0}
+
+-- Behind brief lines the judging goes on with the rest, or what it stopped at is to be said of the bytes.
+abbrev pub IsBehind : Setting → List ℕ → History → Behind → Type 0
+IsBehind setting bytes run behind = MatchOption behind.stop (IsJudging setting bytes behind.rest.now true behind.line run) (λ stop. IsJudged setting bytes (said_at stop))
+
+-- Less is left, where it goes on.
+abbrev pub IsLessLeft : List ℕ → Behind → Type 0
+IsLessLeft bytes behind = MatchOption behind.stop (length behind.rest.now < length bytes) (λ stop. Unit {0})

@@ -4,7 +4,7 @@ use Rattle.pssm_model.specs.declared.ids.VertexId.{VertexId}
 use Rattle.pssm_model.specs.declared.ids.RegionId.{RegionId}
 use Rattle.pssm_model.specs.declared.elements.DraftMachine.{DraftMachine}
 use Rattle.pssm_model.specs.declared.steps.Item.{Item}
-use Rattle.pssm_model.specs.declared.steps.Item.TheVariants.{Exit, Enter}
+use Rattle.pssm_model.specs.declared.steps.Item.TheVariants.{Exit, Effect, Enter, Opened, Pick}
 use Rattle.pssm_model.specs.Forest.{LiesInState}
 use Rattle.pssm_legs.specs.Calls.{IsItemIn}
 use Rattle.pssm_plan.specs.declared.ways.Way.{Way}
@@ -25,6 +25,15 @@ abbrev pub IsNestedPair : DraftMachine → Item → Item → Type 0
 IsNestedPair m (Exit s) (Exit q) = LiesInState m s q
 IsNestedPair m (Enter s) (Enter q) = LiesInState m q s
 IsNestedPair m _ _ = ⊥
+
+-- Items of these kinds may be ordered by a way: exits, effects, entries, and what is called at the end.
+abbrev pub MayOrder : Item → Item → Type 0
+MayOrder (Exit s) (Effect t) = Unit {0}
+MayOrder (Effect t) (Exit s) = ⊥
+MayOrder (Effect t) y = Unit {0}
+MayOrder (Enter s) (Opened r mode) = Unit {0}
+MayOrder (Enter s) (Pick c) = Unit {0}
+MayOrder _ _ = ⊥
 
 -- The first of two called items comes before the second.
 abbrev pub IsSequence : DraftMachine → List Way → Item → Item → Type 0

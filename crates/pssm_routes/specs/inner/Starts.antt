@@ -1,5 +1,5 @@
 -- Which transitions an event starts, and the States that react to it.
-use Rattle.std.specs.Prelude.{◌≡◌, ◌<◌, List, [], ◌∷◌, length}
+use Rattle.std.specs.Prelude.{◌≡◌, ◌↔◌, ◌<◌, ◌≤◌, ℕ, List, [], ◌∷◌, length, Contains}
 use Rattle.pssm_model.specs.declared.ids.VertexId.{VertexId}
 use Rattle.pssm_model.specs.declared.ids.TransId.{TransId}
 use Rattle.pssm_model.specs.declared.elements.DraftMachine.{DraftMachine}
@@ -41,6 +41,19 @@ IsOutranked m now truth event s = (q : VertexId) × Reacts m now truth event q �
 -- The State reacts, and no State in it does.
 abbrev pub IsCandidate : DraftMachine → Configuration → Truth → Event → VertexId → Type 0
 IsCandidate m now truth event s = Reacts m now truth event s × (IsOutranked m now truth event s → ⊥)
+
+-- The vertex reacts, and none before it from a number on.
+pub record IsFirstReacting (m : DraftMachine) (now : Configuration) (truth : Truth) (event : Event) (from : ℕ) (s : VertexId) : Type 0 where
+  pub reacts : Reacts m now truth event s
+  pub first : (q : VertexId) → from ≤ q.0 → q.0 < s.0 → Reacts m now truth event q → ⊥
+
+-- No vertex from a number on reacts.
+abbrev pub NoneReactsFrom : DraftMachine → Configuration → Truth → Event → ℕ → Type 0
+NoneReactsFrom m now truth event from = (q : VertexId) → from ≤ q.0 → Reacts m now truth event q → ⊥
+
+-- The vertex reacts, and no other does.
+abbrev pub ReactsAlone : DraftMachine → Configuration → Truth → Event → VertexId → Type 0
+ReactsAlone m now truth event s = (q : VertexId) → Contains (s ∷ []) q ↔ Reacts m now truth event q
 
 -- There is a search, where the event starts a transition that ends on a junction.
 abbrev pub HasSearch : DraftMachine → Configuration → Event → List Search → Type 0

@@ -1,5 +1,5 @@
 -- Pools: the signals that wait for an object, and those that one more entry adds.
-use Rattle.std.specs.Prelude.{◌≡◌, ◌≢◌, ◌<◌, ◌+◌, ◌==◌, ℕ, List, [], ◌∷◌, if◌then◌else◌, length, map, Option, Some, None, slice_get, slice_set}
+use Rattle.std.specs.Prelude.{◌≡◌, ◌≢◌, ◌<◌, ◌+◌, ◌==◌, ℕ, List, [], ◌∷◌, if◌then◌else◌, length, map, Option, Some, None, MatchOption, slice_get, slice_set}
 use Rattle.std.specs.List.{AllByRecursion, remove}
 use Rattle.pssm_semantics.specs.declared.entry.ObjectId.{ObjectId}
 use Rattle.pssm_semantics.specs.declared.entry.Entry.{Entry}
@@ -7,7 +7,7 @@ use Rattle.pssm_semantics.specs.declared.entry.Entry.TheVariants.{Take}
 use Rattle.pssm_semantics.specs.declared.stimulus.Stimulus.{Stimulus}
 use Rattle.pssm_pool.specs.declared.pools.Waiting.{Waiting}
 use Rattle.pssm_pool.specs.declared.pools.SlotId.{SlotId}
-use Rattle.pssm_pool.specs.Waits.{waiting_for, with_arrived, IsSlotOf}
+use Rattle.pssm_pool.specs.Waits.{waiting_for, with_arrived, without, IsSlotOf}
 use Rattle.pssm_object.specs.Following.{stimulus_of}
 
 -- the first of the signals that has this number
@@ -57,6 +57,18 @@ delivered n (x ∷ rest) pools = delivered (n + 1) rest (with_arrived pools x.ob
 abbrev pub left_by : Entry → List (List Waiting) → List (List Waiting)
 left_by (Take o number firing) pools = slice_set pools o.0 (without_number number (waiting_for pools o))
 left_by _ pools = pools
+
+-- The slot is that of the signal that the entry takes.
+pub record IsTakenAt (pools : List (List Waiting)) (e : Entry) (slot : SlotId) : Type 0 where
+  pub object : ObjectId
+  pub place : ℕ
+  pub is : IsSlotOf pools slot object place
+  pub signal : signal_taken pools e ≡ slice_get (waiting_for pools object) place
+  pub others : left_by e pools ≡ without pools object place
+
+-- The entry takes the signal at the slot, or none.
+abbrev pub IsSlotTaken : List (List Waiting) → Entry → Option SlotId → Type 0
+IsSlotTaken pools e slot = MatchOption slot ((signal_taken pools e ≡ None) × (left_by e pools ≡ pools)) (IsTakenAt pools e)
 
 -- Each of the signals is sent to an object that has a pool.
 abbrev pub HavePools : List Stimulus → ℕ → Type 0

@@ -19,8 +19,8 @@ returns-in_default-clause-stops c = λ line is_line shown.
     (ap (λ n. n + 1) c.len-entries.ensures.count, within, by_names names refl))
 
 -- What is known of the entry.
-pub add-requires : goal.add-requires
-add-requires c =
+pub add_any-requires : goal.add_any-requires
+add_any-requires c =
     let line = c.requires.0 in
     let is_line = c.requires.1 in
     let shown = c.requires.2 in
@@ -36,8 +36,8 @@ add-requires c =
 -- The run has taken the entry.
 pub returns-clause-takes : goal.returns-clause-takes
 returns-clause-takes c =
-    by_told c.add.result IsLine (λ line. Shows c.args.parts line) (λ line. IsTold c.args.self.now line (c.len-entries.result + 1) c.output_count-outputs.result c.in-Some.told)
-    (λ stop line. IfNone stop (TakesLine c.args.self.now c.add.new.self line))
+    by_told c.add_any.result IsLine (λ line. Shows c.args.parts line) (λ line. IsTold c.args.self.now line (c.len-entries.result + 1) c.output_count-outputs.result c.in-Some.told)
+    (λ stop line. IfNone stop (TakesLine c.args.self.now c.add_any.new.self line))
     (λ line is_line shown.
     let run = c.self.inside.follower in
     let writes = found_writes c.setting-setting.result.now run.setting line c.in_ok-told.field-0 c.in-Some.told c.setting-setting.ensures.setting c.in-Some.is (c.in_ok-told.ensures.found line is_line shown) in
@@ -45,12 +45,12 @@ returns-clause-takes c =
     told_same c.args.self.now run line (c.len-entries.result + 1) c.output_count-outputs.result c.in-Some.told (sym c.self.view_is)
     (told_line run line c.in-Some.told (c.len-entries.result) c.self.inside.outputs c.output_count-outputs.result c.passes_limits.result c.len-entries.ensures.admissible writes known
     (c.len-entries.ensures.count) c.self.invariant.1 (c.output_count-outputs.ensures line is_line shown) c.passes_limits.ensures c.if-passes_limits.false))
-    c.add.ensures.takes
+    c.add_any.ensures.takes
 
 -- The entry breaks a rule.
 pub returns-clause-stops : goal.returns-clause-stops
 returns-clause-stops c =
-    by_told c.add.result IsLine (λ line. Shows c.args.parts line) (λ line. IsTold c.args.self.now line (c.len-entries.result + 1) c.output_count-outputs.result c.in-Some.told)
+    by_told c.add_any.result IsLine (λ line. Shows c.args.parts line) (λ line. IsTold c.args.self.now line (c.len-entries.result + 1) c.output_count-outputs.result c.in-Some.told)
     (λ stop line. IfSome stop (StopsAt c.args.self.now.setting c.args.self.now.journal line))
     (λ line is_line shown.
     let run = c.self.inside.follower in
@@ -59,4 +59,4 @@ returns-clause-stops c =
     told_same c.args.self.now run line (c.len-entries.result + 1) c.output_count-outputs.result c.in-Some.told (sym c.self.view_is)
     (told_line run line c.in-Some.told (c.len-entries.result) c.self.inside.outputs c.output_count-outputs.result c.passes_limits.result c.len-entries.ensures.admissible writes known
     (c.len-entries.ensures.count) c.self.invariant.1 (c.output_count-outputs.ensures line is_line shown) c.passes_limits.ensures c.if-passes_limits.false))
-    c.add.ensures.stops
+    c.add_any.ensures.stops

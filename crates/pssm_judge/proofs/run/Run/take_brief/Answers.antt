@@ -1,64 +1,67 @@
-use Rattle.std.proofs.Common.{◌+◌, IfNone, IfSome, refl, sym, ap, subst}
-use Rattle.pssm_semantics.specs.declared.entry.Rule.TheVariants.{A1}
-use Rattle.pssm_semantics.specs.declared.setting.Setting.{Setting}
-use Rattle.pssm_lines.specs.Parts.{brief_line}
-use Rattle.pssm_journal.specs.Briefs.{brief_entry}
-use Rattle.pssm_journal.specs.Entries.{IsEntryOf, KeepsNames, BreaksNames}
-use Rattle.pssm_journal.specs.Judged.{by_names}
-use Rattle.pssm_system.specs.History.{History}
-use Rattle.pssm_judge.specs.declared.run.Stop.TheVariants.{Refuse}
-use Rattle.pssm_judge.specs.inner.Following.{IsTold, TakesLine, StopsAt}
-use Rattle.pssm_judge.proofs.RunLaws.{keeps_within, told_line, told_same, at_told}
+use Rattle.std.proofs.Common.{IfNone, IfSome, sym, subst}
+use Rattle.std.specs.Prelude.{IfOk}
+use Rattle.pssm_lines.specs.declared.parts.BriefAct.{BriefAct}
+use Rattle.pssm_lines.specs.Grammar.{IsLine}
+use Rattle.pssm_lines.specs.Parts.{line_of_act}
+use Rattle.pssm_judge.specs.inner.Following.{TakesLine, StopsAt}
 use Rattle.pssm_judge.proofs.run.Run.take_brief.Goals as goal
 
--- The line names what the setting does not have.
-pub returns-in_default-clause-stops : goal.returns-in_default-clause-stops
-returns-in_default-clause-stops c =
-    let l = brief_line c.args.parts in
-    let within = keeps_within c.self.inside.follower.journal l (c.len-before.result) c.self.inside.outputs c.brief_output_count-outputs.result c.passes_limits.result
-    (c.len-before.ensures.count) c.self.invariant.1 c.brief_output_count-outputs.ensures c.passes_limits.ensures c.if-passes_limits.false in
-    let names = subst (λ (x : Setting). BreaksNames x l) c.setting-setting.ensures.setting c.in_default.ensures.none in
-    rw c.unknown.ensures (subst (λ (h : History). StopsAt h.setting h.journal l (Refuse (c.len-before.result + 1) A1)) c.self.view_is
-    (ap (λ n. n + 1) c.len-before.ensures.count, within, by_names names refl))
+-- a post
+pub take_post-requires : goal.take_post-requires
+take_post-requires c = subst (λ (act : BriefAct). IsLine (line_of_act c.args.parts.object.now act)) c.in-Post.is c.requires
 
--- What is known of the entry.
-pub add_brief-requires : goal.add_brief-requires
-add_brief-requires c =
-    let l = brief_line c.args.parts in
-    let e = brief_entry c.in-Some.told in
-    let run = c.self.inside.follower in
-    let writes = subst (λ (x : Setting). IsEntryOf x l e) c.setting-setting.ensures.setting c.in-Some.ensures.found in
-    let known = subst (λ (x : Setting). KeepsNames x e) c.setting-setting.ensures.setting c.in-Some.ensures.keeps in
-    let told =
-    told_same c.args.self.now run l (c.len-before.result + 1) c.brief_output_count-outputs.result e (sym c.self.view_is)
-    (told_line run l e (c.len-before.result) c.self.inside.outputs c.brief_output_count-outputs.result c.passes_limits.result c.len-before.ensures.admissible writes known
-    (c.len-before.ensures.count) c.self.invariant.1 c.brief_output_count-outputs.ensures c.passes_limits.ensures c.if-passes_limits.false) in
-    (l, told)
+pub returns-in-Post-clause-takes : goal.returns-in-Post-clause-takes
+returns-in-Post-clause-takes c =
+    subst (λ (act : BriefAct). IfOk c.take_post.result (λ stop. IfNone stop (TakesLine c.args.self.now c.take_post.new.self (line_of_act c.args.parts.object.now act)))) (sym c.in-Post.is) c.take_post.ensures.takes
 
--- The run has taken the entry.
-pub returns-clause-takes : goal.returns-clause-takes
-returns-clause-takes c =
-    let l = brief_line c.args.parts in
-    let e = brief_entry c.in-Some.told in
-    let run = c.self.inside.follower in
-    let writes = subst (λ (x : Setting). IsEntryOf x l e) c.setting-setting.ensures.setting c.in-Some.ensures.found in
-    let known = subst (λ (x : Setting). KeepsNames x e) c.setting-setting.ensures.setting c.in-Some.ensures.keeps in
-    let told =
-    told_same c.args.self.now run l (c.len-before.result + 1) c.brief_output_count-outputs.result e (sym c.self.view_is)
-    (told_line run l e (c.len-before.result) c.self.inside.outputs c.brief_output_count-outputs.result c.passes_limits.result c.len-before.ensures.admissible writes known
-    (c.len-before.ensures.count) c.self.invariant.1 c.brief_output_count-outputs.ensures c.passes_limits.ensures c.if-passes_limits.false) in
-    at_told c.add_brief.result (λ line. IsTold c.args.self.now line (c.len-before.result + 1) c.brief_output_count-outputs.result e) (λ stop line. IfNone stop (TakesLine c.args.self.now c.add_brief.new.self line)) l told c.add_brief.ensures.takes
+pub returns-in-Post-clause-stops : goal.returns-in-Post-clause-stops
+returns-in-Post-clause-stops c =
+    subst (λ (act : BriefAct). IfOk c.take_post.result (λ stop. IfSome stop (StopsAt c.args.self.now.setting c.args.self.now.journal (line_of_act c.args.parts.object.now act)))) (sym c.in-Post.is) c.take_post.ensures.stops
 
--- The entry breaks a rule.
-pub returns-clause-stops : goal.returns-clause-stops
-returns-clause-stops c =
-    let l = brief_line c.args.parts in
-    let e = brief_entry c.in-Some.told in
-    let run = c.self.inside.follower in
-    let writes = subst (λ (x : Setting). IsEntryOf x l e) c.setting-setting.ensures.setting c.in-Some.ensures.found in
-    let known = subst (λ (x : Setting). KeepsNames x e) c.setting-setting.ensures.setting c.in-Some.ensures.keeps in
-    let told =
-    told_same c.args.self.now run l (c.len-before.result + 1) c.brief_output_count-outputs.result e (sym c.self.view_is)
-    (told_line run l e (c.len-before.result) c.self.inside.outputs c.brief_output_count-outputs.result c.passes_limits.result c.len-before.ensures.admissible writes known
-    (c.len-before.ensures.count) c.self.invariant.1 c.brief_output_count-outputs.ensures c.passes_limits.ensures c.if-passes_limits.false) in
-    at_told c.add_brief.result (λ line. IsTold c.args.self.now line (c.len-before.result + 1) c.brief_output_count-outputs.result e) (λ stop line. IfSome stop (StopsAt c.args.self.now.setting c.args.self.now.journal line)) l told c.add_brief.ensures.stops
+-- a take
+pub take_start-requires : goal.take_start-requires
+take_start-requires c = subst (λ (act : BriefAct). IsLine (line_of_act c.args.parts.object.now act)) c.in-Take.is c.requires
+
+pub returns-in-Take-clause-takes : goal.returns-in-Take-clause-takes
+returns-in-Take-clause-takes c =
+    subst (λ (act : BriefAct). IfOk c.take_start.result (λ stop. IfNone stop (TakesLine c.args.self.now c.take_start.new.self (line_of_act c.args.parts.object.now act)))) (sym c.in-Take.is) c.take_start.ensures.takes
+
+pub returns-in-Take-clause-stops : goal.returns-in-Take-clause-stops
+returns-in-Take-clause-stops c =
+    subst (λ (act : BriefAct). IfOk c.take_start.result (λ stop. IfSome stop (StopsAt c.args.self.now.setting c.args.self.now.journal (line_of_act c.args.parts.object.now act)))) (sym c.in-Take.is) c.take_start.ensures.stops
+
+-- an exit
+pub take_exit-requires : goal.take_exit-requires
+take_exit-requires c = subst (λ (act : BriefAct). IsLine (line_of_act c.args.parts.object.now act)) c.in-Exit.is c.requires
+
+pub returns-in-Exit-clause-takes : goal.returns-in-Exit-clause-takes
+returns-in-Exit-clause-takes c =
+    subst (λ (act : BriefAct). IfOk c.take_exit.result (λ stop. IfNone stop (TakesLine c.args.self.now c.take_exit.new.self (line_of_act c.args.parts.object.now act)))) (sym c.in-Exit.is) c.take_exit.ensures.takes
+
+pub returns-in-Exit-clause-stops : goal.returns-in-Exit-clause-stops
+returns-in-Exit-clause-stops c =
+    subst (λ (act : BriefAct). IfOk c.take_exit.result (λ stop. IfSome stop (StopsAt c.args.self.now.setting c.args.self.now.journal (line_of_act c.args.parts.object.now act)))) (sym c.in-Exit.is) c.take_exit.ensures.stops
+
+-- an effect
+pub take_effect-requires : goal.take_effect-requires
+take_effect-requires c = subst (λ (act : BriefAct). IsLine (line_of_act c.args.parts.object.now act)) c.in-Effect.is c.requires
+
+pub returns-in-Effect-clause-takes : goal.returns-in-Effect-clause-takes
+returns-in-Effect-clause-takes c =
+    subst (λ (act : BriefAct). IfOk c.take_effect.result (λ stop. IfNone stop (TakesLine c.args.self.now c.take_effect.new.self (line_of_act c.args.parts.object.now act)))) (sym c.in-Effect.is) c.take_effect.ensures.takes
+
+pub returns-in-Effect-clause-stops : goal.returns-in-Effect-clause-stops
+returns-in-Effect-clause-stops c =
+    subst (λ (act : BriefAct). IfOk c.take_effect.result (λ stop. IfSome stop (StopsAt c.args.self.now.setting c.args.self.now.journal (line_of_act c.args.parts.object.now act)))) (sym c.in-Effect.is) c.take_effect.ensures.stops
+
+-- an entry of a State
+pub take_enter-requires : goal.take_enter-requires
+take_enter-requires c = subst (λ (act : BriefAct). IsLine (line_of_act c.args.parts.object.now act)) c.in-Enter.is c.requires
+
+pub returns-in-Enter-clause-takes : goal.returns-in-Enter-clause-takes
+returns-in-Enter-clause-takes c =
+    subst (λ (act : BriefAct). IfOk c.take_enter.result (λ stop. IfNone stop (TakesLine c.args.self.now c.take_enter.new.self (line_of_act c.args.parts.object.now act)))) (sym c.in-Enter.is) c.take_enter.ensures.takes
+
+pub returns-in-Enter-clause-stops : goal.returns-in-Enter-clause-stops
+returns-in-Enter-clause-stops c =
+    subst (λ (act : BriefAct). IfOk c.take_enter.result (λ stop. IfSome stop (StopsAt c.args.self.now.setting c.args.self.now.journal (line_of_act c.args.parts.object.now act)))) (sym c.in-Enter.is) c.take_enter.ensures.stops

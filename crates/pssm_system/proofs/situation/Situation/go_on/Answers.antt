@@ -7,13 +7,20 @@ use Rattle.pssm_semantics.specs.Pool.{signals_of_entry}
 use Rattle.pssm_system.specs.inner.Pooling.{delivered, left_by, signal_taken}
 use Rattle.pssm_system.specs.inner.Stepping.{CanStep, HaveStepped}
 use Rattle.pssm_system.proofs.Stepped.{can_step_now, stands_after}
+use Rattle.pssm_system.proofs.Slots.{slot_there}
 use Rattle.pssm_system.proofs.situation.Situation.go_on.Goals as goal
+
+pub signal_at-taken-requires : goal.signal_at-taken-requires
+signal_at-taken-requires c = slot_there c.args.self.now.pools.waiting c.args.entry.now c.taken_slot-slot.result c.taken_slot-slot.ensures
+
+pub leave_slot-requires : goal.leave_slot-requires
+leave_slot-requires c = slot_there c.args.self.now.pools.waiting c.args.entry.now c.taken_slot-slot.result c.taken_slot-slot.ensures
 
 pub step-requires-clause-can : goal.step-requires-clause-can
 step-requires-clause-can c =
-    subst (λ xs. CanStep c.args.setting.now xs (option_copied c.taken_signal-taken.result) c.args.entry.now) (sym c.as_mut_slice.ensures.value)
-    (can_step_now c.requires.built c.requires.can c.args.self.now.pools.waiting refl (option_copied c.taken_signal-taken.result)
-    c.taken_signal-taken.ensures)
+    subst (λ xs. CanStep c.args.setting.now xs (option_copied c.signal_at-taken.result) c.args.entry.now) (sym c.as_mut_slice.ensures.value)
+    (can_step_now c.requires.built c.requires.can c.args.self.now.pools.waiting refl (option_copied c.signal_at-taken.result)
+    (c.signal_at-taken.ensures c.args.entry.now c.taken_slot-slot.ensures))
 
 pub returns-clause-ok : goal.returns-clause-ok
 returns-clause-ok c = λ J stands may.
@@ -23,10 +30,10 @@ returns-clause-ok c = λ J stands may.
     let told : ℕ = c.args.self.now.told in
     let objects = with_items_is c.args.self.now.objects c.step.new.objects (c.step.auto.objects ∙ c.as_mut_slice.ensures.len) in
     let stepped : HaveStepped c.args.setting.now c.args.self.now.objects.items (signal_taken pools e) e c.step.new.objects =
-    subst (λ g. HaveStepped c.args.setting.now c.args.self.now.objects.items g e c.step.new.objects) c.taken_signal-taken.ensures
-    (subst (λ xs. HaveStepped c.args.setting.now xs (option_copied c.taken_signal-taken.result) e c.step.new.objects) c.as_mut_slice.ensures.value step.ok) in
+    subst (λ g. HaveStepped c.args.setting.now c.args.self.now.objects.items g e c.step.new.objects) (c.signal_at-taken.ensures c.args.entry.now c.taken_slot-slot.ensures)
+    (subst (λ xs. HaveStepped c.args.setting.now xs (option_copied c.signal_at-taken.result) e c.step.new.objects) c.as_mut_slice.ensures.value step.ok) in
     let none : length (signals_of_entry e) ≡ 0 = ap (λ (xs : List Stimulus). length xs) c.requires.silent in
     stands_after c.requires.built stands e may _
     (subst (HaveStepped c.args.setting.now c.args.self.now.objects.items (signal_taken pools e) e) (sym objects) stepped)
-    (c.leave.ensures.waiting ∙ sym (ap (λ xs. delivered (told + 1) xs (left_by e pools)) c.requires.silent))
+    (c.leave_slot.ensures.waiting c.args.entry.now c.taken_slot-slot.ensures ∙ sym (ap (λ xs. delivered (told + 1) xs (left_by e pools)) c.requires.silent))
     (omega arith)
