@@ -1,11 +1,13 @@
 #!/usr/bin/env python3
-"""How long steps over the longest routes take, and those by deep history over many levels.
+"""How long steps of several legs take: over the longest route, over forks and joins of many regions, and by deep history over many levels.
 
 Run it at the top of the repository after the program is built: python3 bench/forms.py
 First (`route`) come machines with one State and a chain of 4, 64, 512 and 4,094 junctions on the way from it back to it: the last has as many vertices as a
-machine may have, and its take names a route of 4,095 transitions, each with an effect of its own. Then (`history`) machines with 2, 8 and 32 levels of States:
-one signal leaves them all, and one brings them back by deep history. For each machine `run` writes a journal, which is judged. It prints a line for each call:
-entries, seconds, entries per second, peak memory.
+machine may have, and its take names a route of 4,095 transitions, each with an effect of its own. Then (`fork`) machines in which a fork leads into 2, 8 and 32
+regions, whose States are joined: a signal leads to the fork, and the completion that is served first leads from the join back. Then (`points`) machines with 2, 8
+and 31 nested States, out of which a chain of exit points leads, and into which one of entry points leads: routes with a leg more for each level. Last
+(`history`) machines with 2, 8 and 32 levels of States: one signal leaves them all, and one brings them back by deep history. For each machine `run` writes a
+journal, which is judged. It prints a line for each call: entries, seconds, entries per second, peak memory.
 """
 import os
 import tempfile
@@ -13,6 +15,8 @@ import tempfile
 from measure import measure, need_program, report
 
 JUNCTIONS = (4, 64, 512, 4_094)
+REGIONS = (2, 8, 32)
+NESTED = (2, 8, 31)
 LEVELS = (2, 8, 32)
 SIZE = 20_000
 LIMIT = 1_000_000
@@ -64,6 +68,48 @@ def route(junctions):
     return machine
 
 
+def fork(regions):
+    """From A a fork into so many regions of S, and a join of their States back to A."""
+    machine = Machine(['G'])
+    machine.region('top')
+    initial, idle, state = (machine.vertex('r0', kind) for kind in ('initial', 'state', 'state'))
+    out, into = machine.vertex('r0', 'fork'), machine.vertex('r0', 'join')
+    machine.go(initial, idle)
+    machine.go(idle, out, 'on G')
+    machine.go(into, idle)
+    for _ in range(regions):
+        inner = machine.vertex('r%d' % machine.region('v%d' % state), 'state')
+        machine.go(out, inner)
+        machine.go(inner, into)
+    machine.start, machine.step = 4, (5 + 2 * regions) + (4 + 2 * regions)
+    return machine
+
+
+def points(levels):
+    """So many States, one in the other, each with an exit and an entry point that lead to those of the next."""
+    machine = Machine(['Out', 'In'])
+    machine.region('top')
+    initial, outside = machine.vertex('r0', 'initial'), machine.vertex('r0', 'state')
+    leave, come, region = outside, [], 0
+    exits = []
+    for _ in range(levels):
+        state = machine.vertex('r%d' % region, 'state')
+        exits.append(machine.vertex('v%d' % state, 'exitPoint'))
+        come.append(machine.vertex('v%d' % state, 'entryPoint'))
+        region = machine.region('v%d' % state)
+    bottom = machine.vertex('r%d' % region, 'state')
+    machine.go(initial, come[0])
+    for here, there in zip(come, come[1:] + [bottom]):
+        machine.go(here, there)
+    for here, there in zip(exits, [leave] + exits):
+        machine.go(here, there)
+    machine.go(bottom, exits[-1], 'on Out')
+    machine.go(outside, come[0], 'on In')
+    machine.start = 2 + (levels + 1) + (levels + 1)
+    machine.step = (2 + (levels + 1) + (levels + 1) + 1) + (3 + (levels + 1) + (levels + 1))
+    return machine
+
+
 def history(levels):
     """So many States, one in the other, each but the first beside one that is entered by default; Deep brings them back."""
     machine = Machine(['Out', 'Deep', 'In'])
@@ -110,7 +156,7 @@ def measure_on(name, machine, folder):
 def main():
     need_program()
     with tempfile.TemporaryDirectory() as folder:
-        for name, sizes, make in (('route', JUNCTIONS, route), ('history', LEVELS, history)):
+        for name, sizes, make in (('route', JUNCTIONS, route), ('fork', REGIONS, fork), ('points', NESTED, points), ('history', LEVELS, history)):
             for size in sizes:
                 measure_on('%s %d' % (name, size), make(size), folder)
 

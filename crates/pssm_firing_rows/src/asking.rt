@@ -1,7 +1,7 @@
 //! The calls that are tried, with the guards that are true.
 ghost use Rattle.std.specs.Prelude.{◌<◌, length};
 ghost use Rattle.pssm_config.specs.Tables.{Fits};
-ghost use Rattle.pssm_model.specs.SingleLegs.{HasSingleLegs};
+ghost use Rattle.pssm_model.specs.WellFormed.{KeepsModelRules};
 
 use crate::listing::Listing;
 use crate::marks::Marks;
@@ -24,7 +24,7 @@ pub(crate) struct Subject {
 impl Subject {
     /// Whether the call says that these routes fire together.
     pub(crate) fn fires(&self, alloc: Global, firing: &Firing) -> Result<bool, NoMemory>
-        requires legs { HasSingleLegs self.now.machine }
+        requires rules { KeepsModelRules self.now.machine }
         requires fits { Fits self.now.machine self.now.config }
     {
         let truth = self.situation.truth;
@@ -40,7 +40,7 @@ impl Subject {
 
     /// The routes that the call picks by the word.
     pub(crate) fn picks(&self, alloc: Global, word: u64) -> Result<Firing, NoMemory>
-        requires legs { HasSingleLegs self.now.machine }
+        requires rules { KeepsModelRules self.now.machine }
         requires fits { Fits self.now.machine self.now.config }
     {
         let truth = self.situation.truth;
@@ -56,7 +56,7 @@ impl Subject {
 
     /// Whether the call says that the route is one, and enabled.
     pub(crate) fn enables(&self, route: &Route) -> bool
-        requires legs { HasSingleLegs self.now.machine }
+        requires rules { KeepsModelRules self.now.machine }
         requires fits { Fits self.now.machine self.now.config }
     {
         let truth = self.situation.truth;
@@ -71,7 +71,7 @@ impl Subject {
 
     /// Whether the call says that an enabled route starts at the State or in it.
     pub(crate) fn overrides(&self, state: u16) -> bool
-        requires legs { HasSingleLegs self.now.machine }
+        requires rules { KeepsModelRules self.now.machine }
         requires fits { Fits self.now.machine self.now.config }
     {
         let truth = self.situation.truth;

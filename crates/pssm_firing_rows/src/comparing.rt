@@ -1,6 +1,6 @@
 //! Asks the calls all that is to be asked of a subject, and compares their answers with what the definitions say.
 ghost use Rattle.pssm_config.specs.Tables.{Fits};
-ghost use Rattle.pssm_model.specs.SingleLegs.{HasSingleLegs};
+ghost use Rattle.pssm_model.specs.WellFormed.{KeepsModelRules};
 
 use crate::asking::{Subject, firing_of, route_of, turned, with_route};
 use crate::listing::Listing;
@@ -16,7 +16,7 @@ fn compare_sets(
     seed: u64,
     tally: &mut Tally,
 ) -> Result<(), NoMemory>
-    requires legs { HasSingleLegs subject.now.machine }
+    requires rules { KeepsModelRules subject.now.machine }
     requires fits { Fits subject.now.machine subject.now.config }
 {
     for word in 0..count_sets(subject.listing.routes()) {
@@ -51,7 +51,7 @@ fn compare_candidates(
     seed: u64,
     tally: &mut Tally,
 ) -> Result<(), NoMemory>
-    requires legs { HasSingleLegs subject.now.machine }
+    requires rules { KeepsModelRules subject.now.machine }
     requires fits { Fits subject.now.machine subject.now.config }
 {
     let first = first_firing(alloc, &subject.listing)?;
@@ -90,7 +90,7 @@ fn compare_picks(
     seed: u64,
     tally: &mut Tally,
 ) -> Result<(), NoMemory>
-    requires legs { HasSingleLegs subject.now.machine }
+    requires rules { KeepsModelRules subject.now.machine }
     requires fits { Fits subject.now.machine subject.now.config }
 {
     for word in 0..16 {
@@ -118,7 +118,7 @@ fn overrides(subject: &Subject, state: u16) -> bool {
 
 // Each State is overridden exactly if an enabled route starts at it or in it.
 fn compare_states(subject: &Subject, seed: u64, tally: &mut Tally) -> Result<(), NoMemory>
-    requires legs { HasSingleLegs subject.now.machine }
+    requires rules { KeepsModelRules subject.now.machine }
     requires fits { Fits subject.now.machine subject.now.config }
 {
     for state in 0..subject.situation.sketch.vertices() {
@@ -158,7 +158,7 @@ pub(crate) fn compare(
     seed: u64,
     tally: &mut Tally,
 ) -> Result<(), NoMemory>
-    requires legs { HasSingleLegs subject.now.machine }
+    requires rules { KeepsModelRules subject.now.machine }
     requires fits { Fits subject.now.machine subject.now.config }
 {
     let listing = &subject.listing;

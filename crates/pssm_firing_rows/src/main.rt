@@ -18,7 +18,7 @@
 
 ghost use Rattle.std.specs.Prelude.{IfOk, IfSome};
 ghost use Rattle.pssm_config.specs.Tables.{Fits};
-ghost use Rattle.pssm_model.specs.SingleLegs.{HasSingleLegs};
+ghost use Rattle.pssm_model.specs.WellFormed.{KeepsModelRules};
 
 mod asking;
 mod comparing;
@@ -81,7 +81,7 @@ fn try_seed(alloc: Global, seed: u64, tally: &mut Tally) -> Result<(), NoMemory>
 
 // A machine that keeps the rules, and what is to be known of it; none where what was made breaks one.
 fn make_subject(alloc: Global, dice: &mut Dice) -> Result<Option<Subject>, NoMemory>
-    ensures legs { IfOk result (λ made. IfSome made (λ subject. HasSingleLegs subject.machine)) }
+    ensures rules { IfOk result (λ made. IfSome made (λ subject. KeepsModelRules subject.machine)) }
     ensures fits { IfOk result (λ made. IfSome made (λ subject. Fits subject.machine subject.config)) }
 {
     let (sketch, active) = make_sketch(alloc, dice)?;

@@ -1,9 +1,7 @@
 //! The machine and the configuration of a situation, as the calls that are tried take them.
-ghost use Rattle.std.specs.Prelude.{◌↔◌, ◌<◌, length, IsTrue, IfOk, IfSome};
-ghost use Rattle.pssm_model.specs.declared.ids.VertexId.{VertexId};
-ghost use Rattle.pssm_model.specs.Legs.{IsCut};
+ghost use Rattle.std.specs.Prelude.{◌<◌, length, IsTrue, IfOk, IfSome};
 ghost use Rattle.pssm_config.specs.Tables.{Fits};
-ghost use Rattle.pssm_model.specs.SingleLegs.{HasSingleLegs};
+ghost use Rattle.pssm_model.specs.WellFormed.{KeepsModelRules};
 
 use crate::marks::Marks;
 use crate::sketch::{Arrow, Place, Sketch};
@@ -62,50 +60,23 @@ fn draft_of(alloc: Global, sketch: &Sketch) -> Result<DraftMachine, NoMemory> {
     })
 }
 
-// Whether the vertex is a fork, join, entry or exit point.
-fn is_cut(machine: &Machine, v: VertexId) -> bool
-    requires { v.0 < length machine.now.vertices }
-    ensures { IsTrue result ↔ IsCut machine.now v }
-{
-    match machine.vertex(v).kind {
-        VertexKind::Fork => true,
-        VertexKind::Join => true,
-        VertexKind::EntryPoint => true,
-        VertexKind::ExitPoint => true,
-        _ => false,
-    }
-}
-
-// Whether no vertex of the machine is a fork, join, entry or exit point.
-#[tactic(auto, using(crate::proofs::Uncut::uncut_next, crate::proofs::Uncut::uncut_all))]
-fn is_uncut(machine: &Machine) -> bool
-    ensures { IsTrue result → (v : VertexId) → IsCut machine.now v → ⊥ }
-{
-    for number in 0..machine.vertices() {
-        if is_cut(machine, VertexId(number)) {
-            return false;
-        }
-    }
-    true
-}
-
-// Whether the machine keeps the rules of models, and each of its routes is one leg.
-fn has_single_legs(alloc: Global, machine: &Machine) -> Result<bool, NoMemory>
-    ensures { IfOk result (λ has. IsTrue has → HasSingleLegs machine.now) }
+// Whether the machine keeps the rules of models.
+fn keeps_rules(alloc: Global, machine: &Machine) -> Result<bool, NoMemory>
+    ensures { IfOk result (λ keeps. IsTrue keeps → KeepsModelRules machine.now) }
 {
     let faults = check(alloc, machine)?;
-    let keeps_rules = faults.is_empty();
+    let none = faults.is_empty();
     drop(faults);
-    Ok(keeps_rules && is_uncut(machine))
+    Ok(none)
 }
 
 /// The machine of the sketch; none where it has not the shape of one or breaks a rule.
 pub(crate) fn machine_of(alloc: Global, sketch: &Sketch) -> Result<Option<Machine>, NoMemory>
-    ensures { IfOk result (λ made. IfSome made HasSingleLegs) }
+    ensures { IfOk result (λ made. IfSome made KeepsModelRules) }
 {
     let draft = draft_of(alloc, sketch)?;
     match Machine::new(alloc, &draft) {
-        Ok(machine) if has_single_legs(alloc, &machine)? => Ok(Some(machine)),
+        Ok(machine) if keeps_rules(alloc, &machine)? => Ok(Some(machine)),
         Ok(_) => Ok(None),
         Err(Shape::NoMemory) => Err(NoMemory),
         Err(_) => Ok(None),

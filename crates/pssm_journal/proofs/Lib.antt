@@ -5,7 +5,7 @@ pub mod OutputCounts
 pub mod NameLaws
 pub mod NamedLines
 pub mod LineLengths
-pub mod BuiltNames
+pub mod RunNames
 pub mod EntryLists
 pub mod FirstRules
 pub mod Spellings

@@ -1,4 +1,4 @@
--- The line of an entry of a run of a setting that the code runs is not longer than a line may be.
+-- The line of an entry of a run is not longer than a line may be.
 use Rattle.std.proofs.Common.{◌≡◌, ℕ, ℤ, pos, negsuc, suc, ◌+◌, ◌*◌, map, ◌<◌, ◌≤◌, true, leb, List, [], ◌∷◌, ◌++◌, length, Some, refl, sym, subst, arith, inl, inr}
 use Rattle.std.specs.Prelude.{codes, FitsSigned}
 use Rattle.std.specs.Int.{w64}
@@ -24,7 +24,8 @@ use Rattle.pssm_semantics.specs.declared.line.Line.TheVariants.{Post, Start, Tak
 use Rattle.pssm_semantics.specs.declared.line.LineOut.{LineOut}
 use Rattle.pssm_semantics.specs.declared.line.LineOut.TheVariants.{Mark, Send}
 use Rattle.pssm_semantics.specs.declared.setting.Setting.{Setting}
-use Rattle.pssm_semantics.specs.Built.{IsBuiltRoute, IsBuiltFiring, IsShortRoute, IsBuiltWay, HasBuiltForm, IsBuiltEntry}
+use Rattle.pssm_semantics.proofs.Appended.{AllByRecursion-front, AllByRecursion-back}
+use Rattle.pssm_semantics.specs.Forms.{IsRunRoute, IsShortFiring, IsShortRoute, IsShortWay, HasForm, IsRunEntry}
 use Rattle.pssm_spelling.specs.Spelling.{IsName}
 use Rattle.pssm_lines.specs.LineText.{line_text, firing_text, transition_text, route_text, routes_text, mode_text, how_text, args_text, call_text, out_text, outs_text}
 use Rattle.pssm_lines.specs.Grammar.{IsLine, AreArgs, IsSpelledOut, AreSpelledOuts}
@@ -42,6 +43,16 @@ joined_length c f (x ∷ []) = omega (arith, sum_by-cons (λ y. length (f y) + 1
 joined_length c f (x ∷ y ∷ xs) =
     let rest = joined_length c f (y ∷ xs) in
     omega (arith, rest, length-append (f x) (c ∷ join_with_byte c (map f (y ∷ xs))), sum_by-cons (λ z. length (f z) + 1) x (y ∷ xs))
+
+-- pieces of which none is longer than five bytes, with a byte between two
+joined_most : {X : Type 0} (P : X → Type 0) (f : X → List ℕ) (c : ℕ) (xs : List X) → ((x : X) → P x → length (f x) + 1 ≤ 6) → 0 < length xs
+    → AllByRecursion P xs → length (join_with_byte c (map f xs)) + 1 ≤ 6 * length xs
+joined_most P f c [] each some all = absurd (omega (arith, some))
+joined_most P f c (x ∷ []) each some all = let first = each x all.0 in omega (arith, first)
+joined_most P f c (x ∷ y ∷ xs) each some all =
+    let rest = joined_most P f c (y ∷ xs) each (omega arith) all.1 in
+    let first = each x all.0 in
+    omega (arith, rest, first, length-append (f x) (c ∷ join_with_byte c (map f (y ∷ xs))))
 
 -- pieces of which none is longer than this
 sum_most : {X : Type 0} (P : X → Type 0) (f : X → ℕ) (most : ℕ) (xs : List X) → ((x : X) → P x → f x ≤ most) → AllByRecursion P xs → sum_by f xs ≤ length xs * most
@@ -67,22 +78,30 @@ short_rest rest small =
     let most = sum_most (λ (t : TransId). t.0 < 8192) (λ t. length (codes "," ++ transition_text t)) 6 rest short_further small in
     omega (arith, most, length-flat_map (λ t. codes "," ++ transition_text t) rest)
 
--- a start, and the transitions after it
-short_both : (a b : List ℕ) (k : ℕ) → length a + 1 ≤ 6 → length b ≤ k * 6 → length (a ++ b) + 1 ≤ 6 * suc k
-short_both a b k first more = omega (arith, first, more, length-append a b)
+-- the starts, with a mark between two
+short_starts : (starts : List TransId) → 0 < length starts → AllByRecursion (λ t. t.0 < 8192) starts
+    → length (join_with_byte 43 (map transition_text starts)) + 1 ≤ 6 * length starts
+short_starts starts some small = joined_most (λ (t : TransId). t.0 < 8192) transition_text 43 starts short_start some small
 
-short_parts : (starts rest : List TransId) → ((t : TransId) × (starts ≡ t ∷ [])) → AllByRecursion (λ t. t.0 < 8192) (starts ++ rest)
+-- and the transitions after them
+short_both : (a b : List ℕ) (j k : ℕ) → length a + 1 ≤ 6 * j → length b ≤ k * 6 → length (a ++ b) + 1 ≤ 6 * (j + k)
+short_both a b j k first more = omega (arith, first, more, length-append a b)
+
+short_parts : (starts rest : List TransId) → 0 < length starts → AllByRecursion (λ t. t.0 < 8192) (starts ++ rest)
     → length (join_with_byte 43 (map transition_text starts) ++ flat_map (λ t. codes "," ++ transition_text t) rest) + 1 ≤ 6 * length (starts ++ rest)
-short_parts [] rest one small = absurd (let is = one.1 in cc)
-short_parts (t ∷ []) rest one small =
-    short_both (transition_text t) (flat_map (λ u. codes "," ++ transition_text u) rest) (length rest) (short_start t small.0) (short_rest rest small.1)
-short_parts (t ∷ u ∷ ts) rest one small = absurd (let is = one.1 in cc)
+short_parts starts rest some small =
+    subst
+    (λ (n : ℕ). length (join_with_byte 43 (map transition_text starts) ++ flat_map (λ t. codes "," ++ transition_text t) rest) + 1 ≤ 6 * n)
+    (sym (length-append starts rest))
+    (short_both (join_with_byte 43 (map transition_text starts)) (flat_map (λ t. codes "," ++ transition_text t) rest) (length starts) (length rest)
+    (short_starts starts some (AllByRecursion-front (λ (t : TransId). t.0 < 8192) starts rest small))
+    (short_rest rest (AllByRecursion-back (λ (t : TransId). t.0 < 8192) starts rest small)))
 
-short_route : (route : Route) → IsBuiltRoute route → length (route_text route) + 1 ≤ 6 * length (transitions_of route)
+short_route : (route : Route) → IsRunRoute route → length (route_text route) + 1 ≤ 6 * length (transitions_of route)
 short_route route is = short_parts route.starts route.rest is.0 is.1
 
 -- each route with a mark before it
-joined_routes : (routes : List Route) → AllByRecursion IsBuiltRoute routes
+joined_routes : (routes : List Route) → AllByRecursion IsRunRoute routes
     → sum_by (λ route. length (route_text route) + 1) routes ≤ 6 * sum_by (λ route. length (transitions_of route)) routes
 joined_routes [] all = omega arith
 joined_routes (r ∷ rs) all =
@@ -90,22 +109,22 @@ joined_routes (r ∷ rs) all =
     let rest = joined_routes rs all.1 in
     omega (arith, first, rest, sum_by-cons (λ route. length (route_text route) + 1) r rs, sum_by-cons (λ route. length (transitions_of route)) r rs)
 
-short_routes : (routes : List Route) → AllByRecursion IsBuiltRoute routes → sum_by (λ route. length (transitions_of route)) routes ≤ 8192
+short_routes : (routes : List Route) → AllByRecursion IsRunRoute routes → sum_by (λ route. length (transitions_of route)) routes ≤ 8192
     → IsShort 49152 (routes_text routes)
 short_routes [] all few = short_more 16 49152 (codes "-") (omega arith) (short_word (codes "-") refl)
 short_routes (r ∷ rs) all few =
     let most = joined_routes (r ∷ rs) all in
     record { few = omega (arith, joined_length 32 route_text (r ∷ rs), most, few) }
 
-short_firing : (firing : Firing) → IsBuiltFiring firing → IsShort 49152 (firing_text firing)
-short_firing firing built = short_routes firing.routes built.0 built.1
+short_firing : (firing : Firing) → IsShortFiring firing → IsShort 49152 (firing_text firing)
+short_firing firing is = short_routes firing.routes is.0 is.1
 
 -- a route by itself
 short_only : (route : Route) → IsShortRoute route → IsShort 49152 (route_text route)
 short_only route is = let each = short_route route is.0 in let few = is.1 in record { few = omega (arith, each, few) }
 
 -- no way, a route by itself, or a vertex
-short_way : (how : How) → IsBuiltWay how → IsShort 49168 (how_text how)
+short_way : (how : How) → IsShortWay how → IsShort 49168 (how_text how)
 short_way how (inl none) =
     subst (λ h. IsShort 49168 (how_text h)) (sym none) (short_more 16 49168 (codes "none") (omega arith) (short_word (codes "none") refl))
 short_way how (inr (inr back)) =
@@ -123,12 +142,12 @@ short_mode Plain = short_within 8 (codes "default") refl
 short_mode Shallow = short_within 8 (codes "shallow") refl
 short_mode Deep = short_within 8 (codes "deep") refl
 
-short_opening : (mode : Mode) (how : How) → IsBuiltWay how → IsShort 49194 (codes " " ++ (mode_text mode ++ (codes " " ++ how_text how)))
-short_opening mode how built =
+short_opening : (mode : Mode) (how : How) → IsShortWay how → IsShort 49194 (codes " " ++ (mode_text mode ++ (codes " " ++ how_text how)))
+short_opening mode how short =
     short_more 49178 49194 (codes " " ++ (mode_text mode ++ (codes " " ++ how_text how))) (omega arith)
     (short_append 1 49177 (codes " ") (mode_text mode ++ (codes " " ++ how_text how)) (short_within 1 (codes " ") refl)
     (short_append 8 49169 (mode_text mode) (codes " " ++ how_text how) (short_mode mode)
-    (short_append 1 49168 (codes " ") (how_text how) (short_within 1 (codes " ") refl) (short_way how built))))
+    (short_append 1 49168 (codes " ") (how_text how) (short_within 1 (codes " ") refl) (short_way how short))))
 
 -- ---- arguments and outputs
 
@@ -194,21 +213,21 @@ module _ (kind letter object : List ℕ) (n : ℕ) (kind_few : leb (length kind)
       short_place (codes " " ++ routes)
       (short_more 49168 49194 (codes " " ++ routes) (omega arith) (short_append 16 49152 (codes " ") routes (short_word (codes " ") refl) few))
 
--- a line of a form that the entries of runs of settings that the code runs write
-abbrev pub IsBuiltLine : Line → Type 0
-IsBuiltLine (Post object signal args) = Unit {0}
-IsBuiltLine (Start object) = Unit {0}
-IsBuiltLine (Take object number firing) = IsBuiltFiring firing
-IsBuiltLine (Done object state firing) = IsBuiltFiring firing
-IsBuiltLine (Exit object state outs) = Unit {0}
-IsBuiltLine (Effect object transition outs) = Unit {0}
-IsBuiltLine (Enter object state outs) = Unit {0}
-IsBuiltLine (Opened object region mode how) = IsBuiltWay how
-IsBuiltLine (Pick object choice route) = IsShortRoute route
-IsBuiltLine (DoStep object state step outs) = Unit {0}
+-- a line of a form that the entries of runs write
+abbrev pub IsRunLine : Line → Type 0
+IsRunLine (Post object signal args) = Unit {0}
+IsRunLine (Start object) = Unit {0}
+IsRunLine (Take object number firing) = IsShortFiring firing
+IsRunLine (Done object state firing) = IsShortFiring firing
+IsRunLine (Exit object state outs) = Unit {0}
+IsRunLine (Effect object transition outs) = Unit {0}
+IsRunLine (Enter object state outs) = Unit {0}
+IsRunLine (Opened object region mode how) = IsShortWay how
+IsRunLine (Pick object choice route) = IsShortRoute route
+IsRunLine (DoStep object state step outs) = Unit {0}
 
 -- each such line of the grammar
-pub short_line : (l : Line) → IsBuiltLine l × IsLine l → IsShort 49300 (line_text l)
+pub short_line : (l : Line) → IsRunLine l × IsLine l → IsShort 49300 (line_text l)
 short_line (Post object signal args) h =
     short_more 360 49300 (line_text (Post object signal args)) (omega arith)
     (short_append 16 344 (codes "post ") (call_text object signal args) (short_word (codes "post ") refl) (short_call object signal args h.1.0 h.1.1 h.1.2))
@@ -237,27 +256,27 @@ short_line (DoStep object state step outs) h =
 -- ---- the forms of lines
 
 -- The line of such an entry has such a form.
-form_at : (setting : Setting) (o : ObjectId) (line : Line) (e : Entry) → entry_at setting o line ≡ Some e → HasBuiltForm e → IsBuiltLine line
+form_at : (setting : Setting) (o : ObjectId) (line : Line) (e : Entry) → entry_at setting o line ≡ Some e → HasForm e → IsRunLine line
 unfolding entry_at
-form_at setting o (Post object signal args) e is built = tt
-form_at setting o (Start object) e is built = tt
-form_at setting o (Take object number firing) e is built = subst HasBuiltForm (sym (same_Some (entries.Take o number firing) e is)) built
-form_at setting o (Done object state firing) e is built = subst HasBuiltForm (sym (same_Some (entries.Done o state firing) e is)) built
-form_at setting o (Exit object state outs) e is built = tt
-form_at setting o (Effect object t outs) e is built = tt
-form_at setting o (Enter object state outs) e is built = tt
-form_at setting o (Opened object region mode how) e is built = subst HasBuiltForm (sym (same_Some (entries.Opened o region mode how) e is)) built
-form_at setting o (Pick object choice route) e is built = subst HasBuiltForm (sym (same_Some (entries.Pick o choice route) e is)) built
-form_at setting o (DoStep object state step outs) e is built = tt
+form_at setting o (Post object signal args) e is form = tt
+form_at setting o (Start object) e is form = tt
+form_at setting o (Take object number firing) e is form = subst HasForm (sym (same_Some (entries.Take o number firing) e is)) form
+form_at setting o (Done object state firing) e is form = subst HasForm (sym (same_Some (entries.Done o state firing) e is)) form
+form_at setting o (Exit object state outs) e is form = tt
+form_at setting o (Effect object t outs) e is form = tt
+form_at setting o (Enter object state outs) e is form = tt
+form_at setting o (Opened object region mode how) e is form = subst HasForm (sym (same_Some (entries.Opened o region mode how) e is)) form
+form_at setting o (Pick object choice route) e is form = subst HasForm (sym (same_Some (entries.Pick o choice route) e is)) form
+form_at setting o (DoStep object state step outs) e is form = tt
 
-built_form : (setting : Setting) (line : Line) (e : Entry) → IsEntryOf setting line e → HasBuiltForm e → IsBuiltLine line
+form_of_line : (setting : Setting) (line : Line) (e : Entry) → IsEntryOf setting line e → HasForm e → IsRunLine line
 unfolding entry_named
-built_form setting line e is built =
+form_of_line setting line e is form =
     let o = step_some (object_named setting (object_name line)) (λ o. entry_at setting o line) e is in
-    form_at setting o.0 line e o.2 built
+    form_at setting o.0 line e o.2 form
 
 -- It is a line that a journal may have.
-pub built_line : (setting : Setting) (e : Entry) (line : Line) → IsBuiltEntry e → IsEntryOf setting line e → IsLine line → IsJournalLine line
-built_line setting e line built is grammar =
-    let short = short_line line (built_form setting line e is built.form, grammar) in
+pub run_line : (setting : Setting) (e : Entry) (line : Line) → IsRunEntry e → IsEntryOf setting line e → IsLine line → IsJournalLine line
+run_line setting e line run is grammar =
+    let short = short_line line (form_of_line setting line e is run.form, grammar) in
     record { line = grammar; short = omega (arith, short.few) }

@@ -4,7 +4,8 @@ ghost use Rattle.std.specs.List.{AllByRecursion};
 ghost use Rattle.pssm_semantics.specs.declared.entry.Entry.{Entry};
 ghost use Rattle.pssm_semantics.specs.declared.line.Line.{Line};
 ghost use Rattle.pssm_semantics.specs.declared.setting.Setting.{Setting};
-ghost use Rattle.pssm_semantics.specs.Built.{IsBuilt, IsBuiltEntry};
+ghost use Rattle.pssm_semantics.specs.Forms.{IsRunEntry};
+ghost use Rattle.pssm_semantics.specs.Proper.{IsWellFormed};
 ghost use Rattle.pssm_lines.specs.LineText.{line_text, journal_text};
 ghost use Rattle.pssm_lines.specs.Grammar.{IsLine};
 ghost use Rattle.pssm_lines.specs.Faults.{IsJournalLine};
@@ -22,11 +23,11 @@ pub fn read_again()
         → journal_text lines ≡ journal_text read → J ≡ K }
 {}
 
-/// The settings that the code runs have names that differ, and the entries of their runs are within the limits of a
-/// line: the line of one is a line that a journal may have.
-pub fn built_lines()
-    ensures differ { (setting : Setting) → IsBuilt setting → NamesDiffer setting }
-    ensures plain { (e : Entry) → IsBuiltEntry e → IsSpelledEntry e }
-    ensures short { (setting : Setting) (e : Entry) (line : Line) → IsBuiltEntry e → IsEntryOf setting line e
+/// A well-formed setting has names that differ, and the entries of its runs are within the limits of a line: the line
+/// of one is a line that a journal may have.
+pub fn run_lines()
+    ensures differ { (setting : Setting) → IsWellFormed setting → NamesDiffer setting }
+    ensures plain { (e : Entry) → IsRunEntry e → IsSpelledEntry e }
+    ensures short { (setting : Setting) (e : Entry) (line : Line) → IsRunEntry e → IsEntryOf setting line e
         → IsLine line → IsJournalLine line }
 {}

@@ -26,7 +26,7 @@ mod writing;
 pub use brief::{BriefEntry, EntryAct, Near, entry_of_brief};
 pub use entry::{entry_of, entry_of_parts};
 pub use judged::one_judgement;
-pub use laws::{built_lines, read_again};
+pub use laws::{read_again, run_lines};
 pub use namespace::Namespace;
 pub use naming::line_of;
 pub use pssm_lines::{

@@ -120,7 +120,7 @@ fn has_few_marks(classes: &[Class]) -> bool
 }
 
 // Whether there is at most one name of a kind: then names differ.
-#[tactic(auto, using(crate::proofs::BuiltNames::few_names_differ))]
+#[tactic(auto, using(crate::proofs::RunNames::few_names_differ))]
 fn has_few_names(setting: &Setting) -> bool
     ensures { IsTrue result → NamesDiffer setting.now }
 {

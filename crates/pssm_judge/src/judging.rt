@@ -3,7 +3,7 @@ ghost use Rattle.std.specs.Prelude.{◌≡◌, ◌≤◌, ℕ, List, [], true, l
 ghost use Rattle.pssm_base.specs.Faults.{NoneFell};
 ghost use Rattle.pssm_base.specs.Reading.{SameContent};
 ghost use Rattle.pssm_semantics.specs.declared.setting.Setting.{Setting};
-ghost use Rattle.pssm_semantics.specs.Built.{IsBuilt};
+ghost use Rattle.pssm_semantics.specs.Proper.{IsWellFormed};
 ghost use Rattle.pssm_judge.specs.inner.Judging.{IsJudging, IsTurn, IsShorter, IsBehind, IsLessLeft};
 ghost use Rattle.pssm_judge.specs.Verdicts.{IsVerdictOn, IsVerdictFor, IsFaultOn, IsFaultFor};
 
@@ -33,7 +33,7 @@ pub fn judge<I: Inputs>(
     inputs: &mut I,
     path: &str,
 ) -> Result<Verdict, JudgeFault>
-    requires built { IsBuilt setting }
+    requires well_formed { IsWellFormed setting }
 
     // What the bytes of the path deserve.
     ensures verdict { IfOk result (IsVerdictFor setting (I.content inputs.old) path.now) }
@@ -56,7 +56,7 @@ pub fn judge<I: Inputs>(
 
 // What the bytes deserve as a journal of the setting.
 fn judge_bytes(alloc: Global, setting: Setting, journal: &[u8]) -> Result<Verdict, JudgeFault>
-    requires built { IsBuilt setting }
+    requires well_formed { IsWellFormed setting }
     ensures verdict { IfOk result (IsVerdictOn setting journal.now) }
     ensures fault { IfErr result (IsFaultOn setting journal.now) }
 {

@@ -3,7 +3,7 @@ ghost use Rattle.std.specs.Prelude.{◌≡◌, [], length, IfOk, IfNone, IfSome}
 ghost use Rattle.pssm_semantics.specs.declared.entry.Entry.TheVariants as entries;
 ghost use Rattle.pssm_semantics.specs.declared.line.Line.{Line};
 ghost use Rattle.pssm_semantics.specs.declared.line.Line.TheVariants as lines;
-ghost use Rattle.pssm_semantics.specs.Built.{IsBuilt};
+ghost use Rattle.pssm_semantics.specs.Proper.{IsWellFormed};
 ghost use Rattle.pssm_semantics.specs.Laws.{CompletesInTime};
 ghost use Rattle.pssm_lines.specs.Grammar.{IsLine};
 ghost use Rattle.pssm_lines.specs.Parts.{Shows, firing_of_one, brief_line};
@@ -94,7 +94,7 @@ impl Model for Run {
 impl Run {
     /// A run with no entry yet.
     pub fn new(alloc: Global, setting: Setting) -> Result<Run, NoMemory>
-        requires { IsBuilt setting }
+        requires { IsWellFormed setting }
         ensures setting { IfOk result (λ run. run.setting ≡ setting) }
         ensures start { IfOk result (λ run. run.journal ≡ []) }
     {
@@ -256,11 +256,7 @@ impl Run {
 
     // Takes a brief line of one kind.
     #[inline(always)]
-    fn take_kind(
-        &mut self,
-        alloc: Global,
-        parts: BriefParts<'_>,
-    ) -> Result<Option<Stop>, NoMemory>
+    fn take_kind(&mut self, alloc: Global, parts: BriefParts<'_>) -> Result<Option<Stop>, NoMemory>
         requires { IsLine (brief_line parts) }
         ensures takes { IfOk result (λ stop. IfNone stop (TakesLine self.old self.new (brief_line parts.entry))) }
         ensures stops { IfOk result (λ stop. IfSome stop

@@ -1,7 +1,11 @@
 -- A property that none of the first so many elements of a list has.
-use Rattle.std.proofs.Common.{◌≡◌, ◌<◌, ◌≤◌, ◌+◌, ℕ, List, length, get_or, take, Contains, sym, subst, ⊎_elim}
+use Rattle.std.proofs.Common.{◌≡◌, ◌↔◌, ◌<◌, ◌≤◌, ◌+◌, ℕ, Bool, false, IsTrue, List, length, get_or, take, Contains, sym, subst, ⊎_elim}
 use Rattle.std.proofs.lemmas.List.{take_more, take_all}
 use Rattle.std.proofs.lemmas.List.Elements.{Contains-push_cases}
+
+-- what a test that failed says
+pub refuted : {P : Type 0} (b : Bool) → b ≡ false → (IsTrue b ↔ P) → P → ⊥
+refuted b fails decides h = let holds : IsTrue b = decides.1 h in cc (fails, holds)
 
 module _ {A : Type 0} (P : A → Type 0) (xs : List A) (i : ℕ) (none : (x : A) → Contains (take i xs) x → P x → ⊥) where
   -- one item more

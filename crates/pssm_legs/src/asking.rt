@@ -1,16 +1,27 @@
 //! What the legs of a route call, and in which order.
-ghost use Rattle.std.specs.Prelude.{◌≡◌, ◌⊎◌, ◌↔◌, ◌<◌, IsTrue, length};
+ghost use Rattle.std.specs.Prelude.{◌≡◌, ◌⊎◌, ◌↔◌, ◌<◌, ℕ, IsTrue, Some, length};
 ghost use Rattle.pssm_model.specs.declared.steps.Route.{Route};
 ghost use Rattle.pssm_model.specs.Legs.{IsEnteredFor, IsEndState};
-ghost use Rattle.pssm_model.specs.SingleLegs.{HasSingleLegs};
+ghost use Rattle.pssm_model.specs.WellFormed.{KeepsModelRules};
+ghost use Rattle.pssm_legs.specs.declared.legs.Leg.{Leg};
 ghost use Rattle.pssm_legs.specs.Calls.{IsItemIn, IsCalledBy, IsOpenedFor, IsOrderedBy};
-ghost use Rattle.pssm_legs.specs.LegsOf.{StandsBefore, AreLegsIn, AreLegsOf};
-ghost use Rattle.pssm_legs.specs.inner.Told.{IsPassed, IsEntered, IsLeftToOpen, IsInOwner, IsBeside, IsHistoryEnd};
-ghost use Rattle.pssm_legs.specs.inner.Told.{IsCalledAsTold, ComesFirst, IsPathPair, IsOrderedAsTold};
+ghost use Rattle.pssm_legs.specs.LegsOf.{StandsBefore, StandsLater, IsAt, IsLegIn, AreLegsIn, AreLegsOf, leg_list};
+ghost use Rattle.pssm_legs.specs.inner.Told.{IsCoveredBefore, IsExited, IsPassed, IsEnteredAt, IsEntered, EndsInside};
+ghost use Rattle.pssm_legs.specs.inner.Told.{HasTransition, HasBefore, Meets, IsAimIn, EndsWhere, HasFurtherTarget, HasLast};
+ghost use Rattle.pssm_legs.specs.inner.Told.{IsAimedLater, IsAimedFrom, IsLeftToOpen, IsInOwner, IsBeside, IsHistoryEnd, IsChoiceEnd};
+ghost use Rattle.pssm_legs.specs.inner.Told.{IsCalledAsTold, IsCalledLater, ComesFirst, ComesBeforeLater, IsPathPair, HasLeg, HasFurther};
+ghost use Rattle.pssm_legs.specs.inner.Told.{IsOrderedWithin, IsOrderedOver, IsOrderedAsTold};
 
 use crate::areas::{Area, covers};
-use crate::legs::Legs;
+use crate::legs::{Leg, Legs, leg_at};
 use pssm_model::{Item, Machine, Mode, Owner, RegionId, TransId, VertexId, VertexKind};
+
+/// What is asked of the last vertices of a leg: whether it enters a State for one, or whether one lies in a region.
+#[derive(Clone, Copy)]
+pub enum Aim {
+    Entering(VertexId),
+    EndingIn(RegionId),
+}
 
 // Whether a transition has been seen, or is this one.
 fn comes_to(seen: bool, w: TransId, t: TransId) -> bool
@@ -26,7 +37,7 @@ fn is_second(seen: bool, w: TransId, u: TransId) -> bool
     seen && w == u
 }
 
-// Whether the first of two transitions stands in the path before the second.
+// Whether the first of two transitions stands in the list before the second.
 #[tactic(auto, using(crate::proofs::SeenBefore::none_seen))]
 fn stands_before(path: &[TransId], t: TransId, u: TransId) -> bool
     ensures { IsTrue result ↔ StandsBefore path.now t u }
@@ -41,7 +52,72 @@ fn stands_before(path: &[TransId], t: TransId, u: TransId) -> bool
     false
 }
 
+// Whether the leg has the transition.
+#[inline(always)]
+fn has_transition(leg: &Leg, t: TransId) -> bool
+    ensures { IsTrue result ↔ HasTransition leg.now t }
+{
+    leg.named == t || leg.further.as_slice().contains(&t)
+}
+
+// Whether the leg has the first of two transitions before the second.
+#[inline(never)]
+fn has_before(leg: &Leg, t: TransId, u: TransId) -> bool
+    ensures { IsTrue result ↔ HasBefore leg.now t u }
+{
+    (leg.named == t && leg.further.as_slice().contains(&u))
+        || stands_before(leg.further.as_slice(), t, u)
+}
+
+// Whether the leg with the place stands later than that with the other place.
+fn is_later(legs: &Legs, leg: &Leg, place: usize, other: usize) -> bool
+    requires place { IsAt legs.now place leg.now }
+    requires before { (i j : ℕ) (b : Leg) → IsAt legs.now j b → b.before ≡ Some i → i < j }
+    ensures { IsTrue result ↔ StandsLater (leg_list legs.now) other place }
+{
+    let mut before = leg.before;
+    'up: while let Some(i) = before {
+        if i == other {
+            return true;
+        }
+        let earlier = leg_at(legs, i);
+        before = earlier.before;
+    }
+    false
+}
+
+// Whether a leg behind which that with the place stands exits and enters around the vertex.
+fn is_covered_before(machine: &Machine, legs: &Legs, leg: &Leg, place: usize, s: VertexId) -> bool
+    requires legs { AreLegsIn machine.now legs.now }
+    requires place { IsAt legs.now place leg.now }
+    requires state { s.0 < length machine.now.vertices }
+    ensures { IsTrue result ↔ IsCoveredBefore machine.now legs.now place s }
+{
+    let mut before = leg.before;
+    'up: while let Some(i) = before {
+        let earlier = leg_at(legs, i);
+        if covers(machine, earlier.area, s) {
+            return true;
+        }
+        before = earlier.before;
+    }
+    false
+}
+
+// Whether the leg exits the State where its route fires.
+#[inline(always)]
+fn is_exited(machine: &Machine, legs: &Legs, leg: &Leg, place: usize, s: VertexId) -> bool
+    requires legs { AreLegsIn machine.now legs.now }
+    requires place { IsAt legs.now place leg.now }
+    requires leg { IsLegIn machine.now leg.now }
+    requires state { s.0 < length machine.now.vertices }
+    ensures { IsTrue result ↔ IsExited machine.now legs.now place leg.now s }
+{
+    covers(machine, leg.area, s) && !is_covered_before(machine, legs, leg, place, s)
+}
+
 // Whether something is entered for a last vertex: not for a terminate or exit point, nor for a join.
+#[inline(always)]
 fn is_entered_for(machine: &Machine, v: VertexId) -> bool
     requires { v.0 < length machine.now.vertices }
     ensures { IsTrue result ↔ IsEnteredFor machine.now v }
@@ -53,6 +129,7 @@ fn is_entered_for(machine: &Machine, v: VertexId) -> bool
 }
 
 // Whether a State or final state is what stands at the end: the vertex itself, or the State of an entry point.
+#[inline(always)]
 fn is_end_state(machine: &Machine, v: VertexId, s: VertexId) -> bool
     requires last { v.0 < length machine.now.vertices }
     requires state { s.0 < length machine.now.vertices }
@@ -65,95 +142,320 @@ fn is_end_state(machine: &Machine, v: VertexId, s: VertexId) -> bool
     }
 }
 
-// Whether the State lies where the leg exits and enters, and the last vertex in it.
-fn is_passed(machine: &Machine, legs: &Legs, s: VertexId) -> bool
-    requires legs { AreLegsIn machine.now legs.now }
+// Whether the State lies where the leg exits and enters, and the vertex in it.
+#[inline(always)]
+fn is_passed(machine: &Machine, leg: &Leg, v: VertexId, s: VertexId) -> bool
+    requires leg { IsLegIn machine.now leg.now }
+    requires last { v.0 < length machine.now.vertices }
     requires state { s.0 < length machine.now.vertices }
-    ensures { IsTrue result ↔ IsPassed machine.now legs.now s }
+    ensures { IsTrue result ↔ IsPassed machine.now leg.now v s }
 {
-    covers(machine, legs.area, s) && machine.lies_in_state(legs.last, s)
+    covers(machine, leg.area, s) && machine.lies_in_state(v, s)
 }
 
 // Whether the State is passed, or stands at the end.
-fn is_passed_or_end(machine: &Machine, legs: &Legs, s: VertexId) -> bool
-    requires legs { AreLegsIn machine.now legs.now }
+#[inline(always)]
+fn is_passed_or_end(machine: &Machine, leg: &Leg, v: VertexId, s: VertexId) -> bool
+    requires leg { IsLegIn machine.now leg.now }
+    requires last { v.0 < length machine.now.vertices }
     requires state { s.0 < length machine.now.vertices }
-    ensures { IsTrue result ↔ (IsPassed machine.now legs.now s ⊎ IsEndState machine.now legs.now.last s) }
+    ensures { IsTrue result ↔ (IsPassed machine.now leg.now v s ⊎ IsEndState machine.now v s) }
 {
-    is_end_state(machine, legs.last, s) || is_passed(machine, legs, s)
+    is_end_state(machine, v, s) || is_passed(machine, leg, v, s)
+}
+
+// Whether the leg enters the State for the vertex as a last one.
+#[inline(always)]
+fn is_entered_at(machine: &Machine, leg: &Leg, v: VertexId, s: VertexId) -> bool
+    requires leg { IsLegIn machine.now leg.now }
+    requires last { v.0 < length machine.now.vertices }
+    requires state { s.0 < length machine.now.vertices }
+    ensures { IsTrue result ↔ IsEnteredAt machine.now leg.now v s }
+{
+    is_entered_for(machine, v) && is_passed_or_end(machine, leg, v, s)
+}
+
+// Whether the vertex meets the aim as a last one of the leg.
+#[inline(always)]
+fn meets(machine: &Machine, leg: &Leg, v: VertexId, aim: Aim) -> bool
+    requires leg { IsLegIn machine.now leg.now }
+    requires last { v.0 < length machine.now.vertices }
+    requires aim { IsAimIn machine.now aim }
+    ensures { IsTrue result ↔ Meets machine.now leg.now aim v }
+{
+    match aim {
+        Aim::Entering(s) => is_entered_at(machine, leg, v, s),
+        Aim::EndingIn(r) => machine.lies_in_region(v, r),
+    }
+}
+
+// Whether the target of the leg's first transition meets the aim.
+fn first_meets(machine: &Machine, leg: &Leg, aim: Aim) -> bool
+    requires leg { IsLegIn machine.now leg.now }
+    requires aim { IsAimIn machine.now aim }
+    ensures { IsTrue result ↔ EndsWhere machine.now (Meets machine.now leg.now aim) leg.now.named }
+{
+    meets(machine, leg, machine.target(leg.named), aim)
+}
+
+// Whether the target of a further transition of the leg meets the aim.
+fn further_meets(machine: &Machine, leg: &Leg, aim: Aim) -> bool
+    requires leg { IsLegIn machine.now leg.now }
+    requires aim { IsAimIn machine.now aim }
+    ensures { IsTrue result ↔ HasFurtherTarget machine.now leg.now (Meets machine.now leg.now aim) }
+{
+    for t in leg.further.as_slice() {
+        if meets(machine, leg, machine.target(*t), aim) {
+            return true;
+        }
+    }
+    false
+}
+
+// Whether the target of a transition of the leg meets the aim.
+#[inline(never)]
+fn any_meets(machine: &Machine, leg: &Leg, aim: Aim) -> bool
+    requires leg { IsLegIn machine.now leg.now }
+    requires aim { IsAimIn machine.now aim }
+    ensures { IsTrue result ↔ (EndsWhere machine.now (Meets machine.now leg.now aim) leg.now.named
+        ⊎ HasFurtherTarget machine.now leg.now (Meets machine.now leg.now aim)) }
+{
+    first_meets(machine, leg, aim) || further_meets(machine, leg, aim)
+}
+
+// Whether a last vertex of the leg meets the aim.
+#[inline(always)]
+fn last_meets(machine: &Machine, leg: &Leg, aim: Aim) -> bool
+    requires leg { IsLegIn machine.now leg.now }
+    requires aim { IsAimIn machine.now aim }
+    ensures { IsTrue result ↔ HasLast machine.now leg.now (Meets machine.now leg.now aim) }
+{
+    if leg.in_order {
+        meets(machine, leg, leg.last, aim)
+    } else {
+        any_meets(machine, leg, aim)
+    }
 }
 
 // Whether the leg enters the State.
-fn is_entered(machine: &Machine, legs: &Legs, s: VertexId) -> bool
-    requires legs { AreLegsIn machine.now legs.now }
+fn is_entered(machine: &Machine, leg: &Leg, s: VertexId) -> bool
+    requires leg { IsLegIn machine.now leg.now }
     requires state { s.0 < length machine.now.vertices }
-    ensures { IsTrue result ↔ IsEntered machine.now legs.now s }
+    ensures { IsTrue result ↔ IsEntered machine.now leg.now s }
 {
-    legs.area != Area::Nowhere
-        && is_entered_for(machine, legs.last)
-        && is_passed_or_end(machine, legs, s)
+    leg.area != Area::Nowhere && last_meets(machine, leg, Aim::Entering(s))
 }
 
-// Whether the leg enters the State and does not aim at the region.
-fn is_left_to_open(machine: &Machine, legs: &Legs, s: VertexId, r: RegionId) -> bool
+// Whether a last vertex of the leg lies in the region.
+fn ends_inside(machine: &Machine, leg: &Leg, r: RegionId) -> bool
+    requires leg { IsLegIn machine.now leg.now }
+    requires region { r.0 < length machine.now.regions }
+    ensures { IsTrue result ↔ EndsInside machine.now leg.now r }
+{
+    last_meets(machine, leg, Aim::EndingIn(r))
+}
+
+// Whether the leg with the other place stands later than the place and aims at the region.
+fn is_later_inside(
+    machine: &Machine,
+    legs: &Legs,
+    leg: &Leg,
+    other: usize,
+    place: usize,
+    r: RegionId,
+) -> bool
     requires legs { AreLegsIn machine.now legs.now }
+    requires other { IsAt legs.now other leg.now }
+    requires leg { IsLegIn machine.now leg.now }
+    requires region { r.0 < length machine.now.regions }
+    ensures { IsTrue result ↔ (StandsLater (leg_list legs.now) place other × EndsInside machine.now leg.now r) }
+{
+    is_later(legs, leg, other, place) && ends_inside(machine, leg, r)
+}
+
+// Whether a leg that stands later than the place aims at the region.
+fn is_aimed_later(machine: &Machine, legs: &Legs, place: usize, r: RegionId) -> bool
+    requires legs { AreLegsIn machine.now legs.now }
+    requires region { r.0 < length machine.now.regions }
+    ensures { IsTrue result ↔ IsAimedLater machine.now legs.now place r }
+{
+    let more = legs.more.as_slice();
+    for k in 0..more.len() {
+        if is_later_inside(machine, legs, &more[k], k + 1, place, r) {
+            return true;
+        }
+    }
+    false
+}
+
+// Whether the leg, or one that stands later, aims at the region.
+#[inline(never)]
+fn is_aimed_from(machine: &Machine, legs: &Legs, leg: &Leg, place: usize, r: RegionId) -> bool
+    requires legs { AreLegsIn machine.now legs.now }
+    requires leg { IsLegIn machine.now leg.now }
+    requires region { r.0 < length machine.now.regions }
+    ensures { IsTrue result ↔ IsAimedFrom machine.now legs.now place leg.now r }
+{
+    ends_inside(machine, leg, r) || is_aimed_later(machine, legs, place, r)
+}
+
+// Whether the leg enters the State, and neither it nor a later one aims at the region.
+fn is_left_to_open(
+    machine: &Machine,
+    legs: &Legs,
+    leg: &Leg,
+    place: usize,
+    s: VertexId,
+    r: RegionId,
+) -> bool
+    requires legs { AreLegsIn machine.now legs.now }
+    requires leg { IsLegIn machine.now leg.now }
     requires state { s.0 < length machine.now.vertices }
     requires region { r.0 < length machine.now.regions }
-    ensures { IsTrue result ↔ IsLeftToOpen machine.now legs.now s r }
+    ensures { IsTrue result ↔ IsLeftToOpen machine.now legs.now place leg.now s r }
 {
-    is_entered(machine, legs, s) && !machine.lies_in_region(legs.last, r)
+    is_entered(machine, leg, s) && !is_aimed_from(machine, legs, leg, place, r)
 }
 
 // Whether the leg exits and enters in the State that owns the region.
-fn is_in_owner(machine: &Machine, legs: &Legs, r: RegionId) -> bool
+#[inline(always)]
+fn is_in_owner(machine: &Machine, leg: &Leg, r: RegionId) -> bool
     requires region { r.0 < length machine.now.regions }
-    ensures { IsTrue result ↔ IsInOwner machine.now legs.now r }
+    ensures { IsTrue result ↔ IsInOwner machine.now leg.now r }
 {
-    match legs.area {
+    match leg.area {
         Area::Inside(s) => machine.region_owner(r) == Owner::State(s),
         Area::Nowhere | Area::Within(_) => false,
     }
 }
 
 // Whether the leg opens the region beside what it enters.
-fn is_beside(machine: &Machine, legs: &Legs, r: RegionId) -> bool
+#[inline(always)]
+fn is_beside(machine: &Machine, legs: &Legs, leg: &Leg, place: usize, r: RegionId) -> bool
     requires legs { AreLegsIn machine.now legs.now }
+    requires leg { IsLegIn machine.now leg.now }
     requires region { r.0 < length machine.now.regions }
-    ensures { IsTrue result ↔ IsBeside machine.now legs.now r }
+    ensures { IsTrue result ↔ IsBeside machine.now legs.now place leg.now r }
 {
-    is_in_owner(machine, legs, r) && !machine.lies_in_region(legs.last, r)
+    is_in_owner(machine, leg, r) && !is_aimed_from(machine, legs, leg, place, r)
 }
 
 // Whether the leg ends on a history vertex of this kind of the region.
-fn is_history_end(machine: &Machine, legs: &Legs, kind: VertexKind, r: RegionId) -> bool
-    requires legs { AreLegsIn machine.now legs.now }
-    ensures { IsTrue result ↔ IsHistoryEnd machine.now legs.now kind r }
+#[inline(always)]
+fn is_history_end(machine: &Machine, leg: &Leg, kind: VertexKind, r: RegionId) -> bool
+    requires leg { IsLegIn machine.now leg.now }
+    ensures { IsTrue result ↔ IsHistoryEnd machine.now leg.now kind r }
 {
-    let last = machine.vertex(legs.last);
-    last.kind == kind && last.owner == Owner::Region(r)
+    let last = machine.vertex(leg.last);
+    leg.in_order && last.kind == kind && last.owner == Owner::Region(r)
 }
 
-// Whether the leg calls the item, by what is told of it.
+// Whether the leg ends on the choice.
 #[inline(always)]
-fn is_called(machine: &Machine, legs: &Legs, fires: bool, item: Item) -> bool
+fn is_choice_end(machine: &Machine, leg: &Leg, c: VertexId) -> bool
+    requires choice { c.0 < length machine.now.vertices }
+    ensures { IsTrue result ↔ IsChoiceEnd machine.now leg.now c }
+{
+    leg.in_order && c == leg.last && machine.vertex(c).kind == VertexKind::Choice
+}
+
+// Whether the leg with the place calls the item, by what is told of it.
+#[inline(always)]
+fn is_called(
+    machine: &Machine,
+    legs: &Legs,
+    leg: &Leg,
+    place: usize,
+    fires: bool,
+    item: Item,
+) -> bool
     requires legs { AreLegsIn machine.now legs.now }
+    requires place { IsAt legs.now place leg.now }
+    requires leg { IsLegIn machine.now leg.now }
     requires item { IsItemIn machine.now item }
-    ensures { IsTrue result ↔ IsCalledAsTold machine.now legs.now fires item }
+    ensures { IsTrue result ↔ IsCalledAsTold machine.now legs.now place leg.now fires item }
 {
     match item {
-        Item::Exit(s) => fires && covers(machine, legs.area, s),
-        Item::Effect(t) => legs.path.as_slice().contains(&t),
-        Item::Enter(s) => is_entered(machine, legs, s),
-        Item::Opened(r, Mode::Plain) => is_beside(machine, legs, r),
+        Item::Exit(s) => fires && is_exited(machine, legs, leg, place, s),
+        Item::Effect(t) => has_transition(leg, t),
+        Item::Enter(s) => is_entered(machine, leg, s),
+        Item::Opened(r, Mode::Plain) => is_beside(machine, legs, leg, place, r),
         Item::Opened(r, Mode::Shallow) => is_history_end(
             machine,
-            legs,
+            leg,
             VertexKind::ShallowHistory,
             r,
         ),
-        Item::Opened(r, Mode::Deep) => is_history_end(machine, legs, VertexKind::DeepHistory, r),
-        Item::Pick(c) => c == legs.last && machine.vertex(c).kind == VertexKind::Choice,
+        Item::Opened(r, Mode::Deep) => is_history_end(machine, leg, VertexKind::DeepHistory, r),
+        Item::Pick(c) => is_choice_end(machine, leg, c),
     }
+}
+
+// Whether some leg but the first calls the item, by what is told of it.
+#[inline(never)]
+fn is_called_further(machine: &Machine, legs: &Legs, fires: bool, item: Item) -> bool
+    requires legs { AreLegsIn machine.now legs.now }
+    requires item { IsItemIn machine.now item }
+    ensures { IsTrue result ↔ HasFurther legs.now (λ i a. IsCalledAsTold machine.now legs.now i a fires item) }
+{
+    let more = legs.more.as_slice();
+    for k in 0..more.len() {
+        if is_called(machine, legs, &more[k], k + 1, fires, item) {
+            return true;
+        }
+    }
+    false
+}
+
+// Whether there are several legs, and one but the first calls the item.
+#[inline(always)]
+fn is_called_by_more(machine: &Machine, legs: &Legs, fires: bool, item: Item) -> bool
+    requires legs { AreLegsIn machine.now legs.now }
+    requires item { IsItemIn machine.now item }
+    ensures { IsTrue result ↔ HasFurther legs.now (λ i a. IsCalledAsTold machine.now legs.now i a fires item) }
+{
+    let alone = legs.more.len() == 0;
+    if alone {
+        false
+    } else {
+        is_called_further(machine, legs, fires, item)
+    }
+}
+
+// Whether the leg with the other place stands later than the place and calls the item.
+fn is_later_calling(
+    machine: &Machine,
+    legs: &Legs,
+    leg: &Leg,
+    other: usize,
+    place: usize,
+    fires: bool,
+    item: Item,
+) -> bool
+    requires legs { AreLegsIn machine.now legs.now }
+    requires other { IsAt legs.now other leg.now }
+    requires leg { IsLegIn machine.now leg.now }
+    requires item { IsItemIn machine.now item }
+    ensures { IsTrue result ↔ (StandsLater (leg_list legs.now) place other
+        × IsCalledAsTold machine.now legs.now other leg.now fires item) }
+{
+    is_later(legs, leg, other, place) && is_called(machine, legs, leg, other, fires, item)
+}
+
+// Whether a leg that stands later than the place calls the item, by what is told of it.
+#[inline(never)]
+fn is_called_later(machine: &Machine, legs: &Legs, place: usize, fires: bool, item: Item) -> bool
+    requires legs { AreLegsIn machine.now legs.now }
+    requires item { IsItemIn machine.now item }
+    ensures { IsTrue result ↔ IsCalledLater machine.now legs.now place fires item }
+{
+    let more = legs.more.as_slice();
+    for k in 0..more.len() {
+        if is_later_calling(machine, legs, &more[k], k + 1, place, fires, item) {
+            return true;
+        }
+    }
+    false
 }
 
 // Whether items of these kinds come in this order where one leg calls both.
@@ -173,32 +475,139 @@ fn comes_first(first: Item, second: Item) -> bool
     }
 }
 
-// Whether the items are effects, the first of which stands in the path before the second.
+// Whether the item is an exit, effect or entry, which comes before all that later legs call.
+fn comes_before_later(item: Item) -> bool
+    ensures { IsTrue result ↔ ComesBeforeLater item }
+{
+    matches!(item, Item::Exit(_) | Item::Effect(_) | Item::Enter(_))
+}
+
+// Whether the items are effects, the first of which stands in the leg before the second.
 #[inline(always)]
-fn are_path_pair(path: &[TransId], first: Item, second: Item) -> bool
-    ensures { IsTrue result ↔ IsPathPair path.now first second }
+fn are_path_pair(leg: &Leg, first: Item, second: Item) -> bool
+    ensures { IsTrue result ↔ IsPathPair leg.now first second }
 {
     match (first, second) {
-        (Item::Effect(t), Item::Effect(u)) => stands_before(path, t, u),
+        (Item::Effect(t), Item::Effect(u)) => leg.in_order && has_before(leg, t, u),
         _ => false,
     }
 }
 
-// Whether the leg calls both items.
-#[inline(never)]
-fn are_both_called(machine: &Machine, legs: &Legs, fires: bool, first: Item, second: Item) -> bool
+// Whether the leg calls both items, by what is told of it.
+#[inline(always)]
+fn are_both_called(
+    machine: &Machine,
+    legs: &Legs,
+    leg: &Leg,
+    place: usize,
+    fires: bool,
+    first: Item,
+    second: Item,
+) -> bool
     requires legs { AreLegsIn machine.now legs.now }
+    requires place { IsAt legs.now place leg.now }
+    requires leg { IsLegIn machine.now leg.now }
     requires first { IsItemIn machine.now first }
     requires second { IsItemIn machine.now second }
-    ensures { IsTrue result ↔ (IsCalledAsTold machine.now legs.now fires first
-        × IsCalledAsTold machine.now legs.now fires second) }
+    ensures { IsTrue result ↔ (IsCalledAsTold machine.now legs.now place leg.now fires first
+        × IsCalledAsTold machine.now legs.now place leg.now fires second) }
 {
-    is_called(machine, legs, fires, first) && is_called(machine, legs, fires, second)
+    is_called(machine, legs, leg, place, fires, first)
+        && is_called(machine, legs, leg, place, fires, second)
 }
 
 // Whether the items come in this order by their kinds, and the leg calls both.
 #[inline(always)]
 fn are_called_in_order(
+    machine: &Machine,
+    legs: &Legs,
+    leg: &Leg,
+    place: usize,
+    fires: bool,
+    first: Item,
+    second: Item,
+) -> bool
+    requires legs { AreLegsIn machine.now legs.now }
+    requires place { IsAt legs.now place leg.now }
+    requires leg { IsLegIn machine.now leg.now }
+    requires first { IsItemIn machine.now first }
+    requires second { IsItemIn machine.now second }
+    ensures { IsTrue result ↔ (ComesFirst first second × IsCalledAsTold machine.now legs.now place leg.now fires first
+        × IsCalledAsTold machine.now legs.now place leg.now fires second) }
+{
+    comes_first(first, second) && are_both_called(machine, legs, leg, place, fires, first, second)
+}
+
+// Whether the leg calls the first item, which comes before all that later legs call, and a later one the second.
+#[inline(never)]
+fn are_called_over_legs(
+    machine: &Machine,
+    legs: &Legs,
+    leg: &Leg,
+    place: usize,
+    fires: bool,
+    first: Item,
+    second: Item,
+) -> bool
+    requires legs { AreLegsIn machine.now legs.now }
+    requires place { IsAt legs.now place leg.now }
+    requires leg { IsLegIn machine.now leg.now }
+    requires first { IsItemIn machine.now first }
+    requires second { IsItemIn machine.now second }
+    ensures { IsTrue result ↔ (ComesBeforeLater first × IsCalledAsTold machine.now legs.now place leg.now fires first
+        × IsCalledLater machine.now legs.now place fires second) }
+{
+    comes_before_later(first)
+        && is_called(machine, legs, leg, place, fires, first)
+        && is_called_later(machine, legs, place, fires, second)
+}
+
+// Whether the leg with the place orders the items so by itself, by what is told of it.
+#[inline(always)]
+fn are_ordered_within(
+    machine: &Machine,
+    legs: &Legs,
+    leg: &Leg,
+    place: usize,
+    fires: bool,
+    first: Item,
+    second: Item,
+) -> bool
+    requires legs { AreLegsIn machine.now legs.now }
+    requires place { IsAt legs.now place leg.now }
+    requires leg { IsLegIn machine.now leg.now }
+    requires first { IsItemIn machine.now first }
+    requires second { IsItemIn machine.now second }
+    ensures { IsTrue result ↔ IsOrderedWithin machine.now legs.now place leg.now fires first second }
+{
+    are_path_pair(leg, first, second)
+        || are_called_in_order(machine, legs, leg, place, fires, first, second)
+}
+
+// Whether the leg with the place orders the items so, by what is told of it.
+fn are_ordered(
+    machine: &Machine,
+    legs: &Legs,
+    leg: &Leg,
+    place: usize,
+    fires: bool,
+    first: Item,
+    second: Item,
+) -> bool
+    requires legs { AreLegsIn machine.now legs.now }
+    requires place { IsAt legs.now place leg.now }
+    requires leg { IsLegIn machine.now leg.now }
+    requires first { IsItemIn machine.now first }
+    requires second { IsItemIn machine.now second }
+    ensures { IsTrue result ↔ IsOrderedAsTold machine.now legs.now place leg.now fires first second }
+{
+    are_ordered_within(machine, legs, leg, place, fires, first, second)
+        || are_called_over_legs(machine, legs, leg, place, fires, first, second)
+}
+
+// Whether some leg but the first orders the items so, by what is told of it.
+#[inline(never)]
+fn are_ordered_further(
     machine: &Machine,
     legs: &Legs,
     fires: bool,
@@ -208,55 +617,139 @@ fn are_called_in_order(
     requires legs { AreLegsIn machine.now legs.now }
     requires first { IsItemIn machine.now first }
     requires second { IsItemIn machine.now second }
-    ensures { IsTrue result ↔ (ComesFirst first second × IsCalledAsTold machine.now legs.now fires first
-        × IsCalledAsTold machine.now legs.now fires second) }
+    ensures { IsTrue result ↔ HasFurther legs.now (λ i a. IsOrderedAsTold machine.now legs.now i a fires first second) }
 {
-    comes_first(first, second) && are_both_called(machine, legs, fires, first, second)
+    let more = legs.more.as_slice();
+    for k in 0..more.len() {
+        if are_ordered(machine, legs, &more[k], k + 1, fires, first, second) {
+            return true;
+        }
+    }
+    false
 }
 
-// Whether the leg orders the items so, by what is told of it.
-#[inline(always)]
-fn are_ordered(machine: &Machine, legs: &Legs, fires: bool, first: Item, second: Item) -> bool
+// Whether the first leg orders the items over another one, or one but the first orders them.
+#[inline(never)]
+fn are_ordered_over(machine: &Machine, legs: &Legs, fires: bool, first: Item, second: Item) -> bool
     requires legs { AreLegsIn machine.now legs.now }
     requires first { IsItemIn machine.now first }
     requires second { IsItemIn machine.now second }
-    ensures { IsTrue result ↔ IsOrderedAsTold machine.now legs.now fires first second }
+    ensures { IsTrue result ↔ (IsOrderedOver machine.now legs.now 0 legs.now.first fires first second
+        ⊎ HasFurther legs.now (λ i a. IsOrderedAsTold machine.now legs.now i a fires first second)) }
 {
-    are_path_pair(legs.path.as_slice(), first, second)
-        || are_called_in_order(machine, legs, fires, first, second)
+    are_called_over_legs(machine, legs, &legs.first, 0, fires, first, second)
+        || are_ordered_further(machine, legs, fires, first, second)
+}
+
+// Whether there are several legs, and the first orders the items over another one, or one but the first orders them.
+#[inline(always)]
+fn are_ordered_by_more(
+    machine: &Machine,
+    legs: &Legs,
+    fires: bool,
+    first: Item,
+    second: Item,
+) -> bool
+    requires legs { AreLegsIn machine.now legs.now }
+    requires first { IsItemIn machine.now first }
+    requires second { IsItemIn machine.now second }
+    ensures { IsTrue result ↔ (IsOrderedOver machine.now legs.now 0 legs.now.first fires first second
+        ⊎ HasFurther legs.now (λ i a. IsOrderedAsTold machine.now legs.now i a fires first second)) }
+{
+    let alone = legs.more.len() == 0;
+    if alone {
+        false
+    } else {
+        are_ordered_over(machine, legs, fires, first, second)
+    }
+}
+
+// Whether some leg but the first enters the State, and neither it nor a later one aims at the region.
+fn is_left_further(machine: &Machine, legs: &Legs, s: VertexId, r: RegionId) -> bool
+    requires legs { AreLegsIn machine.now legs.now }
+    requires state { s.0 < length machine.now.vertices }
+    requires region { r.0 < length machine.now.regions }
+    ensures { IsTrue result ↔ HasFurther legs.now (λ i a. IsLeftToOpen machine.now legs.now i a s r) }
+{
+    let more = legs.more.as_slice();
+    for k in 0..more.len() {
+        if is_left_to_open(machine, legs, &more[k], k + 1, s, r) {
+            return true;
+        }
+    }
+    false
+}
+
+// Whether some leg calls the item, by what is told of it.
+#[inline(always)]
+fn is_called_by_some(machine: &Machine, legs: &Legs, fires: bool, item: Item) -> bool
+    requires legs { AreLegsIn machine.now legs.now }
+    requires item { IsItemIn machine.now item }
+    ensures { IsTrue result ↔ HasLeg legs.now (λ i a. IsCalledAsTold machine.now legs.now i a fires item) }
+{
+    is_called(machine, legs, &legs.first, 0, fires, item)
+        || is_called_by_more(machine, legs, fires, item)
+}
+
+// Whether some leg enters the State, and neither it nor a later one aims at the region.
+fn is_left_by_some(machine: &Machine, legs: &Legs, s: VertexId, r: RegionId) -> bool
+    requires legs { AreLegsIn machine.now legs.now }
+    requires state { s.0 < length machine.now.vertices }
+    requires region { r.0 < length machine.now.regions }
+    ensures { IsTrue result ↔ HasLeg legs.now (λ i a. IsLeftToOpen machine.now legs.now i a s r) }
+{
+    is_left_to_open(machine, legs, &legs.first, 0, s, r) || is_left_further(machine, legs, s, r)
+}
+
+// Whether some leg orders the items so, by what is told of it.
+#[inline(always)]
+fn are_ordered_by_some(
+    machine: &Machine,
+    legs: &Legs,
+    fires: bool,
+    first: Item,
+    second: Item,
+) -> bool
+    requires legs { AreLegsIn machine.now legs.now }
+    requires first { IsItemIn machine.now first }
+    requires second { IsItemIn machine.now second }
+    ensures { IsTrue result ↔ HasLeg legs.now (λ i a. IsOrderedAsTold machine.now legs.now i a fires first second) }
+{
+    are_ordered_within(machine, legs, &legs.first, 0, fires, first, second)
+        || are_ordered_by_more(machine, legs, fires, first, second)
 }
 
 /// Whether a leg of a route calls the item, itself or at its end. Exits are called only where the route fires, and here
 /// of all that lies where the leg exits, whether it is active or not (UML 2.5.1, 14.2.3.9).
 #[inline(always)]
 pub fn calls(machine: &Machine, legs: &Legs, fires: bool, item: Item) -> bool
-    requires single { HasSingleLegs machine.now }
+    requires rules { KeepsModelRules machine.now }
     requires legs { AreLegsIn machine.now legs.now }
     requires item { IsItemIn machine.now item }
     ensures { (p : Route) → AreLegsOf machine.now p legs.now → (IsTrue result ↔ IsCalledBy machine.now fires p item) }
 {
     let _shaped = machine.regions();
-    is_called(machine, legs, fires, item)
+    is_called_by_some(machine, legs, fires, item)
 }
 
 /// Whether a leg of a route enters a State, and neither it nor a later one aims at the region, so that the region opens
 /// by default once the State, which owns it, is entered (UML 2.5.1, 14.2.3.4, entering a State).
 pub fn opens_for(machine: &Machine, legs: &Legs, s: VertexId, r: RegionId) -> bool
-    requires single { HasSingleLegs machine.now }
+    requires rules { KeepsModelRules machine.now }
     requires legs { AreLegsIn machine.now legs.now }
     requires state { s.0 < length machine.now.vertices }
     requires region { r.0 < length machine.now.regions }
     ensures { (p : Route) → AreLegsOf machine.now p legs.now → (IsTrue result ↔ IsOpenedFor machine.now p s r) }
 {
     let _shaped = machine.regions();
-    is_left_to_open(machine, legs, s, r)
+    is_left_by_some(machine, legs, s, r)
 }
 
 /// Whether a route puts the first of two items before the second, since one of its legs calls both, or a later leg the
 /// second (UML 2.5.1, 14.2.3.9, transition execution sequence).
 #[inline(always)]
 pub fn orders(machine: &Machine, legs: &Legs, fires: bool, first: Item, second: Item) -> bool
-    requires single { HasSingleLegs machine.now }
+    requires rules { KeepsModelRules machine.now }
     requires legs { AreLegsIn machine.now legs.now }
     requires first { IsItemIn machine.now first }
     requires second { IsItemIn machine.now second }
@@ -264,5 +757,5 @@ pub fn orders(machine: &Machine, legs: &Legs, fires: bool, first: Item, second: 
         → (IsTrue result ↔ IsOrderedBy machine.now fires p first second) }
 {
     let _shaped = machine.regions();
-    are_ordered(machine, legs, fires, first, second)
+    are_ordered_by_some(machine, legs, fires, first, second)
 }

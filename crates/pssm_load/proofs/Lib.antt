@@ -1,6 +1,5 @@
 pub mod LoadFaults
 pub mod FaultLists
-pub mod FirstNotBuilt
 pub mod OneFaultList
 pub mod OneLoad
 pub mod ReadShapes

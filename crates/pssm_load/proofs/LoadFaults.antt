@@ -1,16 +1,14 @@
--- The rules that machines break, class by class, and the first element that the code does not run.
-use Rattle.std.proofs.Common.{◌≡◌, ◌<◌, ◌+◌, ℕ, zero, suc, List, [], ◌∷◌, ◌++◌, length, take, get_or, refl, sym, ap, subst, ◌∙◌, inl, inr, arith, add-one, append_assoc}
+-- The rules that machines break, class by class.
+use Rattle.std.proofs.Common.{◌≡◌, ◌<◌, ◌+◌, ℕ, zero, suc, List, [], ◌∷◌, ◌++◌, length, take, get_or, refl, sym, ap, subst, ◌∙◌, arith, add-one, append_assoc}
 use Rattle.std.specs.Prelude.{map}
 use Rattle.std.specs.List.{Contains}
 use Rattle.std.proofs.lemmas.List.{append-nil}
-use Rattle.pssm_model.specs.declared.elements.Element.{Element}
 use Rattle.pssm_model.specs.declared.elements.DraftMachine.{DraftMachine}
 use Rattle.pssm_model.specs.WellFormed.{KeepsModelRules}
-use Rattle.pssm_model.specs.NotBuilt.{IsFirstNotBuilt}
 use Rattle.pssm_semantics.specs.declared.setting.Class.{Class}
 use Rattle.pssm_wellformed.specs.declared.fault.Fault.{Fault}
 use Rattle.pssm_load.specs.declared.fault.ClassFault.{ClassFault}
-use Rattle.pssm_load.specs.Loads.{AreFaults, in_class, AreClassFaults, AreBuilt, IsFirstUnbuilt}
+use Rattle.pssm_load.specs.Loads.{AreFaults, in_class, AreClassFaults}
 use Rattle.pssm_load.specs.inner.Loading.{KeepRules}
 
 -- ---- the rules that are broken
@@ -65,22 +63,3 @@ faults_more classes i x list faults within is are exact = rw add-one (one_more c
     one_more ys i are.1 (omega arith) is are.3,
     ap (λ (t : List ClassFault). t ++ map (in_class x.name) faults) are.4 ∙ append_assoc (map (in_class y.name) are.0) are.1 (map (in_class x.name) faults),
   )
-
--- ---- the first element that is not built
-
--- Where all is built there is none.
-pub none_of_built : (classes : List Class) (name : List ℕ) (e : Element) → IsFirstUnbuilt classes name e → AreBuilt classes → ⊥
-none_of_built [] name e first built = first
-none_of_built (x ∷ xs) name e first built = elim first [
-  | inl here ↦ built.0 e here.0.0
-  | inr later ↦ none_of_built xs name e later.1 built.1
-]
-
--- The next class has such an element, and those before it have none.
-pub first_at : (classes : List Class) (i : ℕ) (x : Class) (e : Element) → i < length classes → x ≡ get_or classes i x → AreBuilt (take i classes) → IsFirstNotBuilt x.machine e
-    → IsFirstUnbuilt classes x.name e
-first_at [] i x e within is built first = absurd (omega arith)
-first_at (y ∷ ys) zero x e within is built first =
-    let same : x ≡ y = is in
-    inl (subst (λ (z : Class). IsFirstNotBuilt z.machine e) same first, ap (λ (z : Class). z.name) same)
-first_at (y ∷ ys) (suc i) x e within is built first = inr (built.0, first_at ys i x e (omega arith) is built.1 first)

@@ -21,7 +21,7 @@ use Rattle.pssm_settings.specs.declared.fault.DraftFault.{DraftFault}
 use Rattle.pssm_settings.specs.Settings.{IsSettingOf}
 use Rattle.pssm_settings.specs.Failures.{IsFirstFailure}
 use Rattle.pssm_load.specs.declared.fault.LoadFault.{LoadFault}
-use Rattle.pssm_load.specs.declared.fault.LoadFault.TheVariants.{Flat, Xmi, Redef, Act, Shape, Faults, NotBuilt, NoMemory}
+use Rattle.pssm_load.specs.declared.fault.LoadFault.TheVariants.{Flat, Xmi, Redef, Act, Shape, Faults, NoMemory}
 use Rattle.pssm_load.specs.Loads.{of_draft, BeginsFlat, Reads, model_file, ReadsSetting, AreClassFaults, IsLoadFault, flat_form, file, class, rules}
 use Rattle.pssm_load.specs.inner.Loading.{BreakRules}
 use Rattle.pssm_load.proofs.LoadFaults.{rules_kept}
@@ -107,5 +107,4 @@ breaks_rules bytes s (Err (Redef fault)) reads broken = absurd broken
 breaks_rules bytes s (Err (Act id fault)) reads broken = absurd broken
 breaks_rules bytes s (Err (Shape name fault)) reads broken = absurd broken
 breaks_rules bytes s (Err (Faults list)) reads broken = inr (rules s (record { reads = reads; faults = broken.0 }) broken.1)
-breaks_rules bytes s (Err (NotBuilt name e)) reads broken = absurd broken
 breaks_rules bytes s (Err NoMemory) reads broken = inl refl

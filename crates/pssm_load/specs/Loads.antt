@@ -1,11 +1,8 @@
 -- What the bytes of a model are worth: a setting, or what is wrong with them.
-use Rattle.std.specs.Prelude.{◌≡◌, ◌≢◌, ◌⊎◌, ◌↔◌, ℕ, List, [], ◌∷◌, ◌++◌, map, codes, Contains, AllPairs}
-use Rattle.std.specs.List.{AllByRecursion}
+use Rattle.std.specs.Prelude.{◌≡◌, ◌≢◌, ◌↔◌, ℕ, List, [], ◌∷◌, ◌++◌, map, codes, Contains, AllPairs}
 use Rattle.pssm_model.specs.declared.draft_setting.Draft.{Draft}
 use Rattle.pssm_model.specs.declared.elements.DraftMachine.{DraftMachine}
-use Rattle.pssm_model.specs.declared.elements.Element.{Element}
 use Rattle.pssm_model.specs.WellFormed.{Breaks}
-use Rattle.pssm_model.specs.NotBuilt.{IsNotBuilt, IsFirstNotBuilt}
 use Rattle.pssm_semantics.specs.declared.setting.Class.{Class}
 use Rattle.pssm_semantics.specs.declared.setting.Setting.{Setting}
 use Rattle.pssm_flat.specs.declared.fault.FlatFault.{FlatFault}
@@ -72,18 +69,3 @@ pub data IsLoadFault (bytes : List ℕ) : LoadFault → Type 0 where
   file : {fault : XmiFault} → (BeginsFlat bytes → ⊥) → IsXmiFault bytes fault → IsLoadFault bytes (Xmi fault)
   class : {fault : DraftFault} (draft : Draft) → (BeginsFlat bytes → ⊥) → ReadsDraft bytes draft → IsFirstFailure draft fault → IsLoadFault bytes (of_draft fault)
   rules : {list : List ClassFault} (setting : Setting) → ReadsSetting bytes setting list → list ≢ [] → IsLoadFault bytes (Faults list)
-
--- ---- what the code runs
-
--- The code runs every element of the class's machine.
-abbrev pub IsBuiltWhole : Class → Type 0
-IsBuiltWhole x = (e : Element) → IsNotBuilt x.machine e → ⊥
-
--- The code runs every element of every machine.
-abbrev pub AreBuilt : List Class → Type 0
-AreBuilt classes = AllByRecursion IsBuiltWhole classes
-
--- the first element that the code does not run yet, class by class, with the name of its class
-abbrev pub IsFirstUnbuilt : List Class → List ℕ → Element → Type 0
-IsFirstUnbuilt [] name e = ⊥
-IsFirstUnbuilt (x ∷ xs) name e = (IsFirstNotBuilt x.machine e × (name ≡ x.name)) ⊎ (IsBuiltWhole x × IsFirstUnbuilt xs name e)

@@ -5,7 +5,7 @@ ghost use Rattle.pssm_load.specs.declared.fault.LoadFault.TheVariants.{NoMemory 
 use pssm_acts::ActFault;
 use pssm_flat::FlatFault;
 use pssm_heritage::RedefFault;
-use pssm_model::{Element, Row, Shape, Text};
+use pssm_model::{Row, Shape, Text};
 use pssm_profile::XmiFault;
 use pssm_wellformed::Fault;
 use std::alloc::AllocError;
@@ -17,14 +17,12 @@ pub struct ClassFault {
     pub fault: Fault,
 }
 
-/// Why the bytes of a model give no setting, or none that the code runs (this profile's choice).
+/// Why the bytes of a model give no setting (this profile's choice).
 ///
 /// `Flat`: they begin as a flat text and are none. `Xmi`: they are no model file that is read. `Redef`: the machine of
 /// a class cannot be flattened over those that it extends. `Act`: the behaviour or guard with the id has this fault in
 /// its text. `Shape`: the machine of the class lacks the shape of one. `Faults`: the machines break these rules of
-/// models, in the order of the classes and of `check`. `NotBuilt`: this element of the machine of the class is the
-/// first that the code does not run yet; only a judgement and a run ask for that. `NoMemory`: memory ran out; no other
-/// variant carries it.
+/// models, in the order of the classes and of `check`. `NoMemory`: memory ran out; no other variant carries it.
 #[derive(Drop)]
 pub enum LoadFault {
     Flat(FlatFault),
@@ -33,7 +31,6 @@ pub enum LoadFault {
     Act { id: Text, fault: ActFault },
     Shape { class: Text, shape: Shape },
     Faults { list: Row<ClassFault> },
-    NotBuilt { class: Text, element: Element },
     NoMemory,
 }
 

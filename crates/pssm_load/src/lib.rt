@@ -1,17 +1,15 @@
 //! The setting of a model, whichever of the two forms its bytes have: the flat form, or a model file as an editor
 //! writes it.
 //!
-//! `load` tells the forms apart, reads the one or the other, and asks for the rules of models; `built` asks whether the
-//! code runs every element. The definitions stand in `specs/`. This crate knows nothing of paths, journals or runs.
+//! `load` tells the forms apart, reads the one or the other, and asks for the rules of models. The definitions stand in
+//! `specs/`. This crate knows nothing of paths, journals or runs.
 #![tactic(auto)]
 
 mod fault;
-mod forms;
 mod laws;
 mod loading;
 mod rules;
 
 pub use fault::{ClassFault, LoadFault};
-pub use forms::built;
 pub use laws::{one_load, some_load};
 pub use loading::load;

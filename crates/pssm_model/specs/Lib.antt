@@ -11,11 +11,8 @@ pub mod Course
 pub mod Items
 pub mod Ways
 pub mod WellFormed
-pub mod Nested
-pub mod SingleLegs
+pub mod RouteWords
 pub mod Order
-pub mod BuiltMachine
-pub mod NotBuilt
 pub mod Proper
 pub mod Equal
 pub mod formers

@@ -11,8 +11,6 @@ use Rattle.pssm_model.specs.Routes.{Truth, IsStateRoute}
 use Rattle.pssm_model.specs.Course.{Head, Course, FiresBy, RemembersSoFar}
 use Rattle.pssm_model.specs.Items.{Called, Before, IsWaiting, IsCleared}
 use Rattle.pssm_model.specs.Ways.{IsWay}
-use Rattle.pssm_model.specs.Shapes.{HasShape}
-use Rattle.pssm_model.specs.Nested.{IsPlainlyNested}
 
 -- a waiting item that is cleared (UML 2.5.1 14.2.3.9, transition execution sequence)
 pub record IsReady (m : DraftMachine) (course : Course) (item : Item) : Type 0 where
@@ -63,12 +61,6 @@ configuration_by known = record {
 -- the step with this head, such a configuration at its head, and items that have run
 abbrev pub known_course : Head → KnownConfiguration → List (Item × How) → Course
 known_course head known ran = course_by head (configuration_by known) ran
-
--- A step of a machine without forks, joins, entry and exit points has come so far (UML 2.5.1 14.2.3.9, run to completion).
-pub record IsNestedStep (m : DraftMachine) (course : Course) : Type 0 where
-  pub shape : HasShape m
-  pub nested : IsPlainlyNested m
-  pub gone : HasGone m course.head course.at_head course.ran
 
 -- how many further entries an open step of the machine can need: an exit and an entry for each vertex (a choice has one pick and neither, and
 -- a history one opening), an opening for each region, an effect for each transition (this profile's choice)

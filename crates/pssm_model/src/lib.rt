@@ -6,7 +6,6 @@
 #![tactic(auto)]
 
 mod boxed;
-mod built;
 mod depths;
 mod draft_setting;
 mod duplicate;
@@ -23,7 +22,6 @@ mod steps;
 mod text;
 
 pub use boxed::Boxed;
-pub use built::first_not_built;
 pub use draft_setting::{
     Body, Draft, DraftClass, DraftObject, DraftParts, DraftSignal, DraftVar, ElementRef, End,
     FlatDraft, PartConnection, PartGuard, PartRegion, PartTransition, PartVertex,

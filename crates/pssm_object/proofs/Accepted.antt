@@ -21,7 +21,7 @@ use Rattle.pssm_semantics.specs.Journal.{IsPost, IsStart, object_of}
 use Rattle.pssm_semantics.specs.declared.setting.Outcome.{Outcome}
 use Rattle.pssm_semantics.specs.Completion.{HasEnded, IsStepFinished}
 use Rattle.pssm_semantics.specs.Rules.{IsCalledItem, IsClearedItem}
-use Rattle.pssm_semantics.specs.Built.{IsBuiltClass}
+use Rattle.pssm_semantics.specs.Classes.{IsWellFormedClass}
 use Rattle.pssm_pool.specs.declared.pools.Waiting.{Waiting}
 use Rattle.pssm_object.specs.Standing.{Standing, StandsAfter}
 use Rattle.pssm_object.specs.Following.{stimulus_of, KeepsRule, KeepsRules}
@@ -34,7 +34,7 @@ use Rattle.pssm_object.proofs.Rules.{starts_once, not_started}
 use Rattle.pssm_object.proofs.QueueHeads.{head_of_queue, end_of_queue}
 use Rattle.pssm_object.proofs.Judged.{fires_before, completes_as, made_so, opens_as, picks_as, next_as, step_made}
 
-module _ (class : Class) (b : IsBuiltClass class) {J : List Entry} {x : Standing} (s : StandsAfter class J x) (signal : Option Waiting) where
+module _ (class : Class) (b : IsWellFormedClass class) {J : List Entry} {x : Standing} (s : StandsAfter class J x) (signal : Option Waiting) where
   abbrev m : DraftMachine
   m = class.machine
 

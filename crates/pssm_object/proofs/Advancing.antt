@@ -43,7 +43,7 @@ use Rattle.pssm_semantics.specs.Values.{Store, Params, eight_of, no_params, outc
 use Rattle.pssm_semantics.specs.Completion.{HasEnded}
 use Rattle.pssm_semantics.specs.Pool.{told_by}
 use Rattle.pssm_semantics.specs.Behaviours.{last_head, store_of, params_of, params_of_head, outcome_at, guards_under}
-use Rattle.pssm_semantics.specs.Built.{IsBuiltClass}
+use Rattle.pssm_semantics.specs.Classes.{IsWellFormedClass}
 use Rattle.pssm_semantics.proofs.Appended.{AllByRecursion-front, AllByRecursion-back, from_the_end}
 use Rattle.pssm_semantics.proofs.Appending.{every_push}
 use Rattle.pssm_semantics.proofs.LastStep.{last_head-goes_on}
@@ -60,7 +60,6 @@ use Rattle.pssm_object.specs.inner.Situations.{IsAtRest}
 use Rattle.pssm_object.specs.inner.Working.{act_for, nothing_from, outcome_for}
 use Rattle.pssm_object.specs.inner.Judging.{FiresHere, Completes, HasStarted, JudgesItem, IsPastEnd, JudgesLiving, Judges}
 use Rattle.pssm_object.specs.inner.Advancing.{HasRunOn, HasBegun, RunsHere, WorksHere, StepsHere, Begins, FiresOn, Takes, Dispatches, Advances}
-use Rattle.pssm_object.proofs.BuiltMachines.{nested, keeps_initials}
 use Rattle.pssm_object.proofs.Fired.{begins_by_firing, begins_by_start, fired_state_route}
 use Rattle.pssm_object.proofs.QueueEntries.{queue_kept, queue_done, queue_other, queue_ran, queue_stepped}
 use Rattle.pssm_object.proofs.EndingLaws.{ended_left_is, ended_by_is}
@@ -342,7 +341,7 @@ module _ (class : Class) {J : List Entry} {x : Standing} (s : StandsAfter class 
           (ended_left_is m J o (DoStep o v k outs) step_runs_none x.ended s.ended_is);
     })
 
-module _ (class : Class) (b : IsBuiltClass class) {J : List Entry} {x : Standing} (s : StandsAfter class J x) where
+module _ (class : Class) (b : IsWellFormedClass class) {J : List Entry} {x : Standing} (s : StandsAfter class J x) where
   abbrev mach : DraftMachine
   mach = class.machine
 
@@ -361,7 +360,7 @@ module _ (class : Class) (b : IsBuiltClass class) {J : List Entry} {x : Standing
         (Agree-trans (configuration_of h.plan.now.at_head) nothing_yet (configuration_after mach J x.own) h.at_head
         (Agree-symm (configuration_after mach J x.own) nothing_yet (not_begun s none).nothing))
         (configuration-changed mach J (Start x.own)) (λ route is. absurd is)
-        (begins_by_start b.machine (configuration_of h.plan.now.at_head) no_active no_memory) (λ v. inr (no_active v)) (λ r v. inr (no_memory r v))
+        (begins_by_start mach (configuration_of h.plan.now.at_head) no_active no_memory) (λ v. inr (no_active v)) (λ r v. inr (no_memory r v))
 
     zeros_before : x.params ≡ no_params
     zeros_before = s.params_is ∙ ap (λ head. params_of_head (told_by J) head) (no_head_yet x.own J (only_posts s none))
@@ -390,7 +389,7 @@ module _ (class : Class) (b : IsBuiltClass class) {J : List Entry} {x : Standing
     consistent_now =
         consistent_alike mach (changed_along mach (configuration_of rests.0.at_head) rests.0.ran) (configuration_of x.config)
         (along_of s rests.0 rests.1)
-        (stays_consistent b.machine.shape (nested b.machine) (keeps_initials b.machine) rests.0.head (configuration_of rests.0.at_head) was_here.begins
+        (stays_consistent s.fits.shape b.rules rests.0.head (configuration_of rests.0.at_head) was_here.begins
         rests.0.ran was_here.gone)
 
     fires_here : IsUnderWay mach (J ++ e ∷ []) x.own (Fires routes) (configuration_of x.config) []
@@ -399,9 +398,9 @@ module _ (class : Class) (b : IsBuiltClass class) {J : List Entry} {x : Standing
         (begins_here mach J x.own (configuration_of x.config) e was_here.start heads
         (Contains-append_left J (e ∷ []) was_here.start was_here.started.0, was_here.started.1) s.now_is kept
         (subst (λ a. (route : Route) → FiresBy a route → IsStateRoute mach route) (sym is_head)
-        (λ route inside. fired_state_route b.machine (configuration_of x.config) (guards_under class x.store params) event routes fires route inside))
+        (λ route inside. fired_state_route mach (configuration_of x.config) (guards_under class x.store params) event routes fires route inside))
         (subst (λ a. BeginsWell mach a (configuration_of x.config)) (sym is_head)
-        (begins_by_firing b.machine (configuration_of x.config) (guards_under class x.store params) event routes consistent_now s.fits.remembered fires))
+        (begins_by_firing mach (configuration_of x.config) (guards_under class x.store params) event routes consistent_now s.fits.remembered fires))
         (λ v. known_true (slice_index_or x.config.active v.0 false))
         (λ r v. known_named (slice_index_or x.config.remembered r.0 None) v))
 

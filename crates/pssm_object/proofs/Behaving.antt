@@ -10,8 +10,8 @@ use Rattle.pssm_semantics.specs.declared.tree.Act.{Act}
 use Rattle.pssm_semantics.specs.declared.setting.Class.{Class}
 use Rattle.pssm_semantics.specs.Arguments.{ActArgsFit}
 use Rattle.pssm_semantics.specs.Behaviours.{act_at}
-use Rattle.pssm_semantics.specs.Built.{IsBuiltClass}
-use Rattle.pssm_semantics.proofs.BuiltSettings.{acts_run}
+use Rattle.pssm_semantics.specs.Classes.{IsWellFormedClass}
+use Rattle.pssm_semantics.proofs.SettingClasses.{acts_run}
 use Rattle.pssm_object.specs.inner.Working.{act_for}
 
 then_some : {X Y : Type 0} (f : X → Option Y) (o : Option X) (y : Y) → Some y ≡ option_and_then f o → (x : X) × (Some y ≡ f x)
@@ -26,5 +26,5 @@ act_there class (items.Enter s) a h = let found = then_some (λ (x : Vertex). ac
 act_there class (items.Opened r mode) a h = absurd (let clash : Some a ≡ None = h in cc)
 act_there class (items.Pick c) a h = absurd (let clash : Some a ≡ None = h in cc)
 
-pub acts_fit : (class : Class) → IsBuiltClass class → (item : Item) (a : Act) → Some a ≡ act_for class item → ActArgsFit a
+pub acts_fit : (class : Class) → IsWellFormedClass class → (item : Item) (a : Act) → Some a ≡ act_for class item → ActArgsFit a
 acts_fit class b item a h = let at = act_there class item a h in acts_run class b at.0 a at.1

@@ -4,7 +4,8 @@ use Rattle.pssm_model.specs.declared.elements.DraftMachine.{DraftMachine}
 use Rattle.pssm_model.specs.declared.steps.How.TheVariants.{By}
 use Rattle.pssm_model.specs.declared.steps.Item.{Item}
 use Rattle.pssm_model.specs.declared.steps.Item.TheVariants as items
-use Rattle.pssm_model.specs.BuiltMachine.{IsBuiltMachine}
+use Rattle.pssm_model.specs.Shapes.{HasShape}
+use Rattle.pssm_model.specs.WellFormed.{KeepsModelRules}
 use Rattle.pssm_model.specs.Items.{HasRunOut}
 use Rattle.pssm_model.specs.Routes.{Truth}
 use Rattle.pssm_config.specs.Tables.{configuration_of}
@@ -18,7 +19,7 @@ use Rattle.pssm_pool.specs.declared.pools.Waiting.{Waiting}
 use Rattle.pssm_object.specs.Standing.{Standing}
 use Rattle.pssm_object.specs.inner.Situations.{first_waiting}
 use Rattle.pssm_object.specs.inner.Choosing.{IsItemThere, HasWays, IsReadyChoice, GoesSomeWay, ChoosesWay, ChoosesNext, ChoosesInStep}
-use Rattle.pssm_object.proofs.BuiltWays.{some_opening_way}
+use Rattle.pssm_object.proofs.SomeWays.{some_opening_way}
 use Rattle.pssm_object.proofs.KnownMemories.{known_named}
 use Rattle.pssm_object.proofs.LateRoutes.{from_choice}
 use Rattle.pssm_object.proofs.PlanItems.{rests_where, ready_item_there}
@@ -32,20 +33,21 @@ module _ (class : Class) (x : Standing) (signal : Option Waiting) (p : Agenda) (
   chooses_way busy goes = inr ((λ rests. busy (rests_where class.machine x.plan p is rests)), goes)
 
 -- a ready opening is of a region of the machine, and a ready pick from a choice of it
-pub choice_item_there : {m : DraftMachine} → IsBuiltMachine m → (p : Agenda) (item : Item) → IsPlanOf m p → IsReadyChoice m p item → IsItemThere m item
-choice_item_there b p item plan ready = ready_item_there b p item plan ready.1
+pub choice_item_there : {m : DraftMachine} → HasShape m → KeepsModelRules m → (p : Agenda) (item : Item) → IsPlanOf m p → IsReadyChoice m p item
+    → IsItemThere m item
+choice_item_there shape rules p item plan ready = ready_item_there shape rules p item plan ready.1
 
 -- such an item has a way
-module _ (class : Class) (b : IsBuiltMachine class.machine) (x : Standing) where
+module _ (class : Class) (shape : HasShape class.machine) (rules : KeepsModelRules class.machine) (x : Standing) where
   abbrev truth_here : Truth
   truth_here = guards_under class x.store x.params
 
   pub some_way_entry : (item : Item) → HasWays item → IsItemThere class.machine item → (e : Entry) × GoesSomeWay class x item e
   some_way_entry (items.Opened r mode) ways there =
-      let (how, opens) = some_opening_way b truth_here r (configuration_of x.config).Remembers mode
+      let (how, opens) = some_opening_way shape rules truth_here r (configuration_of x.config).Remembers mode
       (λ v. known_named (slice_index_or x.config.remembered r.0 None) v) in
       (Opened x.own r mode how, (how, opens, refl))
-  some_way_entry (items.Pick c) ways there = let (route, late) = from_choice b truth_here c there in (Pick x.own c route, (By route, late, refl))
+  some_way_entry (items.Pick c) ways there = let (route, late) = from_choice shape rules truth_here c there in (Pick x.own c route, (By route, late, refl))
   some_way_entry (items.Exit s) ways there = absurd ways
   some_way_entry (items.Effect t) ways there = absurd ways
   some_way_entry (items.Enter s) ways there = absurd ways

@@ -24,7 +24,7 @@ use Rattle.pssm_semantics.specs.declared.setting.Class.{Class}
 use Rattle.pssm_semantics.specs.Journal.{IsPost}
 use Rattle.pssm_semantics.specs.Values.{eight_of, no_params}
 use Rattle.pssm_semantics.specs.Behaviours.{guards_under}
-use Rattle.pssm_semantics.specs.Built.{IsBuiltClass}
+use Rattle.pssm_semantics.specs.Classes.{IsWellFormedClass}
 use Rattle.pssm_pool.specs.declared.pools.Waiting.{Waiting}
 use Rattle.pssm_object.specs.Doing.{do_tasks}
 use Rattle.pssm_object.specs.Standing.{Standing, StandsAfter}
@@ -37,6 +37,7 @@ use Rattle.pssm_object.specs.inner.Choosing.{HasNoChoice, GoesBy, TakesSignal, S
 use Rattle.pssm_object.proofs.Choices.{some_way_entry}
 use Rattle.pssm_object.proofs.DoingLists.{in_do_tasks, do_task_listed}
 use Rattle.pssm_object.proofs.Fired.{fired_there}
+use Rattle.pssm_object.proofs.KnownCompletions.{known_complete}
 use Rattle.pssm_object.proofs.QueueHeads.{member_there}
 use Rattle.pssm_object.proofs.QueueLists.{nothing_in, is_first}
 use Rattle.pssm_object.proofs.SomeFiring.{some_firing}
@@ -44,7 +45,7 @@ use Rattle.pssm_object.proofs.Standings.{plan_or_none, step_of}
 use Rattle.pssm_object.proofs.Judged.{same_some, judged}
 use Rattle.pssm_object.proofs.Accepted.{accepted}
 use Rattle.pssm_object.proofs.Following.{ready_there, ready_item_there}
-use Rattle.pssm_object.proofs.BuiltWays.{way_there}
+use Rattle.pssm_object.proofs.SomeWays.{way_there}
 use Rattle.pssm_object.proofs.Ready.{out_or_ready}
 use Rattle.pssm_object.proofs.PlanItems.{rests_where}
 
@@ -78,7 +79,7 @@ first_in_list : {X : Type 0} (xs : List X) (x : X) → slice_get xs 0 ≡ Some x
 first_in_list [] x e = absurd (let clash : None ≡ Some x = e in cc)
 first_in_list (y ∷ ys) x e = let same : y ≡ x = same_some y x e in subst (Contains (y ∷ ys)) same (is_first y ys)
 
-module _ (class : Class) (b : IsBuiltClass class) (x : Standing) (signal : Option Waiting) where
+module _ (class : Class) (b : IsWellFormedClass class) (x : Standing) (signal : Option Waiting) where
   abbrev m : DraftMachine
   m = class.machine
 
@@ -112,7 +113,7 @@ module _ (class : Class) (b : IsBuiltClass class) (x : Standing) (signal : Optio
         no_post = λ post. post;
         names = subst (λ o. IsSomeAnd o (λ v. w.number ≡ v.number)) (sym is) refl;
       };
-      places = fired_there b.machine (configuration_of x.config) (guards_under class x.store (eight_of w.args)) (Signal w.signal) firing.routes fires;
+      places = fired_there m (configuration_of x.config) (guards_under class x.store (eight_of w.args)) (Signal w.signal) firing.routes fires;
       accepts = lives (Take x.own w.number firing) (rests, none, subst (λ o. IfSome o (FiresHere class x firing.routes)) (sym is) fires);
     }
 
@@ -123,7 +124,7 @@ module _ (class : Class) (b : IsBuiltClass class) (x : Standing) (signal : Optio
         candidate = record { own = refl; no_post = λ post. post; names = tt };
         places = (
           member_there s.queue_is v (first_in_list x.queue.states v first),
-          fired_there b.machine (configuration_of x.config) (guards_under class x.store no_params) (Completion v) firing.routes fires,
+          fired_there m (configuration_of x.config) (guards_under class x.store no_params) (Completion v) firing.routes fires,
         );
         accepts = lives (Done x.own v firing) (rests, first, fires);
       }
@@ -134,7 +135,7 @@ module _ (class : Class) (b : IsBuiltClass class) (x : Standing) (signal : Optio
         candidate = record { own = refl; no_post = λ post. post; names = tt };
         places = (
           ready_item_there class b s p is (items.Opened r mode) ready,
-          way_there b.machine (guards_under class x.store x.params) r (configuration_of x.config).Remembers mode how way,
+          way_there s.fits.shape b.rules (guards_under class x.store x.params) r (configuration_of x.config).Remembers mode how way,
         );
         accepts = lives (Opened x.own r mode how) ((p, is, ready), way);
       }
@@ -180,10 +181,10 @@ module _ (class : Class) (b : IsBuiltClass class) (x : Standing) (signal : Optio
           plain_next (Enter x.own v (outcome_for class x (items.Enter v)).outs) (record { own = refl; no_post = λ post. post; names = tt })
           ((p, is, ready), refl)
       item_next p is (items.Opened r mode) ready =
-          let e = some_way_entry class b.machine x (items.Opened r mode) tt (ready_item_there class b s p is (items.Opened r mode) ready) in
+          let e = some_way_entry class s.fits.shape b.rules x (items.Opened r mode) tt (ready_item_there class b s p is (items.Opened r mode) ready) in
           chosen_next e.0 (goes_chosen p is (items.Opened r mode) e.1.0 e.0 ready e.1.1 e.1.2).1
       item_next p is (items.Pick c) ready =
-          let e = some_way_entry class b.machine x (items.Pick c) tt (ready_item_there class b s p is (items.Pick c) ready) in
+          let e = some_way_entry class s.fits.shape b.rules x (items.Pick c) tt (ready_item_there class b s p is (items.Pick c) ready) in
           chosen_next e.0 (goes_chosen p is (items.Pick c) e.1.0 e.0 ready e.1.1 e.1.2).1
 
       -- and for each State that has a do step left
@@ -198,13 +199,15 @@ module _ (class : Class) (b : IsBuiltClass class) (x : Standing) (signal : Optio
       -- the completion of the first State of the queue is dispatched, and where none waits a signal that waits is taken
       done_next : IsAtRest m x.plan → (v : VertexId) → first_waiting x ≡ Some v → Next
       done_next rests v first =
-          let routes = some_firing b.machine (configuration_of x.config) known_active (guards_under class x.store no_params) (Completion v) in
+          let routes = some_firing s.fits.shape b.rules (configuration_of x.config) known_active (known_complete m x.config)
+          (guards_under class x.store no_params) (Completion v) in
           let firing : Firing = record { routes = routes.0 } in
           chosen_next (Done x.own v firing) (done_chosen firing v rests first routes.1)
 
       take_next : IsAtRest m x.plan → first_waiting x ≡ None → (w : Waiting) → signal ≡ Some w → Next
       take_next rests none w is =
-          let routes = some_firing b.machine (configuration_of x.config) known_active (guards_under class x.store (eight_of w.args)) (Signal w.signal) in
+          let routes = some_firing s.fits.shape b.rules (configuration_of x.config) known_active (known_complete m x.config)
+          (guards_under class x.store (eight_of w.args)) (Signal w.signal) in
           let firing : Firing = record { routes = routes.0 } in
           chosen_next (Take x.own w.number firing) (take_chosen firing w is rests none routes.1)
 

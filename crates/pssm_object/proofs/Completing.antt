@@ -13,10 +13,9 @@ use Rattle.pssm_semantics.specs.declared.entry.ObjectId.{ObjectId}
 use Rattle.pssm_semantics.specs.declared.entry.Entry.{Entry}
 use Rattle.pssm_semantics.specs.declared.setting.Class.{Class}
 use Rattle.pssm_semantics.specs.Completion.{HasEnded, IsStepFinished}
-use Rattle.pssm_semantics.specs.Built.{IsBuiltClass}
+use Rattle.pssm_semantics.specs.Classes.{IsWellFormedClass}
 use Rattle.pssm_object.specs.Standing.{Standing, IsUnderWay, StandsAfter}
 use Rattle.pssm_object.specs.Laws.{GoesOn, Finishes}
-use Rattle.pssm_object.proofs.BuiltMachines.{nested}
 use Rattle.pssm_object.proofs.KnownEnds.{known_end}
 use Rattle.pssm_object.proofs.Rules.{unstarted_finished}
 use Rattle.pssm_object.proofs.Standings.{plan_or_none, only_posts, step_of}
@@ -45,7 +44,7 @@ finishes_now class J o finished = record {
   finished = subst (λ js. IsStepFinished class.machine js o) (sym (append-nil J)) finished;
 }
 
-module _ (class : Class) (b : IsBuiltClass class) where
+module _ (class : Class) (b : IsWellFormedClass class) where
   abbrev m : DraftMachine
   m = class.machine
 
@@ -53,7 +52,7 @@ module _ (class : Class) (b : IsBuiltClass class) where
   no_longer : (J : List Entry) (o : ObjectId) (head : Head) (at_head : Configuration) (ran : List (Item × How)) → IsUnderWay m J o head at_head ran
       → length ran ≤ entries_at_most m
   no_longer J o head at_head ran u =
-      step_length m (course_by head at_head ran) (record { shape = b.machine.shape; nested = nested b.machine; gone = u.gone }) u.begins
+      step_length m (course_by head at_head ran) (record { shape = b.proper.machine.shape; rules = b.rules; gone = u.gone; begins = u.begins })
 
   -- what is ready runs until everything has run, or the object has ended
   finishes_step : (n : ℕ) (J : List Entry) (o : ObjectId) (head : Head) (at_head : Configuration) (ran : List (Item × How))

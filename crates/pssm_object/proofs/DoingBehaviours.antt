@@ -8,15 +8,15 @@ use Rattle.pssm_semantics.specs.declared.tree.Act.{Act}
 use Rattle.pssm_semantics.specs.declared.setting.Class.{Class}
 use Rattle.pssm_semantics.specs.Arguments.{ActArgsFit}
 use Rattle.pssm_semantics.specs.Behaviours.{act_at}
-use Rattle.pssm_semantics.specs.Built.{IsBuiltClass}
-use Rattle.pssm_semantics.proofs.BuiltSettings.{acts_run}
+use Rattle.pssm_semantics.specs.Classes.{IsWellFormedClass}
+use Rattle.pssm_semantics.proofs.SettingClasses.{acts_run}
 use Rattle.pssm_object.specs.inner.Doing.{step_act}
 
 then_some : {X Y : Type 0} (f : X → Option Y) (o : Option X) (y : Y) → Some y ≡ option_and_then f o → (x : X) × (Some y ≡ f x)
 then_some f None y e = absurd (cc)
 then_some f (Some x) y e = (x, e)
 
-pub step_fits : (class : Class) → IsBuiltClass class → (s : VertexId) (k : ℕ) (a : Act) → Some a ≡ step_act class s k → ActArgsFit a
+pub step_fits : (class : Class) → IsWellFormedClass class → (s : VertexId) (k : ℕ) (a : Act) → Some a ≡ step_act class s k → ActArgsFit a
 step_fits class b s k a h =
     let found = then_some (act_at class) (option_and_then (λ (x : Vertex). slice_get x.steps k) (vertex_at class.machine s)) a h in
     acts_run class b found.0.0 a (sym found.1)

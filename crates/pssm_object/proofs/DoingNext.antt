@@ -18,8 +18,8 @@ use Rattle.pssm_model.specs.WellFormed.Breaks.{E11}
 use Rattle.pssm_model.proofs.ElementLaws.{mapped_some, and_some}
 use Rattle.pssm_config.specs.Tables.{Tables, Fits, configuration_of}
 use Rattle.pssm_semantics.specs.declared.setting.Class.{Class}
-use Rattle.pssm_semantics.specs.Built.{IsBuiltClass}
-use Rattle.pssm_semantics.proofs.BuiltSettings.{all_there}
+use Rattle.pssm_semantics.specs.Classes.{IsWellFormedClass}
+use Rattle.pssm_semantics.proofs.SettingClasses.{all_there}
 use Rattle.pssm_object.specs.Doing.{next_do_step}
 
 -- numbers with the same numbers below them are one
@@ -119,7 +119,7 @@ module _ (m : DraftMachine) (rules : KeepsModelRules m) (s : VertexId) (x : Vert
             (inr (inr (inl (λ none. let clash : a ∷ rest ≡ [] = sym are ∙ none in cc)))))),
       )))
 
-module _ (class : Class) (b : IsBuiltClass class) (s : VertexId) where
+module _ (class : Class) (b : IsWellFormedClass class) (s : VertexId) where
   steps_here : (x : Vertex) → vertex_at class.machine s ≡ Some x → do_steps_of class.machine s ≡ length x.steps
   steps_here x at = ap (λ o. option_map_or (λ (y : Vertex). length y.steps) o 0) at
 
@@ -127,12 +127,12 @@ module _ (class : Class) (b : IsBuiltClass class) (s : VertexId) where
   by_kind (inl state) =
       let at = mapped_some (λ (x : Vertex). x.kind) (vertex_at class.machine s) kinds.State state in
       let few = all_there (λ (x : Vertex). x.kind ≡ kinds.State → length x.steps ≤ 64) class.machine.vertices s.0 at.0
-      b.well_formed.proper.machine.few_steps at.1 at.2 in
+      b.proper.machine.few_steps at.1 at.2 in
       let is = steps_here at.0 at.1 in
       omega (arith, few, is)
   by_kind (inr final) =
       let at = mapped_some (λ (x : Vertex). x.kind) (vertex_at class.machine s) kinds.Final final in
-      let none = no_final_steps class.machine b.machine.rules s at.0 at.1 final at.0.steps refl in
+      let none = no_final_steps class.machine b.rules s at.0 at.1 final at.0.steps refl in
       let is = steps_here at.0 at.1 in
       omega (arith, none, is)
 

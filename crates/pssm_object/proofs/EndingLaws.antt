@@ -16,7 +16,7 @@ use Rattle.pssm_model.specs.declared.steps.How.TheVariants.{By, Restore, Nothing
 use Rattle.pssm_model.specs.declared.steps.Item.{Item}
 use Rattle.pssm_model.specs.declared.steps.Item.TheVariants as items
 use Rattle.pssm_model.specs.Forest.{vertex_at, owner_of}
-use Rattle.pssm_model.specs.BuiltMachine.{IsBuiltMachine}
+use Rattle.pssm_model.specs.WellFormed.{KeepsModelRules}
 use Rattle.pssm_model.specs.WellFormed.Breaks.{E01_top}
 use Rattle.pssm_model.specs.Configuration.{Configuration, HasActiveFinal, AllTopsAreFinal}
 use Rattle.pssm_model.specs.Changes.{Agree, entered, exited}
@@ -105,10 +105,10 @@ module _ (m : DraftMachine) (s : VertexId) where
           owns x r e is = cc
 
 -- at the start no object has ended: a machine has a top region
-pub never_at_start : {m : DraftMachine} → IsBuiltMachine m → (o : ObjectId) → HasEnded m [] o → ⊥
-never_at_start b o (inl (e, t, v, inside, effect, enters, kind)) = nothing_in_nil e inside
-never_at_start {m = m} b o (inr finals) =
-    b.rules places.Top 1 (E01_top (λ r top. let f = finals r top in IsActive-nil o f.0 f.3))
+pub never_at_start : {m : DraftMachine} → KeepsModelRules m → (o : ObjectId) → HasEnded m [] o → ⊥
+never_at_start rules o (inl (e, t, v, inside, effect, enters, kind)) = nothing_in_nil e inside
+never_at_start {m = m} rules o (inr finals) =
+    rules places.Top 1 (E01_top (λ r top. let f = finals r top in IsActive-nil o f.0 f.3))
 
 -- an entry that enters, exits or runs an effect runs that item
 enters_runs : (e : Entry) (o : ObjectId) (s : VertexId) → EntersAt e o s → item_by o e ≡ Some (items.Enter s, Nothing)
@@ -311,8 +311,8 @@ module _ (m : DraftMachine) (J : List Entry) (o : ObjectId) (e : Entry) (item : 
   )
 
 -- an object before its start has not ended, in the form in which it keeps this
-pub unended_is : {m : DraftMachine} → IsBuiltMachine m → (o : ObjectId) → IsTrue false ↔ HasEnded m [] o
-unended_is b o = (λ yes. absurd (cc), λ h. absurd (never_at_start b o h))
+pub unended_is : {m : DraftMachine} → KeepsModelRules m → (o : ObjectId) → IsTrue false ↔ HasEnded m [] o
+unended_is rules o = (λ yes. absurd (cc), λ h. absurd (never_at_start rules o h))
 
 -- no post and no entry of another object runs an item of it
 no_item_of_post : (e : Entry) (x : Item × How) → IsPost e → item_of e ≡ Some x → ⊥

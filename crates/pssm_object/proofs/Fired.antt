@@ -1,4 +1,4 @@
--- What fires in a machine that the code runs: routes of one leg each, out of active States; and how a step begins so.
+-- What fires: routes of States, out of active ones; and how a step begins so.
 use Rattle.std.proofs.Common.{List, All, Contains}
 use Rattle.std.proofs.lemmas.List.Elements.{All-contains}
 use Rattle.pssm_model.specs.declared.ids.VertexId.{VertexId}
@@ -11,7 +11,6 @@ use Rattle.pssm_model.specs.Configuration.{Configuration, IsDirect}
 use Rattle.pssm_model.specs.Routes.{Truth, IsSource, IsStateRoute, IsEnabledBy, IsEnabled}
 use Rattle.pssm_model.specs.FiringSets.{IsFiring}
 use Rattle.pssm_model.specs.Course.Head.{Starts, Fires}
-use Rattle.pssm_model.specs.BuiltMachine.{IsBuiltMachine}
 use Rattle.pssm_plan.specs.Steadiness.{IsConsistent, BeginsWell}
 use Rattle.pssm_semantics.specs.Known.{IsRouteOf}
 
@@ -21,7 +20,7 @@ pub active_source : (m : DraftMachine) (now : Configuration) (event : Event) (p 
 active_source m now (Signal signal) p by s source = by.3 s source
 active_source m now (Completion v) p by s source = by.2 s source
 
-module _ {m : DraftMachine} (b : IsBuiltMachine m) where
+module _ (m : DraftMachine) where
   module _ (now : Configuration) (truth : Truth) (event : Event) (routes : List Route) (h : IsFiring m now truth event routes) where
     -- what fires is enabled
     fired_enabled : (route : Route) → Contains routes route → IsEnabled m now truth event route

@@ -27,7 +27,7 @@ use Rattle.pssm_semantics.specs.declared.setting.Class.{Class}
 use Rattle.pssm_semantics.specs.Journal.{IsMemory}
 use Rattle.pssm_semantics.specs.Values.{eight_of, no_params}
 use Rattle.pssm_semantics.specs.Behaviours.{guards_under}
-use Rattle.pssm_semantics.specs.Built.{IsBuiltClass}
+use Rattle.pssm_semantics.specs.Classes.{IsWellFormedClass}
 use Rattle.pssm_pool.specs.declared.pools.Waiting.{Waiting}
 use Rattle.pssm_object.specs.Standing.{Standing, AreActiveAlike, IsUnderWay, StandsAfter}
 use Rattle.pssm_object.specs.Following.{NamesSignal}
@@ -36,7 +36,6 @@ use Rattle.pssm_object.specs.inner.Firing.{IsOpeningWay}
 use Rattle.pssm_object.specs.inner.Working.{HasPlace}
 use Rattle.pssm_object.specs.inner.Judging.{FiresHere, JudgesItem, JudgesLiving, Judges}
 use Rattle.pssm_object.specs.inner.Advancing.{CanChange, CanRunIn, CanTake, CanFollow}
-use Rattle.pssm_object.proofs.BuiltMachines.{nested, keeps_initials}
 use Rattle.pssm_object.proofs.Fired.{fired_state_route}
 use Rattle.pssm_object.proofs.Rules.{called_item_there}
 use Rattle.pssm_object.proofs.Remembering.{ways_alike, way_in_step}
@@ -46,7 +45,7 @@ use Rattle.pssm_object.proofs.Standings.{plan_of, step_of, along_of}
 enter_alike : (m : DraftMachine) (a b : Configuration) (s : VertexId) → AreActiveAlike b a → CanEnter m a s → CanEnter m b s
 enter_alike m a b s same h = record { state = h.state; vacant = λ r v here there active. h.vacant r v here there ((same v).0 active) }
 
-module _ (class : Class) (b : IsBuiltClass class) {J : List Entry} {x : Standing} (s : StandsAfter class J x) where
+module _ (class : Class) (b : IsWellFormedClass class) {J : List Entry} {x : Standing} (s : StandsAfter class J x) where
   abbrev m : DraftMachine
   m = class.machine
 
@@ -54,13 +53,13 @@ module _ (class : Class) (b : IsBuiltClass class) {J : List Entry} {x : Standing
   pub ready_there : (p : Agenda) → x.plan ≡ Some p → (y : Item) → IsReady m (course_of p) y → IsThere m y
   ready_there p is y ready =
       let u = step_of s p is in
-      called_there b.machine.shape (nested b.machine) p.head (configuration_of p.at_head) p.ran u.gone y
-      (called_is (nested b.machine) b.machine.shape (course_of p)
-      (gone_by_routes (nested b.machine) b.machine.shape p.head (configuration_of p.at_head) p.ran u.gone) y ready.waiting.called)
+      called_there s.fits.shape b.rules p.head (configuration_of p.at_head) p.ran u.gone y
+      (called_is b.rules s.fits.shape (course_of p)
+      (gone_by_routes b.rules s.fits.shape p.head (configuration_of p.at_head) p.ran u.gone) y ready.waiting.called)
 
   pub ready_item_there : (p : Agenda) → x.plan ≡ Some p → (y : Item) → IsReady m (course_of p) y → IsItemThere m y
   ready_item_there p is y ready =
-      let u = step_of s p is in called_item_there b.machine p.head (configuration_of p.at_head) p.ran u.gone y ready.waiting.called
+      let u = step_of s p is in called_item_there s.fits.shape b.rules p.head (configuration_of p.at_head) p.ran u.gone y ready.waiting.called
 
   place_of : (y : Item) → IsThere m y → HasPlace m y
   place_of (items.Exit v) there = there
@@ -79,10 +78,10 @@ module _ (class : Class) (b : IsBuiltClass class) {J : List Entry} {x : Standing
       by : (z : Item) → IsReady m (course_of p) z → IsItemThere m z → CanChange m (configuration_of x.config) z
       by (items.Exit v) ready there =
           (along_of s p is v).1
-          (exit_is_active b.machine.shape (nested b.machine) (keeps_initials b.machine) p.head (configuration_of p.at_head) u.begins p.ran u.gone v ready.waiting)
+          (exit_is_active s.fits.shape b.rules p.head (configuration_of p.at_head) u.begins p.ran u.gone v ready.waiting)
       by (items.Enter v) ready there =
           enter_alike m (changed_along m (configuration_of p.at_head) p.ran) (configuration_of x.config) v (along_of s p is)
-          (may_enter b.machine.shape (nested b.machine) (keeps_initials b.machine) p.head (configuration_of p.at_head) u.begins p.ran u.gone v ready)
+          (may_enter s.fits.shape b.rules p.head (configuration_of p.at_head) u.begins p.ran u.gone v ready)
       by (items.Opened r mode) ready there = there
       by (items.Effect t) ready there = tt
       by (items.Pick c) ready there = tt
@@ -113,7 +112,7 @@ module _ (class : Class) (b : IsBuiltClass class) {J : List Entry} {x : Standing
       → IfSome signal (FiresHere class x firing.routes) → CanTake m firing.routes signal
   can_take None number firing named fires = named
   can_take (Some w) number firing named fires = λ route inside.
-      fired_state_route b.machine (configuration_of x.config) (guards_under class x.store (eight_of w.args)) (Signal w.signal) firing.routes fires route inside
+      fired_state_route m (configuration_of x.config) (guards_under class x.store (eight_of w.args)) (Signal w.signal) firing.routes fires route inside
 
   can_follow_living : (signal : Option Waiting) (e : Entry) → NamesSignal signal e → JudgesLiving class x signal e None → CanFollow class x signal e
   can_follow_living signal (Post o g args) named h = tt
@@ -121,7 +120,7 @@ module _ (class : Class) (b : IsBuiltClass class) {J : List Entry} {x : Standing
   can_follow_living signal (Take o number firing) named h = can_take signal number firing named h.2
   can_follow_living signal (Done o v firing) named h = (
     λ route inside.
-        fired_state_route b.machine (configuration_of x.config) (guards_under class x.store no_params) (Completion v) firing.routes h.2 route inside,
+        fired_state_route m (configuration_of x.config) (guards_under class x.store no_params) (Completion v) firing.routes h.2 route inside,
     h.1,
   )
   can_follow_living signal (Exit o v outs) named h = can_run_here here (items.Exit v) Nothing (λ p ready is. refl) h.0

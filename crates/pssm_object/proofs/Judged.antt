@@ -42,7 +42,7 @@ use Rattle.pssm_semantics.specs.Pool.{told_by, outs_of}
 use Rattle.pssm_semantics.specs.Behaviours.{store_of, params_of, outcome_at, guards_under, guards_at}
 use Rattle.pssm_semantics.specs.Rules.{IsCalledItem, IsClearedItem, IsWhatFires}
 use Rattle.pssm_semantics.specs.Verdict.{number_of, IsFirstBroken}
-use Rattle.pssm_semantics.specs.Built.{IsBuiltClass}
+use Rattle.pssm_semantics.specs.Classes.{IsWellFormedClass}
 use Rattle.pssm_pool.specs.declared.pools.Waiting.{Waiting}
 use Rattle.pssm_object.specs.Standing.{Standing, StandsAfter}
 use Rattle.pssm_object.specs.Following.{stimulus_of, stimulus_for, KeepsRule, KeepsRules}
@@ -78,7 +78,7 @@ module _ (class : Class) {J : List Entry} {x : Standing} (s : StandsAfter class 
       ∙ ap (λ params. option_map_or (λ (a : Act). outcome_of a x.own (store_of class (told_by J) J x.own) params) act
       (nothing_from (store_of class (told_by J) J x.own))) s.params_is
 
-module _ (class : Class) (b : IsBuiltClass class) {J : List Entry} {x : Standing} (s : StandsAfter class J x) (signal : Option Waiting) where
+module _ (class : Class) (b : IsWellFormedClass class) {J : List Entry} {x : Standing} (s : StandsAfter class J x) (signal : Option Waiting) where
   abbrev m : DraftMachine
   m = class.machine
 

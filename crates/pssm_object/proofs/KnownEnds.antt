@@ -28,7 +28,7 @@ use Rattle.pssm_semantics.specs.Steps.{item_of}
 use Rattle.pssm_semantics.specs.Completion.{HasEnded}
 use Rattle.pssm_object.specs.Standing.{IsUnderWay}
 use Rattle.pssm_object.specs.inner.Ending.{Terminates, Ends}
-use Rattle.pssm_object.proofs.BuiltMachines.{kind_there}
+use Rattle.pssm_object.proofs.MachineLaws.{kind_there}
 use Rattle.pssm_object.proofs.EndingLaws.{ended_exactly}
 
 -- what is active after items that have run is known, where it is known of the configuration before them
@@ -49,7 +49,7 @@ known_along m now (x ∷ xs) known s = known_along m (changed_by_item m now x.0 
 
 -- whether all top regions have an active final state is known, where it is known what is active
 module _ (m : DraftMachine) (now : Configuration) (known : (s : VertexId) → Known (now.Active s)) where
-  known_final : (r : RegionId) → Known (HasActiveFinal m now r)
+  pub known_final : (r : RegionId) → Known (HasActiveFinal m now r)
   known_final r =
       known_as
       (λ h. (vertex_number h.0, h.2.0, h.2.1.0, h.2.1.1))

@@ -1,50 +1,54 @@
--- Whether a State reacts is known, and so is whether a route can join what was chosen.
-use Rattle.std.proofs.Common.{◌≡◌, ◌⊎◌, ◌<◌, ℕ, List, [], ◌∷◌, length, Option, Some, None, refl, sym, ap, subst, ◌∙◌, inl, inr, ⊎_elim, arith}
-use Rattle.std.proofs.lemmas.Bool.{cases_lt}
+-- Whether a route can join what was chosen is known.
+use Rattle.std.proofs.Common.{◌≡◌, ◌⊎◌, ◌<◌, ◌∙◌, ℕ, List, length, Option, Some, None, sym, subst, inl, inr, ⊎_elim}
 use Rattle.pssm_model.specs.declared.ids.VertexId.{VertexId}
 use Rattle.pssm_model.specs.declared.ids.RegionId.{RegionId}
 use Rattle.pssm_model.specs.declared.ids.TransId.{TransId}
-use Rattle.pssm_model.specs.declared.ids.SignalId.{SignalId}
 use Rattle.pssm_model.specs.declared.elements.DraftMachine.{DraftMachine}
 use Rattle.pssm_model.specs.declared.elements.Vertex.{Vertex}
-use Rattle.pssm_model.specs.declared.elements.Transition.{Transition}
 use Rattle.pssm_model.specs.declared.elements.VertexKind.TheVariants as kinds
 use Rattle.pssm_model.specs.declared.elements.TransKind.TheVariants.{External}
 use Rattle.pssm_model.specs.declared.elements.Owner.{Owner}
 use Rattle.pssm_model.specs.declared.elements.Owner.TheVariants.{Region, State}
+use Rattle.pssm_model.specs.declared.steps.Route.{Route}
 use Rattle.pssm_model.specs.declared.steps.Event.{Event}
-use Rattle.pssm_model.specs.declared.steps.Event.TheVariants.{Signal, Completion}
-use Rattle.pssm_model.specs.Forest.{vertex_at, transition_at, HasKind, owner_of, LiesUnder, LiesInRegion, LiesInState, IsOrLiesIn, IsWithin, HasRegionsAbove}
+use Rattle.pssm_model.specs.Forest.{vertex_at, HasKind, owner_of, LiesUnder, LiesInRegion, LiesInState, IsOrLiesIn, IsWithin, HasRegionsAbove}
 use Rattle.pssm_model.specs.Forest.LiesUnder.{owned, further}
 use Rattle.pssm_model.specs.Forest.HasRegionsAbove.{region, state, machine}
 use Rattle.pssm_model.specs.Shapes.{HasShape}
-use Rattle.pssm_model.specs.Legs.{Leaves, Goes, Scope, LiesInScope}
+use Rattle.pssm_model.specs.Legs.{Leaves, Enters, Goes, Scope, LiesInScope}
 use Rattle.pssm_model.specs.Legs.Scope.{Nowhere, Inside, Within}
-use Rattle.pssm_model.specs.Configuration.{Configuration}
-use Rattle.pssm_model.specs.Routes.{Truth, Lists, HasNoTrigger}
-use Rattle.pssm_model.specs.SingleLegs.{HasSingleLegs}
-use Rattle.pssm_model.specs.inner.Listed.{vertex_number, transition_number}
-use Rattle.pssm_model.proofs.ElementLaws.{some_at, mapped_some, mapped_at, lists_at, external_split}
+use Rattle.pssm_model.specs.Configuration.{Configuration, IsComplete}
+use Rattle.pssm_model.specs.Routes.{Truth, IsStateRoute}
+use Rattle.pssm_model.specs.WellFormed.{KeepsModelRules}
+use Rattle.pssm_model.proofs.ElementLaws.{some_at, mapped_some, leaves_one, external_split}
+use Rattle.pssm_model.proofs.InnerPaths.{home_owner}
 use Rattle.pssm_model.proofs.OwnerChains.{top_lies_nowhere}
-use Rattle.pssm_model.proofs.Nesting.{under_cases}
+use Rattle.pssm_model.proofs.Nesting.{under_cases, home_of_vertex}
+use Rattle.pssm_model.proofs.StateRoutes.{leaves_some}
+use Rattle.pssm_model.proofs.Through.{kinds_clash, target_there}
 use Rattle.pssm_routes.specs.declared.areas.Footprint.{Footprint}
 use Rattle.pssm_legs.specs.Areas.{scope_of}
+use Rattle.pssm_routes.specs.inner.Behind.{IsRouteBehind}
+use Rattle.pssm_routes.specs.inner.Footprints.{IsAnchorBy}
 use Rattle.pssm_routes.specs.inner.Ways.{IsWayOut}
-use Rattle.pssm_routes.specs.inner.Rooms.{IsOpenRoom}
-use Rattle.pssm_routes.specs.inner.Starts.{IsCausedBy, IsStarted, Reacts, IsOutranked}
+use Rattle.pssm_routes.specs.inner.Rooms.{EndsWithin, IsOpenRoom}
+use Rattle.pssm_routes.specs.inner.Starts.{GoesOnBy, IsStartedWith}
 use Rattle.pssm_routes.specs.inner.Sets.{HasJoiner, HasFreeRoute, IsTouched, HoldsSource, IsCeiling}
+use Rattle.pssm_routes.proofs.Bounds.{all_within}
 use Rattle.pssm_routes.proofs.Conflicts.{some_footprint}
-use Rattle.pssm_routes.proofs.Ascending.{some_route_over}
-use Rattle.pssm_routes.proofs.Routed.{way_leads, way_routed, way_true, way_allowed}
-use Rattle.pssm_routes.proofs.RoutesOver.{joiner_is_free, free_joins}
+use Rattle.pssm_routes.proofs.Enabled.{started_state}
+use Rattle.pssm_routes.proofs.JoiningSteps.{state_outside, none_joins_shut, none_joins, step_route, step_true}
 use Rattle.pssm_routes.proofs.Rooms.{goes_at, touched_is_shut, open_unless_external, shut_without_ceiling, open_below_ceiling}
-use Rattle.pssm_routes.proofs.JoiningSteps.{none_joins_shut, none_joins}
-use Rattle.pssm_routes.proofs.Reaction.{IsReaction, reacts_leads, way_reacts, route_by_reacts}
-use Rattle.pssm_routes.proofs.Fruitless.{reacts_there}
-use Rattle.pssm_plan.proofs.Known.{Known, known_as, known_both, known_either, known_below, known_among, known_inside, known_number, known_vertex}
+use Rattle.pssm_routes.proofs.RoutesOver.{some_route_behind, joiner_is_free, joiner_started, joiner_among, free_joins}
+use Rattle.pssm_routes.proofs.Spans.{some_beside}
+use Rattle.pssm_routes.proofs.StartLaws.{is_among_starts, some_starts, some_onward, starts_alone}
+use Rattle.pssm_routes.proofs.Trees.{target_some}
+use Rattle.pssm_routes.proofs.WayEnds.{out_leads_further, out_no_join}
+use Rattle.pssm_plan.proofs.Known.{Known, known_as, known_both, known_either, known_among, known_vertex}
 use Rattle.pssm_plan.proofs.KnownPlaces.{known_vertex_kind, known_in_region, known_in_state}
-use Rattle.pssm_object.proofs.BuiltMachines.{leaving_there, known_leaves}
-use Rattle.pssm_object.proofs.KnownWays.{some_way}
+use Rattle.pssm_object.proofs.MachineLaws.{leaving_there}
+use Rattle.pssm_object.proofs.KnownWays.{onward_target, known_leads, some_way}
+use Rattle.pssm_object.proofs.KnownStarts.{known_sources_among, known_started}
 
 module _ {m : DraftMachine} (shape : HasShape m) (footprints : List Footprint) where
   known_in_scope : (v : VertexId) (scope : Scope) → Known (LiesInScope m v scope)
@@ -55,7 +59,7 @@ module _ {m : DraftMachine} (shape : HasShape m) (footprints : List Footprint) w
   known_or_in : (v s : VertexId) → Known (IsOrLiesIn m v s)
   known_or_in v s = known_either (known_vertex v s) (known_in_state shape v s)
 
-  -- whether a source is at the State, or an area covers it
+  -- whether an anchor is at the State, or an area covers it
   known_touched : (s : VertexId) → Known (IsTouched m footprints s)
   known_touched s =
       known_among
@@ -66,7 +70,7 @@ module _ {m : DraftMachine} (shape : HasShape m) (footprints : List Footprint) w
   known_held : (r : RegionId) → Known (HoldsSource m footprints r)
   known_held r = known_among (λ a. LiesInRegion m a.source r) footprints (λ a inside. known_in_region shape a.source r)
 
-  -- the largest region above a place in which no source lies
+  -- the largest region above a place in which no anchor lies
   record IsLargest (p : Owner) (r : RegionId) : Type 0 where
     pub around : LiesUnder m p (Region r)
     pub free : HoldsSource m footprints r → ⊥
@@ -131,7 +135,7 @@ module _ {m : DraftMachine} (shape : HasShape m) (footprints : List Footprint) w
   largest_above {p = p} (machine e) =
       inr (λ q under free. ⊎_elim (λ same. absurd (cc)) (λ more. top_lies_nowhere {m = m} (Region q) more) (under_cases m p _ (Region q) e under))
 
-  -- around a State there is a largest region without a source, or each region holds one
+  -- around a State there is a largest region without an anchor, or each region holds one
   ceiling_or_none : (s : VertexId) → HasKind m s kinds.State → ((r : RegionId) × IsCeiling m footprints s r) ⊎ NoneIsFree (State s)
   ceiling_or_none s kind =
       let x = mapped_some (λ (y : Vertex). y.kind) (vertex_at m s) kinds.State kind in
@@ -140,133 +144,136 @@ module _ {m : DraftMachine} (shape : HasShape m) (footprints : List Footprint) w
       (λ none. inr none)
       (largest_above (shape.vertices s x.0 x.1).1.2)
 
-module _ {m : DraftMachine} (b : HasSingleLegs m) (shape : HasShape m) (truth : Truth) (footprints : List Footprint) (t : TransId) (s : VertexId)
-    (leaves : Leaves m t s) (kind : HasKind m s kinds.State) where
-  -- each way out in the room for a start is a route that clashes with none of the footprints
-  way_joins : (within : Option RegionId) → IsOpenRoom m footprints t within → (last : TransId) (path : List TransId) → IsWayOut m truth within t last path
-      → HasFreeRoute m truth footprints t
-  way_joins within room last path way =
-      let (q, over) = some_route_over t path in
-      let routed = way_routed b truth within t last path way s leaves kind q over in
-      let ends = way_allowed b truth within t last path way s leaves kind q over in
-      let (g, footprint) = some_footprint b shape q routed in (
-        q,
-        g,
-        routed,
-        over.starts,
-        way_true b truth within t last path way s leaves kind q over,
-        footprint,
-        room.clear q g routed over.starts footprint ends,
-      )
+module _ {m : DraftMachine} (rules : KeepsModelRules m) (shape : HasShape m) where
+  -- a State from which routes with a start start that leaves a State
+  record HasAnchor (t : TransId) : Type 0 where
+    pub anchor : VertexId
+    pub kind : HasKind m anchor kinds.State
+    pub by : IsAnchorBy m t anchor
 
-  known_in_room : (within : Option RegionId) → IsOpenRoom m footprints t within → Known (HasFreeRoute m truth footprints t)
-  known_in_room within room =
+  join_home : (t : TransId) (j : VertexId) → Enters m t j → HasKind m j kinds.Join → (h : RegionId) × (owner_of m (State j) ≡ Some (Region h))
+  join_home t j enters join =
+      home_owner shape j (target_there shape t j enters) (λ point. ⊎_elim
+      (λ k. kinds_clash m j kinds.Join kinds.EntryPoint (λ e. cc) join k)
+      (λ k. kinds_clash m j kinds.Join kinds.ExitPoint (λ e. cc) join k)
+      point)
+
+  join_anchor : (t : TransId) (s j : VertexId) → Leaves m t s → Enters m t j → HasKind m j kinds.Join → HasAnchor t
+  join_anchor t s j leaves enters join =
+      let home = join_home t j enters join in
+      let beside = some_beside shape rules t s j home.0 leaves enters join (home_of_vertex m j home.0 home.1) in
+      record {
+        anchor = beside.0;
+        kind = beside.1.0;
+        by = inr (
+          j,
+          enters,
+          join,
+          beside.1.0,
+          beside.1.1 ∙ sym home.1,
+          λ q left. subst (λ x. LiesInState m x beside.0) (leaves_one m t s q leaves left) beside.1.2,
+        );
+      }
+
+  some_anchor_by : (t : TransId) (s v : VertexId) → Leaves m t s → HasKind m s kinds.State → Enters m t v → HasAnchor t
+  some_anchor_by t s v leaves kind enters =
       ⊎_elim
-      (λ some. inl (way_joins within room some.0 some.1 some.2))
-      (λ none. inr (none_joins b shape truth footprints t within room None none))
-      (some_way b shape truth within t (leaving_there m t s leaves))
+      (λ join. join_anchor t s v leaves enters join)
+      (λ none. record { anchor = s; kind = kind; by = inl (leaves, starts_alone m t v enters none) })
+      (known_vertex_kind m v kinds.Join)
 
-  known_untouched : (IsTouched m footprints s → ⊥) → Known (HasFreeRoute m truth footprints t)
-  known_untouched untouched =
+-- a start out of a State, and the transition by which a route goes on from it
+module _ {m : DraftMachine} (rules : KeepsModelRules m) (shape : HasShape m) (truth : Truth) (footprints : List Footprint) (t : TransId) (s v : VertexId)
+    (leaves : Leaves m t s) (kind : HasKind m s kinds.State) (enters : Enters m t v) (u : TransId) (onward : GoesOnBy m t u) where
+  -- a route over a way out in the room ends in it
+  ends_within : (within : Option RegionId) → IsOpenRoom m footprints t within → (last : TransId) (path : List TransId)
+      → IsWayOut m truth within u last path → (q : Route) → IsRouteBehind m truth t last path q → IsStateRoute m q → EndsWithin m within q
+  ends_within None room last path way q over states = λ x w is into. tt
+  ends_within (Some r) room last path way q over states =
+      all_within shape rules truth r t u last path way.passed way.way onward (state_outside m t s leaves kind) over.end over.enters over.behind
+      over.goes_on q over.over (inl states) (way.ends over.end over.enters) (out_no_join rules truth (Some r) t u last path way onward over.end over.enters)
+      room.joins
+
+  module _ (within : Option RegionId) (room : IsOpenRoom m footprints t within) where
+    -- so with each way out there is a route that clashes with none of the footprints
+    way_joins : (last : TransId) (path : List TransId) → IsWayOut m truth within u last path → HasFreeRoute m truth footprints t
+    way_joins last path way =
+        let starts = some_starts m t v enters in
+        let made = some_route_behind rules shape truth t last path starts.0 starts.1 (out_leads_further rules truth within t u last path way onward) in
+        let q = made.0 in
+        let over = made.1 in
+        let states = step_route rules shape truth footprints t within room u onward s leaves kind last path way q over in
+        let start = is_among_starts m t q.starts over.over.starts in
+        let footprint = some_footprint shape rules q states in
+        let ends = ends_within within room last path way q over states in (
+          q,
+          footprint.0,
+          states,
+          start,
+          step_true rules shape truth footprints t within room u onward s leaves kind last path way q over,
+          footprint.1,
+          room.clear q footprint.0 states start footprint.1 ends,
+        )
+
+    known_in_room : Known (HasFreeRoute m truth footprints t)
+    known_in_room =
+        let w = onward_target m t u v enters onward in
+        ⊎_elim
+        (λ out. let way = some_way shape rules truth within u out in inl (way_joins way.0 way.1 way.2))
+        (λ none. inr (none_joins rules shape truth footprints t within room u onward None none))
+        (known_leads shape rules truth within u w.0 w.1)
+
+-- whether a start out of a State has such a route
+module _ {m : DraftMachine} (rules : KeepsModelRules m) (shape : HasShape m) (truth : Truth) (footprints : List Footprint) (t : TransId) (s v : VertexId)
+    (leaves : Leaves m t s) (kind : HasKind m s kinds.State) (enters : Enters m t v) where
+  known_within : (within : Option RegionId) → IsOpenRoom m footprints t within → Known (HasFreeRoute m truth footprints t)
+  known_within within room =
+      let u = some_onward rules t v enters in
+      known_in_room rules shape truth footprints t s v leaves kind enters u.0 u.1 within room
+
+  known_untouched : (a : VertexId) → HasKind m a kinds.State → IsAnchorBy m t a → (IsTouched m footprints a → ⊥)
+      → Known (HasFreeRoute m truth footprints t)
+  known_untouched a around by untouched =
       let at = some_at m.transitions t.0 (leaving_there m t s leaves) in
       let goes = goes_at m t at.0 at.1 in
       ⊎_elim
       (λ (external : at.0.kind ≡ External).
       let outward : Goes m t External = subst (Goes m t) external goes in
       ⊎_elim
-      (λ top. known_in_room (Some top.0) (open_below_ceiling b shape footprints t s leaves untouched outward top.0 top.1))
-      (λ none. inr (none_joins_shut b shape truth footprints t (shut_without_ceiling b shape footprints t s leaves untouched outward none)))
-      (ceiling_or_none shape footprints s kind))
-      (λ other. known_in_room None (open_unless_external b shape footprints t s leaves untouched at.0.kind goes other))
+      (λ top. known_within (Some top.0) (open_below_ceiling rules shape footprints t a by untouched outward top.0 top.1))
+      (λ none. inr (none_joins_shut rules shape truth footprints t
+      (shut_without_ceiling rules shape footprints t a by untouched outward none)))
+      (ceiling_or_none shape footprints a around))
+      (λ other. known_within None (open_unless_external rules shape footprints t a by untouched at.0.kind goes other))
       (external_split at.0.kind)
 
-  known_free : Known (HasFreeRoute m truth footprints t)
+  pub known_free : Known (HasFreeRoute m truth footprints t)
   known_free =
+      let anchor = some_anchor_by rules shape t s v leaves kind enters in
       ⊎_elim
-      (λ touched. inr (none_joins_shut b shape truth footprints t (touched_is_shut b shape footprints t s leaves touched)))
-      known_untouched
-      (known_touched shape footprints s)
+      (λ touched. inr (none_joins_shut rules shape truth footprints t (touched_is_shut rules shape footprints t anchor.anchor anchor.by touched)))
+      (λ untouched. known_untouched anchor.anchor anchor.kind anchor.by untouched)
+      (known_touched shape footprints anchor.anchor)
 
-known_signal : (a c : SignalId) → Known (a ≡ c)
-known_signal a c = known_as (λ e. ap (λ n. let x : SignalId = record { 0 = n } in x) e) (λ e. ap (λ (x : SignalId). x.0) e) (known_number a.0 c.0)
-
-known_lists : (m : DraftMachine) (t : TransId) (signal : SignalId) → t.0 < length m.transitions → Known (Lists m t signal)
-known_lists m t signal lt =
-    let at = some_at m.transitions t.0 lt in
-    known_as (lists_at m t at.0 signal at.1).1 (lists_at m t at.0 signal at.1).0 (known_inside known_signal at.0.triggers signal)
-
--- whether it lists none
-known_empty : {X : Type 0} (xs : List X) → Known (xs ≡ [])
-known_empty [] = inl refl
-known_empty (x ∷ xs) = inr (λ e. cc)
-
-known_no_trigger : (m : DraftMachine) (t : TransId) → t.0 < length m.transitions → Known (HasNoTrigger m t)
-known_no_trigger m t lt =
-    let at = some_at m.transitions t.0 lt in
-    let lists = mapped_at (λ (x : Transition). x.triggers) (transition_at m t) at.0 at.1 in
-    known_as (λ none. lists ∙ ap Some none) (λ h. let both = sym lists ∙ h in cc) (known_empty at.0.triggers)
-
--- whether the event causes a transition
-known_caused : (m : DraftMachine) (event : Event) (t : TransId) (s : VertexId) → t.0 < length m.transitions → Known (IsCausedBy m event t s)
-known_caused m (Signal signal) t s lt = known_lists m t signal lt
-known_caused m (Completion q) t s lt = known_both (known_vertex q s) (known_no_trigger m t lt)
-
-module _ {m : DraftMachine} (b : HasSingleLegs m) (shape : HasShape m) (now : Configuration) (known : (s : VertexId) → Known (now.Active s)) (truth : Truth)
-    (event : Event) where
-  pub known_started : (t : TransId) (s : VertexId) → t.0 < length m.transitions → Known (IsStarted m now event t s)
-  known_started t s lt =
+module _ {m : DraftMachine} (rules : KeepsModelRules m) (shape : HasShape m) (now : Configuration) (known : (s : VertexId) → Known (now.Active s))
+    (complete : (s : VertexId) → Known (IsComplete m now s)) (truth : Truth) (event : Event) where
+  known_started_joiner : (states : List VertexId) (footprints : List Footprint) (t : TransId) (s v : VertexId) → Leaves m t s → Enters m t v
+      → IsStartedWith m now event t → Known (HasJoiner m now truth event states footprints t)
+  known_started_joiner states footprints t s v leaves enters started =
       known_as
-      (λ h. record { leaves = h.0; state = h.1.0; active = h.1.1.0; caused = h.1.1.1 })
-      (λ h. (h.leaves, (h.state, (h.active, h.caused))))
-      (known_both (known_leaves m t s) (known_both (known_vertex_kind m s kinds.State) (known_both (known s) (known_caused m event t s lt))))
-
-  known_reaction : (s : VertexId) (t : TransId) → t.0 < length m.transitions → Known (IsReaction m now truth event s t)
-  known_reaction s t lt =
-      known_as
-      (λ h. record { started = h.0; leads = h.1 })
-      (λ h. (h.started, h.leads))
+      (λ h. free_joins rules shape truth footprints t now event states started h.0 h.1)
+      (λ h. (joiner_among rules shape truth footprints t now event states h, joiner_is_free rules shape truth footprints t now event states h))
       (known_both
-      (known_started t s lt)
-      (⊎_elim (λ some. inl (way_leads b truth None t some.0 some.1 some.2)) (λ none. inr none) (some_way b shape truth None t lt)))
+      (known_sources_among m states t v enters)
+      (known_free rules shape truth footprints t s v leaves (started_state now event t s started leaves) enters))
 
-  reaction_reacts : (s : VertexId) (t : TransId) → IsReaction m now truth event s t → Reacts m now truth event s
-  reaction_reacts s t h =
+  -- whether a route with the start can join whose sources are among some States
+  pub known_joiner : (states : List VertexId) (footprints : List Footprint) (t : TransId) → t.0 < length m.transitions
+      → Known (HasJoiner m now truth event states footprints t)
+  known_joiner states footprints t there =
+      let s = leaves_some m t there in
+      let v = target_some m t s.0 s.1 in
       ⊎_elim
-      (λ some. route_by_reacts b now truth event s t h.started.leaves (way_reacts b now truth event s t some.0 some.1 h.started some.2))
-      (λ none. absurd (none h.leads))
-      (some_way b shape truth None t (leaving_there m t s h.started.leaves))
-
-  -- whether a State reacts
-  known_reacts : (s : VertexId) → Known (Reacts m now truth event s)
-  known_reacts s =
-      known_as
-      (λ h. reaction_reacts s (transition_number h.0) h.2)
-      (λ h. let (t, is) = reacts_leads b now truth event shape s h in (t.0, leaving_there m t s is.started.leaves, is))
-      (known_below (λ k. IsReaction m now truth event s (transition_number k)) by (length m.transitions))
-    where
-      by : (k : ℕ) → Known (IsReaction m now truth event s (transition_number k))
-      by k =
-          ⊎_elim
-          (λ lt. known_reaction s (transition_number k) lt)
-          (λ ge. inr (λ h. let lt = leaving_there m (transition_number k) s h.started.leaves in absurd (omega (arith, lt, ge))))
-          (cases_lt k (length m.transitions))
-
-  -- whether a State in it does
-  pub known_outranked : (s : VertexId) → Known (IsOutranked m now truth event s)
-  known_outranked s =
-      known_as
-      (λ h. (vertex_number h.0, h.2.0, h.2.1))
-      (λ h. (h.0.0, reacts_there m now truth event shape h.0 h.1, (h.1, h.2)))
-      (known_below
-      (λ k. Reacts m now truth event (vertex_number k) × LiesInState m (vertex_number k) s)
-      (λ k. known_both (known_reacts (vertex_number k)) (known_in_state shape (vertex_number k) s))
-      (length m.vertices))
-
-  -- whether a route that starts so can join
-  pub known_joiner : (footprints : List Footprint) (t : TransId) (s : VertexId) → IsStarted m now event t s
-      → Known (HasJoiner m now truth event footprints t)
-  known_joiner footprints t s started =
-      known_as
-      (free_joins b shape truth footprints t now event s started)
-      (joiner_is_free b shape truth footprints t now event)
-      (known_free b shape truth footprints t s started.leaves started.state)
+      (λ started. known_started_joiner states footprints t s.0 v.0 s.1 v.1 started)
+      (λ not. inr (λ h. not (joiner_started rules shape truth footprints t now event states h)))
+      (known_started m now known complete event t v.0 v.1)

@@ -1,13 +1,14 @@
-pub mod BuiltMachines
+pub mod MachineLaws
 pub mod PlanItems
 pub mod LateRoutes
-pub mod BuiltWays
+pub mod SomeWays
 pub mod OpeningWays
 pub mod KnownMemories
 pub mod Remembering
 pub mod Fired
 pub mod Unshared
 pub mod KnownWays
+pub mod KnownStarts
 pub mod KnownJoiners
 pub mod SomeFiring
 pub mod CourseLaws
@@ -44,6 +45,7 @@ pub mod DoingNext
 pub mod DoingBehaviours
 pub mod DoingLists
 pub mod KnownEnds
+pub mod KnownCompletions
 pub mod TaskCounts
 pub mod ChoiceLists
 pub mod TaskSums

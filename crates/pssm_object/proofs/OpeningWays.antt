@@ -15,14 +15,14 @@ use Rattle.pssm_model.specs.Forest.{HasKind, OwnsOfKind}
 use Rattle.pssm_model.specs.Legs.{Leaves}
 use Rattle.pssm_model.specs.Paths.{HasOut, IsInitialOf}
 use Rattle.pssm_model.specs.Ways.{IsRemembered, IsHistoryOf}
-use Rattle.pssm_model.specs.BuiltMachine.{IsBuiltMachine}
+use Rattle.pssm_model.specs.WellFormed.{KeepsModelRules}
 use Rattle.pssm_model.proofs.ElementLaws.{nothing_in_nil}
 use Rattle.pssm_config.specs.Tables.{Tables, Fits, configuration_of}
 use Rattle.pssm_semantics.specs.declared.setting.Class.{Class}
 use Rattle.pssm_semantics.specs.Values.{Store, Params}
 use Rattle.pssm_semantics.proofs.Members.{first_in}
 use Rattle.pssm_object.specs.inner.Firing.{GoesFrom, IsDefaultWay, IsHistoryKind, IsFreshWay, IsHistoryWay}
-use Rattle.pssm_object.proofs.BuiltMachines.{kind_there, one_history}
+use Rattle.pssm_object.proofs.MachineLaws.{kind_there, one_history}
 
 -- a region without initial vertices
 no_initial : (m : DraftMachine) (r : RegionId) (initials : List VertexId)
@@ -73,14 +73,14 @@ module _ (class : Class) (tables : Tables) (store : Store) (params : Params) (r 
     λ h. ⊎_elim (λ goes. absurd goes) (λ default. inr (default.0, default.1)) h.1,
   )
 
-module _ (class : Class) (b : IsBuiltMachine class.machine) (store : Store) (params : Params) (r : RegionId) (kind : VertexKind) (is : IsHistoryKind kind) where
+module _ (class : Class) (rules : KeepsModelRules class.machine) (store : Store) (params : Params) (r : RegionId) (kind : VertexKind) (is : IsHistoryKind kind) where
   -- by its history vertex that has a transition
   pub goes_by_it : (v : VertexId) → IsHistoryOf class.machine r kind v → (how : How)
       → GoesFrom class store params v how ↔ IsFreshWay class store params r kind how
   goes_by_it v of how = (
     λ goes. inl (v, of, goes),
     λ fresh. ⊎_elim
-        (λ goes. subst (λ w. GoesFrom class store params w how) (one_history b r kind is goes.0 v (goes.1.0, goes.1.1) (of.0, of.1)) goes.2)
+        (λ goes. subst (λ w. GoesFrom class store params w how) (one_history rules r kind is goes.0 v (goes.1.0, goes.1.1) (of.0, of.1)) goes.2)
         (λ default. absurd (default.0 v of))
         fresh,
   )
@@ -96,11 +96,11 @@ first_out m v [] some are = absurd (omega (arith, some))
 first_out m v (t ∷ ts) some are = (t, (are t).0 (first_in t ts))
 
 -- the one history vertex of a kind, which has no transition
-module _ {m : DraftMachine} (b : IsBuiltMachine m) (r : RegionId) (kind : VertexKind) (is : IsHistoryKind kind) where
+module _ {m : DraftMachine} (rules : KeepsModelRules m) (r : RegionId) (kind : VertexKind) (is : IsHistoryKind kind) where
   lacks_out : (v : VertexId) → OwnsOfKind m r kind v → (found : Option VertexId) → IfNone found (HasOut m v → ⊥)
       → IfNone found ((w : VertexId) → IsHistoryOf m r kind w → ⊥)
   lacks_out v owned (Some w) none = tt
-  lacks_out v owned None none = λ w of. none (subst (HasOut m) (one_history b r kind is w v (of.0, of.1) owned) of.2)
+  lacks_out v owned None none = λ w of. none (subst (HasOut m) (one_history rules r kind is w v (of.0, of.1) owned) of.2)
 
   pub first_lacks : (vs : List VertexId) (d : VertexId) → 1 ≤ length vs → ((v : VertexId) → Contains vs v ↔ OwnsOfKind m r kind v)
       → (found : Option VertexId) → IfNone found (HasOut m (slice_index_or vs 0 d) → ⊥)

@@ -4,7 +4,8 @@ use Rattle.pssm_model.specs.declared.elements.DraftMachine.{DraftMachine}
 use Rattle.pssm_model.specs.declared.steps.Mode.TheVariants.{Plain, Shallow, Deep}
 use Rattle.pssm_model.specs.declared.steps.Item.{Item}
 use Rattle.pssm_model.specs.declared.steps.Item.TheVariants as items
-use Rattle.pssm_model.specs.BuiltMachine.{IsBuiltMachine}
+use Rattle.pssm_model.specs.Shapes.{HasShape}
+use Rattle.pssm_model.specs.WellFormed.{KeepsModelRules}
 use Rattle.pssm_model.specs.Course.{Course}
 use Rattle.pssm_model.specs.Items.{Before, IsWaiting, IsCleared, HasRunOut}
 use Rattle.pssm_model.specs.Order.{IsReady}
@@ -20,7 +21,6 @@ use Rattle.pssm_plan.proofs.StepLengths.{IsThere, called_there}
 use Rattle.pssm_object.specs.inner.Situations.{IsAtRest}
 use Rattle.pssm_object.specs.inner.Choosing.{IsItemThere}
 use Rattle.pssm_object.specs.inner.Working.{HasPlace}
-use Rattle.pssm_object.proofs.BuiltMachines.{nested}
 
 -- the plan that is kept is that of a step of the machine
 pub plan_is : (m : DraftMachine) (plan : Option Agenda) (p : Agenda) → plan ≡ Some p → IfSome plan (IsPlanOf m) → IsPlanOf m p
@@ -63,12 +63,13 @@ place_there m (items.Enter s) there = there.0
 place_there m (items.Opened r mode) there = tt
 place_there m (items.Pick c) there = tt
 
-module _ {m : DraftMachine} (b : IsBuiltMachine m) (p : Agenda) (item : Item) (plan : IsPlanOf m p) (ready : IsReady m (course_of p) item) where
+module _ {m : DraftMachine} (shape : HasShape m) (rules : KeepsModelRules m) (p : Agenda) (item : Item) (plan : IsPlanOf m p)
+    (ready : IsReady m (course_of p) item) where
   ready_is_there : IsThere m item
   ready_is_there =
       let now = configuration_of p.at_head in
-      called_there b.shape (nested b) p.head now p.ran plan.step item
-      (called_is (nested b) b.shape (course_of p) (gone_by_routes (nested b) b.shape p.head now p.ran plan.step) item ready.waiting.called)
+      called_there shape rules p.head now p.ran plan.step item
+      (called_is rules shape (course_of p) (gone_by_routes rules shape p.head now p.ran plan.step) item ready.waiting.called)
 
   pub ready_item_there : IsItemThere m item
   ready_item_there = item_there m item ready_is_there

@@ -10,6 +10,7 @@ use Rattle.pssm_model.specs.declared.steps.How.{How}
 use Rattle.pssm_model.specs.declared.steps.How.TheVariants.{By, Nothing}
 use Rattle.pssm_model.specs.declared.steps.Item.{Item}
 use Rattle.pssm_model.specs.declared.steps.Item.TheVariants as items
+use Rattle.pssm_model.specs.Shapes.{HasShape}
 use Rattle.pssm_model.specs.Configuration.{Configuration}
 use Rattle.pssm_model.specs.Course.{Head}
 use Rattle.pssm_model.specs.Items.{HasRunOut}
@@ -35,22 +36,24 @@ use Rattle.pssm_semantics.specs.Pool.{told_by}
 use Rattle.pssm_semantics.specs.Behaviours.{store_of, outcome_at, guards_at}
 use Rattle.pssm_semantics.specs.Rules.{KeepsOwn, IsCalledItem, IsClearedItem}
 use Rattle.pssm_semantics.specs.Verdict.{number_of}
-use Rattle.pssm_semantics.specs.Built.{IsBuiltClass}
+use Rattle.pssm_semantics.specs.Classes.{IsWellFormedClass}
 use Rattle.pssm_object.specs.Standing.{IsUnderWay}
 use Rattle.pssm_object.specs.Laws.{GoesOn}
 use Rattle.pssm_object.specs.inner.Choosing.{IsItemThere}
-use Rattle.pssm_object.proofs.BuiltMachines.{nested}
-use Rattle.pssm_object.proofs.BuiltWays.{some_opening_way, way_there}
+use Rattle.pssm_object.proofs.SomeWays.{some_opening_way, way_there}
 use Rattle.pssm_object.proofs.Kept.{IsKeptBelow, kept_more, kept_first, follows}
 use Rattle.pssm_object.proofs.LateRoutes.{from_choice}
 use Rattle.pssm_object.proofs.Rules.{has_started, called_item_there}
 use Rattle.pssm_object.proofs.UnderWay.{called_item, cleared_item}
 use Rattle.pssm_object.proofs.Remembering.{known_memory, way_in_step}
 
-module _ (class : Class) (b : IsBuiltClass class) {J : List Entry} {o : ObjectId} {head : Head} {at_head : Configuration} {ran : List (Item × How)}
+module _ (class : Class) (b : IsWellFormedClass class) {J : List Entry} {o : ObjectId} {head : Head} {at_head : Configuration} {ran : List (Item × How)}
     (u : IsUnderWay class.machine J o head at_head ran) where
   abbrev m : DraftMachine
   m = class.machine
+
+  shape : HasShape m
+  shape = b.proper.machine.shape
 
   abbrev Holds : Rule → List Entry → Entry → Type 0
   Holds = KeepsOwn class (told_by J) None
@@ -60,12 +63,12 @@ module _ (class : Class) (b : IsBuiltClass class) {J : List Entry} {o : ObjectId
 
   ready_there : (y : Item) → IsReady m (course_by head at_head ran) y → IsThere m y
   ready_there y ready =
-      called_there b.machine.shape (nested b.machine) head at_head ran u.gone y
-      (called_is (nested b.machine) b.machine.shape (course_by head at_head ran)
-      (gone_by_routes (nested b.machine) b.machine.shape head at_head ran u.gone) y ready.waiting.called)
+      called_there shape b.rules head at_head ran u.gone y
+      (called_is b.rules shape (course_by head at_head ran)
+      (gone_by_routes b.rules shape head at_head ran u.gone) y ready.waiting.called)
 
   ready_item_there : (y : Item) → IsReady m (course_by head at_head ran) y → IsItemThere m y
-  ready_item_there y ready = called_item_there b.machine head at_head ran u.gone y ready.waiting.called
+  ready_item_there y ready = called_item_there shape b.rules head at_head ran u.gone y ready.waiting.called
 
   -- the rules that are not about the way or the outputs
   work_keeps : (e : Entry) (y : Item) (how : How) → object_of e ≡ o → item_of e ≡ Some (y, how) → Holds A2 J e
@@ -156,7 +159,7 @@ module _ (class : Class) (b : IsBuiltClass class) {J : List Entry} {o : ObjectId
     goes_on = record {
       own = refl;
       works = tt;
-      places = (ready_item_there (items.Opened r mode) ready, way_there b.machine guards r (IsMemory m J o) mode how opens);
+      places = (ready_item_there (items.Opened r mode) ready, way_there shape b.rules guards r (IsMemory m J o) mode how opens);
       keeps = work_keeps (Opened o r mode how) (items.Opened r mode) how refl refl living (λ f. f) tt tt tt opens tt refl ready;
     };
   }
@@ -183,11 +186,11 @@ module _ (class : Class) (b : IsBuiltClass class) {J : List Entry} {o : ObjectId
   runs_ready living (items.Effect t) ready = (Effect o t (made (Effect o t [])), effect_next living t ready)
   runs_ready living (items.Enter v) ready = (Enter o v (made (Enter o v [])), enter_next living v ready)
   runs_ready living (items.Opened r mode) ready =
-      let way = some_opening_way b.machine guards r (IsMemory m J o) mode (λ v. known_memory u r v) in
+      let way = some_opening_way shape b.rules guards r (IsMemory m J o) mode (λ v. known_memory u r v) in
       (Opened o r mode way.0, opens_next living r mode way.0 way.1 ready)
   runs_ready living (items.Pick c) ready =
-      let route = from_choice b.machine guards c (ready_item_there (items.Pick c) ready) in (Pick o c route.0, picks_next living c route.0 route.1 ready)
+      let route = from_choice shape b.rules guards c (ready_item_there (items.Pick c) ready) in (Pick o c route.0, picks_next living c route.0 route.1 ready)
 
   -- everything has run, or something is ready
   pub out_or_ready : HasRunOut m (course_by head at_head ran) ⊎ ((y : Item) × IsReady m (course_by head at_head ran) y)
-  out_or_ready = ready_or_out b.machine.shape (nested b.machine) head at_head ran u.gone u.known
+  out_or_ready = ready_or_out shape b.rules head at_head u.begins ran u.gone u.known

@@ -1,4 +1,4 @@
--- The laws of the journals of an object of a class that the code runs: what is active in each region, and which States become complete.
+-- The laws of the journals of an object of a well-formed class: what is active in each region, and which States become complete.
 use Rattle.std.proofs.Common.{◌≡◌, List, sym, ◌∙◌, ⊎_elim}
 use Rattle.pssm_model.specs.declared.ids.VertexId.{VertexId}
 use Rattle.pssm_model.specs.declared.elements.DraftMachine.{DraftMachine}
@@ -11,16 +11,15 @@ use Rattle.pssm_semantics.specs.declared.entry.Entry.TheVariants.{Post, Start, T
 use Rattle.pssm_semantics.specs.declared.setting.Class.{Class}
 use Rattle.pssm_semantics.specs.Journal.{EntersAt, object_of, configuration_after}
 use Rattle.pssm_semantics.specs.Completion.{BecomesComplete}
-use Rattle.pssm_semantics.specs.Built.{IsBuiltClass}
+use Rattle.pssm_semantics.specs.Classes.{IsWellFormedClass}
 use Rattle.pssm_semantics.proofs.Configurations.{configuration-other}
 use Rattle.pssm_object.specs.Standing.{Standing, StandsAfter}
-use Rattle.pssm_object.proofs.BuiltMachines.{nested, keeps_initials}
 use Rattle.pssm_object.proofs.Advancing.{known_object}
 use Rattle.pssm_object.proofs.QueueChanges.{becomes_by, none_becomes}
 use Rattle.pssm_object.proofs.Standings.{plan_or_none, not_begun, step_of, consistent_alike}
 
 -- what is active agrees with an object's configuration that is consistent
-module _ (class : Class) (b : IsBuiltClass class) {J : List Entry} {x : Standing} (s : StandsAfter class J x) where
+module _ (class : Class) (b : IsWellFormedClass class) {J : List Entry} {x : Standing} (s : StandsAfter class J x) where
   abbrev mach : DraftMachine
   mach = class.machine
 
@@ -37,7 +36,7 @@ module _ (class : Class) (b : IsBuiltClass class) {J : List Entry} {x : Standing
       (λ some.
       let u = step_of s some.0 some.1 in
       consistent_alike mach (changed_along mach (configuration_of some.0.at_head) some.0.ran) (configuration_after mach J x.own) u.along
-      (stays_consistent b.machine.shape (nested b.machine) (keeps_initials b.machine) some.0.head (configuration_of some.0.at_head) u.begins some.0.ran u.gone))
+      (stays_consistent s.fits.shape b.rules some.0.head (configuration_of some.0.at_head) u.begins some.0.ran u.gone))
       (plan_or_none x.plan)
 
 -- an entry enters a State of its own object

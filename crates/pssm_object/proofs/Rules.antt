@@ -1,4 +1,4 @@
--- What each rule asks of an object of a class that the code runs.
+-- What each rule asks of an object of a well-formed class.
 use Rattle.std.proofs.Common.{◌≡◌, List, ◌∷◌, Contains, sym, subst, inl}
 use Rattle.std.specs.List.{AllByRecursion}
 use Rattle.std.proofs.lemmas.List.Elements.{All-contains, All-from_recursion, Contains-append_right}
@@ -11,7 +11,8 @@ use Rattle.pssm_model.specs.Configuration.{Configuration}
 use Rattle.pssm_model.specs.Course.{Head}
 use Rattle.pssm_model.specs.Items.{Called}
 use Rattle.pssm_model.specs.Order.{HasGone, course_by}
-use Rattle.pssm_model.specs.BuiltMachine.{IsBuiltMachine}
+use Rattle.pssm_model.specs.Shapes.{HasShape}
+use Rattle.pssm_model.specs.WellFormed.{KeepsModelRules}
 use Rattle.pssm_plan.proofs.RouteSteps.{gone_by_routes}
 use Rattle.pssm_plan.proofs.RouteItems.{called_is}
 use Rattle.pssm_plan.proofs.StepLengths.{called_there, IsThere}
@@ -26,7 +27,6 @@ use Rattle.pssm_semantics.proofs.Members.{first_in}
 use Rattle.pssm_semantics.proofs.Stores.{head_own}
 use Rattle.pssm_object.specs.Standing.{IsUnderWay}
 use Rattle.pssm_object.specs.inner.Choosing.{IsItemThere}
-use Rattle.pssm_object.proofs.BuiltMachines.{nested}
 
 -- a fact about each element is one about an element that is there
 pub each_of : {X : Type 0} (P : X → Type 0) (xs : List X) (x : X) → AllByRecursion P xs → Contains xs x → P x
@@ -85,13 +85,13 @@ module _ {m : DraftMachine} {J : List Entry} {o : ObjectId} {head : Head} {at_he
   pub has_started : (f : Entry) × Contains J f × IsStart f o
   has_started = (u.start, u.started.0, u.started.1)
 
-module _ {m : DraftMachine} (b : IsBuiltMachine m) where
+module _ {m : DraftMachine} (shape : HasShape m) (rules : KeepsModelRules m) where
   -- what such a machine calls is of it, and its picks are from choices
   pub called_item_there : (head : Head) (now : Configuration) (ran : List (Item × How)) → HasGone m head now ran → (item : Item)
       → Called m (course_by head now ran) item → IsItemThere m item
   called_item_there head now ran gone item called =
-      there item (called_there b.shape (nested b) head now ran gone item
-      (called_is (nested b) b.shape (course_by head now ran) (gone_by_routes (nested b) b.shape head now ran gone) item called))
+      there item (called_there shape rules head now ran gone item
+      (called_is rules shape (course_by head now ran) (gone_by_routes rules shape head now ran gone) item called))
     where
       there : (x : Item) → IsThere m x → IsItemThere m x
       there (items.Exit s) h = tt

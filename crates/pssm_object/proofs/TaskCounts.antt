@@ -18,7 +18,7 @@ use Rattle.pssm_semantics.specs.declared.entry.Entry.{Entry}
 use Rattle.pssm_semantics.specs.declared.stimulus.Task.{Task}
 use Rattle.pssm_semantics.specs.declared.stimulus.Task.TheVariants.{Exit, Effect, Enter, DoStep}
 use Rattle.pssm_semantics.specs.declared.setting.Class.{Class}
-use Rattle.pssm_semantics.specs.Built.{IsBuiltClass}
+use Rattle.pssm_semantics.specs.Classes.{IsWellFormedClass}
 use Rattle.pssm_semantics.proofs.Members.{first_in, later_in, in_cases}
 use Rattle.pssm_object.specs.Doing.{do_task_of, do_tasks_below, do_tasks}
 use Rattle.pssm_object.specs.Standing.{Standing, StandsAfter}
@@ -125,7 +125,7 @@ few_kept : (flag : Bool) (xs : List Task) (n : ℕ) → length xs ≤ n → leng
 few_kept true xs n le = omega arith
 few_kept false xs n le = le
 
-module _ (class : Class) (b : IsBuiltClass class) {J : List Entry} {x : Standing} (s : StandsAfter class J x) where
+module _ (class : Class) (b : IsWellFormedClass class) {J : List Entry} {x : Standing} (s : StandsAfter class J x) where
   few_in_step : length (tasks_of_plan x.plan) ≤ 2 * length class.machine.vertices + length class.machine.transitions
   few_in_step =
       few class.machine (tasks_of_plan x.plan)

@@ -10,7 +10,8 @@ use Rattle.pssm_model.specs.declared.elements.DraftMachine.{DraftMachine}
 use Rattle.pssm_model.specs.declared.steps.Item.{Item}
 use Rattle.pssm_model.specs.declared.steps.Item.TheVariants as items
 use Rattle.pssm_model.specs.Order.{IsReady}
-use Rattle.pssm_model.specs.BuiltMachine.{IsBuiltMachine}
+use Rattle.pssm_model.specs.Shapes.{HasShape}
+use Rattle.pssm_model.specs.WellFormed.{KeepsModelRules}
 use Rattle.pssm_plan.specs.declared.roster.Call.{Call}
 use Rattle.pssm_plan.specs.Agenda.{Agenda, course_of}
 use Rattle.pssm_plan.specs.Plans.{IsPlanOf}
@@ -22,7 +23,7 @@ use Rattle.pssm_semantics.specs.declared.stimulus.Task.TheVariants as tasks
 use Rattle.pssm_semantics.specs.declared.setting.Class.{Class}
 use Rattle.pssm_semantics.specs.Journal.{object_of, configuration_after}
 use Rattle.pssm_semantics.specs.Tasks.{IsReadyItem, IsReadyWork}
-use Rattle.pssm_semantics.specs.Built.{IsBuiltClass}
+use Rattle.pssm_semantics.specs.Classes.{IsWellFormedClass}
 use Rattle.pssm_semantics.proofs.Members.{Contains-read, Contains-of_read, first_in, later_in}
 use Rattle.pssm_object.specs.Doing.{do_tasks}
 use Rattle.pssm_object.specs.Standing.{Standing, StandsAfter}
@@ -114,11 +115,11 @@ some_task m None h task inside = absurd (nothing_in_nil task inside)
 some_task m (Some p) h task inside = (p, h, plan_task m p h task inside)
 
 -- so its place is one of the machine, and it is no do step
-module _ {m : DraftMachine} (b : IsBuiltMachine m) (plan : Option Agenda) (h : IfSome plan (IsPlanOf m)) where
+module _ {m : DraftMachine} (shape : HasShape m) (rules : KeepsModelRules m) (plan : Option Agenda) (h : IfSome plan (IsPlanOf m)) where
   pub task_place : (task : Task) → Contains (tasks_of_plan plan) task → HasPlace m (item_for task)
   task_place task inside =
       let at = some_task m plan h task inside in
-      subst (HasPlace m) (is_item at.2.0 task at.2.2) (ready_has_place b at.0 at.2.0 at.1 at.2.1)
+      subst (HasPlace m) (is_item at.2.0 task at.2.2) (ready_has_place shape rules at.0 at.2.0 at.1 at.2.1)
 
   pub no_do_task : (s : VertexId) (k : ℕ) → Contains (tasks_of_plan plan) (tasks.DoStep s k) → ⊥
   no_do_task s k inside = let at = some_task m plan h (tasks.DoStep s k) inside in no_step_task at.2.0 s k at.2.2
@@ -155,13 +156,13 @@ TaskPlace m (tasks.Effect t) = t.0 < length m.transitions
 TaskPlace m (tasks.Enter s) = s.0 < length m.vertices
 TaskPlace m (tasks.DoStep s k) = s.0 < length m.vertices
 
-module _ {m : DraftMachine} (b : IsBuiltMachine m) (x : Standing) (h : IfSome x.plan (IsPlanOf m)) (fits : Fits m x.config) where
+module _ {m : DraftMachine} (rules : KeepsModelRules m) (x : Standing) (h : IfSome x.plan (IsPlanOf m)) (fits : Fits m x.config) where
   step_place : (task : Task) → Contains (tasks_of_plan x.plan) task → TaskPlace m task
   unfolding item_for
-  step_place (tasks.Exit s) inside = task_place b x.plan h (tasks.Exit s) inside
-  step_place (tasks.Effect t) inside = task_place b x.plan h (tasks.Effect t) inside
-  step_place (tasks.Enter s) inside = task_place b x.plan h (tasks.Enter s) inside
-  step_place (tasks.DoStep s k) inside = absurd (no_do_task b x.plan h s k inside)
+  step_place (tasks.Exit s) inside = task_place fits.shape rules x.plan h (tasks.Exit s) inside
+  step_place (tasks.Effect t) inside = task_place fits.shape rules x.plan h (tasks.Effect t) inside
+  step_place (tasks.Enter s) inside = task_place fits.shape rules x.plan h (tasks.Enter s) inside
+  step_place (tasks.DoStep s k) inside = absurd (no_do_task fits.shape rules x.plan h s k inside)
 
   doing_place : (task : Task) → Contains (do_tasks m x.config) task → TaskPlace m task
   doing_place task inside =
@@ -172,7 +173,7 @@ module _ {m : DraftMachine} (b : IsBuiltMachine m) (x : Standing) (h : IfSome x.
       ⊎_elim (λ near. step_place task near) (λ far. doing_place task far)
       (Contains-append_cases (tasks_of_plan x.plan) (do_tasks m x.config) task (in_kept x.ended (tasks_of_plan x.plan ++ do_tasks m x.config) task inside).1)
 
-module _ (class : Class) (b : IsBuiltClass class) {J : List Entry} {x : Standing} (s : StandsAfter class J x) where
+module _ (class : Class) (b : IsWellFormedClass class) {J : List Entry} {x : Standing} (s : StandsAfter class J x) where
   abbrev m : DraftMachine
   m = class.machine
 
@@ -239,7 +240,7 @@ module _ (class : Class) (b : IsBuiltClass class) {J : List Entry} {x : Standing
   across : (a c : Task) → Contains (tasks_of_plan x.plan) a → Contains (do_tasks m x.config) c → a ≢ c
   across a c near far same =
       let at = in_do_tasks m x.config c far in
-      no_do_task b.machine x.plan (plan_fits s) at.0 at.1 (subst (Contains (tasks_of_plan x.plan)) (same ∙ at.2) near)
+      no_do_task s.fits.shape b.rules x.plan (plan_fits s) at.0 at.1 (subst (Contains (tasks_of_plan x.plan)) (same ∙ at.2) near)
 
   pub lists_tasks : ListsTasks m J x.own (ready_tasks m x)
   lists_tasks = record {

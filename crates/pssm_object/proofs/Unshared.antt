@@ -1,5 +1,5 @@
 -- Routes that fire share no transition, so they have at most as many in all as the machine has.
-use Rattle.std.proofs.Common.{◌≡◌, ◌≢◌, ◌<◌, ◌≤◌, ◌++◌, ℕ, suc, List, [], ◌∷◌, length, map, eqb, false, All, Contains, refl, sym, subst, inl, inr, ⊎_elim, arith}
+use Rattle.std.proofs.Common.{◌≡◌, ◌≢◌, ◌⊎◌, ◌<◌, ◌≤◌, ◌++◌, ℕ, suc, List, [], ◌∷◌, length, map, eqb, false, All, Contains, refl, sym, ap, subst, inl, ⊎_elim, arith}
 use Rattle.std.specs.List.{AllByRecursion, IsDistinct, sum_by}
 use Rattle.std.proofs.lemmas.Bool.{eqb-true}
 use Rattle.std.proofs.lemmas.Bool.Decides.{eqb_tells}
@@ -11,31 +11,28 @@ use Rattle.std.proofs.lemmas.Map.Steps.{length-le_from_distinct_below}
 use Rattle.pssm_model.specs.declared.ids.VertexId.{VertexId}
 use Rattle.pssm_model.specs.declared.ids.TransId.{TransId}
 use Rattle.pssm_model.specs.declared.elements.DraftMachine.{DraftMachine}
-use Rattle.pssm_model.specs.declared.elements.TransKind.{TransKind}
-use Rattle.pssm_model.specs.declared.elements.TransKind.TheVariants.{External, Local, Internal}
+use Rattle.pssm_model.specs.declared.elements.TransKind.TheVariants.{Internal}
 use Rattle.pssm_model.specs.declared.steps.Route.{Route}
 use Rattle.pssm_model.specs.declared.steps.Firing.{Firing}
 use Rattle.pssm_model.specs.declared.steps.Event.{Event}
 use Rattle.pssm_model.specs.Shapes.{HasShape}
-use Rattle.pssm_model.specs.Nested.{IsPlainlyNested}
-use Rattle.pssm_model.specs.BuiltMachine.{IsBuiltMachine}
-use Rattle.pssm_model.specs.SingleLegs.{IsFrom}
+use Rattle.pssm_model.specs.WellFormed.{KeepsModelRules}
 use Rattle.pssm_model.specs.Configuration.{Configuration}
-use Rattle.pssm_model.specs.Legs.{transitions_of, Leaves, Enters, Goes, On, Scope, LegScope, LiesInScope, Exits}
-use Rattle.pssm_model.specs.Legs.Scope.{Inside, Within}
-use Rattle.pssm_model.specs.Routes.{Truth, IsAscending, IsRoute, IsSource, IsEnabled, Conflict}
+use Rattle.pssm_model.specs.Legs.{transitions_of, Enters, On, Scope, LiesInScope}
+use Rattle.pssm_model.specs.Routes.{Truth, IsAscending, IsRoute, IsStateRoute, IsSource, IsEnabled, Conflict}
+use Rattle.pssm_model.specs.RouteWords.{IsStepRoute, IsAreaOf, GoesAs}
 use Rattle.pssm_model.specs.FiringSets.{StartsBefore, IsListed, IsFiring}
-use Rattle.pssm_model.proofs.ElementLaws.{leaves_one, nothing_in_nil, same_transition}
+use Rattle.pssm_model.proofs.ElementLaws.{nothing_in_nil, same_transition}
 use Rattle.pssm_model.proofs.RouteLaws.{conflict_from_source}
-use Rattle.pssm_model.proofs.StateRoutes.{is_start as start_inside, state_route_from}
-use Rattle.pssm_model.proofs.OverJunctions.{single_legs}
-use Rattle.pssm_model.proofs.OneLeg.{start_or_rest, comes_from, rest_leaves_no_state, alone, of_rest, source_of_leg, target_of_leg}
-use Rattle.pssm_model.proofs.CommonRegions.{some_leg_scope}
-use Rattle.pssm_model.proofs.LegScopes.{IsAround, start_kind, scope_of_local, scope_of_external, exits_of, shared_touch}
-use Rattle.pssm_plan.proofs.SteadyPlaces.{local_ends}
-use Rattle.pssm_semantics.specs.Built.{IsBuiltRoute, IsShortRoute, IsBuiltFiring}
+use Rattle.pssm_model.proofs.RouteOrder.{route_of, of_start, of_rest, start_or_rest, source_of, target_of}
+use Rattle.pssm_model.proofs.RouteKinds.{state_start, some_start, internal_alone}
+use Rattle.pssm_model.proofs.LegScopes.{shared_touch}
+use Rattle.pssm_model.proofs.RouteAreas.{has_area}
+use Rattle.pssm_model.proofs.Anchors.{anchor_around, conflict_is}
+use Rattle.pssm_model.proofs.SomeAnchor.{some_anchor}
+use Rattle.pssm_plan.proofs.RoutePlaces.{target_in_area}
+use Rattle.pssm_semantics.specs.Forms.{IsRunRoute, IsShortRoute, IsShortFiring}
 use Rattle.pssm_semantics.proofs.Members.{first_in, later_in, in_cases}
-use Rattle.pssm_object.proofs.BuiltMachines.{nested}
 use Rattle.pssm_object.proofs.Fired.{active_source}
 
 -- ---- transitions that are listed once
@@ -121,20 +118,32 @@ of_some (p ∷ routes) t inside =
 abbrev ShareNone : List Route → Type 0
 ShareNone routes = (p q : Route) → Contains routes p → Contains routes q → p ≢ q → (t : TransId) → On p t → On q t → ⊥
 
--- a route with one start comes not again in a list in order
-first_differs : (p : Route) (routes : List Route) (t : TransId) → p.starts ≡ t ∷ [] → IsListed (p ∷ routes) → (q : Route) → Contains routes q → p ≢ q
-first_differs p routes t starts listed q inside = λ same.
+-- the first start of a route
+record HasFirst (p : Route) : Type 0 where
+  first : TransId
+  more : List TransId
+  starts : p.starts ≡ first ∷ more
+
+first_start : (p : Route) → 0 < length p.starts → HasFirst p
+first_start p some = by p.starts refl
+  where
+    by : (ts : List TransId) → p.starts ≡ ts → HasFirst p
+    by [] e = absurd (let none : length p.starts ≡ 0 = ap length e in omega (arith, some, none))
+    by (t ∷ ts) e = record { first = t; more = ts; starts = e }
+
+-- a route that starts somewhere comes not again in a list in order
+first_differs : (p : Route) (routes : List Route) → HasFirst p → IsListed (p ∷ routes) → (q : Route) → Contains routes q → p ≢ q
+first_differs p routes h listed q inside = λ same.
     let before : All (StartsBefore p) routes = (λ k d lt. listed 0 (suc k) d (omega arith) (omega (arith, lt))) in
     let less = All-contains (StartsBefore p) routes q before inside in
     let own : StartsBefore p p = subst (StartsBefore p) (sym same) less in
-    let clash = own t t [] [] starts starts in
+    let clash = own h.first h.first h.more h.more h.starts h.starts in
     omega (arith, clash)
 
-all_once : (routes : List Route) → IsListed routes → ((p : Route) → Contains routes p → (t : TransId) × (p.starts ≡ t ∷ []))
+all_once : (routes : List Route) → IsListed routes → ((p : Route) → Contains routes p → HasFirst p)
     → ((p : Route) → Contains routes p → ListsOnce (transitions_of p)) → ShareNone routes → ListsOnce (all_of routes)
 all_once [] listed start once none = tt
 all_once (p ∷ routes) listed start once none =
-    let one = start p (first_in p routes) in
     once_append (transitions_of p) (all_of routes)
     (once p (first_in p routes))
     (all_once routes
@@ -144,99 +153,64 @@ all_once (p ∷ routes) listed start once none =
     (λ q r here there. none q r (later_in p routes q here) (later_in p routes r there)))
     (λ t here later.
     let at = of_some routes t later in
-    none p at.0 (first_in p routes) (later_in p routes at.0 at.1) (first_differs p routes one.0 one.1 listed at.0 at.1) t here at.2)
+    none p at.0 (first_in p routes) (later_in p routes at.0 at.1) (first_differs p routes (start p (first_in p routes)) listed at.0 at.1) t here at.2)
 
 -- ---- routes that share a transition conflict
 
--- The leg of the route exits where the vertex lies.
-record Covers (m : DraftMachine) (p : Route) (a : TransId) (s x : VertexId) : Type 0 where
-  scope : Scope
-  leg : LegScope m p a scope
-  around : IsAround m s scope
-  lies : LiesInScope m x scope
+module _ {m : DraftMachine} (shape : HasShape m) (rules : KeepsModelRules m) where
+  -- a transition after the starts ends where the route exits and enters
+  rest_in_area : (p : Route) (step : IsStepRoute m p) (t : TransId) (v : VertexId) (area : Scope) → Contains p.rest t → Enters m t v → IsAreaOf m p area
+      → LiesInScope m v area
+  rest_in_area p step t v area inside enters is =
+      let on : On p t = of_rest m p t inside in
+      let outward : GoesAs m p Internal → ⊥ = λ kind. (
+      let only = internal_alone shape rules p step kind.0 t kind.1 kind.2 on in
+      (route_of m p step).apart t (subst (Contains p.starts) (sym only) kind.1) inside) in
+      target_in_area shape rules p step v area t on enters outward is
 
-module _ {m : DraftMachine} (nested : IsPlainlyNested m) (shape : HasShape m) where
-  -- a route that goes on from its start covers each vertex at which one of its transitions ends
-  module _ (p : Route) (route : IsRoute m p) (a : TransId) (s : VertexId) (from : IsFrom m p a s) where
-    covers_by : (kind : TransKind) → Goes m a kind → (t w : TransId) (x : VertexId) → Contains p.rest t → On p w → Enters m w x → Covers m p a s x
-    covers_by Internal goes t w x in_rest on enters =
-        let on_t = of_rest (single_legs nested) shape p route a from.starts t in_rest in
-        let same = alone (single_legs nested) shape p route a from.starts s t from.leaves from.state goes on_t in
-        absurd (route.apart t (subst (Contains p.starts) (sym same) (start_inside p a from.starts)) in_rest)
-    covers_by Local goes t w x in_rest on enters = record {
-      scope = Inside s;
-      leg = scope_of_local (single_legs nested) shape p route a from.starts s from.leaves goes;
-      around = refl;
-      lies = local_ends shape nested p route a from.starts s w x goes from.leaves on enters;
-    }
-    covers_by External goes t w x in_rest on enters =
-        let found = some_leg_scope (single_legs nested) shape p route a from.starts s from.leaves in
-        record {
-          scope = Within found.0;
-          leg = scope_of_external (single_legs nested) shape p route a from.starts s from.leaves found.0 goes found.1;
-          around = found.1.common s (source_of_leg (single_legs nested) shape p route a from.starts s from.leaves);
-          lies = found.1.common x (target_of_leg (single_legs nested) shape p route a from.starts w x on enters);
-        }
+  -- a start of one route is a start of each that has it, so they leave one State
+  start_of_both : (p q : Route) → IsStateRoute m p → IsStateRoute m q → (t : TransId) → Contains p.starts t → On q t
+      → (s : VertexId) × IsSource m p s × IsSource m q s
+  start_of_both p q first second t start on =
+      let s = source_of shape rules p first.0 t (of_start m p t start) in
+      let other = state_start shape rules q (inl second) t s.0 on s.1 (first.1 s.0 (t, start, s.1)) in
+      (s.0, (t, start, s.1), (t, other, s.1))
 
-    covers : (t w : TransId) (x : VertexId) → Contains p.rest t → On p w → Enters m w x → Covers m p a s x
-    covers t w x in_rest on enters =
-        let kind = start_kind (single_legs nested) shape p route a from.starts s from.leaves in
-        covers_by kind.0 kind.1 t w x in_rest on enters
-
-    is_source : IsSource m p s
-    is_source = (a, start_inside p a from.starts, from.leaves)
-
-    -- so it covers the vertex at which a further transition of it begins
-    covers_before : (t : TransId) (x : VertexId) → Contains p.rest t → Leaves m t x → Covers m p a s x
-    covers_before t x in_rest leaves =
-        let before = comes_from (single_legs nested) shape p route a from.starts t in_rest in
-        let same = leaves_one m t before.junction x before.leaves leaves in
-        covers t before.before x in_rest before.there (subst (Enters m before.before) same before.enters)
-
-    exits_there : (Active : VertexId → Type 0) (x r : VertexId) (here : Covers m p a s x) → Active r → LiesInScope m r here.scope → Exits m Active p r
-    exits_there Active x r here active lies =
-        exits_of (single_legs nested) shape p route a from.starts s from.leaves Active here.scope r here.leg active lies
-
-  module _ (Active : VertexId → Type 0) (p q : Route) (first : IsRoute m p) (second : IsRoute m q) (a c : TransId) (s r : VertexId)
-      (from : IsFrom m p a s) (other : IsFrom m q c r) (active : Active s) (also : Active r) (apart : p ≢ q) where
-    -- where both cover a vertex
-    covered_conflict : (x : VertexId) → Covers m p a s x → Covers m q c r x → Conflict m Active p q
-    covered_conflict x here there = (
-      apart,
-      ⊎_elim
-          (λ lies. inr (inl (r, exits_there p first a s from Active x r here also lies, is_source q second c r other)))
-          (⊎_elim
-          (λ lies. inr (inr (inl (s, exits_there q second c r other Active x s there active lies, is_source p first a s from))))
-          (λ chain. inr (inr (inr (s, r, is_source p first a s from, is_source q second c r other, chain)))))
-          (shared_touch m x s r here.scope there.scope here.around there.around here.lies there.lies),
-    )
+  module _ (Active : VertexId → Type 0) (p q : Route) (first : IsStateRoute m p) (second : IsStateRoute m q)
+      (active : (x : VertexId) → IsSource m p x ⊎ IsSource m q x → Active x) (apart : p ≢ q) where
+    -- where both exit and enter around one vertex
+    covered_conflict : (v : VertexId) (a b : Scope) → IsAreaOf m p a → IsAreaOf m q b → LiesInScope m v a → LiesInScope m v b → Conflict m Active p q
+    covered_conflict v a b is other lies more =
+        let s = some_anchor shape rules p first in
+        let r = some_anchor shape rules q second in
+        (conflict_is shape rules p q first second Active a b s.0 r.0 s.1 r.1 is other active apart).1
+        (shared_touch m v s.0 r.0 a b (anchor_around shape rules p first s.0 a s.1 is) (anchor_around shape rules q second r.0 b r.1 other) lies more)
 
     -- where both go on with one transition
     rest_conflict : (t : TransId) → Contains p.rest t → Contains q.rest t → Conflict m Active p q
     rest_conflict t here there =
-        let before = comes_from (single_legs nested) shape p first a from.starts t here in
-        covered_conflict before.junction
-        (covers_before p first a s from t before.junction here before.leaves)
-        (covers_before q second c r other t before.junction there before.leaves)
+        let v = target_of shape rules p first.0 t (of_rest m p t here) in
+        let a = has_area shape rules p (inl first) in
+        let b = has_area shape rules q (inl second) in
+        covered_conflict v.0 a.0 b.0 a.1 b.1
+        (rest_in_area p (inl first) t v.0 a.0 here v.1 a.1)
+        (rest_in_area q (inl second) t v.0 b.0 there v.1 b.1)
 
     shared_conflict : (t : TransId) → On p t → On q t → Conflict m Active p q
     shared_conflict t here there =
         ⊎_elim
-        (λ starts. ⊎_elim
-        (λ begins.
-        let left : Leaves m c s = subst (λ u. Leaves m u s) begins (subst (λ u. Leaves m u s) (sym starts) from.leaves) in
-        conflict_from_source m Active p q s apart (is_source p first a s from) (c, start_inside q c other.starts, left))
-        (λ in_rest. absurd (rest_leaves_no_state (single_legs nested) shape q second c other.starts t s in_rest
-        (subst (λ u. Leaves m u s) (sym starts) from.leaves) from.state))
-        (start_or_rest (single_legs nested) shape q second c other.starts t there))
-        (λ goes_on. ⊎_elim
-        (λ begins. absurd (rest_leaves_no_state (single_legs nested) shape p first a from.starts t r goes_on
-        (subst (λ u. Leaves m u r) (sym begins) other.leaves) other.state))
-        (λ in_rest. rest_conflict t goes_on in_rest)
-        (start_or_rest (single_legs nested) shape q second c other.starts t there))
-        (start_or_rest (single_legs nested) shape p first a from.starts t here)
+        (λ start. (let s = start_of_both p q first second t start there in conflict_from_source m Active p q s.0 apart s.1 s.2))
+        (λ inside. ⊎_elim
+        (λ begins. (let s = start_of_both q p second first t begins here in conflict_from_source m Active p q s.0 apart s.2 s.1))
+        (λ further. rest_conflict t inside further)
+        (start_or_rest m q t there))
+        (start_or_rest m p t here)
 
 -- ---- the lengths of routes
+
+some_length : (ts : List TransId) (t : TransId) → Contains ts t → 0 < length ts
+some_length [] t inside = absurd (nothing_in_nil t inside)
+some_length (u ∷ us) t inside = omega arith
 
 module _ {m : DraftMachine} (shape : HasShape m) (p : Route) (route : IsRoute m p) where
   -- the transitions of a route are in range
@@ -250,21 +224,23 @@ module _ {m : DraftMachine} (shape : HasShape m) (p : Route) (route : IsRoute m 
   route_once : ListsOnce (transitions_of p)
   route_once = once_append p.starts p.rest (once_ascending p.starts route.ascending.0) (once_ascending p.rest route.ascending.1) route.apart
 
-  -- so one of one start is short
-  pub short_route : (t : TransId) → p.starts ≡ t ∷ [] → IsShortRoute p
-  short_route t starts =
+  -- so it is short, if it starts somewhere
+  pub short_route : 0 < length p.starts → IsShortRoute p
+  short_route some =
       let most = few_once (length m.transitions) (transitions_of p) route_once
       (λ u inside. All-contains (λ (w : TransId). w.0 < length m.transitions) (transitions_of p) u route.in_range inside) in
-      (((t, starts), route_below), omega (arith, most, shape.limits.transitions))
+      ((some, route_below), omega (arith, most, shape.limits.transitions))
 
 -- ---- what fires
 
-module _ {m : DraftMachine} (nested : IsPlainlyNested m) (shape : HasShape m) (now : Configuration) (truth : Truth) (event : Event) where
-  -- an enabled route has one start, in range
-  enabled_built : (p : Route) → IsEnabled m now truth event p → IsBuiltRoute p
-  enabled_built p enabled =
-      let from = state_route_from (single_legs nested) p enabled.route_of_states in
-      ((from.0, from.2.starts), route_below shape p enabled.route_of_states.0)
+module _ {m : DraftMachine} (shape : HasShape m) (rules : KeepsModelRules m) (now : Configuration) (truth : Truth) (event : Event) where
+  -- an enabled route starts somewhere, and its transitions are in range
+  enabled_starts : (p : Route) → IsEnabled m now truth event p → 0 < length p.starts
+  enabled_starts p enabled =
+      let start = some_start shape rules p (inl enabled.route_of_states) in some_length p.starts start.0 start.1
+
+  enabled_runs : (p : Route) → IsEnabled m now truth event p → IsRunRoute p
+  enabled_runs p enabled = (enabled_starts p enabled, route_below shape p enabled.route_of_states.0)
 
   -- and each transition once
   enabled_once : (p : Route) → IsEnabled m now truth event p → ListsOnce (transitions_of p)
@@ -278,18 +254,18 @@ module _ {m : DraftMachine} (nested : IsPlainlyNested m) (shape : HasShape m) (n
     share_none p q here there apart t on also =
         let first = is_enabled p here in
         let second = is_enabled q there in
-        let from = state_route_from (single_legs nested) p first.route_of_states in
-        let other = state_route_from (single_legs nested) q second.route_of_states in
-        let active = active_source m now event p first.by_event from.1 (is_source nested shape p first.route_of_states.0 from.0 from.1 from.2) in
-        let active_too = active_source m now event q second.by_event other.1 (is_source nested shape q second.route_of_states.0 other.0 other.1 other.2) in
         fires.0.sound.agree p q here there
-        (shared_conflict nested shape now.Active p q first.route_of_states.0 second.route_of_states.0 from.0 other.0 from.1 other.1 from.2 other.2
-        active active_too apart t on also)
+        (shared_conflict shape rules now.Active p q first.route_of_states second.route_of_states
+        (λ x source. ⊎_elim
+        (λ one. active_source m now event p first.by_event x one)
+        (λ two. active_source m now event q second.by_event x two)
+        source)
+        apart t on also)
 
     fired_once : ListsOnce (all_of routes)
     fired_once =
         all_once routes fires.1
-        (λ p inside. (enabled_built p (is_enabled p inside)).0)
+        (λ p inside. first_start p (enabled_starts p (is_enabled p inside)))
         (λ p inside. enabled_once p (is_enabled p inside))
         share_none
 
@@ -304,14 +280,14 @@ module _ {m : DraftMachine} (nested : IsPlainlyNested m) (shape : HasShape m) (n
         let most = few_once (length m.transitions) (all_of routes) fired_once fired_below in
         omega (arith, most, all_length routes, shape.limits.transitions)
 
-    pub routes_built : AllByRecursion IsBuiltRoute routes
-    routes_built =
-        recursion_from_All IsBuiltRoute routes (λ k p lt. enabled_built _ (fires.0.sound.enabled k p lt))
+    pub routes_start : AllByRecursion IsRunRoute routes
+    routes_start =
+        recursion_from_All IsRunRoute routes (λ k p lt. enabled_runs _ (fires.0.sound.enabled k p lt))
 
-module _ {m : DraftMachine} (b : IsBuiltMachine m) where
-  -- so what fires has the form of what fires in a machine that the code runs
-  pub built_firing : (now : Configuration) (truth : Truth) (event : Event) (firing : Firing) → IsFiring m now truth event firing.routes → IsBuiltFiring firing
-  built_firing now truth event firing fires = (
-    routes_built (nested b) b.shape now truth event firing.routes fires,
-    few_transitions (nested b) b.shape now truth event firing.routes fires,
-  )
+-- so what fires is short
+pub short_firing : {m : DraftMachine} → HasShape m → KeepsModelRules m → (now : Configuration) (truth : Truth) (event : Event) (firing : Firing)
+    → IsFiring m now truth event firing.routes → IsShortFiring firing
+short_firing shape rules now truth event firing fires = (
+  routes_start shape rules now truth event firing.routes fires,
+  few_transitions shape rules now truth event firing.routes fires,
+)

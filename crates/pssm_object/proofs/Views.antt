@@ -22,7 +22,7 @@ use Rattle.pssm_semantics.specs.Journal.{object_of, configuration_after}
 use Rattle.pssm_semantics.specs.Values.{Store, Params, no_params}
 use Rattle.pssm_semantics.specs.Behaviours.{first_store}
 use Rattle.pssm_semantics.specs.Verdict.{IsFirstBroken}
-use Rattle.pssm_semantics.specs.Built.{IsBuiltClass}
+use Rattle.pssm_semantics.specs.Classes.{IsWellFormedClass}
 use Rattle.pssm_semantics.proofs.Configurations.{configuration-nil}
 use Rattle.pssm_semantics.proofs.Members.{first_in}
 use Rattle.pssm_pool.specs.declared.pools.Waiting.{Waiting}
@@ -84,7 +84,7 @@ module _ (situation : Situation) (x : Standing) (view_is : standing_of situation
     pub ready_seen : (task : Task) → Contains (ready_tasks class.machine x) task → Contains (ready_tasks class.machine (standing_of situation)) task
     ready_seen task ready = unseen (λ y. Contains (ready_tasks class.machine y) task) ready
 
-    module _ (b : IsBuiltClass class) where
+    module _ (b : IsWellFormedClass class) where
       -- the verdict is that of the rules
       pub keeps_seen : (signal : Option Waiting) (e : Entry) → object_of e ≡ x.own → (answer : Option Rule)
           → Judges class (standing_of situation) signal e answer
@@ -138,7 +138,7 @@ module _ (situation : Situation) (x : Standing) (view_is : standing_of situation
       few_seen stands =
           unseen (λ y. length (ready_tasks class.machine y) < 4294967296)
           (let few = few_tasks class b stands.1 in
-          let limits = b.machine.shape.limits in
+          let limits = stands.1.fits.shape.limits in
           let vertices = limits.vertices in
           let transitions = limits.transitions in
           omega (arith, few, vertices, transitions))

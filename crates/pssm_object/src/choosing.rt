@@ -4,7 +4,7 @@ ghost use Rattle.std.specs.Option.{option_copied};
 ghost use Rattle.pssm_model.specs.declared.elements.DraftMachine.{DraftMachine};
 ghost use Rattle.pssm_model.specs.declared.elements.VertexKind.TheVariants as kinds;
 ghost use Rattle.pssm_model.specs.Forest.{HasKind};
-ghost use Rattle.pssm_semantics.specs.Built.{IsBuiltClass};
+ghost use Rattle.pssm_semantics.specs.Classes.{IsWellFormedClass};
 ghost use Rattle.pssm_config.specs.Tables.{Fits};
 ghost use Rattle.pssm_plan.specs.Plans.{IsPlanOf};
 ghost use Rattle.pssm_plan.specs.Standings.{ready_calls};
@@ -39,7 +39,7 @@ impl Situation {
 
     /// Whether some active State defers the signal.
     pub fn defers(&self, class: &Class, waiting: &Waiting) -> bool
-        requires class { IsBuiltClass class.now }
+        requires class { IsWellFormedClass class.now }
         requires fits { Fits class.now.machine self.now.config }
         ensures { IsTrue result ↔ IsDeferredHere class.now (standing_of self.now) waiting.now }
     {
@@ -55,7 +55,7 @@ impl Situation {
         signal: Option<&Waiting>,
         word: u64,
     ) -> Result<Option<Entry>, NoMemory>
-        requires class { IsBuiltClass class.now }
+        requires class { IsWellFormedClass class.now }
         requires fits { Fits class.now.machine self.now.config }
         requires plan { IfSome self.now.plan (IsPlanOf class.now.machine) }
         ensures { IfOk result (Chooses class.now (standing_of self.now) (option_copied signal.entry) self.now.plan) }
@@ -78,7 +78,7 @@ impl Situation {
         signal: Option<&Waiting>,
         word: u64,
     ) -> Result<Option<Entry>, NoMemory>
-        requires class { IsBuiltClass class.now }
+        requires class { IsWellFormedClass class.now }
         requires fits { Fits class.now.machine self.now.config }
         requires here { self.now.plan ≡ Some plan.now }
         requires plan { IsPlanOf class.now.machine plan.now }
@@ -101,7 +101,7 @@ impl Situation {
         signal: Option<&Waiting>,
         word: u64,
     ) -> Result<Option<Entry>, NoMemory>
-        requires class { IsBuiltClass class.now }
+        requires class { IsWellFormedClass class.now }
         requires fits { Fits class.now.machine self.now.config }
         ensures { IfOk result (ChoosesNext class.now (standing_of self.now) (option_copied signal.entry)
             (first_waiting (standing_of self.now))) }
@@ -120,7 +120,7 @@ impl Situation {
         state: VertexId,
         word: u64,
     ) -> Result<Entry, NoMemory>
-        requires class { IsBuiltClass class.now }
+        requires class { IsWellFormedClass class.now }
         requires fits { Fits class.now.machine self.now.config }
         ensures { IfOk result (ServesCompletion class.now (standing_of self.now) state) }
     {
@@ -140,7 +140,7 @@ impl Situation {
         state: VertexId,
         word: u64,
     ) -> Result<Firing, NoMemory>
-        requires class { IsBuiltClass class.now }
+        requires class { IsWellFormedClass class.now }
         requires fits { Fits class.now.machine self.now.config }
         ensures { IfOk result (λ firing. Completes class.now (standing_of self.now) state firing.routes) }
     {
@@ -158,7 +158,7 @@ impl Situation {
         signal: Option<&Waiting>,
         word: u64,
     ) -> Result<Option<Entry>, NoMemory>
-        requires class { IsBuiltClass class.now }
+        requires class { IsWellFormedClass class.now }
         requires fits { Fits class.now.machine self.now.config }
         ensures { IfOk result (TakesSignal class.now (standing_of self.now) (option_copied signal.entry)) }
     {
@@ -176,7 +176,7 @@ impl Situation {
         waiting: &Waiting,
         word: u64,
     ) -> Result<Entry, NoMemory>
-        requires class { IsBuiltClass class.now }
+        requires class { IsWellFormedClass class.now }
         requires fits { Fits class.now.machine self.now.config }
         ensures { IfOk result (λ entry. TakesSignal class.now (standing_of self.now) (Some waiting.now) (Some entry)) }
     {
@@ -206,7 +206,7 @@ impl Situation {
         item: Item,
         word: u64,
     ) -> Result<Entry, NoMemory>
-        requires class { IsBuiltClass class.now }
+        requires class { IsWellFormedClass class.now }
         requires fits { Fits class.now.machine self.now.config }
         requires item { HasWays item }
         requires there { IsItemThere class.now.machine item }
@@ -228,7 +228,7 @@ impl Situation {
         mode: Mode,
         word: u64,
     ) -> Result<Entry, NoMemory>
-        requires class { IsBuiltClass class.now }
+        requires class { IsWellFormedClass class.now }
         requires fits { Fits class.now.machine self.now.config }
         requires region { region.0 < length class.now.machine.regions }
         ensures { IfOk result (GoesSomeWay class.now (standing_of self.now) (Item.Opened region mode)) }
@@ -253,7 +253,7 @@ impl Situation {
     }
 
     // The pick of one of the ways from a choice.
-    #[tactic(auto, using(crate::proofs::BuiltMachines::choice_leads))]
+    #[tactic(auto, using(crate::proofs::MachineLaws::choice_leads))]
     fn pick_way(
         &self,
         alloc: Global,
@@ -261,7 +261,7 @@ impl Situation {
         choice: VertexId,
         word: u64,
     ) -> Result<Entry, NoMemory>
-        requires class { IsBuiltClass class.now }
+        requires class { IsWellFormedClass class.now }
         requires choice { HasKind class.now.machine choice kinds.Choice }
         ensures { IfOk result (GoesSomeWay class.now (standing_of self.now) (Item.Pick choice)) }
     {
@@ -276,7 +276,7 @@ impl Situation {
 
     /// The entry that does a ready task, with the outputs of its behaviour.
     pub fn run_task(&self, alloc: Global, class: &Class, task: Task) -> Result<Entry, NoMemory>
-        requires class { IsBuiltClass class.now }
+        requires class { IsWellFormedClass class.now }
         requires fits { Fits class.now.machine self.now.config }
         requires plan { IfSome self.now.plan (IsPlanOf class.now.machine) }
         requires ready { Contains (ready_tasks class.now.machine (standing_of self.now)) task }
@@ -310,7 +310,7 @@ impl Situation {
 
     // The outputs of the behaviour of an item.
     fn outputs(&self, alloc: Global, class: &Class, item: Item) -> Result<Row<Out>, NoMemory>
-        requires class { IsBuiltClass class.now }
+        requires class { IsWellFormedClass class.now }
         requires place { HasPlace class.now.machine item }
         ensures { IfOk result (Makes class.now (standing_of self.now) item) }
     {

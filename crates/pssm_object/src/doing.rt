@@ -4,7 +4,7 @@ ghost use Rattle.std.specs.Option.{option_copied};
 ghost use Rattle.pssm_model.specs.Configuration.{IsNextDoStep, do_steps_of};
 ghost use Rattle.pssm_model.specs.Changes.{Agree, did_step};
 ghost use Rattle.pssm_config.specs.Tables.{Fits, configuration_of};
-ghost use Rattle.pssm_semantics.specs.Built.{IsBuiltClass};
+ghost use Rattle.pssm_semantics.specs.Classes.{IsWellFormedClass};
 ghost use Rattle.pssm_semantics.specs.Arguments.{ActArgsFit};
 ghost use Rattle.pssm_semantics.specs.Values.{no_params, outcome_of};
 ghost use Rattle.pssm_object.specs.Doing.{next_do_step, do_task_of, do_tasks};
@@ -115,7 +115,7 @@ fn step_act(class: &Class, s: VertexId, step: u16) -> Option<&Act>
 
 // The behaviour of a do step, if it has one with a statement; what has none makes nothing.
 fn stated_step(class: &Class, s: VertexId, step: u16) -> Option<&Act>
-    requires class { IsBuiltClass class.now }
+    requires class { IsWellFormedClass class.now }
     requires vertex { s.0 < length class.now.machine.vertices }
     ensures some { IfSome result (λ act. Some act.now ≡ act_of_step class.now s step) }
     ensures fits { IfSome result (λ act. ActArgsFit act.now) }
@@ -136,7 +136,7 @@ fn zeros(alloc: Global) -> Result<Args, NoMemory>
 
 // Counts the next do step of a State as done.
 fn count_step(config: &mut Config, class: &Class, s: VertexId, step: u16)
-    requires class { IsBuiltClass class.now }
+    requires class { IsWellFormedClass class.now }
     requires fits { Fits class.now.machine config.old }
     requires next { IsNextHere class.now.machine config.old s step }
     ensures fits { Fits class.now.machine config.new }
@@ -155,7 +155,7 @@ impl Situation {
         step: u16,
         outs: &Row<Out>,
     ) -> Result<Option<Rule>, NoMemory>
-        requires class { IsBuiltClass class.now }
+        requires class { IsWellFormedClass class.now }
         requires fits { Fits class.now.machine self.now.config }
         requires vertex { s.0 < length class.now.machine.vertices }
         ensures { IfOk result (JudgesDoStep class.now (standing_of self.now) s step outs.now) }
@@ -179,7 +179,7 @@ impl Situation {
         step: u16,
         outs: &Row<Out>,
     ) -> Result<bool, NoMemory>
-        requires class { IsBuiltClass class.now }
+        requires class { IsWellFormedClass class.now }
         requires vertex { s.0 < length class.now.machine.vertices }
         ensures { IfOk result (λ same. IsTrue same ↔ MakesInStep class.now (standing_of self.now) s step outs.now) }
     {
@@ -216,7 +216,7 @@ impl Situation {
         s: VertexId,
         step: u16,
     ) -> Result<Row<Out>, NoMemory>
-        requires class { IsBuiltClass class.now }
+        requires class { IsWellFormedClass class.now }
         requires vertex { s.0 < length class.now.machine.vertices }
         ensures { IfOk result (MakesInStep class.now (standing_of self.now) s step) }
     {
@@ -245,7 +245,7 @@ impl Situation {
         s: VertexId,
         step: u16,
     ) -> Result<(), NoMemory>
-        requires class { IsBuiltClass class.now }
+        requires class { IsWellFormedClass class.now }
         requires fits { Fits class.now.machine self.old.config }
         requires next { IsNextHere class.now.machine self.old.config s step }
         ensures ok { OnOk result (DoesStep class.now (standing_of self.old) s step (standing_of self.new)) }

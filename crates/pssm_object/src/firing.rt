@@ -1,7 +1,7 @@
 //! What an event fires where an object stands so, and whether the object defers a signal.
 ghost use Rattle.std.specs.Prelude.{◌≡◌, ◌↔◌, ◌<◌, IsTrue, IfOk, length, slice_get};
 ghost use Rattle.std.specs.Option.{option_copied};
-ghost use Rattle.pssm_model.specs.BuiltMachine.{IsBuiltMachine};
+ghost use Rattle.pssm_model.specs.WellFormed.{KeepsModelRules};
 ghost use Rattle.pssm_config.specs.Tables.{Fits};
 ghost use Rattle.pssm_semantics.specs.Values.{eight_of};
 ghost use Rattle.pssm_semantics.specs.Behaviours.{guards_under};
@@ -48,7 +48,7 @@ pub fn fires(
     event: Event,
     firing: &Firing,
 ) -> Result<bool, NoMemory>
-    requires built { IsBuiltMachine class.now.machine }
+    requires rules { KeepsModelRules class.now.machine }
     requires fits { Fits class.now.machine config.now }
     ensures { IfOk result (λ is. IsTrue is
         ↔ Fires class.now config.now store.now (eight_of params.now) event firing.now.routes) }
@@ -75,7 +75,7 @@ pub fn pick_firing(
     event: Event,
     word: u64,
 ) -> Result<Firing, NoMemory>
-    requires built { IsBuiltMachine class.now.machine }
+    requires rules { KeepsModelRules class.now.machine }
     requires fits { Fits class.now.machine config.now }
     ensures { IfOk result (λ firing. Fires class.now config.now store.now (eight_of params.now) event firing.routes) }
 {
@@ -97,7 +97,7 @@ fn is_overridden(
     store: &[i64],
     state: VertexId,
 ) -> bool
-    requires built { IsBuiltMachine class.now.machine }
+    requires rules { KeepsModelRules class.now.machine }
     requires fits { Fits class.now.machine config.now }
     requires there { state.0 < length class.now.machine.vertices }
     ensures { IsTrue result ↔ OverridesThere class.now config.now store.now signal.now state }
@@ -127,7 +127,7 @@ fn state_defers(
     store: &[i64],
     state: VertexId,
 ) -> bool
-    requires built { IsBuiltMachine class.now.machine }
+    requires rules { KeepsModelRules class.now.machine }
     requires fits { Fits class.now.machine config.now }
     requires there { state.0 < length class.now.machine.vertices }
     ensures { IsTrue result ↔ StateDefers class.now config.now store.now signal.now state }
@@ -139,7 +139,7 @@ fn state_defers(
 
 /// Whether some State is active there and defers the signal. It takes no memory.
 pub fn is_deferred(class: &Class, config: &Config, signal: &Waiting, store: &[i64]) -> bool
-    requires built { IsBuiltMachine class.now.machine }
+    requires rules { KeepsModelRules class.now.machine }
     requires fits { Fits class.now.machine config.now }
     ensures { IsTrue result ↔ IsDeferredThere class.now config.now store.now signal.now }
 {

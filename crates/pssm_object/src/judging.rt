@@ -2,7 +2,7 @@
 ghost use Rattle.std.specs.Prelude.{◌≡◌, ◌<◌, ◌↔◌, length, Some, IsTrue, IfOk, IfSome, MatchResult};
 ghost use Rattle.std.specs.Option.{option_copied};
 ghost use Rattle.pssm_model.specs.declared.elements.DraftMachine.{DraftMachine};
-ghost use Rattle.pssm_semantics.specs.Built.{IsBuiltClass};
+ghost use Rattle.pssm_semantics.specs.Classes.{IsWellFormedClass};
 ghost use Rattle.pssm_semantics.specs.Known.{IsWayOf, IsRouteOf};
 ghost use Rattle.pssm_config.specs.Tables.{Fits};
 ghost use Rattle.pssm_plan.specs.Plans.{IsPlanOf};
@@ -33,7 +33,7 @@ impl Situation {
         entry: &Entry,
         signal: Option<&Waiting>,
     ) -> Result<Option<Rule>, NoMemory>
-        requires class { IsBuiltClass class.now }
+        requires class { IsWellFormedClass class.now }
         requires fits { Fits class.now.machine self.now.config }
         requires plan { IfSome self.now.plan (IsPlanOf class.now.machine) }
         requires names { NamesPlaces class.now.machine entry.now }
@@ -74,7 +74,7 @@ impl Situation {
         entry: &Entry,
         signal: Option<&Waiting>,
     ) -> Result<Option<Rule>, NoMemory>
-        requires class { IsBuiltClass class.now }
+        requires class { IsWellFormedClass class.now }
         requires fits { Fits class.now.machine self.now.config }
         requires plan { IfSome self.now.plan (IsPlanOf class.now.machine) }
         requires names { NamesPlaces class.now.machine entry.now }
@@ -131,7 +131,7 @@ impl Situation {
         firing: &Firing,
         signal: Option<&Waiting>,
     ) -> Result<Option<Rule>, NoMemory>
-        requires class { IsBuiltClass class.now }
+        requires class { IsWellFormedClass class.now }
         requires fits { Fits class.now.machine self.now.config }
         requires plan { IfSome self.now.plan (IsPlanOf class.now.machine) }
         ensures { IfOk result (JudgesTake class.now (standing_of self.now) (option_copied signal.entry)
@@ -158,7 +158,7 @@ impl Situation {
         firing: &Firing,
         waiting: &Waiting,
     ) -> Result<Option<Rule>, NoMemory>
-        requires class { IsBuiltClass class.now }
+        requires class { IsWellFormedClass class.now }
         requires fits { Fits class.now.machine self.now.config }
         ensures { IfOk result (JudgesFiring (FiresHere class.now (standing_of self.now) firing.now.routes waiting.now)) }
     {
@@ -188,7 +188,7 @@ impl Situation {
         state: VertexId,
         firing: &Firing,
     ) -> Result<Option<Rule>, NoMemory>
-        requires class { IsBuiltClass class.now }
+        requires class { IsWellFormedClass class.now }
         requires fits { Fits class.now.machine self.now.config }
         requires plan { IfSome self.now.plan (IsPlanOf class.now.machine) }
         ensures { IfOk result (JudgesDone class.now (standing_of self.now) state firing.now.routes) }
@@ -210,7 +210,7 @@ impl Situation {
         state: VertexId,
         firing: &Firing,
     ) -> Result<Option<Rule>, NoMemory>
-        requires class { IsBuiltClass class.now }
+        requires class { IsWellFormedClass class.now }
         requires fits { Fits class.now.machine self.now.config }
         ensures { IfOk result (JudgesFiring (Completes class.now (standing_of self.now) state firing.now.routes)) }
     {
@@ -229,7 +229,7 @@ impl Situation {
         state: VertexId,
         firing: &Firing,
     ) -> Result<bool, NoMemory>
-        requires class { IsBuiltClass class.now }
+        requires class { IsWellFormedClass class.now }
         requires fits { Fits class.now.machine self.now.config }
         ensures { IfOk result (λ is. IsTrue is ↔ Completes class.now (standing_of self.now) state firing.now.routes) }
     {
@@ -281,7 +281,7 @@ impl Situation {
         item: Item,
         outs: &Row<Out>,
     ) -> Result<Option<Rule>, NoMemory>
-        requires class { IsBuiltClass class.now }
+        requires class { IsWellFormedClass class.now }
         requires plan { IfSome self.now.plan (IsPlanOf class.now.machine) }
         requires place { HasPlace class.now.machine item }
         ensures { IfOk result (JudgesWork class.now (standing_of self.now) item outs.now) }
@@ -305,7 +305,7 @@ impl Situation {
         item: Item,
         outs: &Row<Out>,
     ) -> Result<bool, NoMemory>
-        requires class { IsBuiltClass class.now }
+        requires class { IsWellFormedClass class.now }
         requires place { HasPlace class.now.machine item }
         ensures { IfOk result (λ same. IsTrue same ↔ Makes class.now (standing_of self.now) item outs.now) }
     {
@@ -328,7 +328,7 @@ impl Situation {
     // The verdict on an opening with its way.
     #[inline(never)]
     fn judge_opened(&self, class: &Class, region: RegionId, mode: Mode, how: &How) -> Option<Rule>
-        requires class { IsBuiltClass class.now }
+        requires class { IsWellFormedClass class.now }
         requires fits { Fits class.now.machine self.now.config }
         requires plan { IfSome self.now.plan (IsPlanOf class.now.machine) }
         requires region { region.0 < length class.now.machine.regions }
@@ -349,7 +349,7 @@ impl Situation {
 
     // Whether the region opens in this mode by the way.
     fn opens(&self, class: &Class, region: RegionId, mode: Mode, how: &How) -> bool
-        requires class { IsBuiltClass class.now }
+        requires class { IsWellFormedClass class.now }
         requires fits { Fits class.now.machine self.now.config }
         requires region { region.0 < length class.now.machine.regions }
         requires way { IsWayOf class.now.machine how.now }
@@ -362,7 +362,7 @@ impl Situation {
     // The verdict on a pick with its route.
     #[inline(never)]
     fn judge_pick(&self, class: &Class, choice: VertexId, route: &Route) -> Option<Rule>
-        requires class { IsBuiltClass class.now }
+        requires class { IsWellFormedClass class.now }
         requires plan { IfSome self.now.plan (IsPlanOf class.now.machine) }
         requires choice { choice.0 < length class.now.machine.vertices }
         requires route { IsRouteOf class.now.machine route.now }
@@ -390,7 +390,7 @@ impl Situation {
         step: u16,
         outs: &Row<Out>,
     ) -> Result<Option<Rule>, NoMemory>
-        requires class { IsBuiltClass class.now }
+        requires class { IsWellFormedClass class.now }
         requires fits { Fits class.now.machine self.now.config }
         requires state { state.0 < length class.now.machine.vertices }
         ensures { IfOk result (JudgesDoing class.now (standing_of self.now) state step outs.now) }

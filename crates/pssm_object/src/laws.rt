@@ -2,7 +2,6 @@
 ghost use Rattle.std.specs.Prelude.{◌≡◌, ◌⊎◌, ◌++◌, ◌∷◌, [], List, Option};
 ghost use Rattle.pssm_model.specs.declared.ids.VertexId.{VertexId};
 ghost use Rattle.pssm_model.specs.declared.elements.DraftMachine.{DraftMachine};
-ghost use Rattle.pssm_model.specs.BuiltMachine.{IsBuiltMachine};
 ghost use Rattle.pssm_model.specs.Order.{entries_at_most};
 ghost use Rattle.pssm_plan.specs.Steadiness.{IsConsistent};
 ghost use Rattle.pssm_semantics.specs.declared.entry.ObjectId.{ObjectId};
@@ -10,7 +9,8 @@ ghost use Rattle.pssm_semantics.specs.declared.entry.Entry.{Entry};
 ghost use Rattle.pssm_semantics.specs.declared.setting.Class.{Class};
 ghost use Rattle.pssm_semantics.specs.Journal.{IsPost, object_of, configuration_after};
 ghost use Rattle.pssm_semantics.specs.Completion.{BecomesComplete, IsStepFinished};
-ghost use Rattle.pssm_semantics.specs.Built.{IsBuiltClass, HasBuiltForm};
+ghost use Rattle.pssm_semantics.specs.Classes.{IsWellFormedClass};
+ghost use Rattle.pssm_semantics.specs.Forms.{HasForm};
 ghost use Rattle.pssm_pool.specs.declared.pools.Waiting.{Waiting};
 ghost use Rattle.pssm_object.specs.Standing.{Standing, StandsAfter};
 ghost use Rattle.pssm_object.specs.Following.{NamesSignal, KeepsRules};
@@ -26,9 +26,9 @@ pub fn other_entries()
 /// the items of the step and keep every rule: at most two for each vertex of the machine, one for each region and one
 /// for each transition (UML 2.5.1, 14.2.3.9, run to completion; the bound is this profile's choice).
 pub fn open_steps()
-    ensures known { (class : Class) (J : List Entry) (x : Standing) → IsBuiltClass class → StandsAfter class J x
+    ensures known { (class : Class) (J : List Entry) (x : Standing) → IsWellFormedClass class → StandsAfter class J x
         → IsStepFinished class.machine J x.own ⊎ (IsStepFinished class.machine J x.own → ⊥) }
-    ensures finishes { (class : Class) (J : List Entry) (x : Standing) → IsBuiltClass class → StandsAfter class J x
+    ensures finishes { (class : Class) (J : List Entry) (x : Standing) → IsWellFormedClass class → StandsAfter class J x
         → Finishes class J x.own (entries_at_most class.machine) }
 {}
 
@@ -36,15 +36,15 @@ pub fn open_steps()
 /// active; and no entry makes two States of an object complete (UML 2.5.1, 14.2.3.4 and 14.2.3.8, State
 /// configurations and completion events).
 pub fn active_states()
-    ensures consistent { (class : Class) (J : List Entry) (x : Standing) → IsBuiltClass class → StandsAfter class J x
+    ensures consistent { (class : Class) (J : List Entry) (x : Standing) → IsWellFormedClass class → StandsAfter class J x
         → IsConsistent class.machine (configuration_after class.machine J x.own) }
     ensures one_completes { (m : DraftMachine) (before : List Entry) (e : Entry) (o : ObjectId) (s q : VertexId)
-        → IsBuiltMachine m → BecomesComplete m before e o s → BecomesComplete m before e o q → s ≡ q }
+        → BecomesComplete m before e o s → BecomesComplete m before e o q → s ≡ q }
 {}
 
-/// An entry of an object that keeps every rule has at most 64 outputs, its routes have one start each and at most 8,192
+/// An entry of an object that keeps every rule has at most 64 outputs, its routes start somewhere and have at most 8,192
 /// transitions in all, and a vertex that it restores is one of the first 4,096 (this profile's choice).
 pub fn entry_forms()
     ensures { (class : Class) (J : List Entry) (x : Standing) (signal : Option Waiting) (e : Entry)
-        → IsBuiltClass class → StandsAfter class J x → object_of e ≡ x.own → NamesSignal signal e → KeepsRules class x signal J e → HasBuiltForm e }
+        → IsWellFormedClass class → StandsAfter class J x → object_of e ≡ x.own → NamesSignal signal e → KeepsRules class x signal J e → HasForm e }
 {}

@@ -5,7 +5,7 @@ ghost use Rattle.pssm_semantics.specs.declared.entry.Entry.{Entry as AnEntry};
 ghost use Rattle.pssm_semantics.specs.declared.setting.Class.{Class as AClass};
 ghost use Rattle.pssm_semantics.specs.Values.{no_params};
 ghost use Rattle.pssm_semantics.specs.Journal.{object_of};
-ghost use Rattle.pssm_semantics.specs.Built.{IsBuiltClass};
+ghost use Rattle.pssm_semantics.specs.Classes.{IsWellFormedClass};
 
 use crate::queue::Queue;
 use crate::situation::Situation;
@@ -81,7 +81,7 @@ impl Object {
         entry: &Entry,
         signal: Option<&Waiting>,
     ) -> Result<Option<Rule>, NoMemory>
-        requires class { IsBuiltClass class.now }
+        requires class { IsWellFormedClass class.now }
         requires stands { Stands class.now self.now }
         requires own { object_of entry.now ≡ self.now.own }
         requires places { NamesPlaces class.now.machine entry.now }
@@ -101,7 +101,7 @@ impl Object {
         entry: &Entry,
         signal: Option<&Waiting>,
     ) -> Result<(), NoMemory>
-        requires class { IsBuiltClass class.now }
+        requires class { IsWellFormedClass class.now }
         requires can { CanCome class.now self.old (option_copied signal) entry.now }
         ensures own { self.new.own ≡ self.old.own }
         ensures ok { OnOk result (Brings class.now self.old (option_copied signal.entry) entry.now self.new) }
@@ -152,7 +152,7 @@ impl Object {
     /// How many tasks of the object are ready: exits, effects and entries whose turn has come, and the next do steps of
     /// active States; none once the object has ended (UML 2.5.1, 14.2.3.9 and 14.2.3.4).
     pub fn task_count(&self, class: &Class) -> u32
-        requires class { IsBuiltClass class.now }
+        requires class { IsWellFormedClass class.now }
         requires stands { Stands class.now self.now }
         ensures count { result ≡ length (ready_tasks class.now.machine self.now) }
         ensures listed { AreReadyTasks class.now self.now (ready_tasks class.now.machine self.now) }
@@ -182,7 +182,7 @@ impl Object {
         signal: Option<&Waiting>,
         word: u64,
     ) -> Result<Option<Entry>, NoMemory>
-        requires class { IsBuiltClass class.now }
+        requires class { IsWellFormedClass class.now }
         requires stands { Stands class.now self.now }
         ensures moves { IfOk result (λ chosen. IfSome chosen IsMove) }
         ensures own { IfOk result (λ chosen. IfSome chosen (IsCandidate self.now.own (option_copied signal.entry))) }
@@ -195,7 +195,7 @@ impl Object {
 
     /// Whether no entry of the object but a post may come next. `waiting`: whether a signal that is not deferred waits.
     pub fn quiet(&self, class: &Class, waiting: bool) -> bool
-        requires class { IsBuiltClass class.now }
+        requires class { IsWellFormedClass class.now }
         requires stands { Stands class.now self.now }
         // A signal is handed in where one waits.
         ensures { (J : List AnEntry) (signal : Option Signal) → StandsAfter class.now J self.now
@@ -208,7 +208,7 @@ impl Object {
     /// Whether the object defers the signal that waits: a State that is active defers it, and no route that the signal
     /// enables starts at this State or in it (UML 2.5.1, 14.2.3.4, deferred events). It takes no memory.
     pub fn defers(&self, class: &Class, waiting: &Waiting) -> bool
-        requires class { IsBuiltClass class.now }
+        requires class { IsWellFormedClass class.now }
         requires stands { Stands class.now self.now }
         ensures { Defers class.now self.now waiting.now result }
     {
@@ -219,7 +219,7 @@ impl Object {
     ///
     /// `NoMemory`: memory ran out.
     pub fn run_task(&self, alloc: Global, class: &Class, task: Task) -> Result<Entry, NoMemory>
-        requires class { IsBuiltClass class.now }
+        requires class { IsWellFormedClass class.now }
         requires stands { Stands class.now self.now }
         requires ready { Contains (ready_tasks class.now.machine self.now) task }
         ensures does { IfOk result (Does self.now.own task) }

@@ -1,6 +1,6 @@
 //! By which way a region opens, where the variables and the parameters have these values.
 ghost use Rattle.std.specs.Prelude.{◌≡◌, ◌↔◌, ◌<◌, IsTrue, IfOk, IfSome, IfNone, Some, All, Contains, length};
-ghost use Rattle.pssm_model.specs.BuiltMachine.{IsBuiltMachine};
+ghost use Rattle.pssm_model.specs.WellFormed.{KeepsModelRules};
 ghost use Rattle.pssm_model.specs.Forest.{HasKind, OwnsOfKind};
 ghost use Rattle.pssm_model.specs.declared.ids.VertexId.{VertexId};
 ghost use Rattle.pssm_model.specs.declared.elements.VertexKind.TheVariants as kinds;
@@ -27,7 +27,7 @@ pub fn opens_by(
     mode: Mode,
     how: &How,
 ) -> bool
-    requires built { IsBuiltMachine class.now.machine }
+    requires rules { KeepsModelRules class.now.machine }
     requires fits { Fits class.now.machine config.now }
     requires region { r.0 < length class.now.machine.regions }
     requires way { IsWayOf class.now.machine how.now }
@@ -66,7 +66,7 @@ fn opens_by_history(
     kind: VertexKind,
     how: &How,
 ) -> bool
-    requires built { IsBuiltMachine class.now.machine }
+    requires rules { KeepsModelRules class.now.machine }
     requires fits { Fits class.now.machine config.now }
     requires region { r.0 < length class.now.machine.regions }
     requires kind { IsHistoryKind kind }
@@ -98,7 +98,7 @@ fn opens_afresh(
     kind: VertexKind,
     how: &How,
 ) -> bool
-    requires built { IsBuiltMachine class.now.machine }
+    requires rules { KeepsModelRules class.now.machine }
     requires region { r.0 < length class.now.machine.regions }
     requires kind { IsHistoryKind kind }
     requires way { IsWayOf class.now.machine how.now }
@@ -112,7 +112,7 @@ fn opens_afresh(
 
 // Whether the way is a route by which a step goes on from the vertex.
 fn goes_from(class: &Class, store: &[i64], params: &Args, origin: VertexId, how: &How) -> bool
-    requires { IsBuiltMachine class.now.machine }
+    requires { KeepsModelRules class.now.machine }
     ensures { IsTrue result ↔ GoesFrom class.now store.now params.now origin how.now }
 {
     match how {
@@ -123,7 +123,7 @@ fn goes_from(class: &Class, store: &[i64], params: &Args, origin: VertexId, how:
 
 // Whether the way is one by which the region opens by default.
 fn opens_by_default(class: &Class, store: &[i64], params: &Args, r: RegionId, how: &How) -> bool
-    requires built { IsBuiltMachine class.now.machine }
+    requires rules { KeepsModelRules class.now.machine }
     requires region { r.0 < length class.now.machine.regions }
     requires way { IsWayOf class.now.machine how.now }
     ensures { IsTrue result ↔ IsDefaultWay class.now store.now params.now r how.now }
@@ -137,7 +137,7 @@ fn opens_by_default(class: &Class, store: &[i64], params: &Args, r: RegionId, ho
 
 // Whether a step goes on by the route from an initial vertex of the region.
 fn begins_in(class: &Class, store: &[i64], params: &Args, r: RegionId, route: &Route) -> bool
-    requires built { IsBuiltMachine class.now.machine }
+    requires rules { KeepsModelRules class.now.machine }
     requires route { IsRouteOf class.now.machine route.now }
     ensures { IsTrue result ↔ IsDefaultWay class.now store.now params.now r (How.By route.now) }
 {
@@ -186,7 +186,7 @@ fn only_state(machine: &Machine, v: VertexId) -> Option<VertexId>
 
 // The history vertex of the kind that the region owns and that has a transition, if there is one.
 fn history_of(machine: &Machine, r: RegionId, kind: VertexKind) -> Option<VertexId>
-    requires built { IsBuiltMachine machine.now }
+    requires rules { KeepsModelRules machine.now }
     requires region { r.0 < length machine.now.regions }
     requires kind { IsHistoryKind kind }
     ensures some { IfSome result (IsHistoryOf machine.now r kind) }
@@ -238,7 +238,7 @@ pub fn some_way(
     mode: Mode,
     word: u64,
 ) -> Result<How, NoMemory>
-    requires built { IsBuiltMachine class.now.machine }
+    requires rules { KeepsModelRules class.now.machine }
     requires fits { Fits class.now.machine config.now }
     requires region { r.0 < length class.now.machine.regions }
     ensures { IfOk result (IsOpeningWay class.now config.now store.now params.now r mode) }
@@ -279,7 +279,7 @@ fn history_way(
     kind: VertexKind,
     word: u64,
 ) -> Result<How, NoMemory>
-    requires built { IsBuiltMachine class.now.machine }
+    requires rules { KeepsModelRules class.now.machine }
     requires fits { Fits class.now.machine config.now }
     requires region { r.0 < length class.now.machine.regions }
     requires kind { IsHistoryKind kind }
@@ -301,7 +301,7 @@ fn fresh_way(
     kind: VertexKind,
     word: u64,
 ) -> Result<How, NoMemory>
-    requires built { IsBuiltMachine class.now.machine }
+    requires rules { KeepsModelRules class.now.machine }
     requires region { r.0 < length class.now.machine.regions }
     requires kind { IsHistoryKind kind }
     ensures { IfOk result (IsFreshWay class.now store.now params.now r kind) }
@@ -321,7 +321,7 @@ fn default_way(
     r: RegionId,
     word: u64,
 ) -> Result<How, NoMemory>
-    requires built { IsBuiltMachine class.now.machine }
+    requires rules { KeepsModelRules class.now.machine }
     requires region { r.0 < length class.now.machine.regions }
     ensures { IfOk result (IsDefaultWay class.now store.now params.now r) }
 {
@@ -340,7 +340,7 @@ fn from_initial(
     v: VertexId,
     word: u64,
 ) -> Result<Route, NoMemory>
-    requires built { IsBuiltMachine class.now.machine }
+    requires rules { KeepsModelRules class.now.machine }
     requires initial { HasKind class.now.machine v kinds.Initial }
     ensures { IfOk result (IsWayFrom class.now store.now params.now v) }
 {

@@ -1,6 +1,6 @@
 //! Routes by which a step goes on within itself, where the variables and the parameters have these values.
 ghost use Rattle.std.specs.Prelude.{◌↔◌, IsTrue, IfOk};
-ghost use Rattle.pssm_model.specs.BuiltMachine.{IsBuiltMachine};
+ghost use Rattle.pssm_model.specs.WellFormed.{KeepsModelRules};
 ghost use Rattle.pssm_model.specs.FiringSets.{IsLateOrigin};
 ghost use Rattle.pssm_model.specs.Paths.{HasOut};
 ghost use Rattle.pssm_object.specs.inner.Firing.{IsWayFrom};
@@ -19,7 +19,7 @@ pub fn goes_on_by(
     origin: VertexId,
     route: &Route,
 ) -> bool
-    requires built { IsBuiltMachine class.now.machine }
+    requires rules { KeepsModelRules class.now.machine }
     ensures { IsTrue result ↔ IsWayFrom class.now store.now params.now origin route.now }
 {
     check_late(
@@ -41,7 +41,7 @@ pub fn route_from(
     origin: VertexId,
     word: u64,
 ) -> Result<Route, NoMemory>
-    requires built { IsBuiltMachine class.now.machine }
+    requires rules { KeepsModelRules class.now.machine }
     requires origin { IsLateOrigin class.now.machine origin }
     requires out { HasOut class.now.machine origin }
     ensures { IfOk result (IsWayFrom class.now store.now params.now origin) }

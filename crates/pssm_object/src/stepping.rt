@@ -1,11 +1,11 @@
 //! Where an object stands once one more entry of it has come that may follow.
 ghost use Rattle.std.specs.Prelude.{◌≡◌, length, IfOk, OnOk, OnErr, Some};
 ghost use Rattle.std.specs.Option.{option_copied};
-ghost use Rattle.pssm_model.specs.BuiltMachine.{IsBuiltMachine};
+ghost use Rattle.pssm_model.specs.WellFormed.{KeepsModelRules};
 ghost use Rattle.pssm_model.specs.Changes.{Agree};
 ghost use Rattle.pssm_config.specs.Tables.{Fits, configuration_of};
 ghost use Rattle.pssm_plan.specs.Steadiness.{changed_by_item};
-ghost use Rattle.pssm_semantics.specs.Built.{IsBuiltClass};
+ghost use Rattle.pssm_semantics.specs.Classes.{IsWellFormedClass};
 ghost use Rattle.pssm_semantics.specs.Arguments.{ActArgsFit};
 ghost use Rattle.pssm_semantics.specs.Values.{outcome_of};
 ghost use Rattle.pssm_object.specs.inner.Queueing.{QueueFits};
@@ -37,7 +37,7 @@ impl Situation {
         entry: &Entry,
         signal: Option<&Waiting>,
     ) -> Result<(), NoMemory>
-        requires class { IsBuiltClass class.now }
+        requires class { IsWellFormedClass class.now }
         requires fits { Fits class.now.machine self.old.config }
         requires room { QueueFits class.now.machine self.old.queue }
         requires eight { length self.old.params ≡ 8 }
@@ -72,7 +72,7 @@ impl Situation {
     // Makes the plan that of the start.
     #[inline(never)]
     fn start(&mut self, alloc: Global, machine: &Machine) -> Result<(), NoMemory>
-        requires built { IsBuiltMachine machine.now }
+        requires rules { KeepsModelRules machine.now }
         ensures ok { OnOk result (Begins machine.now (standing_of self.old) (standing_of self.new)) }
         ensures err { OnErr result (standing_of self.new ≡ standing_of self.old) }
     {
@@ -89,7 +89,7 @@ impl Situation {
         firing: &Firing,
         signal: Option<&Waiting>,
     ) -> Result<(), NoMemory>
-        requires built { IsBuiltMachine machine.now }
+        requires rules { KeepsModelRules machine.now }
         requires fits { Fits machine.now self.old.config }
         requires eight { length self.old.params ≡ 8 }
         requires can { CanTake machine.now firing.now.routes (option_copied signal) }
@@ -114,7 +114,7 @@ impl Situation {
         state: VertexId,
         firing: &Firing,
     ) -> Result<(), NoMemory>
-        requires built { IsBuiltMachine machine.now }
+        requires rules { KeepsModelRules machine.now }
         requires fits { Fits machine.now self.old.config }
         requires room { QueueFits machine.now self.old.queue }
         requires eight { length self.old.params ≡ 8 }
@@ -132,7 +132,7 @@ impl Situation {
     // Runs a ready exit, effect or entry with its behaviour.
     #[inline(always)]
     fn do_work(&mut self, alloc: Global, class: &Class, item: Item) -> Result<(), NoMemory>
-        requires class { IsBuiltClass class.now }
+        requires class { IsWellFormedClass class.now }
         requires fits { Fits class.now.machine self.old.config }
         requires room { QueueFits class.now.machine self.old.queue }
         requires can { CanRunHere class.now.machine self.old.plan self.old.config item How.Nothing }
@@ -154,7 +154,7 @@ impl Situation {
         item: Item,
         act: &Act,
     ) -> Result<(), NoMemory>
-        requires class { IsBuiltClass class.now }
+        requires class { IsWellFormedClass class.now }
         requires fits { Fits class.now.machine self.old.config }
         requires room { QueueFits class.now.machine self.old.queue }
         requires can { CanRunHere class.now.machine self.old.plan self.old.config item How.Nothing }
@@ -187,7 +187,7 @@ impl Situation {
         choice: VertexId,
         route: &Route,
     ) -> Result<(), NoMemory>
-        requires built { IsBuiltMachine machine.now }
+        requires rules { KeepsModelRules machine.now }
         requires fits { Fits machine.now self.old.config }
         requires room { QueueFits machine.now self.old.queue }
         requires can { CanRunHere machine.now self.old.plan self.old.config (Item.Pick choice) (How.By route.now) }
@@ -208,7 +208,7 @@ impl Situation {
         item: Item,
         how: &How,
     ) -> Result<(), NoMemory>
-        requires built { IsBuiltMachine machine.now }
+        requires rules { KeepsModelRules machine.now }
         requires fits { Fits machine.now self.old.config }
         requires room { QueueFits machine.now self.old.queue }
         requires can { CanRunHere machine.now self.old.plan self.old.config item how.now }
@@ -228,7 +228,7 @@ impl Situation {
         item: Item,
         how: &How,
     ) -> Result<(), NoMemory>
-        requires built { IsBuiltMachine machine.now }
+        requires rules { KeepsModelRules machine.now }
         requires fits { Fits machine.now self.old.config }
         requires room { QueueFits machine.now self.old.queue }
         requires can { CanRunHere machine.now self.old.plan self.old.config item how.now }
@@ -244,7 +244,7 @@ impl Situation {
     // Changes the configuration as the item does that runs in this way, and brings on the queue and the end.
     #[inline(always)]
     fn settle(&mut self, machine: &Machine, item: Item, how: &How)
-        requires built { IsBuiltMachine machine.now }
+        requires rules { KeepsModelRules machine.now }
         requires fits { Fits machine.now self.old.config }
         requires room { QueueFits machine.now self.old.queue }
         requires can { CanChange machine.now (configuration_of self.old.config) item }
@@ -267,7 +267,7 @@ impl Situation {
         state: VertexId,
         step: u16,
     ) -> Result<(), NoMemory>
-        requires class { IsBuiltClass class.now }
+        requires class { IsWellFormedClass class.now }
         requires fits { Fits class.now.machine self.old.config }
         requires room { QueueFits class.now.machine self.old.queue }
         requires next { IsNextHere class.now.machine self.old.config state step }
@@ -290,7 +290,7 @@ fn fire(
     config: &Config,
     firing: &Firing,
 ) -> Result<(), NoMemory>
-    requires built { IsBuiltMachine machine.now }
+    requires rules { KeepsModelRules machine.now }
     requires fits { Fits machine.now config.now }
     requires routes { AreStateRoutes machine.now firing.now.routes }
     ensures ok { OnOk result (HasFired machine.now config.now firing.now.routes plan.new) }
@@ -311,7 +311,7 @@ fn fire_first(
     config: &Config,
     firing: &Firing,
 ) -> Result<(), NoMemory>
-    requires built { IsBuiltMachine machine.now }
+    requires rules { KeepsModelRules machine.now }
     requires fits { Fits machine.now config.now }
     requires routes { AreStateRoutes machine.now firing.now.routes }
     ensures ok { OnOk result (HasFired machine.now config.now firing.now.routes plan.new) }
@@ -330,7 +330,7 @@ fn run_item(
     item: Item,
     how: &How,
 ) -> Result<(), NoMemory>
-    requires built { IsBuiltMachine machine.now }
+    requires rules { KeepsModelRules machine.now }
     requires can { CanRun machine.now plan.old item how.now }
     ensures ok { OnOk result (HasRunOn machine.now plan.old item how.now plan.new) }
     ensures err { OnErr result (plan.new ≡ plan.old) }

@@ -3,7 +3,7 @@ ghost use Rattle.std.specs.Prelude.{◌≡◌, ◌≤◌, ◌<◌, length, Optio
 ghost use Rattle.std.specs.Option.{option_copied};
 ghost use Rattle.pssm_semantics.specs.Values.{eight_of, no_params};
 ghost use Rattle.pssm_semantics.specs.Behaviours.{act_at as behaviour_at};
-ghost use Rattle.pssm_semantics.specs.Built.{IsBuiltClass};
+ghost use Rattle.pssm_semantics.specs.Classes.{IsWellFormedClass};
 ghost use Rattle.pssm_object.specs.inner.Situations.{standing_of};
 ghost use Rattle.pssm_semantics.specs.Arguments.{ActArgsFit};
 ghost use Rattle.pssm_object.specs.inner.Working.{HasPlace, act_for, MakesNothing, IsWorkOf};
@@ -27,7 +27,7 @@ impl Situation {
 /// The behaviour of the item, if it has one with a statement; what has none makes nothing.
 #[inline(always)]
 pub fn stated_act(class: &Class, item: Item) -> Option<&Act>
-    requires class { IsBuiltClass class.now }
+    requires class { IsWellFormedClass class.now }
     requires place { HasPlace class.now.machine item }
     ensures some { IfSome result (λ act. Some act.now ≡ act_for class.now item) }
     ensures fits { IfSome result (λ act. ActArgsFit act.now) }

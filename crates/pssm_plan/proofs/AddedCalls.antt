@@ -3,7 +3,6 @@ use Rattle.std.proofs.Common.{◌≡◌, ◌≤◌, ◌<◌, ◌↔◌, ◌⊎�
 use Rattle.std.proofs.Common.{get_or, take, sym, subst, ap, refl, inl, inr, ⊎_elim, arith}
 use Rattle.pssm_model.specs.declared.ids.VertexId.{VertexId}
 use Rattle.pssm_model.specs.declared.ids.RegionId.{RegionId}
-use Rattle.pssm_model.specs.declared.ids.TransId.{TransId}
 use Rattle.pssm_model.specs.declared.elements.DraftMachine.{DraftMachine}
 use Rattle.pssm_model.specs.declared.elements.Owner.TheVariants.{Region, State}
 use Rattle.pssm_model.specs.declared.steps.Mode.{Mode}
@@ -14,9 +13,8 @@ use Rattle.pssm_model.specs.Forest.{owner_of}
 use Rattle.pssm_model.specs.Items.{restored_mode}
 use Rattle.pssm_model.specs.Shapes.{HasShape}
 use Rattle.pssm_model.specs.Configuration.{Configuration}
-use Rattle.pssm_model.specs.SingleLegs.{HasSingleLegs}
 use Rattle.pssm_plan.specs.declared.ways.Way.{Way}
-use Rattle.pssm_plan.specs.Ways.{IsWayIn, calls_by, opens_by}
+use Rattle.pssm_plan.specs.Ways.{calls_by, opens_by}
 use Rattle.pssm_plan.specs.declared.roster.Call.{Call}
 use Rattle.pssm_plan.specs.declared.progress.Restored.{Restored}
 use Rattle.pssm_plan.specs.inner.Marks.{IsMarked, IsListed, IsLonger}
@@ -25,14 +23,11 @@ use Rattle.pssm_plan.specs.inner.Calling.{IsOpeningOf, IsOfRestored, IsRestoredO
 use Rattle.pssm_plan.specs.inner.Sequence.{IsOpenedBySome, IsExtended}
 use Rattle.pssm_plan.proofs.Taken.{taken_cases}
 use Rattle.pssm_plan.proofs.Growing.{HasGrown, AddedWhere, AddedBy, grown_by_one}
-use Rattle.pssm_plan.proofs.CalledPlaces.{region_owned_there, exit_there, effect_there, enter_there, opening_there}
+use Rattle.pssm_plan.proofs.CalledPlaces.{region_owned_there, exit_there, enter_there, opening_there}
 
 -- the items of a number
 abbrev pub exit_of : ℕ → Item
 exit_of n = let s : VertexId = record { 0 = n } in Exit s
-
-abbrev pub effect_of : ℕ → Item
-effect_of n = let t : TransId = record { 0 = n } in Effect t
 
 abbrev pub entry_of : ℕ → Item
 entry_of n = let s : VertexId = record { 0 = n } in Enter s
@@ -61,16 +56,10 @@ module _ (m : DraftMachine) (way : Way) (n : ℕ) (x : Item) where
     λ h. let c = subst (calls_by m way) h.1 h.3 in let there = exit_there m way h.0 c in (h.0.0, omega (arith, there, all), (h.1, (h.2, c))),
   )
 
-  pub effects_all : IsWayIn m way → length m.transitions ≤ n → CalledBelow m way effect_of n x ↔ IsEffectBy m way x
-  effects_all is all = (
+  pub entries_all : HasShape m → length m.vertices ≤ n → CalledBelow m way entry_of n x ↔ IsEntryBy m way x
+  entries_all shape all = (
     λ h. (record { 0 = h.0 }, h.2.0, subst (calls_by m way) (sym h.2.0) h.2.1),
-    λ h. let c = subst (calls_by m way) h.1 h.2 in let there = effect_there m way is h.0 c in (h.0.0, omega (arith, there, all), (h.1, c)),
-  )
-
-  pub entries_all : HasSingleLegs m → length m.vertices ≤ n → CalledBelow m way entry_of n x ↔ IsEntryBy m way x
-  entries_all single all = (
-    λ h. (record { 0 = h.0 }, h.2.0, subst (calls_by m way) (sym h.2.0) h.2.1),
-    λ h. let c = subst (calls_by m way) h.1 h.2 in let there = enter_there m way single h.0 c in (h.0.0, omega (arith, there, all), (h.1, c)),
+    λ h. let c = subst (calls_by m way) h.1 h.2 in let there = enter_there m way shape h.0 c in (h.0.0, omega (arith, there, all), (h.1, c)),
   )
 
   pub openings_all : HasShape m → (mode : Mode) → length m.regions ≤ n → CalledBelow m way (opening_of mode) n x ↔ IsOpeningBy m way mode x

@@ -12,17 +12,21 @@ use Rattle.pssm_model.specs.declared.steps.How.TheVariants.{By, Restore}
 use Rattle.pssm_model.specs.declared.steps.Item.{Item}
 use Rattle.pssm_model.specs.declared.steps.Item.TheVariants as items
 use Rattle.pssm_model.specs.Shapes.{HasShape}
-use Rattle.pssm_model.specs.Forest.{IsStateOrFinal, owner_of, LiesInRegion}
+use Rattle.pssm_model.specs.Forest.{IsStateOrFinal, owner_of, LiesUnder, LiesInRegion, LiesInState}
 use Rattle.pssm_model.specs.Forest.LiesUnder.{owned, further}
 use Rattle.pssm_model.specs.Configuration.{IsDirect}
 use Rattle.pssm_model.specs.Course.{Head, Course, FiresBy}
 use Rattle.pssm_model.specs.Items.{restored_mode}
 use Rattle.pssm_model.specs.Legs.{Scope, LiesInScope}
 use Rattle.pssm_model.specs.Legs.Scope.{Within}
-use Rattle.pssm_model.specs.Nested.{IsPlainlyNested}
-use Rattle.pssm_plan.specs.inner.OverRoutes.{IsArea, EndsOn, IsEnteredBy, GoesBy, OpensFor, IsCalledOver}
+use Rattle.pssm_model.specs.WellFormed.{KeepsModelRules}
+use Rattle.pssm_model.specs.RouteWords.{IsStepRoute, IsAreaOf, EndsOn, IsEnteredBy}
+use Rattle.pssm_plan.specs.inner.OverRoutes.{GoesBy, OpensFor, IsCalledOver}
 use Rattle.pssm_model.proofs.OwnerChains.{one_owner, under_further}
-use Rattle.pssm_plan.proofs.SteadyPlaces.{IsRegionIn, IsAtOrUnder, IsLateIn, IsStepRoute, same_region_place, no_circle, one_end, entered_reached, late_is_area, late_area, late_ends, late_lies, one_late_region, entered_in_area, entered_fills}
+use Rattle.pssm_model.proofs.Nesting.{region_cases}
+use Rattle.pssm_plan.proofs.SteadyPlaces.{IsRegionIn, IsAtOrUnder, same_region_place, no_circle}
+use Rattle.pssm_plan.proofs.RoutePlaces.{IsLateIn, late_step, late_is_area, late_area, late_ends, late_lies, one_late_region, entered_end, entered_in_area, entered_fills, entered_around, one_entered}
+use Rattle.pssm_plan.proofs.RoutePlaces.{entered_is_state as route_enters_state}
 
 pub data Arrival : Type 0 where
   Along : Route → Arrival
@@ -43,21 +47,21 @@ abbrev pub EntersBy : DraftMachine → Arrival → VertexId → Type 0
 EntersBy m (Along p) s = IsEnteredBy m p s
 EntersBy m (Back r mode q) s = q ≡ s
 
--- It stands on the vertex at its end.
+-- It stands on the vertex at an end of it.
 abbrev pub StandsOn : DraftMachine → Arrival → VertexId → Type 0
 StandsOn m (Along p) v = EndsOn m p v
 StandsOn m (Back r mode q) v = q ≡ v
 
 -- It exits and enters in the place.
 abbrev pub IsPlace : DraftMachine → Arrival → Scope → Type 0
-IsPlace m (Along p) area = IsArea m p area
+IsPlace m (Along p) area = IsAreaOf m p area
 IsPlace m (Back r mode q) area = area ≡ Within r
 
 -- The vertex lies there.
 abbrev pub LiesInPlace : DraftMachine → Arrival → VertexId → Type 0
 LiesInPlace m x v = (area : Scope) × IsPlace m x area × LiesInScope m v area
 
--- It stands in the region, and it stands nowhere else.
+-- It stands somewhere in the region, and it stands nowhere else.
 abbrev pub StandsIn : DraftMachine → Arrival → RegionId → Type 0
 StandsIn m x r = (v : VertexId) × StandsOn m x v × LiesInRegion m v r
 
@@ -108,65 +112,71 @@ pub enterer_of : (m : DraftMachine) (course : Course) (s : VertexId) → IsCalle
     → (x : Arrival) × Arrives course x × EntersBy m x s
 enterer_of m course s h = ⊎_elim (λ over. (Along over.0, over.1.0, over.1.1)) (λ back. (Back back.1.0 back.0 s, back.1.1, refl)) h
 
-module _ {m : DraftMachine} (shape : HasShape m) (nested : IsPlainlyNested m) where
-  -- it stands on one vertex
-  pub one_stand : (x : Arrival) (v w : VertexId) → IsProper m x → StandsOn m x v → StandsOn m x w → v ≡ w
-  one_stand (Along p) v w is first second = one_end shape nested p v w is first second
-  one_stand (Back r mode q) v w is first second = cc
-
-  pub entered_stand : (x : Arrival) (s : VertexId) → EntersBy m x s → (v : VertexId) × StandsOn m x v
-  entered_stand (Along p) s h = (h.1.0, h.1.1)
-  entered_stand (Back r mode q) s h = (q, refl)
-
-  pub entered_under : (x : Arrival) (s w : VertexId) → IsProper m x → EntersBy m x s → StandsOn m x w → IsAtOrUnder m w s
-  entered_under (Along p) s w is h ends = entered_reached shape nested p s w is h ends
-  entered_under (Back r mode q) s w is h ends = inl (let same : w ≡ s = cc in same)
+module _ {m : DraftMachine} (shape : HasShape m) (rules : KeepsModelRules m) where
+  -- it stands on what it enters, or in it
+  pub entered_stand : (x : Arrival) (s : VertexId) → IsProper m x → EntersBy m x s → (v : VertexId) × StandsOn m x v × IsAtOrUnder m v s
+  entered_stand (Along p) s is h = entered_end shape rules p is s h
+  entered_stand (Back r mode q) s is h = (q, refl, inl h)
 
   -- what it enters is a State or final state
   pub entered_is_state : (x : Arrival) (s : VertexId) → IsProper m x → EntersBy m x s → IsStateOrFinal m s
-  entered_is_state (Along p) s is h =
-      ⊎_elim
-      (λ same. subst (λ v. IsStateOrFinal m v) same.0 same.1)
-      (λ inside. inl (shape.regions inside.1.0 (State s) inside.1.1).0)
-      h.1.2
+  entered_is_state (Along p) s is h = route_enters_state shape rules p is s h
   entered_is_state (Back r mode q) s is h = subst (λ v. IsStateOrFinal m v) h is.1
 
   -- and lies where it exits and enters, so it fills the region of that
   pub entered_in_place : (x : Arrival) (s : VertexId) → IsProper m x → EntersBy m x s → LiesInPlace m x s
-  entered_in_place (Along p) s is h = entered_in_area shape nested p s is h
+  entered_in_place (Along p) s is h = entered_in_area shape rules p is s h
   entered_in_place (Back r mode q) s is h = (Within r, refl, subst (λ v. LiesInRegion m v r) h (owned is.0))
 
   pub entered_fill : (x : Arrival) (s : VertexId) (r : RegionId) → IsProper m x → owner_of m (State s) ≡ Some (Region r) → EntersBy m x s
       → FillsBy m x r
-  entered_fill (Along p) s r is e h = entered_fills shape nested p s r is e h
+  entered_fill (Along p) s r is e h = entered_fills shape rules p is s r e h
   entered_fill (Back k mode q) s r is e h =
       let home = subst (λ v. owner_of m (State v) ≡ Some (Region r)) (sym h) e in
       let same = same_region_place r k (one_owner m (State q) (Region r) (Region k) home is.0) in
       ((q, refl, owned home), (Within k, refl, inl same))
 
+  -- of the States of one region it enters one
+  pub one_entered_by : (x : Arrival) (s q : VertexId) (r : RegionId) → IsProper m x → owner_of m (State s) ≡ Some (Region r)
+      → owner_of m (State q) ≡ Some (Region r) → EntersBy m x s → EntersBy m x q → s ≡ q
+  one_entered_by (Along p) s q r is e f first second = one_entered shape rules p is s q r e f first second
+  one_entered_by (Back k mode v) s q r is e f first second = (let one = first in let two = second in cc)
+
+  -- and what stands around what it enters, where it exits and enters
+  pub enters_around : (x : Arrival) (q s : VertexId) → IsProper m x → EntersBy m x q → LiesInState m q s → LiesInPlace m x s → EntersBy m x s
+  enters_around (Along p) q s is h inside place = entered_around shape rules p is q s h inside place
+  enters_around (Back k mode v) q s is h inside place =
+      let home = subst (λ x. owner_of m (State x) ≡ Some (Region k)) h is.0 in
+      let s_in : LiesInRegion m s k = subst (λ a. LiesInScope m s a) place.1 place.2 in
+      let around : LiesUnder m (Region inside.0) (Region k) = further inside.1 s_in in
+      absurd (⊎_elim
+      (λ same. no_circle shape k (subst (λ x. LiesUnder m (Region x) (Region k)) (sym same) around))
+      (λ under. no_circle shape k (under_further under around))
+      (region_cases m (State q) k inside.0 home inside.2))
+
   -- what begins in a region exits and enters there, and stands there
   pub comes_area : (x : Arrival) (r : RegionId) (area : Scope) → IsComingIn m x r → IsPlace m x area → area ≡ Within r
-  comes_area (Along p) r area h is = late_area shape nested p r h.0 h.1 area is
-  comes_area (Back k mode s) r area h is = let same = h.0 in let at = is in cc
+  comes_area (Along p) r area h is = late_area shape rules p r h.0 h.1 area is
+  comes_area (Back k mode s) r area h is = (let same = h.0 in let at = is in cc)
 
   pub comes_place : (x : Arrival) (r : RegionId) → IsComingIn m x r → IsPlace m x (Within r)
-  comes_place (Along p) r h = late_is_area shape nested p r h.0 h.1
+  comes_place (Along p) r h = late_is_area shape rules p r h.0 h.1
   comes_place (Back k mode s) r h = ap Within (sym h.0)
 
   pub comes_stands : (x : Arrival) (r : RegionId) → IsComingIn m x r → StandsInside m x r
-  comes_stands (Along p) r h v ends = late_ends shape nested p r h.0 h.1 v (ends.0, ends.1, inr ends.2)
+  comes_stands (Along p) r h v ends = late_ends shape rules p r h.0 h.1 v (ends.0, ends.1, inr ends.2)
   comes_stands (Back k mode s) r h v ends = subst (λ w. LiesInRegion m w r) ends (owned h.1.0)
 
   pub comes_enters : (x : Arrival) (r : RegionId) (s : VertexId) → IsComingIn m x r → EntersBy m x s → LiesInRegion m s r
-  comes_enters (Along p) r s h enters = late_lies shape nested p r h.0 h.1 s enters
+  comes_enters (Along p) r s h enters = late_lies shape rules p r h.0 h.1 s enters
   comes_enters (Back k mode q) r s h enters = subst (λ w. LiesInRegion m w r) enters (owned h.1.0)
 
   pub one_coming : (x : Arrival) (r q : RegionId) → IsComingIn m x r → IsComingIn m x q → r ≡ q
-  one_coming (Along p) r q h g = one_late_region shape nested p r h.0 h.1 q g.0 g.1
-  one_coming (Back k mode s) r q h g = let first = h.0 in let second = g.0 in cc
+  one_coming (Along p) r q h g = one_late_region shape rules p r h.0 h.1 q g.0 g.1
+  one_coming (Back k mode s) r q h g = (let first = h.0 in let second = g.0 in cc)
 
   pub comes_proper : (x : Arrival) (r : RegionId) → IsComingIn m x r → IsProper m x
-  comes_proper (Along p) r h = inr (h.0, h.1.0)
+  comes_proper (Along p) r h = late_step shape rules p r h.0 h.1
   comes_proper (Back k mode s) r h = subst (λ q. IsDirect m s q) (sym h.0) h.1
 
   -- what stands in a region stands in the one around it

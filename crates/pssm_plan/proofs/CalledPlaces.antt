@@ -1,10 +1,8 @@
 -- What a way calls is there.
-use Rattle.std.proofs.Common.{◌≡◌, ◌<◌, Some, length, slice_get, sym, subst, inl, inr, ⊎_elim}
-use Rattle.std.proofs.lemmas.List.Elements.{All-contains}
+use Rattle.std.proofs.Common.{◌≡◌, ◌<◌, Some, length, slice_get, sym, subst, inl, ⊎_elim}
 use Rattle.std.proofs.lemmas.Option.{slice_get_within}
 use Rattle.pssm_model.specs.declared.ids.VertexId.{VertexId}
 use Rattle.pssm_model.specs.declared.ids.RegionId.{RegionId}
-use Rattle.pssm_model.specs.declared.ids.TransId.{TransId}
 use Rattle.pssm_model.specs.declared.elements.DraftMachine.{DraftMachine}
 use Rattle.pssm_model.specs.declared.elements.Vertex.{Vertex}
 use Rattle.pssm_model.specs.declared.elements.VertexKind.{VertexKind}
@@ -13,16 +11,15 @@ use Rattle.pssm_model.specs.declared.elements.Owner.{Owner}
 use Rattle.pssm_model.specs.declared.elements.Owner.TheVariants.{Region, State}
 use Rattle.pssm_model.specs.declared.steps.Mode.{Mode}
 use Rattle.pssm_model.specs.declared.steps.Mode.TheVariants.{Plain, Shallow, Deep}
-use Rattle.pssm_model.specs.declared.steps.Item.TheVariants.{Exit, Effect, Enter, Opened}
+use Rattle.pssm_model.specs.declared.steps.Item.TheVariants.{Exit, Enter, Opened}
 use Rattle.pssm_model.specs.Forest.{HasKind, owner_of, vertex_at}
 use Rattle.pssm_model.specs.Shapes.{HasShape, OwnsVertex}
-use Rattle.pssm_model.specs.SingleLegs.{HasSingleLegs}
-use Rattle.pssm_model.specs.Legs.{IsEndState, LegEnters, transitions_of}
+use Rattle.pssm_model.specs.Legs.{IsEndState, LegEnters}
 use Rattle.pssm_model.proofs.ElementLaws.{mapped_some}
 use Rattle.pssm_model.proofs.OwnerChains.{owned_is_place}
-use Rattle.pssm_model.proofs.OneLeg.{leg_ends_on}
+use Rattle.pssm_model.proofs.InnerPaths.{point_owner}
 use Rattle.pssm_plan.specs.declared.ways.Way.{Way}
-use Rattle.pssm_plan.specs.Ways.{IsWayIn, calls_by}
+use Rattle.pssm_plan.specs.Ways.{calls_by}
 use Rattle.pssm_plan.proofs.Depths.{scope_there}
 
 module _ (m : DraftMachine) where
@@ -52,31 +49,23 @@ module _ (m : DraftMachine) (way : Way) where
   pub exit_there : (s : VertexId) → calls_by m way (Exit s) → s.0 < length m.vertices
   exit_there s h = ⊎_elim (λ run. let area = run.0.1 in scope_there m s area.0 area.2) (λ e. ⊎_elim (λ b. absurd b) (λ b. absurd b) e) h.2
 
-  pub effect_there : IsWayIn m way → (t : TransId) → calls_by m way (Effect t) → t.0 < length m.transitions
-  effect_there is t h =
-      ⊎_elim
-      (λ run. All-contains
-      (λ (w : TransId). w.0 < length m.transitions)
-      (transitions_of way.route.value)
-      t
-      is.route.in_range
-      (leg_ends_on m way.route.value h.0 t run))
-      (λ e. ⊎_elim (λ b. absurd b) (λ b. absurd b) e)
-      h.2
-
-  end_there : HasSingleLegs m → (v s : VertexId) → IsEndState m v s → s.0 < length m.vertices
-  end_there single v s h =
+  end_there : HasShape m → (v s : VertexId) → IsEndState m v s → s.0 < length m.vertices
+  end_there shape v s h =
       ⊎_elim
       (λ it. subst (λ (x : VertexId). x.0 < length m.vertices) (sym it.1) (⊎_elim (λ k. kind_there m v kinds.State k) (λ k. kind_there m v kinds.Final k) it.0))
-      (λ cut. absurd (single.uncut v (inr (inr (inl cut.0)))))
+      (λ entry. (
+      let owner = point_owner shape v (inl entry.0) in
+      let same : s ≡ owner.0 = (let e = entry.1 in let f = owner.1 in cc (e, f)) in
+      subst (λ (x : VertexId). x.0 < length m.vertices) (sym same) (kind_there m owner.0 kinds.State owner.2)
+      ))
       h
 
-  pub enter_there : HasSingleLegs m → (s : VertexId) → calls_by m way (Enter s) → s.0 < length m.vertices
-  enter_there single s h =
+  pub enter_there : HasShape m → (s : VertexId) → calls_by m way (Enter s) → s.0 < length m.vertices
+  enter_there shape s h =
       ⊎_elim
       (λ (run : LegEnters m way.route.value h.0 s). ⊎_elim
       (λ lies. scope_there m s lies.0 lies.2)
-      (λ it. end_there single run.0 s it)
+      (λ it. end_there shape run.0 s it)
       run.4)
       (λ e. ⊎_elim (λ b. absurd b) (λ b. absurd b) e)
       h.2

@@ -10,39 +10,49 @@ use Rattle.pssm_model.specs.declared.elements.VertexKind.TheVariants as kinds
 use Rattle.pssm_model.specs.declared.elements.Owner.{Owner}
 use Rattle.pssm_model.specs.declared.elements.Owner.TheVariants.{Region, State}
 use Rattle.pssm_model.specs.declared.steps.Route.{Route}
+use Rattle.pssm_model.specs.declared.steps.Mode.{Mode}
+use Rattle.pssm_model.specs.declared.steps.Mode.TheVariants.{Plain, Shallow, Deep}
 use Rattle.pssm_model.specs.declared.steps.How.{How}
 use Rattle.pssm_model.specs.declared.steps.How.TheVariants.{By, Restore, Nothing}
 use Rattle.pssm_model.specs.declared.steps.Item.{Item}
 use Rattle.pssm_model.specs.declared.steps.Item.TheVariants as items
-use Rattle.pssm_model.specs.Forest.{vertex_at, HasKind, owner_of, LiesUnder, LiesInState}
+use Rattle.pssm_model.specs.Forest.{vertex_at, HasKind, owner_of, LiesUnder}
 use Rattle.pssm_model.specs.Shapes.{HasShape}
-use Rattle.pssm_model.specs.Course.{Head, Course, FiresBy, HasGoneBy, HasRun, HasRestored}
+use Rattle.pssm_model.specs.WellFormed.{KeepsModelRules}
+use Rattle.pssm_model.specs.Configuration.{Configuration}
+use Rattle.pssm_model.specs.Course.{Head, Course, FiresBy, HasGoneBy, HasRestored}
 use Rattle.pssm_model.specs.Course.Head.{Starts, Fires}
-use Rattle.pssm_model.specs.Legs.{On, transitions_of}
-use Rattle.pssm_model.specs.Items.{PathBefore, HasRunOut, Before, IsWaiting, IsCleared}
-use Rattle.pssm_model.specs.Items.PathBefore.{after}
-use Rattle.pssm_model.specs.Nested.{IsPlainlyNested}
-use Rattle.pssm_model.specs.Order.{IsReady, IsAtOrBefore, HasReadyAtOrBefore, KnownConfiguration, known_course, IsNestedStep}
-use Rattle.pssm_model.specs.Routes.{IsRoute}
-use Rattle.pssm_plan.specs.inner.OverRoutes.{GoesByRoutes, LiesInArea, GoesBy, IsEnteredBy, IsEnteredOver, EndsOnChoice, IsPickedOver, EndsOnHistory, OpensBeside, IsRestoredOver, IsOpenedOver, IsOpenedAtEnd, IsCalledOver, IsOrderedOver}
-use Rattle.pssm_model.specs.declared.steps.Mode.{Mode}
-use Rattle.pssm_model.specs.declared.steps.Mode.TheVariants.{Plain, Shallow, Deep}
+use Rattle.pssm_model.specs.Legs.{On, transitions_of, LaterLeg}
+use Rattle.pssm_model.specs.Items.{CanExit, LegEnds, LegOpens, IsCalledInLeg, IsItemOfLeg, PathBefore, HasRunOut, IsExit, IsEffect, IsEnter, Before, IsWaiting, IsCleared}
+use Rattle.pssm_model.specs.Items.Before.{inner_exit, outer_enter, exit_effect, path as effect_path, effect_enter, effect_end, enter_end, later as by_later}
+use Rattle.pssm_model.specs.Order.{HasGone, IsReady, IsAtOrBefore, HasReadyAtOrBefore, KnownConfiguration, course_by, known_course}
+use Rattle.pssm_model.specs.RouteWords.{IsEnteredBy}
+use Rattle.pssm_legs.specs.Calls.{IsItemIn}
+use Rattle.pssm_plan.specs.Steadiness.{BeginsWell}
+use Rattle.pssm_plan.specs.Steps.{IsStep}
+use Rattle.pssm_plan.specs.inner.Sequence.{IsNestedPair}
+use Rattle.pssm_plan.specs.inner.OverRoutes.{GoesByRoutes, LiesInArea, GoesBy, EndsOnChoice, IsRestoredOver, IsCalledOver}
 use Rattle.pssm_model.proofs.ElementLaws.{mapped_some}
-use Rattle.pssm_model.proofs.StateRoutes.{start_of}
-use Rattle.pssm_model.proofs.OverJunctions.{single_legs}
+use Rattle.pssm_model.proofs.LegShapes.{later_ends_on}
+use Rattle.pssm_model.proofs.KnownClosures.{known_same_leg, known_later_leg, known_path}
 use Rattle.pssm_plan.proofs.Depths.{owner_under}
-use Rattle.pssm_plan.proofs.RouteItems.{called_is, called_of, before_is, before_of}
-use Rattle.pssm_plan.proofs.RoutePaths.{path_begins_on, path_ends_on, no_round_path, path_order}
-use Rattle.pssm_plan.proofs.RouteCourses.{area_there, entered_there}
-use Rattle.pssm_plan.proofs.Known.{Known, known_as, known_both, known_either, known_not, known_below, known_among, known_inside, known_vertex, known_transition}
-use Rattle.pssm_plan.proofs.KnownPlaces.{known_in_state, known_in_area, known_entered, known_choice, known_end_history, known_beside}
+use Rattle.pssm_plan.proofs.RouteItems.{leg_at, called_is, called_of}
+use Rattle.pssm_plan.proofs.RouteCourses.{called_there as names_there}
+use Rattle.pssm_plan.proofs.Known.{Known, known_as, known_both, known_either, known_not, known_below, known_among, known_inside, known_vertex, known_transition, run_known}
+use Rattle.pssm_plan.proofs.KnownPlaces.{known_in_state}
+use Rattle.pssm_plan.proofs.KnownRoutes.{known_in_area, known_entered, known_choice, known_leg_exits, known_leg_enters, known_leg_ends, known_leg_opens}
 use Rattle.pssm_plan.proofs.RouteSteps.{gone_by_routes}
-use Rattle.pssm_plan.proofs.Known.{run_known}
+use Rattle.pssm_plan.proofs.SteadyApart.{known_route}
+use Rattle.pssm_plan.proofs.RouteRanks.{strong_before}
 use Rattle.pssm_plan.proofs.RouteReady.{ready_at_or_before, nothing_ready}
 
 -- the vertex of a number
 abbrev vertex_of : ℕ → VertexId
 vertex_of k = record { 0 = k }
+
+-- the transition of a number
+abbrev transition_of : ℕ → TransId
+transition_of k = record { 0 = k }
 
 -- what lies somewhere, or owns a region, is one of the machine
 pub lying_there : {m : DraftMachine} → HasShape m → (v : VertexId) (q : Owner) → LiesUnder m (State v) q → v.0 < length m.vertices
@@ -152,12 +162,145 @@ known_restored_as course s mode =
 known_restored : (course : Course) (s : VertexId) → Known (IsRestoredOver course s)
 known_restored course s = known_some_mode (λ mode. HasRestored course mode s) (known_restored_as course s)
 
--- whether a transition is of a route
+-- whether a transition is of a route, and a route one that fires
 known_on : (p : Route) (t : TransId) → Known (On p t)
 known_on p t = known_inside known_transition (transitions_of p) t
 
+known_fires : (head : Head) (p : Route) → Known (FiresBy head p)
+known_fires Starts p = inr (λ none. none)
+known_fires (Fires routes) p = known_inside known_route routes p
+
+-- and of what kind an item is
+known_exits : (x : Item) → Known (IsExit x)
+known_exits (items.Exit s) = inl tt
+known_exits (items.Effect t) = inr (λ none. none)
+known_exits (items.Enter s) = inr (λ none. none)
+known_exits (items.Opened r mode) = inr (λ none. none)
+known_exits (items.Pick c) = inr (λ none. none)
+
+known_acts : (x : Item) → Known (IsEffect x)
+known_acts (items.Exit s) = inr (λ none. none)
+known_acts (items.Effect t) = inl tt
+known_acts (items.Enter s) = inr (λ none. none)
+known_acts (items.Opened r mode) = inr (λ none. none)
+known_acts (items.Pick c) = inr (λ none. none)
+
+known_enters : (x : Item) → Known (IsEnter x)
+known_enters (items.Exit s) = inr (λ none. none)
+known_enters (items.Effect t) = inr (λ none. none)
+known_enters (items.Enter s) = inl tt
+known_enters (items.Opened r mode) = inr (λ none. none)
+known_enters (items.Pick c) = inr (λ none. none)
+
+-- The effects are those of a path of the route.
+abbrev IsOnPath : DraftMachine → Route → Item → Item → Type 0
+IsOnPath m p (items.Effect t) (items.Effect u) = PathBefore m p t u
+IsOnPath m p _ _ = ⊥
+
+known_on_path : (m : DraftMachine) (p : Route) (x y : Item) → Known (IsOnPath m p x y)
+known_on_path m p (items.Effect t) (items.Effect u) = known_path m p t u
+known_on_path m p (items.Effect t) (items.Exit s) = inr (λ none. none)
+known_on_path m p (items.Effect t) (items.Enter s) = inr (λ none. none)
+known_on_path m p (items.Effect t) (items.Opened r mode) = inr (λ none. none)
+known_on_path m p (items.Effect t) (items.Pick c) = inr (λ none. none)
+known_on_path m p (items.Exit s) y = inr (λ none. none)
+known_on_path m p (items.Enter s) y = inr (λ none. none)
+known_on_path m p (items.Opened r mode) y = inr (λ none. none)
+known_on_path m p (items.Pick c) y = inr (λ none. none)
+
+known_nested : {m : DraftMachine} → HasShape m → (x y : Item) → Known (IsNestedPair m x y)
+known_nested shape (items.Exit s) (items.Exit q) = known_in_state shape s q
+known_nested shape (items.Exit s) (items.Effect t) = inr (λ none. none)
+known_nested shape (items.Exit s) (items.Enter q) = inr (λ none. none)
+known_nested shape (items.Exit s) (items.Opened r mode) = inr (λ none. none)
+known_nested shape (items.Exit s) (items.Pick c) = inr (λ none. none)
+known_nested shape (items.Enter s) (items.Enter q) = known_in_state shape q s
+known_nested shape (items.Enter s) (items.Exit q) = inr (λ none. none)
+known_nested shape (items.Enter s) (items.Effect t) = inr (λ none. none)
+known_nested shape (items.Enter s) (items.Opened r mode) = inr (λ none. none)
+known_nested shape (items.Enter s) (items.Pick c) = inr (λ none. none)
+known_nested shape (items.Effect t) y = inr (λ none. none)
+known_nested shape (items.Opened r mode) y = inr (λ none. none)
+known_nested shape (items.Pick c) y = inr (λ none. none)
+
+-- The first item is one that the leg calls, and comes before the second in it, at its end or since that is of a later leg.
+abbrev IsFollowed : DraftMachine → Course → Route → TransId → Item → Item → Type 0
+IsFollowed m course p a x y =
+    (IsExit x × IsEffect y × IsCalledInLeg m course (leg_at p a) y)
+    ⊎ IsOnPath m p x y
+    ⊎ (IsEffect x × IsEnter y × IsCalledInLeg m course (leg_at p a) y)
+    ⊎ (IsEffect x × (LegEnds m p a y ⊎ LegOpens m p a y))
+    ⊎ (IsEnter x × LegEnds m p a y)
+    ⊎ ((u : TransId) × LaterLeg m p a u × IsItemOfLeg m course (leg_at p u) y)
+
+abbrev FollowsInLeg : DraftMachine → Course → Route → TransId → Item → Item → Type 0
+FollowsInLeg m course p a x y = IsCalledInLeg m course (leg_at p a) x × IsFollowed m course p a x y
+
+-- The one comes before the other by nesting, or by a leg.
+abbrev IsTold : DraftMachine → Course → Item → Item → Type 0
+IsTold m course x y =
+    IsNestedPair m x y ⊎ ((p : Route) × GoesBy course p × ((a : TransId) × On p a × FollowsInLeg m course p a x y))
+
+module _ (m : DraftMachine) (course : Course) where
+  told : (x y : Item) → Before m course x y → IsTold m course x y
+  told _ _ (inner_exit lies) = inl lies
+  told _ _ (outer_enter lies) = inl lies
+  told _ _ (exit_effect {x = x} {y = y} leg is a c h k) = inr (leg.route, is.0, (leg.named_by, is.1, (h, inl (a, c, k))))
+  told _ _ (effect_path {t = t} {u = u} leg is same way) = inr (leg.route, is.0, (leg.named_by, is.1, (same, inr (inl way))))
+  told _ _ (effect_enter {x = x} {y = y} leg is a c h k) = inr (leg.route, is.0, (leg.named_by, is.1, (h, inr (inr (inl (a, c, k))))))
+  told _ _ (effect_end {x = x} {y = y} leg is a h k) = inr (leg.route, is.0, (leg.named_by, is.1, (h, inr (inr (inr (inl (a, k)))))))
+  told _ _ (enter_end {x = x} {y = y} leg is a h k) = inr (leg.route, is.0, (leg.named_by, is.1, (h, inr (inr (inr (inr (inl (a, k))))))))
+  told _ _ (by_later {x = x} {y = y} leg u is more h k) =
+      inr (leg.route, is.0, (leg.named_by, is.1, (h, inr (inr (inr (inr (inr (u, more, k))))))))
+
+  nested_before : (x y : Item) → IsNestedPair m x y → Before m course x y
+  nested_before (items.Exit s) (items.Exit q) h = inner_exit h
+  nested_before (items.Exit s) (items.Effect t) h = absurd h
+  nested_before (items.Exit s) (items.Enter q) h = absurd h
+  nested_before (items.Exit s) (items.Opened r mode) h = absurd h
+  nested_before (items.Exit s) (items.Pick c) h = absurd h
+  nested_before (items.Enter s) (items.Enter q) h = outer_enter h
+  nested_before (items.Enter s) (items.Exit q) h = absurd h
+  nested_before (items.Enter s) (items.Effect t) h = absurd h
+  nested_before (items.Enter s) (items.Opened r mode) h = absurd h
+  nested_before (items.Enter s) (items.Pick c) h = absurd h
+  nested_before (items.Effect t) y h = absurd h
+  nested_before (items.Opened r mode) y h = absurd h
+  nested_before (items.Pick c) y h = absurd h
+
+  path_before : (p : Route) (a : TransId) (x y : Item) → GoesBy course p → On p a → IsCalledInLeg m course (leg_at p a) x → IsOnPath m p x y
+      → Before m course x y
+  path_before p a (items.Effect t) (items.Effect u) by on calls way = effect_path (leg_at p a) (by, on) calls way
+  path_before p a (items.Effect t) (items.Exit s) by on calls way = absurd way
+  path_before p a (items.Effect t) (items.Enter s) by on calls way = absurd way
+  path_before p a (items.Effect t) (items.Opened r mode) by on calls way = absurd way
+  path_before p a (items.Effect t) (items.Pick c) by on calls way = absurd way
+  path_before p a (items.Exit s) y by on calls way = absurd way
+  path_before p a (items.Enter s) y by on calls way = absurd way
+  path_before p a (items.Opened r mode) y by on calls way = absurd way
+  path_before p a (items.Pick c) y by on calls way = absurd way
+
+  leg_before : (p : Route) (a : TransId) (x y : Item) → GoesBy course p → On p a → FollowsInLeg m course p a x y → Before m course x y
+  leg_before p a x y by on h =
+      let calls = h.0 in
+      ⊎_elim
+      (λ k. exit_effect (leg_at p a) (by, on) k.0 k.1 calls k.2)
+      (⊎_elim
+      (λ way. path_before p a x y by on calls way)
+      (⊎_elim
+      (λ k. effect_enter (leg_at p a) (by, on) k.0 k.1 calls k.2)
+      (⊎_elim
+      (λ k. effect_end (leg_at p a) (by, on) k.0 calls k.1)
+      (⊎_elim
+      (λ k. enter_end (leg_at p a) (by, on) k.0 calls k.1)
+      (λ k. by_later (leg_at p a) k.0 (by, on) k.1 calls k.2)))))
+      h.1
+
+  untold : (x y : Item) → IsTold m course x y → Before m course x y
+  untold x y h = ⊎_elim (λ nested. nested_before x y nested) (λ by. leg_before by.0 by.2.0 x y by.1 by.2.1 by.2.2) h
+
 -- the step, where the configuration at its head is known
-module _ {m : DraftMachine} (nested : IsPlainlyNested m) (shape : HasShape m) (course : Course) (g : GoesByRoutes m course)
+module _ {m : DraftMachine} (rules : KeepsModelRules m) (shape : HasShape m) (course : Course) (g : GoesByRoutes m course)
     (active : (s : VertexId) → Known (course.at_head.Active s)) where
   pub known_by_some : (P : Route → Type 0) → ((p : Route) → GoesBy course p → Known (P p)) → Known ((p : Route) × GoesBy course p × P p)
   known_by_some P each =
@@ -168,15 +311,9 @@ module _ {m : DraftMachine} (nested : IsPlainlyNested m) (shape : HasShape m) (c
       (known_firing course.head P (λ p fires. each p (inl fires)))
       (known_late course P (λ p gone. each p (inr gone))))
 
-  pub known_over_some : (P : Route → Type 0) → ((p : Route) → Known (P p)) → Known ((p : Route) × GoesBy course p × P p)
-  known_over_some P each = known_by_some P (λ p by. each p)
-
   -- which effects it calls
   pub known_over : (t : TransId) → Known (IsCalledOver m course (items.Effect t))
-  known_over t = known_over_some (λ p. On p t) (λ p. known_on p t)
-
-  known_fires_some : (P : Route → Type 0) → ((p : Route) → Known (P p)) → Known ((p : Route) × FiresBy course.head p × P p)
-  known_fires_some P each = known_firing course.head P (λ p fires. each p)
+  known_over t = known_by_some (λ p. On p t) (λ p by. known_on p t)
 
   -- which exits and entries it calls
   pub known_exit : (s : VertexId) → Known (IsCalledOver m course (items.Exit s))
@@ -184,7 +321,9 @@ module _ {m : DraftMachine} (nested : IsPlainlyNested m) (shape : HasShape m) (c
       known_as
       (λ h. (h.0, (h.1, h.2.0, h.2.1)))
       (λ h. (h.0, h.1.0, (h.1.1, h.1.2)))
-      (known_fires_some (λ p. course.at_head.Active s × LiesInArea m p s) (λ p. known_both (active s) (known_in_area shape p s)))
+      (known_firing course.head
+      (λ p. course.at_head.Active s × LiesInArea m p s)
+      (λ p fires. known_both (active s) (known_in_area shape rules p (g.routes p (inl fires)) s)))
 
   pub known_enter : (s : VertexId) → Known (IsCalledOver m course (items.Enter s))
   known_enter s =
@@ -192,7 +331,7 @@ module _ {m : DraftMachine} (nested : IsPlainlyNested m) (shape : HasShape m) (c
       (known_as
       (λ h. (h.0, (h.1, h.2)))
       (λ h. (h.0, h.1.0, h.1.1))
-      (known_over_some (λ p. IsEnteredBy m p s) (λ p. known_entered shape p s)))
+      (known_by_some (λ p. IsEnteredBy m p s) (λ p by. known_entered shape rules p (g.routes p by) s)))
       (known_restored course s)
 
   -- and which picks
@@ -201,320 +340,167 @@ module _ {m : DraftMachine} (nested : IsPlainlyNested m) (shape : HasShape m) (c
       known_as
       (λ h. (h.0, (h.1, h.2)))
       (λ h. (h.0, h.1.0, h.1.1))
-      (known_over_some (λ p. EndsOnChoice m p c) (λ p. known_choice shape p c))
+      (known_by_some (λ p. EndsOnChoice m p c) (λ p by. known_choice shape rules p (g.routes p by) c))
 
-  known_run : (item : Item) → Known (HasRun course item)
-  known_run item = run_known course item
+  -- what a leg calls, and what it calls at its end
+  known_called_in : (p : Route) (by : GoesBy course p) (a : TransId) → On p a → (x : Item) → Known (IsCalledInLeg m course (leg_at p a) x)
+  known_called_in p by a on (items.Exit s) =
+      known_leg_exits shape rules p (g.routes p by) (CanExit course p) (λ v. known_both (known_fires course.head p) (active v)) a on s
+  known_called_in p by a on (items.Effect t) = known_same_leg m p a t
+  known_called_in p by a on (items.Enter s) = known_leg_enters shape rules p (g.routes p by) a on s
+  known_called_in p by a on (items.Opened r mode) = inr (λ none. none)
+  known_called_in p by a on (items.Pick c) = inr (λ none. none)
 
-  -- some State of the machine is such
-  known_vertex_some : (P : VertexId → Type 0) → ((s : VertexId) → P s → s.0 < length m.vertices) → ((s : VertexId) → Known (P s))
-      → Known ((s : VertexId) × P s)
-  known_vertex_some P there each =
-      known_as
-      (λ h. (vertex_of h.0, h.2))
-      (λ h. (h.0.0, there h.0 h.1, h.1))
-      (known_below (λ k. P (vertex_of k)) (λ k. each (vertex_of k)) (length m.vertices))
+  known_of_leg : (p : Route) (by : GoesBy course p) (a : TransId) → On p a → (y : Item) → Known (IsItemOfLeg m course (leg_at p a) y)
+  known_of_leg p by a on y =
+      known_either
+      (known_called_in p by a on y)
+      (known_either (known_leg_ends shape rules p (g.routes p by) a y) (known_leg_opens shape rules p (g.routes p by) a y))
 
-  -- an inner exit for which the exit of a State waits
-  known_inner_exit : (q : VertexId)
-      → Known ((s : VertexId) × LiesInState m s q × IsCalledOver m course (items.Exit s) × (HasRun course (items.Exit s) → ⊥))
-  known_inner_exit q =
-      known_as
-      (λ h. (h.0, h.1.0, h.1.1.0, h.1.1.1))
-      (λ h. (h.0, (h.1, (h.2, h.3))))
-      (known_vertex_some
-      (λ s. LiesInState m s q × (IsCalledOver m course (items.Exit s) × (HasRun course (items.Exit s) → ⊥)))
-      (λ s h. lying_there shape s (Region h.0.0) h.0.2)
-      (λ s. known_both (known_in_state shape s q) (known_both (known_exit s) (known_not (known_run (items.Exit s))))))
-
-  -- an exit for which an effect waits
-  known_exit_before : (s : VertexId) (t : TransId) → Known (IsOrderedOver m course (items.Exit s) (items.Effect t))
-  known_exit_before s t =
-      known_as
-      (λ h. (h.0, (h.1, h.2.0, h.2.1.0), h.2.1.1))
-      (λ h. (h.0, h.1.0, (h.1.1, (h.1.2, h.2))))
-      (known_fires_some
-      (λ p. course.at_head.Active s × (LiesInArea m p s × On p t))
-      (λ p. known_both (active s) (known_both (known_in_area shape p s) (known_on p t))))
-
-  known_leg_exit : (t : TransId)
-      → Known ((s : VertexId) × IsOrderedOver m course (items.Exit s) (items.Effect t) × (HasRun course (items.Exit s) → ⊥))
-  known_leg_exit t =
-      known_as
-      (λ h. (h.0, h.1.0, h.1.1))
-      (λ h. (h.0, (h.1, h.2)))
-      (known_vertex_some
-      (λ s. IsOrderedOver m course (items.Exit s) (items.Effect t) × (HasRun course (items.Exit s) → ⊥))
-      (λ s h. area_there m h.0.0 s h.0.1.2)
-      (λ s. known_both (known_exit_before s t) (known_not (known_run (items.Exit s)))))
-
-  -- an earlier effect for which an effect waits: of two transitions of a route, one comes before the other
-  in_order : (p : Route) → IsRoute m p → (t u : TransId) → On p t → On p u → Known (PathBefore m p t u)
-  in_order p route t u first second =
-      let start = start_of (single_legs nested) p route.starts in
-      ⊎_elim
-      (λ same. inr (λ h. no_round_path m p (single_legs nested) t (subst (λ x. PathBefore m p t x) (sym same) h)))
-      (⊎_elim
-      (λ before. inl before)
-      (λ back. inr (λ h. no_round_path m p (single_legs nested) t (after h back))))
-      (path_order (single_legs nested) shape p route start.0 start.1 t u first second)
-
-  known_path : (p : Route) → IsRoute m p → (t u : TransId) → Known (PathBefore m p t u)
-  known_path p route t u =
-      ⊎_elim
-      (λ first. ⊎_elim
-      (λ second. in_order p route t u first second)
-      (λ none. inr (λ h. none (path_ends_on m p t u h)))
-      (known_on p u))
-      (λ none. inr (λ h. none (path_begins_on m p t u h)))
-      (known_on p t)
-
-  abbrev HasEarlier : Route → TransId → Type 0
-  HasEarlier p u = (t : TransId) × PathBefore m p t u × (HasRun course (items.Effect t) → ⊥)
-
-  known_earlier : (p : Route) → IsRoute m p → (u : TransId) → Known (HasEarlier p u)
-  known_earlier p route u =
+  -- so whether one item comes before another
+  known_later_item : (p : Route) (by : GoesBy course p) (a : TransId) (y : Item)
+      → Known ((u : TransId) × LaterLeg m p a u × IsItemOfLeg m course (leg_at p u) y)
+  known_later_item p by a y =
       known_as
       (λ h. (h.0, h.2.0, h.2.1))
-      (λ h. (h.0, path_begins_on m p h.0 u h.1, (h.1, h.2)))
+      (λ h. (h.0, later_ends_on m p a h.0 h.1, (h.1, h.2)))
       (known_among
-      (λ t. PathBefore m p t u × (HasRun course (items.Effect t) → ⊥))
+      (λ u. LaterLeg m p a u × IsItemOfLeg m course (leg_at p u) y)
       (transitions_of p)
-      (λ t on. known_both (known_path p route t u) (known_not (known_run (items.Effect t)))))
+      (λ u on. known_both (known_later_leg m p a u) (known_of_leg p by u on y)))
 
-  known_earlier_effect : (u : TransId) → Known ((p : Route) × GoesBy course p × HasEarlier p u)
-  known_earlier_effect u = known_by_some (λ p. HasEarlier p u) (λ p by. known_earlier p (g.routes p by) u)
-
-  -- an effect and an outer entry for which an entry waits
-  abbrev HasUnrun : Route → Type 0
-  HasUnrun p = (t : TransId) × On p t × (HasRun course (items.Effect t) → ⊥)
-
-  known_unrun : (p : Route) → Known (HasUnrun p)
-  known_unrun p =
-      known_among
-      (λ t. HasRun course (items.Effect t) → ⊥)
-      (transitions_of p)
-      (λ t on. known_not (known_run (items.Effect t)))
-
-  known_leg_effect : (s : VertexId) → Known ((p : Route) × IsEnteredOver m course p s × HasUnrun p)
-  known_leg_effect s =
-      known_as
-      (λ h. (h.0, (h.1, h.2.0), h.2.1))
-      (λ h. (h.0, h.1.0, (h.1.1, h.2)))
-      (known_over_some (λ p. IsEnteredBy m p s × HasUnrun p) (λ p. known_both (known_entered shape p s) (known_unrun p)))
-
-  -- an effect and an entry for which an opening waits
-  known_opening_effect : (r : RegionId) (mode : Mode)
-      → Known ((p : Route) × (IsOpenedOver m course p r mode ⊎ IsOpenedAtEnd m course p r mode) × HasUnrun p)
-  known_opening_effect r mode =
-      known_as
-      (λ h. (h.0, ⊎_elim (λ beside. inl (h.1, beside.0, beside.1)) (λ ends. inr (h.1, ends)) h.2.0, h.2.1))
-      (λ h. (h.0, ⊎_elim (λ beside. beside.0) (λ ends. ends.0) h.1, (⊎_elim (λ beside. inl (beside.1, beside.2)) (λ ends. inr ends.1) h.1, h.2)))
-      (known_over_some
-      (λ p. ((OpensBeside m p r × (mode ≡ Plain)) ⊎ EndsOnHistory m p r mode) × HasUnrun p)
-      (λ p. known_both
-      (known_either (known_both (known_beside shape p r) (known_mode mode Plain)) (known_end_history shape p r mode))
-      (known_unrun p)))
-
-  known_enter_opening : (s : VertexId) (r : RegionId) (mode : Mode) → Known (IsOrderedOver m course (items.Enter s) (items.Opened r mode))
-  known_enter_opening s r mode =
-      known_as
-      (λ h. (h.0, (h.1, h.2.0), h.2.1))
-      (λ h. (h.0, h.1.0, (h.1.1, h.2)))
-      (known_over_some
-      (λ p. EndsOnHistory m p r mode × IsEnteredBy m p s)
-      (λ p. known_both (known_end_history shape p r mode) (known_entered shape p s)))
-
-  known_opening_enter : (r : RegionId) (mode : Mode)
-      → Known ((s : VertexId) × IsOrderedOver m course (items.Enter s) (items.Opened r mode) × (HasRun course (items.Enter s) → ⊥))
-  known_opening_enter r mode =
-      known_as
+  known_followed : (p : Route) (by : GoesBy course p) (a : TransId) → On p a → (x y : Item) → Known (IsFollowed m course p a x y)
+  known_followed p by a on x y =
+      known_either
+      (known_as
       (λ h. (h.0, h.1.0, h.1.1))
       (λ h. (h.0, (h.1, h.2)))
-      (known_vertex_some
-      (λ s. IsOrderedOver m course (items.Enter s) (items.Opened r mode) × (HasRun course (items.Enter s) → ⊥))
-      (λ s h. entered_there m shape h.0.0 s h.0.2)
-      (λ s. known_both (known_enter_opening s r mode) (known_not (known_run (items.Enter s)))))
-
-  -- an effect and an entry for which a pick waits
-  known_pick_effect : (c : VertexId) → Known ((p : Route) × IsPickedOver m course p c × HasUnrun p)
-  known_pick_effect c =
-      known_as
-      (λ h. (h.0, (h.1, h.2.0), h.2.1))
-      (λ h. (h.0, h.1.0, (h.1.1, h.2)))
-      (known_over_some (λ p. EndsOnChoice m p c × HasUnrun p) (λ p. known_both (known_choice shape p c) (known_unrun p)))
-
-  known_enter_before : (s c : VertexId) → Known (IsOrderedOver m course (items.Enter s) (items.Pick c))
-  known_enter_before s c =
-      known_as
-      (λ h. (h.0, (h.1, h.2.0), h.2.1))
-      (λ h. (h.0, h.1.0, (h.1.1, h.2)))
-      (known_over_some (λ p. EndsOnChoice m p c × IsEnteredBy m p s) (λ p. known_both (known_choice shape p c) (known_entered shape p s)))
-
-  known_pick_enter : (c : VertexId)
-      → Known ((s : VertexId) × IsOrderedOver m course (items.Enter s) (items.Pick c) × (HasRun course (items.Enter s) → ⊥))
-  known_pick_enter c =
-      known_as
+      (known_both (known_exits x) (known_both (known_acts y) (known_called_in p by a on y))))
+      (known_either
+      (known_on_path m p x y)
+      (known_either
+      (known_as
       (λ h. (h.0, h.1.0, h.1.1))
       (λ h. (h.0, (h.1, h.2)))
-      (known_vertex_some
-      (λ s. IsOrderedOver m course (items.Enter s) (items.Pick c) × (HasRun course (items.Enter s) → ⊥))
-      (λ s h. entered_there m shape h.0.0 s h.0.2)
-      (λ s. known_both (known_enter_before s c) (known_not (known_run (items.Enter s)))))
+      (known_both (known_acts x) (known_both (known_enters y) (known_called_in p by a on y))))
+      (known_either
+      (known_both
+      (known_acts x)
+      (known_either (known_leg_ends shape rules p (g.routes p by) a y) (known_leg_opens shape rules p (g.routes p by) a y)))
+      (known_either
+      (known_both (known_enters x) (known_leg_ends shape rules p (g.routes p by) a y))
+      (known_later_item p by a y)))))
 
-  known_outer_enter : (q : VertexId)
-      → Known ((s : VertexId) × LiesInState m q s × IsCalledOver m course (items.Enter s) × (HasRun course (items.Enter s) → ⊥))
-  known_outer_enter q =
+  known_by_leg : (x y : Item) → Known ((p : Route) × GoesBy course p × ((a : TransId) × On p a × FollowsInLeg m course p a x y))
+  known_by_leg x y =
+      known_by_some
+      (λ p. (a : TransId) × On p a × FollowsInLeg m course p a x y)
+      (λ p by. known_among
+      (λ a. FollowsInLeg m course p a x y)
+      (transitions_of p)
+      (λ a on. known_both (known_called_in p by a on x) (known_followed p by a on x y)))
+
+  known_before : (x y : Item) → Known (Before m course x y)
+  known_before x y = known_as (untold m course x y) (told m course x y) (known_either (known_nested shape x y) (known_by_leg x y))
+
+  -- an exit, effect or entry of a number that waits and comes before an item
+  abbrev WaitsBefore : Item → Item → Type 0
+  WaitsBefore y x = IsWaiting m course x × Before m course x y
+
+  known_waits : (y x : Item) → Known (IsCalledOver m course x) → Known (WaitsBefore y x)
+  known_waits y x called =
       known_as
-      (λ h. (h.0, h.1.0, h.1.1.0, h.1.1.1))
-      (λ h. (h.0, (h.1, (h.2, h.3))))
-      (known_vertex_some
-      (λ s. LiesInState m q s × (IsCalledOver m course (items.Enter s) × (HasRun course (items.Enter s) → ⊥)))
-      (λ s h. owning_there shape s h.0.0 h.0.1)
-      (λ s. known_both (known_in_state shape q s) (known_both (known_enter s) (known_not (known_run (items.Enter s))))))
+      (λ h. (record { called = called_of rules shape course g x h.0; not_run = h.1.0 }, h.1.1))
+      (λ h. (called_is rules shape course g x h.0.called, (h.0.not_run, h.1)))
+      (known_both called (known_both (known_not (run_known course x)) (known_before x y)))
 
-  -- a called item that has not run
-  waiting : (x : Item) → IsCalledOver m course x → (HasRun course x → ⊥) → IsWaiting m course x
-  waiting x called not = record { called = called_of nested shape course g x called; not_run = not }
+  there : (x : Item) → IsWaiting m course x → IsItemIn m x
+  there x waits = names_there shape rules course g x (called_is rules shape course g x waits.called)
 
-  -- an item is cleared where no called item that comes before it waits
-  cleared : (y : Item) → ((x : Item) → IsOrderedOver m course x y → IsCalledOver m course x → (HasRun course x → ⊥) → ⊥) → IsCleared m course y
+  known_exit_waits : (y : Item) → Known ((s : VertexId) × WaitsBefore y (items.Exit s))
+  known_exit_waits y =
+      known_as
+      (λ h. (vertex_of h.0, h.2))
+      (λ h. (h.0.0, there (items.Exit h.0) h.1.0, h.1))
+      (known_below
+      (λ k. WaitsBefore y (items.Exit (vertex_of k)))
+      (λ k. known_waits y (items.Exit (vertex_of k)) (known_exit (vertex_of k)))
+      (length m.vertices))
+
+  known_effect_waits : (y : Item) → Known ((t : TransId) × WaitsBefore y (items.Effect t))
+  known_effect_waits y =
+      known_as
+      (λ h. (transition_of h.0, h.2))
+      (λ h. (h.0.0, there (items.Effect h.0) h.1.0, h.1))
+      (known_below
+      (λ k. WaitsBefore y (items.Effect (transition_of k)))
+      (λ k. known_waits y (items.Effect (transition_of k)) (known_over (transition_of k)))
+      (length m.transitions))
+
+  known_enter_waits : (y : Item) → Known ((s : VertexId) × WaitsBefore y (items.Enter s))
+  known_enter_waits y =
+      known_as
+      (λ h. (vertex_of h.0, h.2))
+      (λ h. (h.0.0, there (items.Enter h.0) h.1.0, h.1))
+      (known_below
+      (λ k. WaitsBefore y (items.Enter (vertex_of k)))
+      (λ k. known_waits y (items.Enter (vertex_of k)) (known_enter (vertex_of k)))
+      (length m.vertices))
+
+  -- what comes before an item is one of these
+  none_before : (y : Item) → ((s : VertexId) × WaitsBefore y (items.Exit s) → ⊥) → ((t : TransId) × WaitsBefore y (items.Effect t) → ⊥)
+      → ((s : VertexId) × WaitsBefore y (items.Enter s) → ⊥) → (x : Item) → IsWaiting m course x → Before m course x y → ⊥
+  none_before y no_exit no_effect no_enter (items.Exit s) waits before = no_exit (s, (waits, before))
+  none_before y no_exit no_effect no_enter (items.Effect t) waits before = no_effect (t, (waits, before))
+  none_before y no_exit no_effect no_enter (items.Enter s) waits before = no_enter (s, (waits, before))
+  none_before y no_exit no_effect no_enter (items.Opened r mode) waits before = absurd (strong_before m course (items.Opened r mode) y before)
+  none_before y no_exit no_effect no_enter (items.Pick c) waits before = absurd (strong_before m course (items.Pick c) y before)
+
+  cleared : (y : Item) → ((x : Item) → IsWaiting m course x → Before m course x y → ⊥) → IsCleared m course y
   cleared y none x called h =
       ⊎_elim
       (λ ran. ran)
-      (λ not. absurd (none x (before_is nested shape course g x y h) (called_is nested shape course g x called) not))
-      (known_run x)
-
-  no_exit_before : (q : VertexId)
-      → ((s : VertexId) × LiesInState m s q × IsCalledOver m course (items.Exit s) × (HasRun course (items.Exit s) → ⊥) → ⊥)
-      → (x : Item) → IsOrderedOver m course x (items.Exit q) → IsCalledOver m course x → (HasRun course x → ⊥) → ⊥
-  no_exit_before q none (items.Exit s) h called not = none (s, h, called, not)
-  no_exit_before q none (items.Effect t) h called not = h
-  no_exit_before q none (items.Enter s) h called not = h
-  no_exit_before q none (items.Opened r mode) h called not = h
-  no_exit_before q none (items.Pick c) h called not = h
-
-  no_effect_before : (t : TransId)
-      → ((s : VertexId) × IsOrderedOver m course (items.Exit s) (items.Effect t) × (HasRun course (items.Exit s) → ⊥) → ⊥)
-      → ((p : Route) × GoesBy course p × HasEarlier p t → ⊥)
-      → (x : Item) → IsOrderedOver m course x (items.Effect t) → IsCalledOver m course x → (HasRun course x → ⊥) → ⊥
-  no_effect_before t no_exit no_earlier (items.Exit s) h called not = no_exit (s, h, not)
-  no_effect_before t no_exit no_earlier (items.Effect u) h called not = no_earlier (h.0, h.1, (u, h.2, not))
-  no_effect_before t no_exit no_earlier (items.Enter s) h called not = h
-  no_effect_before t no_exit no_earlier (items.Opened r mode) h called not = h
-  no_effect_before t no_exit no_earlier (items.Pick c) h called not = h
-
-  no_enter_before : (q : VertexId) → ((p : Route) × IsEnteredOver m course p q × HasUnrun p → ⊥)
-      → ((s : VertexId) × LiesInState m q s × IsCalledOver m course (items.Enter s) × (HasRun course (items.Enter s) → ⊥) → ⊥)
-      → (x : Item) → IsOrderedOver m course x (items.Enter q) → IsCalledOver m course x → (HasRun course x → ⊥) → ⊥
-  no_enter_before q no_effect no_outer (items.Effect t) h called not = no_effect (h.0, h.1, (t, h.2, not))
-  no_enter_before q no_effect no_outer (items.Enter s) h called not = no_outer (s, h, called, not)
-  no_enter_before q no_effect no_outer (items.Exit s) h called not = h
-  no_enter_before q no_effect no_outer (items.Opened r mode) h called not = h
-  no_enter_before q no_effect no_outer (items.Pick c) h called not = h
-
-  no_opening_before : (r : RegionId) (mode : Mode)
-      → ((p : Route) × (IsOpenedOver m course p r mode ⊎ IsOpenedAtEnd m course p r mode) × HasUnrun p → ⊥)
-      → ((s : VertexId) × IsOrderedOver m course (items.Enter s) (items.Opened r mode) × (HasRun course (items.Enter s) → ⊥) → ⊥)
-      → (x : Item) → IsOrderedOver m course x (items.Opened r mode) → IsCalledOver m course x → (HasRun course x → ⊥) → ⊥
-  no_opening_before r mode no_effect no_enter (items.Effect t) h called not = no_effect (h.0, h.1, (t, h.2, not))
-  no_opening_before r mode no_effect no_enter (items.Enter s) h called not = no_enter (s, h, not)
-  no_opening_before r mode no_effect no_enter (items.Exit s) h called not = h
-  no_opening_before r mode no_effect no_enter (items.Opened q way) h called not = h
-  no_opening_before r mode no_effect no_enter (items.Pick c) h called not = h
-
-  no_pick_before : (c : VertexId) → ((p : Route) × IsPickedOver m course p c × HasUnrun p → ⊥)
-      → ((s : VertexId) × IsOrderedOver m course (items.Enter s) (items.Pick c) × (HasRun course (items.Enter s) → ⊥) → ⊥)
-      → (x : Item) → IsOrderedOver m course x (items.Pick c) → IsCalledOver m course x → (HasRun course x → ⊥) → ⊥
-  no_pick_before c no_effect no_enter (items.Effect t) h called not = no_effect (h.0, h.1, (t, h.2, not))
-  no_pick_before c no_effect no_enter (items.Enter s) h called not = no_enter (s, h, not)
-  no_pick_before c no_effect no_enter (items.Exit s) h called not = h
-  no_pick_before c no_effect no_enter (items.Opened r mode) h called not = h
-  no_pick_before c no_effect no_enter (items.Pick v) h called not = h
+      (λ not. absurd (none x (record { called = called; not_run = not }) h))
+      (run_known course x)
 
   -- an item is cleared, or waits for one
-  waits_for : (x y : Item) → IsOrderedOver m course x y → IsCalledOver m course x → (HasRun course x → ⊥)
-      → IsCleared m course y ⊎ ((x : Item) × IsWaiting m course x × Before m course x y)
-  waits_for x y order called not = inr (x, waiting x called not, before_of nested shape course g x y order)
-
   pub cleared_or_waits : (y : Item) → IsCleared m course y ⊎ ((x : Item) × IsWaiting m course x × Before m course x y)
-  cleared_or_waits (items.Exit q) =
+  cleared_or_waits y =
       ⊎_elim
-      (λ on. waits_for (items.Exit on.0) (items.Exit q) on.1 on.2 on.3)
-      (λ none. inl (cleared (items.Exit q) (no_exit_before q none)))
-      (known_inner_exit q)
-  cleared_or_waits (items.Effect t) =
-      ⊎_elim
-      (λ on. waits_for (items.Exit on.0) (items.Effect t) on.1 (on.1.0, on.1.1) on.2)
+      (λ on. inr (items.Exit on.0, on.1.0, on.1.1))
       (λ no_exit. ⊎_elim
-      (λ on. (
-      let earlier = on.2 in
-      waits_for (items.Effect earlier.0) (items.Effect t) (on.0, on.1, earlier.1)
-      (on.0, on.1, path_begins_on m on.0 earlier.0 t earlier.1) earlier.2
-      ))
-      (λ no_earlier. inl (cleared (items.Effect t) (no_effect_before t no_exit no_earlier)))
-      (known_earlier_effect t))
-      (known_leg_exit t)
-  cleared_or_waits (items.Enter q) =
-      ⊎_elim
-      (λ on. (
-      let effect = on.2 in
-      waits_for (items.Effect effect.0) (items.Enter q) (on.0, on.1, effect.1) (on.0, on.1.0, effect.1) effect.2
-      ))
+      (λ on. inr (items.Effect on.0, on.1.0, on.1.1))
       (λ no_effect. ⊎_elim
-      (λ on. waits_for (items.Enter on.0) (items.Enter q) on.1 on.2 on.3)
-      (λ no_outer. inl (cleared (items.Enter q) (no_enter_before q no_effect no_outer)))
-      (known_outer_enter q))
-      (known_leg_effect q)
-  cleared_or_waits (items.Opened r mode) =
-      ⊎_elim
-      (λ on. (
-      let effect = on.2 in
-      waits_for (items.Effect effect.0) (items.Opened r mode) (on.0, on.1, effect.1)
-      (on.0, ⊎_elim (λ beside. beside.0) (λ ends. ends.0) on.1, effect.1) effect.2
-      ))
-      (λ no_effect. ⊎_elim
-      (λ on. (
-      let enter = on.1 in
-      waits_for (items.Enter on.0) (items.Opened r mode) enter (inl (enter.0, (enter.1.0, enter.2))) on.2
-      ))
-      (λ no_enter. inl (cleared (items.Opened r mode) (no_opening_before r mode no_effect no_enter)))
-      (known_opening_enter r mode))
-      (known_opening_effect r mode)
-  cleared_or_waits (items.Pick c) =
-      ⊎_elim
-      (λ on. (
-      let effect = on.2 in
-      waits_for (items.Effect effect.0) (items.Pick c) (on.0, on.1, effect.1) (on.0, on.1.0, effect.1) effect.2
-      ))
-      (λ no_effect. ⊎_elim
-      (λ on. (
-      let enter = on.1 in
-      waits_for (items.Enter on.0) (items.Pick c) enter (inl (enter.0, (enter.1.0, enter.2))) on.2
-      ))
-      (λ no_enter. inl (cleared (items.Pick c) (no_pick_before c no_effect no_enter)))
-      (known_pick_enter c))
-      (known_pick_effect c)
+      (λ on. inr (items.Enter on.0, on.1.0, on.1.1))
+      (λ no_enter. inl (cleared y (none_before y no_exit no_effect no_enter)))
+      (known_enter_waits y))
+      (known_effect_waits y))
+      (known_exit_waits y)
 
-  -- a called item that has not run has a ready item at or before it
-  pub some_ready : (item : Item) → IsWaiting m course item → (x : Item) × IsReady m course x × IsAtOrBefore m course x item
-  some_ready item waits = ready_at_or_before nested shape course g (λ x is. cleared_or_waits x) item waits
+-- a called item that has not run has a ready item at or before it
+pub some_ready : {m : DraftMachine} → HasShape m → KeepsModelRules m → (head : Head) (now : Configuration) → BeginsWell m head now → (ran : List (Item × How))
+    → HasGone m head now ran → ((s : VertexId) → Known (now.Active s)) → (item : Item) → IsWaiting m (course_by head now ran) item
+    → (x : Item) × IsReady m (course_by head now ran) x × IsAtOrBefore m (course_by head now ran) x item
+some_ready {m = m} shape rules head now begins ran gone active item waits =
+    let course = course_by head now ran in
+    let g = gone_by_routes rules shape head now ran gone in
+    ready_at_or_before shape rules head now begins ran gone (λ x is. cleared_or_waits rules shape course g active x) item waits
 
--- so it is in the steps of a plainly nested machine
-pub step_ready : (m : DraftMachine) (course : Course) → IsNestedStep m course → ((s : VertexId) → Known (course.at_head.Active s))
+-- so it is in the steps of a machine
+pub step_ready : (m : DraftMachine) (course : Course) → IsStep m course → ((s : VertexId) → Known (course.at_head.Active s))
     → (item : Item) → IsWaiting m course item → HasReadyAtOrBefore m course item
 step_ready m course h active item waits =
-    some_ready h.nested h.shape course (gone_by_routes h.nested h.shape course.head course.at_head course.ran h.gone) active item waits
+    some_ready h.shape h.rules course.head course.at_head h.begins course.ran h.gone active item waits
 
-pub step_finished : (m : DraftMachine) (course : Course) → IsNestedStep m course → ((item : Item) → IsReady m course item → ⊥) → HasRunOut m course
+pub step_finished : (m : DraftMachine) (course : Course) → IsStep m course → ((item : Item) → IsReady m course item → ⊥) → HasRunOut m course
 step_finished m course h none =
-    nothing_ready h.nested h.shape course (gone_by_routes h.nested h.shape course.head course.at_head course.ran h.gone) none
+    nothing_ready h.shape h.rules course.head course.at_head h.begins course.ran h.gone none
 
 -- and where the configuration at the head is known
 pub known_true : (b : Bool) → Known (IsTrue b)
 known_true true = inl refl
 known_true false = inr (λ h. cc)
 
-pub known_ready : (m : DraftMachine) (head : Head) (now : KnownConfiguration) (ran : List (Item × How)) (item : Item) → IsNestedStep m (known_course head now ran)
+pub known_ready : (m : DraftMachine) (head : Head) (now : KnownConfiguration) (ran : List (Item × How)) (item : Item) → IsStep m (known_course head now ran)
     → IsWaiting m (known_course head now ran) item → HasReadyAtOrBefore m (known_course head now ran) item
 known_ready m head now ran item h waits = step_ready m (known_course head now ran) h (λ s. known_true (now.is_active s)) item waits

@@ -18,15 +18,17 @@ pub mod ReadyCalls
 pub mod Depths
 pub mod MoreRan
 pub mod RouteLegs
-pub mod RoutePaths
+pub mod RoutePlaces
 pub mod RouteItems
 pub mod RouteMore
 pub mod RouteSteps
 pub mod RouteRanks
 pub mod RouteReady
+pub mod OneCaller
 pub mod RouteCourses
 pub mod Known
 pub mod KnownPlaces
+pub mod KnownRoutes
 pub mod KnownItems
 pub mod StepLengths
 pub mod ReadyOrOut
@@ -39,7 +41,6 @@ pub mod SteadyChains
 pub mod SteadyFilling
 pub mod SteadyChanges
 pub mod Steadiness
-pub mod SteadyRules
 pub mod WayLaws
 pub mod CalledNext
 pub mod Settled

@@ -3,9 +3,14 @@ use Rattle.std.proofs.Common.{◌≡◌, ◌+◌, ◌<◌, ℕ, List, true, leng
 use Rattle.std.proofs.lemmas.List.{get_or_default}
 use Rattle.pssm_model.specs.declared.steps.Item.{Item}
 use Rattle.pssm_plan.specs.declared.roster.Call.{Call}
+use Rattle.pssm_plan.specs.declared.waiting.Wait.{Wait}
 use Rattle.pssm_plan.specs.Waiting.{HoldsUp}
 use Rattle.pssm_plan.specs.inner.Marks.{IsSettled}
 use Rattle.pssm_plan.proofs.Growing.{lower_or_same}
+
+-- the call that waits so
+abbrev pub waiting : Call → Wait → Call
+waiting call wait = record { item = call.item; ran = call.ran; blocked = wait.blocked; seen = wait.seen }
 
 -- the call, blocked by the one at this place
 abbrev pub blocked_call : Call → ℕ → Call

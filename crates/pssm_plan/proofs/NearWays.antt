@@ -9,7 +9,7 @@ use Rattle.pssm_model.specs.Legs.SameLeg.{itself}
 use Rattle.pssm_model.specs.Legs.LaterLeg.{next as next_leg, after as after_leg}
 use Rattle.pssm_model.specs.Items.{PathBefore}
 use Rattle.pssm_model.specs.Items.PathBefore.{next as next_step, after as after_step}
-use Rattle.pssm_model.proofs.OneLeg.{leg_ends_on}
+use Rattle.pssm_model.proofs.LegShapes.{ends_on}
 use Rattle.pssm_legs.specs.Calls.{IsOrderedInLeg, IsCalledBy}
 use Rattle.pssm_legs.specs.Calls.IsOrderedInLeg.{exit_effect, path, effect_enter, effect_end, enter_end, later}
 use Rattle.pssm_plan.specs.declared.ways.Way.{Way}
@@ -24,7 +24,7 @@ module _ (m : DraftMachine) (p : Route) where
   path_ends_on t u (after_step {u = w} first second) = path_ends_on w u second
 
   later_is_on : (t u : TransId) → LaterLeg m p t u → On p u
-  later_is_on t u (next_leg h) = leg_ends_on m p h.1 u h.4
+  later_is_on t u (next_leg h) = ends_on m p h.1 u h.4
   later_is_on t u (after_leg {u = w} h rest) = later_is_on w u rest
 
   -- of two items that a leg orders, the route calls the second

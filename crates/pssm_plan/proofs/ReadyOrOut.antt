@@ -1,4 +1,4 @@
--- A step of a plainly nested machine has run out, or has a ready item, where the configuration at its head is known.
+-- A step that has begun well has run out, or has a ready item, where the configuration at its head is known.
 use Rattle.std.proofs.Common.{List, ◌≡◌, ◌⊎◌, ◌<◌, ℕ, length, inl, inr, ⊎_elim}
 use Rattle.pssm_model.specs.declared.ids.VertexId.{VertexId}
 use Rattle.pssm_model.specs.declared.ids.RegionId.{RegionId}
@@ -17,11 +17,14 @@ use Rattle.pssm_model.specs.Course.{Head, Course, HasRun, HasRestored}
 use Rattle.pssm_model.specs.Course.Head.{Starts, Fires}
 use Rattle.pssm_model.specs.Items.{restored_mode, StartOpens, IsWaiting, HasRunOut}
 use Rattle.pssm_model.specs.Order.{HasGone, IsReady, course_by}
-use Rattle.pssm_model.specs.Nested.{IsPlainlyNested}
-use Rattle.pssm_plan.specs.inner.OverRoutes.{GoesByRoutes, EndsIn, IsEnteredBy, OpensBeside, EndsOnHistory, OpensFor, OpensAfterEntry, IsOpenedOver, IsOpenedFor, IsCalledOver}
+use Rattle.pssm_model.specs.WellFormed.{KeepsModelRules}
+use Rattle.pssm_model.specs.RouteWords.{EndsIn, IsEnteredBy}
+use Rattle.pssm_plan.specs.Steadiness.{BeginsWell}
+use Rattle.pssm_plan.specs.inner.OverRoutes.{GoesByRoutes, OpensBeside, EndsOnHistory, OpensFor, OpensAfterEntry, IsOpenedOver, IsOpenedFor, IsCalledOver}
 use Rattle.pssm_plan.proofs.Known.{Known, known_as, known_both, known_either, known_not, known_below}
-use Rattle.pssm_plan.proofs.KnownPlaces.{known_owner, known_entered, known_ends, known_end_history, known_beside}
-use Rattle.pssm_plan.proofs.KnownItems.{known_mode, known_some_mode, known_restored_as, known_over_some, known_over, known_exit, known_enter, known_pick, owning_there, some_ready}
+use Rattle.pssm_plan.proofs.KnownPlaces.{known_owner}
+use Rattle.pssm_plan.proofs.KnownRoutes.{known_entered, known_ends, known_end_history, known_beside}
+use Rattle.pssm_plan.proofs.KnownItems.{known_mode, known_some_mode, known_restored_as, known_by_some, known_over, known_exit, known_enter, known_pick, owning_there, some_ready}
 use Rattle.pssm_plan.proofs.Known.{run_known}
 use Rattle.pssm_plan.proofs.RouteItems.{called_is, called_of}
 use Rattle.pssm_plan.proofs.RouteSteps.{gone_by_routes}
@@ -59,7 +62,7 @@ opening_of mode k = items.Opened (region_of k) mode
 abbrev pick_of : ℕ → Item
 pick_of k = items.Pick (vertex_of k)
 
-module _ {m : DraftMachine} (nested : IsPlainlyNested m) (shape : HasShape m) (course : Course) (g : GoesByRoutes m course)
+module _ {m : DraftMachine} (rules : KeepsModelRules m) (shape : HasShape m) (course : Course) (g : GoesByRoutes m course)
     (active : (s : VertexId) → Known (course.at_head.Active s)) where
   -- which openings are called
   opens_known : (s : VertexId) (r : RegionId) (mode : Mode) → Known (OpensFor m course s r mode)
@@ -68,12 +71,14 @@ module _ {m : DraftMachine} (nested : IsPlainlyNested m) (shape : HasShape m) (c
       (known_as
       (λ h. (h.0, (h.1, h.2.0), h.2.1, h.2.2))
       (λ h. (h.0, h.1.0, (h.1.1, h.2, h.3)))
-      (known_over_some nested shape course g active
+      (known_by_some rules shape course g active
       (λ p. IsEnteredBy m p s × (EndsIn m p r → ⊥) × (mode ≡ Plain))
-      (λ p. known_as
+      (λ p by. known_as
       (λ h. (h.0, h.1.0, h.1.1))
       (λ h. (h.0, (h.1, h.2)))
-      (known_both (known_entered shape p s) (known_both (known_not (known_ends shape p r)) (known_mode mode Plain))))))
+      (known_both
+      (known_entered shape rules p (g.routes p by) s)
+      (known_both (known_not (known_ends shape rules p (g.routes p by) r)) (known_mode mode Plain))))))
       (known_as
       (λ h. (h.0, h.1.0, h.1.1))
       (λ h. (h.0, (h.1, h.2)))
@@ -93,9 +98,9 @@ module _ {m : DraftMachine} (nested : IsPlainlyNested m) (shape : HasShape m) (c
       known_as
       (λ h. (h.0, (h.1, h.2.0, h.2.1)))
       (λ h. (h.0, h.1.0, (h.1.1, h.1.2)))
-      (known_over_some nested shape course g active
+      (known_by_some rules shape course g active
       (λ p. OpensBeside m p r × (mode ≡ Plain))
-      (λ p. known_both (known_beside shape p r) (known_mode mode Plain)))
+      (λ p by. known_both (known_beside shape rules p (g.routes p by) r) (known_mode mode Plain)))
 
   opened_for_known : (r : RegionId) (mode : Mode) → Known (IsOpenedFor m course r mode)
   opened_for_known r mode =
@@ -115,14 +120,14 @@ module _ {m : DraftMachine} (nested : IsPlainlyNested m) (shape : HasShape m) (c
       (known_as
       (λ h. (h.0, (h.1, h.2)))
       (λ h. (h.0, h.1.0, h.1.1))
-      (known_over_some nested shape course g active (λ p. EndsOnHistory m p r mode) (λ p. known_end_history shape p r mode)))
+      (known_by_some rules shape course g active (λ p. EndsOnHistory m p r mode) (λ p by. known_end_history shape rules p (g.routes p by) r mode)))
 
   -- some item of a kind waits, or none does
   waiting_known : (item : ℕ → Item) → ((k : ℕ) → Known (IsCalledOver m course (item k))) → (n : ℕ)
       → ((x : Item) × IsWaiting m course x) ⊎ ((k : ℕ) → k < n → IsCalledOver m course (item k) → HasRun course (item k))
   waiting_known item called n =
       ⊎_elim
-      (λ h. inl (item h.0, record { called = called_of nested shape course g (item h.0) h.2.0; not_run = h.2.1 }))
+      (λ h. inl (item h.0, record { called = called_of rules shape course g (item h.0) h.2.0; not_run = h.2.1 }))
       (λ none. inr (λ k lt is. ⊎_elim (λ ran. ran) (λ not. absurd (none (k, lt, (is, not)))) (run_known course (item k))))
       (known_below
       (λ k. IsCalledOver m course (item k) × (HasRun course (item k) → ⊥))
@@ -184,24 +189,24 @@ module _ {m : DraftMachine} (nested : IsPlainlyNested m) (shape : HasShape m) (c
       (λ openings. ⊎_elim
       (λ waits. inr waits)
       (λ picks. inl (λ x called. (
-      let is = called_is nested shape course g x called in
+      let is = called_is rules shape course g x called in
       all_ran exits effects entries openings picks x (there x is) is
       )))
-      (waiting_known pick_of (λ k. known_pick nested shape course g active (vertex_of k)) (length m.vertices)))
+      (waiting_known pick_of (λ k. known_pick rules shape course g active (vertex_of k)) (length m.vertices)))
       openings_known)
-      (waiting_known enter_of (λ k. known_enter nested shape course g active (vertex_of k)) (length m.vertices)))
-      (waiting_known effect_of (λ k. known_over nested shape course g active (transition_of k)) (length m.transitions)))
-      (waiting_known exit_of (λ k. known_exit nested shape course g active (vertex_of k)) (length m.vertices))
+      (waiting_known enter_of (λ k. known_enter rules shape course g active (vertex_of k)) (length m.vertices)))
+      (waiting_known effect_of (λ k. known_over rules shape course g active (transition_of k)) (length m.transitions)))
+      (waiting_known exit_of (λ k. known_exit rules shape course g active (vertex_of k)) (length m.vertices))
 
--- A step has run out, or an item is ready.
-pub ready_or_out : {m : DraftMachine} → HasShape m → IsPlainlyNested m
-    → (head : Head) (now : Configuration) (ran : List (Item × How))
+-- A step that has begun well has run out, or an item is ready.
+pub ready_or_out : {m : DraftMachine} → HasShape m → KeepsModelRules m
+    → (head : Head) (now : Configuration) → BeginsWell m head now → (ran : List (Item × How))
     → HasGone m head now ran → ((s : VertexId) → Known (now.Active s))
     → HasRunOut m (course_by head now ran) ⊎ ((x : Item) × IsReady m (course_by head now ran) x)
-ready_or_out shape nested head now ran gone active =
+ready_or_out shape rules head now begins ran gone active =
     let course = course_by head now ran in
-    let g = gone_by_routes nested shape head now ran gone in
+    let g = gone_by_routes rules shape head now ran gone in
     ⊎_elim
     (λ out. inl out)
-    (λ waits. (let first = some_ready nested shape course g active waits.0 waits.1 in inr (first.0, first.1)))
-    (some_waits nested shape course g active (called_there shape nested head now ran gone))
+    (λ waits. (let first = some_ready shape rules head now begins ran gone active waits.0 waits.1 in inr (first.0, first.1)))
+    (some_waits rules shape course g active (called_there shape rules head now ran gone))

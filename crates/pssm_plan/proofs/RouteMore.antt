@@ -1,4 +1,4 @@
--- What one item more that has run does to what a step calls that goes by routes over junctions: what was called still is.
+-- What one item more that has run does to what a step calls that goes by routes: what was called still is.
 use Rattle.std.proofs.Common.{◌≡◌, ◌⊎◌, ◌↔◌, inl, inr, ⊎_elim}
 use Rattle.pssm_model.specs.declared.ids.VertexId.{VertexId}
 use Rattle.pssm_model.specs.declared.ids.RegionId.{RegionId}
@@ -11,7 +11,7 @@ use Rattle.pssm_model.specs.declared.steps.How.TheVariants.{By, Restore}
 use Rattle.pssm_model.specs.declared.steps.Item.{Item}
 use Rattle.pssm_model.specs.declared.steps.Item.TheVariants as items
 use Rattle.pssm_model.specs.Forest.{HasKind}
-use Rattle.pssm_model.specs.Routes.{IsRoute}
+use Rattle.pssm_model.specs.RouteWords.{IsStepRoute}
 use Rattle.pssm_model.specs.Course.{Course, HasRestored}
 use Rattle.pssm_plan.specs.inner.OverRoutes.{GoesByRoutes, GoesBy, IsEnteredOver, OpensFor, OpensAfterEntry, IsOpenedFor, IsCalledOver}
 use Rattle.pssm_plan.proofs.MoreRan.{gone_on, ran_kept, run_more as ran_more, gone_by_more as by_more, restored_more as put_back_more}
@@ -30,7 +30,7 @@ module _ (course : Course) (item : Item) (how : How) where
         h,
   )
 
-  pub goes_on_by_routes : (m : DraftMachine) → GoesByRoutes m course → ((route : Route) → how ≡ By route → IsRoute m route)
+  pub goes_on_by_routes : (m : DraftMachine) → GoesByRoutes m course → ((route : Route) → how ≡ By route → IsStepRoute m route)
       → ((s : VertexId) → how ≡ Restore s → HasKind m s kinds.State) → GoesByRoutes m (gone_on course item how)
   goes_on_by_routes m g by state = record {
     routes = λ route goes. ⊎_elim

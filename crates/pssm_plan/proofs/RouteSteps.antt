@@ -1,5 +1,5 @@
--- The steps of a plainly nested machine: they go by routes, restore what is remembered, and take late what starts at an initial vertex, a history or a
--- choice; so what they call is seen from the items and the routes.
+-- The steps of a machine: they go by routes, restore what is remembered, and take late what starts at an initial vertex, a history or a choice; so what
+-- they call is seen from the items and the routes.
 use Rattle.std.proofs.Common.{◌≡◌, ◌⊎◌, List, refl, subst, inl, inr, ⊎_elim}
 use Rattle.pssm_model.specs.declared.ids.VertexId.{VertexId}
 use Rattle.pssm_model.specs.declared.ids.RegionId.{RegionId}
@@ -22,7 +22,8 @@ use Rattle.pssm_model.specs.Course.{Head, FiresBy, RemembersSoFar}
 use Rattle.pssm_model.specs.Ways.{Memory, IsRemembered, IsHistoryOf, OpensByDefault, OpensByHistory, IsWay}
 use Rattle.pssm_model.specs.Order.{HasGone, course_by}
 use Rattle.pssm_model.specs.Order.HasGone.{begun as gone_begun, more as gone_more}
-use Rattle.pssm_model.specs.Nested.{IsPlainlyNested}
+use Rattle.pssm_model.specs.WellFormed.{KeepsModelRules}
+use Rattle.pssm_model.specs.RouteWords.{IsStepRoute}
 use Rattle.pssm_plan.specs.inner.OverRoutes.{GoesByRoutes}
 use Rattle.pssm_model.proofs.ElementLaws.{nothing_in_nil}
 use Rattle.pssm_plan.proofs.MoreRan.{begins_by}
@@ -101,18 +102,22 @@ module _ (m : DraftMachine) (truth : Truth) (memory : Memory) where
   way_remembers (items.Opened r mode) how way s e = (r, mode, refl, opening_restores r mode how way s e)
   way_remembers (items.Pick c) how way s e = absurd (pick_restores c how way s e)
 
-module _ {m : DraftMachine} (nested : IsPlainlyNested m) (shape : HasShape m) where
+-- a late route is one by which steps go
+pub late_is_step : (m : DraftMachine) (truth : Truth) (v : VertexId) (p : Route) → IsLateRoute m truth v p → IsStepRoute m p
+late_is_step m truth v p late = inr (v, late.leaves.0, late.origin_is, late.route_is, late.leaves.1, late.leaves.2)
+
+module _ {m : DraftMachine} (rules : KeepsModelRules m) (shape : HasShape m) where
   -- a step goes by routes
   pub gone_by_routes : (head : Head) (now : Configuration) (ran : List (Item × How)) → HasGone m head now ran → GoesByRoutes m (course_by head now ran)
   gone_by_routes head now _ (gone_begun fires) = record {
-    routes = λ p by. (fires p (begins_by head now p by)).0;
+    routes = λ p by. inl (fires p (begins_by head now p by));
     restored = λ mode s h. absurd (nothing_in_nil (items.Opened h.0 mode, Restore s) h.1);
   }
   gone_by_routes head now _ (gone_more {ran = ran} item how before ready truth way) =
       let course = course_by head now ran in
       let memory : Memory = RemembersSoFar m course in
       goes_on_by_routes course item how m (gone_by_routes head now ran before)
-      (λ p e. (way_is_late m truth memory item how way p e).1.route_is)
+      (λ p e. (let late = way_is_late m truth memory item how way p e in late_is_step m truth late.0 p late.1))
       (λ s e. (way_remembers m truth memory item how way s e).3.1)
 
   -- those that fire leave States

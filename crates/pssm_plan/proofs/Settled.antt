@@ -45,6 +45,7 @@ use Rattle.pssm_plan.specs.inner.Going.{IsMadeOf, AreFired, CanRunSo, IsFollowed
 use Rattle.pssm_plan.specs.inner.Views.{nothing_held}
 use Rattle.pssm_plan.proofs.MoreRan.{gone_on, nothing_ran, run_more}
 use Rattle.pssm_plan.proofs.WayLaws.{called_is, called_of, before_both, called_there}
+use Rattle.pssm_plan.proofs.RouteSteps.{late_is_step}
 use Rattle.pssm_plan.proofs.CalledNext.{restored_one, called_kept, called_by, called_restoring, called_plainly, ways_by, ways_restoring, ways_plainly}
 use Rattle.pssm_plan.proofs.Rewriting.{marked_along, listed_along, alike_back}
 use Rattle.pssm_plan.proofs.Settling.{set_or_not, exact_along, exact_same}
@@ -296,16 +297,18 @@ pub can_run_so : (m : DraftMachine) (truth : Truth) (memory : Memory) (item : It
 can_run_so m truth memory (items.Exit s) how way = subst (λ (w : How). CanRunSo m (items.Exit s) w) (sym way) tt
 can_run_so m truth memory (items.Effect t) how way = subst (λ (w : How). CanRunSo m (items.Effect t) w) (sym way) tt
 can_run_so m truth memory (items.Enter s) how way = subst (λ (w : How). CanRunSo m (items.Enter s) w) (sym way) tt
-can_run_so m truth memory (items.Pick c) (By p) way = way.route_is
+can_run_so m truth memory (items.Pick c) (By p) way = late_is_step m truth c p way
 can_run_so m truth memory (items.Pick c) (Restore s) way = absurd way
 can_run_so m truth memory (items.Pick c) Nothing way = absurd way
-can_run_so m truth memory (items.Opened r Plain) (By p) way = way.2.route_is
+can_run_so m truth memory (items.Opened r Plain) (By p) way = late_is_step m truth way.0 p way.2
 can_run_so m truth memory (items.Opened r Plain) (Restore s) way = absurd way
 can_run_so m truth memory (items.Opened r Plain) Nothing way = tt
-can_run_so m truth memory (items.Opened r Shallow) (By p) way = ⊎_elim (λ by. by.2.route_is) (λ default. default.1.2.route_is) way.1
+can_run_so m truth memory (items.Opened r Shallow) (By p) way =
+    ⊎_elim (λ by. late_is_step m truth by.0 p by.2) (λ default. late_is_step m truth default.1.0 p default.1.2) way.1
 can_run_so m truth memory (items.Opened r Shallow) (Restore s) way = (kind_there m s kinds.State way.1, (r, Shallow, refl))
 can_run_so m truth memory (items.Opened r Shallow) Nothing way = tt
-can_run_so m truth memory (items.Opened r Deep) (By p) way = ⊎_elim (λ by. by.2.route_is) (λ default. default.1.2.route_is) way.1
+can_run_so m truth memory (items.Opened r Deep) (By p) way =
+    ⊎_elim (λ by. late_is_step m truth by.0 p by.2) (λ default. late_is_step m truth default.1.0 p default.1.2) way.1
 can_run_so m truth memory (items.Opened r Deep) (Restore s) way = (kind_there m s kinds.State way.1, (r, Deep, refl))
 can_run_so m truth memory (items.Opened r Deep) Nothing way = tt
 

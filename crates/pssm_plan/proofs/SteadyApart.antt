@@ -6,25 +6,28 @@ use Rattle.pssm_model.specs.declared.ids.TransId.{TransId}
 use Rattle.pssm_model.specs.declared.elements.DraftMachine.{DraftMachine}
 use Rattle.pssm_model.specs.declared.elements.Owner.TheVariants.{Region, State}
 use Rattle.pssm_model.specs.declared.steps.Route.{Route}
-use Rattle.pssm_model.specs.Forest.{owner_of, LiesUnder, LiesInRegion, IsOrLiesIn, IsWithin}
+use Rattle.pssm_model.specs.Forest.{owner_of, LiesUnder, LiesInRegion, IsOrLiesIn}
 use Rattle.pssm_model.specs.Shapes.{HasShape}
-use Rattle.pssm_model.specs.Nested.{IsPlainlyNested}
+use Rattle.pssm_model.specs.WellFormed.{KeepsModelRules}
 use Rattle.pssm_model.specs.Configuration.{Configuration}
 use Rattle.pssm_model.specs.Course.{Head, FiresBy}
 use Rattle.pssm_model.specs.Legs.{Exits, Scope, LiesInScope}
 use Rattle.pssm_model.specs.Legs.Scope.{Nowhere, Inside, Within}
 use Rattle.pssm_model.specs.Routes.{IsSource, IsStateRoute}
+use Rattle.pssm_model.specs.RouteWords.{IsAreaOf, IsAnchorOf}
 use Rattle.pssm_plan.specs.Steadiness.{BeginsWell}
-use Rattle.pssm_plan.specs.inner.OverRoutes.{IsArea, LiesInArea}
-use Rattle.pssm_model.proofs.RouteLaws.{same_route}
+use Rattle.pssm_plan.specs.inner.OverRoutes.{LiesInArea}
+use Rattle.pssm_model.proofs.RouteLaws.{same_route, conflict_from_source}
 use Rattle.pssm_model.proofs.OwnerChains.{one_owner, under_further}
 use Rattle.pssm_model.proofs.Nesting.{under_cases, lies_within}
-use Rattle.pssm_model.proofs.RegionChains.{on_one_chain}
-use Rattle.pssm_model.proofs.StateRoutes.{is_start, start_is_on, state_route_from}
-use Rattle.pssm_model.proofs.OverJunctions.{single_legs}
+use Rattle.pssm_model.proofs.LegScopes.{shared_touch}
+use Rattle.pssm_model.proofs.RouteAreas.{route_exits}
+use Rattle.pssm_model.proofs.OneLegScope.{one_area}
+use Rattle.pssm_model.proofs.Anchors.{Meet, anchor_source, anchor_around, conflict_is}
+use Rattle.pssm_model.proofs.SomeAnchor.{some_anchor}
 use Rattle.pssm_plan.proofs.Known.{Known, known_both, known_as, known_transition}
-use Rattle.pssm_plan.proofs.RouteLegs.{leg_exits_of}
-use Rattle.pssm_plan.proofs.SteadyPlaces.{IsRegionIn, IsEdge, same_state, edge_owner_outside, edge_not_around, region_in_scope, around_in_scope, source_is_end, one_area}
+use Rattle.pssm_plan.proofs.SteadyPlaces.{IsRegionIn, IsEdge, IsPlaceIn, same_state, edge_owner_outside, edge_not_around, region_in_scope, around_in_scope, place_apart, under_state}
+use Rattle.pssm_plan.proofs.RoutePlaces.{source_is_end}
 
 -- The route fires, and starts at States.
 abbrev pub IsFired : DraftMachine → Head → Route → Type 0
@@ -55,13 +58,10 @@ known_route p q =
     (λ e. (ap (λ (r : Route). r.starts) e, ap (λ (r : Route). r.rest) e))
     (known_both (known_list p.starts q.starts) (known_list p.rest q.rest))
 
-module _ {m : DraftMachine} (shape : HasShape m) (nested : IsPlainlyNested m) (head : Head) (now : Configuration) (begins : BeginsWell m head now) where
+module _ {m : DraftMachine} (shape : HasShape m) (rules : KeepsModelRules m) (head : Head) (now : Configuration) (begins : BeginsWell m head now) where
   -- what is active where it exits, it exits
   exits_of : (p : Route) (s : VertexId) → IsFired m head p → now.Active s → LiesInArea m p s → Exits m now.Active p s
-  exits_of p s is active lies =
-      let from = state_route_from (single_legs nested) p is.1 in
-      let on = start_is_on p from.0 from.2.starts in
-      (from.0, on, leg_exits_of nested shape p is.1.0 from.0 from.2.starts now.Active from.0 s on active lies)
+  exits_of p s is active lies = (route_exits shape rules p (inl is.1) now.Active lies.0 s lies.1).1 (active, lies.2)
 
   source_active : (p : Route) (s : VertexId) → IsFired m head p → IsSource m p s → now.Active s
   source_active p s is source = begins.from_active p s is.0 source
@@ -74,78 +74,28 @@ module _ {m : DraftMachine} (shape : HasShape m) (nested : IsPlainlyNested m) (h
         inr (inl (s, exits_of q s second (source_active p s first source) lies, source)),
       )
 
-  -- and its source neither is that of another nor lies in it
-  pub sources_apart : (p q : Route) (s x : VertexId) → p ≢ q → IsFired m head p → IsFired m head q → IsSource m p s → IsSource m q x
-      → IsOrLiesIn m s x → ⊥
-  sources_apart p q s x apart first second source other lies =
+  -- nor is its source one of another
+  pub one_from : (p q : Route) (s : VertexId) → p ≢ q → IsFired m head p → IsFired m head q → IsSource m p s → IsSource m q s → ⊥
+  one_from p q s apart first second source too =
+      begins.agree p q first.0 second.0 (conflict_from_source m now.Active p q s apart source too)
+
+  -- and neither place is around where the other is anchored, nor are the anchors one or one in the other
+  none_meet : (p q : Route) (a b : Scope) (s r : VertexId) → p ≢ q → IsFired m head p → IsFired m head q → IsAnchorOf m p s → IsAnchorOf m q r
+      → IsAreaOf m p a → IsAreaOf m q b → Meet m s a r b → ⊥
+  none_meet p q a b s r apart first second anchor other is too meet =
       begins.agree p q first.0 second.0
-      (apart, inr (inr (inr (s, x, source, other, inl lies))))
-
-  source_some : (p : Route) → IsFired m head p → (s : VertexId) × IsSource m p s
-  source_some p is =
-      let from = state_route_from (single_legs nested) p is.1 in
-      (from.1, (from.0, is_start p from.0 from.2.starts, from.2.leaves))
-
-  -- two external routes: neither region lies in the other
-  outer_apart : (p q : Route) (r k : RegionId) → p ≢ q → IsFired m head p → IsFired m head q → IsArea m p (Within r) → IsArea m q (Within k)
-      → IsWithin m r k → ⊥
-  outer_apart p q r k apart first second is other within =
-      let from = source_some p first in
-      source_outside p q from.0 apart first second from.1
-      (Within k, other, lies_within m from.0 r k (is.1.common from.0 (source_is_end m p from.0 from.1)) within)
-
-  -- an external and a local one
-  across_apart : (p q : Route) (r k : RegionId) (w v : VertexId) → p ≢ q → IsFired m head p → IsFired m head q → IsArea m p (Within r)
-      → IsArea m q (Inside w) → owner_of m (Region k) ≡ Some (State w) → LiesInRegion m v r → LiesInRegion m v k → ⊥
-  across_apart p q r k w v apart first second is other e lies more =
-      let from = source_some p first in
-      let inside = λ (h : IsWithin m r k). sources_apart p q from.0 w apart first second from.1 other.1
-      (inr (k, e, lies_within m from.0 r k (is.1.common from.0 (source_is_end m p from.0 from.1)) h)) in
-      ⊎_elim
-      inside
-      (⊎_elim
-      (λ same. inside (inl (sym same)))
-      (λ under. ⊎_elim
-      (λ clash. cc)
-      (λ out. source_outside q p w (λ x. apart (sym x)) second first other.1 (Within r, is, out))
-      (under_cases m (Region k) (State w) (Region r) e under)))
-      (on_one_chain m (State v) r k lies more)
-
-  -- two local ones
-  inner_apart : (p q : Route) (w x : VertexId) (k l : RegionId) → p ≢ q → IsFired m head p → IsFired m head q → IsSource m p w → IsSource m q x
-      → owner_of m (Region k) ≡ Some (State w) → owner_of m (Region l) ≡ Some (State x) → IsWithin m k l → ⊥
-  inner_apart p q w x k l apart first second source other e f within =
-      ⊎_elim
-      (λ same. (
-      let one : w ≡ x = same_state w x (one_owner m (Region l) (State w) (State x) (subst (λ y. owner_of m (Region y) ≡ Some (State w)) same e) f) in
-      sources_apart p q w x apart first second source other (inl one)
-      ))
-      (λ under. ⊎_elim
-      (λ clash. cc)
-      (λ out. sources_apart p q w x apart first second source other (inr (l, f, out)))
-      (under_cases m (Region k) (State w) (Region l) e under))
-      within
+      ((conflict_is shape rules p q first.1 second.1 now.Active a b s r anchor other is too
+      (λ x source. ⊎_elim (λ mine. source_active p x first mine) (λ yours. source_active q x second yours) source)
+      apart).1 meet)
 
   -- so no vertex lies in the places of two of them
-  areas_apart : (p q : Route) (v : VertexId) (a b : Scope) → p ≢ q → IsFired m head p → IsFired m head q → IsArea m p a → IsArea m q b
+  areas_apart : (p q : Route) (v : VertexId) (a b : Scope) → p ≢ q → IsFired m head p → IsFired m head q → IsAreaOf m p a → IsAreaOf m q b
       → LiesInScope m v a → LiesInScope m v b → ⊥
-  areas_apart p q v Nowhere b apart first second is other lies more = lies
-  areas_apart p q v (Inside w) Nowhere apart first second is other lies more = more
-  areas_apart p q v (Inside w) (Inside x) apart first second is other lies more =
-      ⊎_elim
-      (inner_apart p q w x lies.0 more.0 apart first second is.1 other.1 lies.1 more.1)
-      (inner_apart q p x w more.0 lies.0 (λ e. apart (sym e)) second first other.1 is.1 more.1 lies.1)
-      (on_one_chain m (State v) lies.0 more.0 lies.2 more.2)
-  areas_apart p q v (Inside w) (Within k) apart first second is other lies more =
-      across_apart q p k lies.0 w v (λ e. apart (sym e)) second first other is lies.1 more lies.2
-  areas_apart p q v (Within r) Nowhere apart first second is other lies more = more
-  areas_apart p q v (Within r) (Inside x) apart first second is other lies more =
-      across_apart p q r more.0 x v apart first second is other more.1 lies more.2
-  areas_apart p q v (Within r) (Within k) apart first second is other lies more =
-      ⊎_elim
-      (outer_apart p q r k apart first second is other)
-      (outer_apart q p k r (λ e. apart (sym e)) second first other is)
-      (on_one_chain m (State v) r k lies more)
+  areas_apart p q v a b apart first second is other lies more =
+      let s = some_anchor shape rules p first.1 in
+      let r = some_anchor shape rules q second.1 in
+      none_meet p q a b s.0 r.0 apart first second s.1 r.1 is other
+      (shared_touch m v s.0 r.0 a b (anchor_around shape rules p first.1 s.0 a s.1 is) (anchor_around shape rules q second.1 r.0 b r.1 other) lies more)
 
   pub one_around : (v : VertexId) (p q : Route) → IsFiredAround m head v p → IsFiredAround m head v q → p ≡ q
   one_around v p q first second =
@@ -154,22 +104,28 @@ module _ {m : DraftMachine} (shape : HasShape m) (nested : IsPlainlyNested m) (h
       (λ apart. absurd (areas_apart p q v first.1.0 second.1.0 apart first.0 second.0 first.1.1 second.1.1 first.1.2 second.1.2))
       (known_route p q)
 
-  -- the source lies in a region at the edge of the place, or owns that
-  source_at_edge : (p : Route) (r : RegionId) (area : Scope) → IsFired m head p → IsArea m p area → IsEdge m r area
+  pub some_source : (p : Route) → IsFired m head p → (s : VertexId) × IsSource m p s
+  some_source p is = let anchor = some_anchor shape rules p is.1 in anchor_source shape rules p is.1 anchor.0 anchor.1
+
+  -- a source lies in a region at the edge of the place, or owns that
+  source_at_edge : (p : Route) (r : RegionId) (area : Scope) → IsFired m head p → IsAreaOf m p area → IsEdge m r area
       → (s : VertexId) × IsSource m p s × (LiesInRegion m s r ⊎ (owner_of m (Region r) ≡ Some (State s)))
   source_at_edge p r Nowhere is area edge = absurd edge
   source_at_edge p r (Inside w) is area edge = (w, area.1, inr edge)
   source_at_edge p r (Within k) is area edge =
-      let from = source_some p is in
-      (from.0, from.1, inl (subst (λ x. LiesInRegion m from.0 x) (sym edge) (area.1.common from.0 (source_is_end m p from.0 from.1))))
+      let from = some_source p is in
+      (from.0, from.1, inl (subst (λ x. LiesInRegion m from.0 x) (sym edge) (area.1.common from.0 (source_is_end shape rules p (inl is.1) from.0 from.1))))
+
+  same_area : (p q : Route) (area place : Scope) → p ≡ q → IsFired m head q → IsAreaOf m p area → IsAreaOf m q place → place ≡ area
+  same_area p q area place same is mine yours = one_area shape rules q (inl is.1) place area yours (subst (λ x. IsAreaOf m x area) same mine)
 
   -- no State that owns such a region lies where something fires
-  pub edge_owner_stays : (p q : Route) (r : RegionId) (o : VertexId) (area : Scope) → IsFired m head p → IsArea m p area → IsEdge m r area
+  pub edge_owner_stays : (p q : Route) (r : RegionId) (o : VertexId) (area : Scope) → IsFired m head p → IsAreaOf m p area → IsEdge m r area
       → owner_of m (Region r) ≡ Some (State o) → IsFiredAround m head o q → ⊥
   edge_owner_stays p q r o area fires is edge e around =
       ⊎_elim
       (λ same. (
-      let here = one_area m q around.1.0 area around.1.1 (subst (λ x. IsArea m x area) same is) in
+      let here = same_area p q area around.1.0 same around.0 is around.1.1 in
       edge_owner_outside shape r o area e edge (subst (λ x. LiesInScope m o x) here around.1.2)
       ))
       (λ apart. (
@@ -186,12 +142,12 @@ module _ {m : DraftMachine} (shape : HasShape m) (nested : IsPlainlyNested m) (h
       (known_route p q)
 
   -- nor does a region around such a region lie there
-  pub edge_stays : (p q : Route) (r k : RegionId) (area place : Scope) → IsFired m head p → IsArea m p area → IsEdge m r area
-      → LiesUnder m (Region r) (Region k) → IsFired m head q → IsArea m q place → IsRegionIn m k place → ⊥
+  pub edge_stays : (p q : Route) (r k : RegionId) (area place : Scope) → IsFired m head p → IsAreaOf m p area → IsEdge m r area
+      → LiesUnder m (Region r) (Region k) → IsFired m head q → IsAreaOf m q place → IsRegionIn m k place → ⊥
   edge_stays p q r k area place fires is edge under other at inside =
       ⊎_elim
       (λ same. (
-      let here = one_area m q place area at (subst (λ x. IsArea m x area) same is) in
+      let here = same_area p q area place same other is at in
       edge_not_around shape r k area edge under (subst (λ x. IsRegionIn m k x) here inside)
       ))
       (λ apart. (
@@ -202,5 +158,37 @@ module _ {m : DraftMachine} (shape : HasShape m) (nested : IsPlainlyNested m) (h
       from.2 in
       source_outside p q from.0 apart fires other from.1
       (place, at, region_in_scope shape from.0 k place lies inside)
+      ))
+      (known_route p q)
+
+  -- a source lies in each State in which the place lies, or is that
+  source_in : (p : Route) (s : VertexId) (area : Scope) → IsFired m head p → IsAreaOf m p area → IsPlaceIn m area s
+      → (v : VertexId) × IsSource m p v × IsOrLiesIn m v s
+  source_in p s Nowhere is area inside = absurd inside
+  source_in p s (Inside w) is area inside = (w, area.1, inside)
+  source_in p s (Within r) is area inside =
+      let from = some_source p is in
+      let up = under_state shape r s inside in
+      let lies = area.1.common from.0 (source_is_end shape rules p (inl is.1) from.0 from.1) in
+      (from.0, from.1, inr (up.0, up.1, lies_within m from.0 r up.0 lies up.2))
+
+  -- so no place lies in a State that lies where something fires
+  pub place_stays : (p q : Route) (s : VertexId) (area : Scope) → IsFired m head p → IsAreaOf m p area → IsPlaceIn m area s → IsFiredAround m head s q → ⊥
+  place_stays p q s area fires is inside around =
+      ⊎_elim
+      (λ same. (
+      let here = same_area p q area around.1.0 same around.0 is around.1.1 in
+      place_apart shape s area inside (subst (λ x. LiesInScope m s x) here around.1.2)
+      ))
+      (λ apart. (
+      let from = source_in p s area fires is inside in
+      source_outside p q from.0 apart fires around.0 from.1 (
+        around.1.0,
+        around.1.1,
+        ⊎_elim
+            (λ one. subst (λ x. LiesInScope m x around.1.0) (sym one) around.1.2)
+            (λ deep. around_in_scope m from.0 s deep.0 around.1.0 deep.2 deep.1 around.1.2)
+            from.2,
+      )
       ))
       (known_route p q)

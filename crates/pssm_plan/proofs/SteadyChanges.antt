@@ -14,8 +14,8 @@ use Rattle.pssm_model.specs.Course.{Head, Course, HasRun}
 use Rattle.pssm_model.specs.Items.{IsWaiting}
 use Rattle.pssm_model.specs.Order.{HasGone, course_by}
 use Rattle.pssm_model.specs.Order.HasGone.{begun as gone_begun, more as gone_more}
-use Rattle.pssm_model.specs.Nested.{IsPlainlyNested}
-use Rattle.pssm_plan.specs.Steadiness.{KeepsInitials, BeginsWell, changed_by_item, changed_along}
+use Rattle.pssm_model.specs.WellFormed.{KeepsModelRules}
+use Rattle.pssm_plan.specs.Steadiness.{BeginsWell, changed_by_item, changed_along}
 use Rattle.pssm_plan.proofs.RouteItems.{called_is}
 use Rattle.pssm_plan.proofs.RouteSteps.{gone_by_routes}
 use Rattle.pssm_plan.proofs.MoreRan.{gone_on, nothing_ran, run_more}
@@ -122,22 +122,22 @@ active_more m course before (items.Opened r mode) Nothing is first s =
 active_more m course before (items.Pick c) how is first s =
     kept m course before how is (items.Pick c) (λ v e. cc) (λ v e. cc) s
 
-module _ {m : DraftMachine} (shape : HasShape m) (nested : IsPlainlyNested m) (initials : KeepsInitials m)
+module _ {m : DraftMachine} (shape : HasShape m) (rules : KeepsModelRules m)
     (head : Head) (now : Configuration) (begins : BeginsWell m head now) where
   -- nothing has been entered where an exit waits
   pub no_entry_yet : (ran : List (Item × How)) → HasGone m head now ran → (p : Route) (q v : VertexId)
       → IsFiredAround m head q p → IsFiredAround m head v p
       → IsWaiting m (course_by head now ran) (items.Exit q) → HasRun (course_by head now ran) (items.Enter v) → ⊥
   no_entry_yet ran gone p q v place around waits entry =
-      let called = called_is nested shape (course_by head now ran) (gone_by_routes nested shape head now ran gone) (items.Exit q) waits.called in
-      waits.not_run (entry_after_exits shape nested head now begins ran gone p v q around place entry called)
+      let called = called_is rules shape (course_by head now ran) (gone_by_routes rules shape head now ran gone) (items.Exit q) waits.called in
+      waits.not_run (entry_after_exits shape rules head now begins ran gone p v q around place entry called)
 
   -- so a State has not been entered whose exit waits
   not_entered : (ran : List (Item × How)) → HasGone m head now ran → (q : VertexId)
       → IsWaiting m (course_by head now ran) (items.Exit q) → HasRun (course_by head now ran) (items.Enter q) → ⊥
   not_entered ran gone q waits entry =
-      let called = called_is nested shape (course_by head now ran) (gone_by_routes nested shape head now ran gone) (items.Exit q) waits.called in
-      let at = exited_around shape nested head now ran gone q called in
+      let called = called_is rules shape (course_by head now ran) (gone_by_routes rules shape head now ran gone) (items.Exit q) waits.called in
+      let at = exited_around shape rules head now ran gone q called in
       no_entry_yet ran gone at.0 q q at.1 at.1 waits entry
 
   -- what is active
@@ -159,5 +159,5 @@ module _ {m : DraftMachine} (shape : HasShape m) (nested : IsPlainlyNested m) (i
   pub exit_is_active : (ran : List (Item × How)) → HasGone m head now ran → (s : VertexId)
       → IsWaiting m (course_by head now ran) (items.Exit s) → (changed_along m now ran).Active s
   exit_is_active ran gone s waits =
-      let called = called_is nested shape (course_by head now ran) (gone_by_routes nested shape head now ran gone) (items.Exit s) waits.called in
+      let called = called_is rules shape (course_by head now ran) (gone_by_routes rules shape head now ran gone) (items.Exit s) waits.called in
       (active_is ran gone s).1 (inr (called.1.1, waits.not_run))

@@ -16,18 +16,20 @@ use Rattle.pssm_model.specs.Configuration.{Configuration}
 use Rattle.pssm_model.specs.Course.{Head, Course, FiresBy}
 use Rattle.pssm_model.specs.Items.{StartOpens}
 use Rattle.pssm_model.specs.Order.{HasGone, course_by}
-use Rattle.pssm_model.specs.Nested.{IsPlainlyNested}
+use Rattle.pssm_model.specs.WellFormed.{KeepsModelRules}
+use Rattle.pssm_model.specs.RouteWords.{IsAreaOf, EndsIn}
 use Rattle.pssm_plan.specs.Steadiness.{BeginsWell}
-use Rattle.pssm_plan.specs.inner.OverRoutes.{IsArea, EndsIn, OpensAfterEntry, IsOpenedOver, IsOpenedFor}
+use Rattle.pssm_plan.specs.inner.OverRoutes.{OpensAfterEntry, IsOpenedOver, IsOpenedFor}
 use Rattle.pssm_model.proofs.OwnerChains.{one_owner}
 use Rattle.pssm_model.proofs.Nesting.{outer_of_region}
-use Rattle.pssm_plan.proofs.SteadyPlaces.{IsRegionIn, IsEdge, Fills, same_state, same_region_place, outer_of, one_region_of, home_of_state, home_above, edge_or_outer, region_in_scope, beside_at_edge, late_end_fills, outer_above}
+use Rattle.pssm_plan.proofs.SteadyPlaces.{IsRegionIn, IsEdge, same_state, same_region_place, outer_of, home_of_state, home_above, edge_or_outer, region_in_scope, outer_above}
+use Rattle.pssm_plan.proofs.RoutePlaces.{Fills, beside_at_edge, late_end_fills}
 use Rattle.pssm_plan.proofs.SteadyApart.{IsFired, one_around, edge_owner_stays, edge_stays}
-use Rattle.pssm_plan.proofs.Arrivals.{Arrival, Arrives, IsFiring, EntersBy, StandsIn, FillsBy, IsProper, mode_after, brought_arrives, entered_stand, entered_fill, comes_area, fill_out, opener_of}
+use Rattle.pssm_plan.proofs.Arrivals.{Arrival, Arrives, IsFiring, EntersBy, StandsIn, FillsBy, IsProper, mode_after, brought_arrives, entered_fill, comes_area, fill_out, opener_of}
 use Rattle.pssm_plan.proofs.Arrivals.Arrival.{Along, Back}
 use Rattle.pssm_plan.proofs.SteadyStems.{IsOpenedBy, ComesWithin, Stems, one_brought, stems, step_route, proper}
 use Rattle.pssm_plan.proofs.SteadyStems.Stems.{fires as stem_fires, opens as stem_opens, goes_on as stem_goes_on}
-use Rattle.pssm_plan.proofs.SteadyChains.{Continues, AreOnChain, turned, joins, linear, inside_of_stand, chain_stays, entered_along, enters_once}
+use Rattle.pssm_plan.proofs.SteadyChains.{Continues, AreOnChain, turned, joins, first_step, linear, enters_once, stands_not_in, stands_with}
 use Rattle.pssm_plan.proofs.SteadyChains.Continues.{here, on}
 use Rattle.pssm_plan.proofs.SteadyItems.{starts_alone, starts_at, not_starting, is_fired, over_area, beside_fires, beside_within, late_fired, inside_fired}
 
@@ -38,36 +40,36 @@ IsFirstIn m course x r =
     ⊎ ((mode : Mode) × IsOpenedBy m course x r mode)
     ⊎ ((k : RegionId) × ComesWithin m course x k × LiesUnder m (Region r) (Region k))
 
-module _ {m : DraftMachine} (shape : HasShape m) (nested : IsPlainlyNested m) (head : Head) (now : Configuration)
+module _ {m : DraftMachine} (shape : HasShape m) (rules : KeepsModelRules m) (head : Head) (now : Configuration)
     (begins : BeginsWell m head now) (ran : List (Item × How)) (gone : HasGone m head now ran) where
   taken : (x : Arrival) → Arrives (course_by head now ran) x → IsProper m x
-  taken x came = proper shape nested head now begins ran gone x came
+  taken x came = proper shape rules head now begins ran gone x came
 
   fired : (p : Route) → FiresBy head p → IsFired m head p
-  fired p fires = is_fired shape nested head now ran gone p fires
+  fired p fires = is_fired shape rules head now ran gone p fires
 
   -- a State that is entered does not own a region at the edge of where something fires
-  entered_not_edge : (p : Route) (area : Scope) (w : Arrival) (s : VertexId) (r : RegionId) → FiresBy head p → IsArea m p area
+  entered_not_edge : (p : Route) (area : Scope) (w : Arrival) (s : VertexId) (r : RegionId) → FiresBy head p → IsAreaOf m p area
       → Arrives (course_by head now ran) w → EntersBy m w s → owner_of m (Region r) ≡ Some (State s) → IsEdge m r area → ⊥
   entered_not_edge p area w s r fires is came enters e edge =
-      let around = not_starting head p fires (inside_fired shape nested head now begins ran gone w s came enters) in
-      edge_owner_stays shape nested head now begins p around.0 r s area (fired p fires) is edge e around.1
+      let around = not_starting head p fires (inside_fired shape rules head now begins ran gone w s came enters) in
+      edge_owner_stays shape rules head now begins p around.0 r s area (fired p fires) is edge e around.1
 
   -- nor does an arrival begin within the step in a region around that
-  late_not_around : (p : Route) (u : Arrival) (area : Scope) (r k : RegionId) → FiresBy head p → IsArea m p area → IsEdge m r area
+  late_not_around : (p : Route) (u : Arrival) (area : Scope) (r k : RegionId) → FiresBy head p → IsAreaOf m p area → IsEdge m r area
       → LiesUnder m (Region r) (Region k) → ComesWithin m (course_by head now ran) u k → ⊥
   late_not_around p u area r k fires is edge under comes =
-      let over = not_starting head p fires (late_fired shape nested head now begins ran gone u k comes) in
-      edge_stays shape nested head now begins p over.0 r k area over.1.1.0 (fired p fires) is edge under
+      let over = not_starting head p fires (late_fired shape rules head now begins ran gone u k comes) in
+      edge_stays shape rules head now begins p over.0 r k area over.1.1.0 (fired p fires) is edge under
       over.1.0 over.1.1.1 over.1.1.2
 
   -- what fires and fills a region is whatever fires where that region lies
   filled_by_fired : (p u : Route) (r : RegionId) → FiresBy head p → Fills m p r → IsFired m head u
-      → ((area : Scope) × IsArea m u area × IsRegionIn m r area) → p ≡ u
+      → ((area : Scope) × IsAreaOf m u area × IsRegionIn m r area) → p ≡ u
   filled_by_fired p u r fires a is place =
       let ends = a.0 in
       let area = a.1 in
-      one_around shape nested head now begins ends.0 p u
+      one_around shape rules head now begins ends.0 p u
       (fired p fires, (area.0, area.1, region_in_scope shape ends.0 r area.0 ends.2 area.2))
       (is, (place.0, place.1, region_in_scope shape ends.0 r place.0 ends.2 place.2))
 
@@ -80,7 +82,7 @@ module _ {m : DraftMachine} (shape : HasShape m) (nested : IsPlainlyNested m) (h
       × IsFirstIn m (course_by head now ran) x r
   first_filler _ r (stem_fires {p = p} is) a = (Along p, here, inl is, a, inl is)
   first_filler u r (stem_opens {r = k} {mode = mode} by) a =
-      let within = subst (λ x. IsRegionIn m r x) (comes_area shape nested u k a.1.0 by.1 a.1.1) a.1.2 in
+      let within = subst (λ x. IsRegionIn m r x) (comes_area shape rules u k a.1.0 by.1 a.1.1) a.1.2 in
       let comes : ComesWithin m (course_by head now ran) u k = (by.1, (items.Opened k mode, by.2)) in (
         u,
         here,
@@ -92,11 +94,12 @@ module _ {m : DraftMachine} (shape : HasShape m) (nested : IsPlainlyNested m) (h
             within,
       )
   first_filler u r (stem_goes_on {w = w} {c = c} {r = k} before by) a =
-      let within = subst (λ x. IsRegionIn m r x) (comes_area shape nested u k a.1.0 by.comes a.1.1) a.1.2 in
+      let within = subst (λ x. IsRegionIn m r x) (comes_area shape rules u k a.1.0 by.comes a.1.1) a.1.2 in
       let comes : ComesWithin m (course_by head now ran) u k = (by.comes, (by.item, by.brought)) in
       ⊎_elim
       (λ same. (
-      let wide = late_end_fills shape nested w c k (step_route shape nested head now ran gone w by.goes) by.home by.ends in
+      let come = by.come in
+      let wide = late_end_fills shape rules w (step_route shape rules head now ran gone w come.goes) c k come.home come.ends in
       let first = first_filler (Along w) r before (subst (λ x. Fills m w x) (sym same) wide) in
       (first.0, on first.1 by, first.2, first.3, first.4)
       ))
@@ -109,11 +112,16 @@ module _ {m : DraftMachine} (shape : HasShape m) (nested : IsPlainlyNested m) (h
   apart_after r w u s e goes stands enters chain =
       ⊎_elim
       (λ same. subst (λ x. StandsIn m x r) (sym same) stands)
-      (λ under. (
-      let one = one_region_of shape stands.0 s under.0 r under.1 e (under.3 stands.0 stands.1) stands.2 in
-      subst (λ x. StandsIn m w x) one under.2
-      ))
-      (entered_along shape nested head now begins ran gone w u s goes chain enters)
+      (λ next. stands_with shape rules head now begins ran gone w u s stands.0 r next goes enters e stands.1 stands.2)
+      (first_step w u chain)
+
+  apart_before : (r : RegionId) (u w : Arrival) (s : VertexId) → owner_of m (Region r) ≡ Some (State s)
+      → StandsIn m u r → EntersBy m w s → Continues m (course_by head now ran) u w → StandsIn m w r
+  apart_before r u w s e stands enters chain =
+      ⊎_elim
+      (λ same. subst (λ x. StandsIn m x r) same stands)
+      (λ next. absurd (stands_not_in shape rules head now begins ran gone u w s stands.0 r next enters e stands.1 stands.2))
+      (first_step u w chain)
 
   home_of_owner : (r : RegionId) (s : VertexId) → owner_of m (Region r) ≡ Some (State s) → (h : RegionId) × (owner_of m (State s) ≡ Some (Region h))
   home_of_owner r s e = home_of_state shape s (inl (shape.regions r (State s) e).0)
@@ -128,11 +136,11 @@ module _ {m : DraftMachine} (shape : HasShape m) (nested : IsPlainlyNested m) (h
     one_enterer s x u e first second enters too =
         let home = home_of_owner r s e in
         ⊎_elim
-        (λ ahead. enters_once shape nested head now begins ran gone x u s first ahead enters too)
-        (λ behind. sym (enters_once shape nested head now begins ran gone u x s second behind too enters))
+        (λ ahead. enters_once shape rules head now begins ran gone x u s first ahead enters too)
+        (λ behind. sym (enters_once shape rules head now begins ran gone u x s second behind too enters))
         (chains home.0 s x u e home.1 first second
-        (entered_fill shape nested x s home.0 (taken x first) home.1 enters)
-        (entered_fill shape nested u s home.0 (taken u second) home.1 too))
+        (entered_fill shape rules x s home.0 (taken x first) home.1 enters)
+        (entered_fill shape rules u s home.0 (taken u second) home.1 too))
 
     -- so its regions open in one mode
     entered_modes : (s q : VertexId) (a b : Mode) → OpensAfterEntry m (course_by head now ran) s r a → OpensAfterEntry m (course_by head now ran) q r b
@@ -149,16 +157,18 @@ module _ {m : DraftMachine} (shape : HasShape m) (nested : IsPlainlyNested m) (h
         → IsOpenedOver m (course_by head now ran) p r b → ⊥
     not_both s a b p after beside =
         let opener = opener_of shape (course_by head now ran) s r a after.1 after.2 in
-        let fires = beside_fires shape nested head now ran gone p r b beside in
-        let area = over_area shape nested head now ran gone p (inl fires) in
-        entered_not_edge p area.0 opener.0 s r fires area.1 opener.1.arrives opener.1.enters after.1 (beside_at_edge m p r area.0 beside.1 area.1).0
+        let fires = beside_fires shape rules head now ran gone p r b beside in
+        let area = over_area shape rules head now ran gone p (inl fires) in
+        let step = step_route shape rules head now ran gone p beside.0 in
+        let edge = (beside_at_edge shape rules p step r area.0 beside.1 area.1).0 in
+        entered_not_edge p area.0 opener.0 s r fires area.1 opener.1.arrives opener.1.enters after.1 edge
 
     starts_not_after : (s : VertexId) (a b : Mode) → StartOpens m head (items.Opened r a) → OpensAfterEntry m (course_by head now ran) s r b → ⊥
     starts_not_after s a b starts after = let top = (starts_at m head r a starts).1 in let state = after.1 in cc
 
     starts_not_beside : (p : Route) (a b : Mode) → StartOpens m head (items.Opened r a) → IsOpenedOver m (course_by head now ran) p r b → ⊥
     starts_not_beside p a b starts beside =
-        starts_alone m head r a p starts (beside_fires shape nested head now ran gone p r b beside)
+        starts_alone m head r a p starts (beside_fires shape rules head now ran gone p r b beside)
 
     pub modes_alike : (a b : Mode) → IsOpenedFor m (course_by head now ran) r a → IsOpenedFor m (course_by head now ran) r b → a ≡ b
     modes_alike a b (inl starts) (inl too) = (starts_at m head r a starts).2 ∙ sym (starts_at m head r b too).2
@@ -195,13 +205,9 @@ module _ {m : DraftMachine} (shape : HasShape m) (nested : IsPlainlyNested m) (h
         let w = opener.0 in
         let by = opener.1 in
         ⊎_elim
-        (λ before. (
-        let inside = chain_stays shape nested head now begins ran gone u w r before (inside_of_stand shape nested head now begins ran gone u r came stands) in
-        let stand = entered_stand shape nested w s by.enters in
-        by.outside (stand.0, stand.1, inside stand.0 stand.1)
-        ))
+        (λ before. by.outside (apart_before r u w s at.1 stands by.enters before))
         (λ after. by.outside (apart_after r w u s at.1 by.arrives stands by.enters after))
-        (chain_around h s u w at.1 f came by.arrives fills (entered_fill shape nested w s h (taken w by.arrives) f by.enters))
+        (chain_around h s u w at.1 f came by.arrives fills (entered_fill shape rules w s h (taken w by.arrives) f by.enters))
 
     -- what fires does not fill the region that the step has opened
     not_opened : (p : Route) (mode : Mode) → FiresBy head p → IsOpenedFor m (course_by head now ran) r mode → Fills m p r → ⊥
@@ -216,11 +222,11 @@ module _ {m : DraftMachine} (shape : HasShape m) (nested : IsPlainlyNested m) (h
         ⊎_elim
         (λ edge. entered_not_edge p area.0 opener.0 at.0 r fires area.1 opener.1.arrives opener.1.enters at.1.1 edge)
         (λ outer. not_opener home.0 at.0 mode (Along p) home.1 (inl fires) a.0
-        (fill_out shape nested (Along p) r home.0 at.0 area.0 at.1.1 home.1 a.0 area.1 outer) at.1)
+        (fill_out shape rules (Along p) r home.0 at.0 area.0 at.1.1 home.1 a.0 area.1 outer) at.1)
         (edge_or_outer shape r home.0 at.0 area.0 at.1.1 home.1 area.2)
         ))
         (λ beside. (
-        let over = beside_within shape nested head now ran gone beside.0 r mode beside.1 in
+        let over = beside_within shape rules head now ran gone beside.0 r mode beside.1 in
         let same = filled_by_fired p beside.0 r fires a over.0 over.1 in
         beside.1.1.2 (subst (λ x. EndsIn m x r) same a.0)
         )))
@@ -231,9 +237,9 @@ module _ {m : DraftMachine} (shape : HasShape m) (nested : IsPlainlyNested m) (h
         → (s : VertexId) × (h : RegionId) × (owner_of m (Region r) ≡ Some (State s)) × (owner_of m (State s) ≡ Some (Region h)) × FillsBy m u h
     late_fills_out u k comes under b =
         let outer = outer_of shape r k under in
-        let place = comes_area shape nested u k b.1.0 comes.0 b.1.1 in
+        let place = comes_area shape rules u k b.1.0 comes.0 b.1.1 in
         let around = subst (λ x. IsRegionIn m outer.1 x) (sym place) ((outer_of_region m r outer.0 outer.1 outer.2 outer.3).innermost k under) in
-        (outer.0, outer.1, outer.2, outer.3, fill_out shape nested u r outer.1 outer.0 b.1.0 outer.2 outer.3 b.0 b.1.1 around)
+        (outer.0, outer.1, outer.2, outer.3, fill_out shape rules u r outer.1 outer.0 b.1.0 outer.2 outer.3 b.0 b.1.1 around)
 
     -- what fires, and what begins late in a region around
     fired_and_late : (p : Route) (u : Arrival) (k : RegionId) → FiresBy head p → ComesWithin m (course_by head now ran) u k
@@ -244,7 +250,7 @@ module _ {m : DraftMachine} (shape : HasShape m) (nested : IsPlainlyNested m) (h
         ⊎_elim
         (λ edge. absurd (late_not_around p u area.0 r k fires area.1 edge under comes))
         (λ out. chain_around outer.1 outer.0 (Along p) u outer.2 outer.3 (inl fires) (came_within u k comes)
-        (fill_out shape nested (Along p) r outer.1 outer.0 area.0 outer.2 outer.3 a.0 area.1 out) outer.4)
+        (fill_out shape rules (Along p) r outer.1 outer.0 area.0 outer.2 outer.3 a.0 area.1 out) outer.4)
         (edge_or_outer shape r outer.1 outer.0 area.0 outer.2 outer.3 area.2)
 
     -- what the step has opened the region by, and what begins late in a region around it
@@ -260,9 +266,11 @@ module _ {m : DraftMachine} (shape : HasShape m) (nested : IsPlainlyNested m) (h
         not_opener outer.1 at.0 mode u (subst (λ x. owner_of m (State x) ≡ Some (Region outer.1)) (sym same) outer.3) (came_within u k comes) b.0 outer.4 at.1
         ))
         (λ beside. (
-        let fires = beside_fires shape nested head now ran gone beside.0 r mode beside.1 in
-        let area = over_area shape nested head now ran gone beside.0 (inl fires) in
-        late_not_around beside.0 u area.0 r k fires area.1 (beside_at_edge m beside.0 r area.0 beside.1.1 area.1).0 under comes
+        let fires = beside_fires shape rules head now ran gone beside.0 r mode beside.1 in
+        let area = over_area shape rules head now ran gone beside.0 (inl fires) in
+        let step = step_route shape rules head now ran gone beside.0 beside.1.0 in
+        let edge = (beside_at_edge shape rules beside.0 step r area.0 beside.1.1 area.1).0 in
+        late_not_around beside.0 u area.0 r k fires area.1 edge under comes
         )))
         opened
 
@@ -285,7 +293,7 @@ module _ {m : DraftMachine} (shape : HasShape m) (nested : IsPlainlyNested m) (h
     both_opened x u a b first second =
         let modes = modes_alike r chain_around a b first.0 second.0 in
         let item : items.Opened r a ≡ items.Opened r b = cc in
-        let same = one_brought shape nested head now ran gone (items.Opened r a) (items.Opened r b) x u item first.2 second.2 in
+        let same = one_brought shape rules head now ran gone (items.Opened r a) (items.Opened r b) x u item first.2 second.2 in
         inl (subst (λ y. Continues m (course_by head now ran) x y) same here)
 
     firing_first : (x u : Arrival) → IsFiring head x → IsFirstIn m (course_by head now ran) u r → FillsBy m x r → FillsBy m u r
@@ -312,11 +320,11 @@ module _ {m : DraftMachine} (shape : HasShape m) (nested : IsPlainlyNested m) (h
     filled_here : (x u : Arrival) → Arrives (course_by head now ran) x → Arrives (course_by head now ran) u → FillsBy m x r → FillsBy m u r
         → AreOnChain m (course_by head now ran) x u
     filled_here x u first second a b =
-        let before = first_filler x r (stems shape nested head now begins ran gone x first) a in
-        let other = first_filler u r (stems shape nested head now begins ran gone u second) b in
+        let before = first_filler x r (stems shape rules head now begins ran gone x first) a in
+        let other = first_filler u r (stems shape rules head now begins ran gone u second) b in
         ⊎_elim
-        (λ ahead. linear shape nested head now begins ran gone before.0 x u before.1 (joins before.0 other.0 u ahead other.1))
-        (λ behind. linear shape nested head now begins ran gone other.0 x u (joins other.0 before.0 x behind before.1) other.1)
+        (λ ahead. linear shape rules head now begins ran gone before.0 x u r before.1 (joins before.0 other.0 u ahead other.1) a.1 b.1)
+        (λ behind. linear shape rules head now begins ran gone other.0 x u r (joins other.0 before.0 x behind before.1) other.1 a.1 b.1)
         (firsts_filled before.0 other.0 before.4 other.4 before.3 other.3)
 
   filled_below : (n : ℕ) → IsFilledOnce n

@@ -1,49 +1,24 @@
--- Where the States stand that a route enters: owner chains, places where routes exit and enter, and the regions that a route fills.
-use Rattle.std.proofs.Common.{◌≡◌, ◌≢◌, ◌⊎◌, ◌++◌, ℕ, suc, List, [], ◌∷◌, Some, refl, sym, ap, subst, ◌∙◌, inl, inr, ⊎_elim}
-use Rattle.std.proofs.lemmas.List.Elements.{Contains-append_left}
+-- Where States, regions and vertices lie: owner chains, and the places where routes exit and enter.
+use Rattle.std.proofs.Common.{◌≡◌, ◌≢◌, ◌⊎◌, ℕ, suc, Some, refl, sym, subst, ◌∙◌, inl, inr, ⊎_elim}
 use Rattle.pssm_model.specs.declared.ids.VertexId.{VertexId}
 use Rattle.pssm_model.specs.declared.ids.RegionId.{RegionId}
-use Rattle.pssm_model.specs.declared.ids.TransId.{TransId}
 use Rattle.pssm_model.specs.declared.elements.DraftMachine.{DraftMachine}
 use Rattle.pssm_model.specs.declared.elements.Vertex.{Vertex}
 use Rattle.pssm_model.specs.declared.elements.VertexKind.{VertexKind}
 use Rattle.pssm_model.specs.declared.elements.VertexKind.TheVariants as kinds
 use Rattle.pssm_model.specs.declared.elements.Owner.{Owner}
 use Rattle.pssm_model.specs.declared.elements.Owner.TheVariants.{Top, Region, State}
-use Rattle.pssm_model.specs.declared.elements.FaultPlace.TheVariants as places
-use Rattle.pssm_model.specs.declared.elements.Element.TheVariants as elements
-use Rattle.pssm_model.specs.declared.elements.Transition.{Transition}
-use Rattle.pssm_model.specs.declared.elements.TransKind.{TransKind}
-use Rattle.pssm_model.specs.declared.elements.TransKind.TheVariants.{External, Local, Internal}
-use Rattle.pssm_model.specs.declared.steps.Route.{Route}
-use Rattle.pssm_model.specs.Forest.{vertex_at, transition_at, owner_of, HasKind, IsStateOrFinal, LiesUnder, LiesInRegion, LiesInState, IsWithin, HasRegionsAbove}
+use Rattle.pssm_model.specs.Forest.{vertex_at, owner_of, HasKind, IsStateOrFinal, LiesUnder, LiesInRegion, LiesInState, IsOrLiesIn, IsWithin, HasRegionsAbove}
 use Rattle.pssm_model.specs.Forest.LiesUnder.{owned, further}
-use Rattle.pssm_model.specs.Legs.{Leaves, Enters, Goes, On, IsPoint, Scope, LiesInScope}
+use Rattle.pssm_model.specs.Legs.{IsPoint, IsEndState, Scope, LiesInScope}
 use Rattle.pssm_model.specs.Legs.Scope.{Nowhere, Inside, Within}
-use Rattle.pssm_model.specs.Nested.{IsPlainlyNested}
 use Rattle.pssm_model.specs.FiringSets.{IsHistory, IsLateOrigin}
-use Rattle.pssm_model.specs.Paths.{ComesAfter, IsJunctionPath}
-use Rattle.pssm_model.specs.Paths.ComesAfter.{end as after_end, inner as after_inner}
-use Rattle.pssm_model.specs.Paths.IsJunctionPath.{one, more}
-use Rattle.pssm_model.specs.Routes.{IsRoute, IsSource, IsStateRoute, IsReached}
-use Rattle.pssm_model.specs.Routes.IsReached.{start as reached_first, on as reached_after}
 use Rattle.pssm_model.specs.Shapes.{HasShape, OwnsVertex}
-use Rattle.pssm_model.specs.WellFormed.Breaks.{E13, E14, E20}
-use Rattle.pssm_plan.specs.inner.OverRoutes.{GoesAs, IsEndOf, IsSpan, IsArea, LiesInArea, EndsOn, IsEnteredBy, EndsIn, OpensBeside}
-use Rattle.pssm_model.proofs.ElementLaws.{mapped_some, mapped_at, leaves_one, enters_one}
-use Rattle.pssm_model.proofs.RouteLaws.{reached_is_on}
+use Rattle.pssm_model.proofs.ElementLaws.{kind_unique, mapped_some, mapped_at}
 use Rattle.pssm_model.proofs.Nesting.{under_cases, region_cases, outer_of_region, lies_within}
 use Rattle.pssm_model.proofs.OwnerChains.{one_owner, under_further, circle_is_endless, top_lies_nowhere, region_down}
-use Rattle.pssm_model.proofs.RegionChains.{on_one_chain}
-use Rattle.pssm_model.proofs.Scopes.{one_scope}
-use Rattle.pssm_model.proofs.StateRoutes.{is_start as start_inside, source_is_left, state_route_from}
-use Rattle.pssm_model.proofs.OverJunctions.{other_kind, single_legs, internal_leaves, local_leaves}
-use Rattle.pssm_model.proofs.OneLeg.{on_start, is_start, start_or_rest, source_of, passes_junction, comes_from, alone}
-use Rattle.pssm_model.proofs.LegScopes.{some_scope}
-use Rattle.pssm_plan.proofs.KnownPlaces.{known_in_region, known_in_state}
+use Rattle.pssm_model.proofs.RegionChains.{on_one_chain, under_state as state_under}
 use Rattle.pssm_plan.proofs.Depths.{owner_under, depth_under, state_down_region}
-use Rattle.pssm_plan.proofs.RouteLegs.{leg_scope_is}
-use Rattle.pssm_plan.proofs.RoutePaths.{one_last}
 
 -- The region is all of the place, or lies in it.
 abbrev pub IsRegionIn : DraftMachine → RegionId → Scope → Type 0
@@ -63,26 +38,6 @@ IsEdge m r Nowhere = ⊥
 IsEdge m r (Inside s) = owner_of m (Region r) ≡ Some (State s)
 IsEdge m r (Within q) = r ≡ q
 
--- The route ends in the region, which lies where the route exits and enters.
-abbrev pub Fills : DraftMachine → Route → RegionId → Type 0
-Fills m p r = EndsIn m p r × ((area : Scope) × IsArea m p area × IsRegionIn m r area)
-
--- The route starts with one transition, which leaves the vertex.
-abbrev pub IsStartFrom : DraftMachine → Route → VertexId → Type 0
-IsStartFrom m p v = (t : TransId) × (p.starts ≡ t ∷ []) × Leaves m t v
-
--- The route starts at the vertex, an initial vertex, a history or a choice.
-abbrev pub IsLateFrom : DraftMachine → Route → VertexId → Type 0
-IsLateFrom m p v = IsRoute m p × IsStartFrom m p v × IsLateOrigin m v
-
--- The region owns that vertex.
-abbrev pub IsLateIn : DraftMachine → Route → RegionId → VertexId → Type 0
-IsLateIn m p r v = IsLateFrom m p v × (owner_of m (State v) ≡ Some (Region r))
-
--- The route is one by which steps go: one out of States, or one that starts within a step.
-abbrev pub IsStepRoute : DraftMachine → Route → Type 0
-IsStepRoute m p = IsStateRoute m p ⊎ ((v : VertexId) × IsLateFrom m p v)
-
 -- The vertex is the State, or lies on an owner chain that passes it.
 abbrev pub IsAtOrUnder : DraftMachine → VertexId → VertexId → Type 0
 IsAtOrUnder m v s = (v ≡ s) ⊎ LiesUnder m (State v) (State s)
@@ -91,9 +46,15 @@ IsAtOrUnder m v s = (v ≡ s) ⊎ LiesUnder m (State v) (State s)
 abbrev pub IsGoOn : DraftMachine → VertexId → Type 0
 IsGoOn m c = HasKind m c kinds.Choice ⊎ IsHistory m c
 
--- The route ends on the vertex, from which the step goes on.
-abbrev pub EndsLate : DraftMachine → Route → VertexId → Type 0
-EndsLate m p c = EndsOn m p c × IsGoOn m c
+-- The place lies in the State, or is that.
+abbrev pub IsPlaceIn : DraftMachine → Scope → VertexId → Type 0
+IsPlaceIn m Nowhere s = ⊥
+IsPlaceIn m (Inside w) s = IsOrLiesIn m w s
+IsPlaceIn m (Within r) s = LiesUnder m (Region r) (State s)
+
+-- a vertex is of one kind
+pub other_kind : (m : DraftMachine) (v : VertexId) (k l : VertexKind) → k ≢ l → HasKind m v k → HasKind m v l → ⊥
+other_kind m v k l apart h g = apart (kind_unique m v k l h g)
 
 -- such a vertex is of no other kind
 pub go_on_is_no : (m : DraftMachine) (c : VertexId) (k : VertexKind) → k ≢ kinds.Choice → k ≢ kinds.ShallowHistory → k ≢ kinds.DeepHistory → IsGoOn m c
@@ -330,317 +291,93 @@ module _ (m : DraftMachine) where
   around_in_scope v s r (Inside w) lies e outer = (outer.0, outer.1, under_further lies (further e outer.2))
   around_in_scope v s r (Within q) lies e outer = under_further lies (further e outer)
 
-  -- the start of a route is one, and so are its kind and what it leaves
-  start_same : (p : Route) (t u : TransId) → p.starts ≡ t ∷ [] → p.starts ≡ u ∷ [] → t ≡ u
-  start_same p t u e f = cc
-
-  goes_one_way : (p : Route) (k l : TransKind) → GoesAs m p k → GoesAs m p l → k ≡ l
-  goes_one_way p k l first second =
-      let same = start_same p first.0 second.0 first.1 second.1 in
-      let goes : Goes m second.0 k = subst (λ t. Goes m t k) same first.2 in
-      let other = second.2 in
-      cc
-
-  external_not_local : (p : Route) → GoesAs m p External → GoesAs m p Local → ⊥
-  external_not_local p first second = let same = goes_one_way p External Local first second in cc
-
-  external_not_internal : (p : Route) → GoesAs m p External → GoesAs m p Internal → ⊥
-  external_not_internal p first second = let same = goes_one_way p External Internal first second in cc
-
-  local_not_internal : (p : Route) → GoesAs m p Local → GoesAs m p Internal → ⊥
-  local_not_internal p first second = let same = goes_one_way p Local Internal first second in cc
-
-  one_source : (p : Route) (k : TransKind) (s q : VertexId) → GoesAs m p k → IsSource m p s → IsSource m p q → s ≡ q
-  one_source p k s q goes first second =
-      leaves_one m goes.0 s q (source_is_left p goes.0 goes.1 m s first) (source_is_left p goes.0 goes.1 m q second)
-
-  -- what it leaves is one of its vertices
-  pub source_is_end : (p : Route) (s : VertexId) → IsSource m p s → IsEndOf m p s
-  source_is_end p s source = (source.0, Contains-append_left p.starts p.rest source.0 source.1, inl source.2)
-
-  some_source : (p : Route) (k : TransKind) → GoesAs m p k → (s : VertexId) × IsSource m p s
-  some_source p k goes =
-      let x = mapped_some (λ (y : Transition). y.kind) (transition_at m goes.0) k goes.2 in
-      (x.0.source, (goes.0, start_inside p goes.0 goes.1, mapped_at (λ (y : Transition). y.source) (transition_at m goes.0) x.0 x.1))
-
-  -- a local route opens regions where it exits and enters
-  pub beside_at_edge : (p : Route) (r : RegionId) (area : Scope) → OpensBeside m p r → IsArea m p area
-      → IsEdge m r area × IsRegionUnder m r area
-  beside_at_edge p r Nowhere beside is = absurd (local_not_internal p beside.0 is)
-  beside_at_edge p r (Inside s) beside is =
-      let same = one_source p Local beside.1.0 s is.0 beside.1.1 is.1 in
-      let owner = subst (λ x. owner_of m (Region r) ≡ Some (State x)) same beside.1.2 in
-      (owner, owned owner)
-  beside_at_edge p r (Within q) beside is = absurd (external_not_local p is.0 beside.0)
-
-  -- a route exits and enters in one place
-  pub one_area : (p : Route) (a b : Scope) → IsArea m p a → IsArea m p b → a ≡ b
-  one_area p Nowhere Nowhere is h = refl
-  one_area p Nowhere (Inside s) is h = absurd (local_not_internal p h.0 is)
-  one_area p Nowhere (Within r) is h = absurd (external_not_internal p h.0 is)
-  one_area p (Inside s) Nowhere is h = absurd (local_not_internal p is.0 h)
-  one_area p (Inside s) (Inside q) is h = ap Inside (one_source p Local s q is.0 is.1 h.1)
-  one_area p (Inside s) (Within r) is h = absurd (external_not_local p h.0 is.0)
-  one_area p (Within r) Nowhere is h = absurd (external_not_internal p is.0 h)
-  one_area p (Within r) (Inside s) is h = absurd (external_not_local p is.0 h.0)
-  one_area p (Within r) (Within q) is h =
-      let source = some_source p External is.0 in
-      ap Within (one_scope m (IsEndOf m p) source.0 r q (source_is_end p source.0 source.1) is.1 h.1)
-
-  -- a junction path goes on from its end
-  path_more : (path : List TransId) (u : TransId) (v w : VertexId) → IsJunctionPath m path v → HasKind m v kinds.Junction → Leaves m u v → Enters m u w
-      → IsJunctionPath m (path ++ u ∷ []) w
-  path_more _ u v w (one e) k l enters = more k e l (one enters)
-  path_more _ u v w (more {u = next} {rest = rest} j e out behind) k l enters = more j e out (path_more (next ∷ rest) u v w behind k l enters)
-
--- where a local route ends
-module _ {m : DraftMachine} (shape : HasShape m) (nested : IsPlainlyNested m)
-    (p : Route) (route : IsRoute m p) (t : TransId) (starts : p.starts ≡ t ∷ []) where
-  -- a junction path leads from its start to each vertex on which one of its transitions ends
-  path_to : (u : TransId) (w : VertexId) → IsReached m p u → Enters m u w → (rest : List TransId) × IsJunctionPath m (t ∷ rest) w
-  path_to u w (reached_first h) e =
-      ([], one (subst (λ x. Enters m x w) (is_start (single_legs nested) shape p route t starts u h) e))
-  path_to u w (reached_after {u = k} {v = v} r enters l h) e =
-      let before = path_to k v r enters in
-      let junction = passes_junction (single_legs nested) shape p route t starts u k v (reached_is_on m p k r) enters l h in
-      (before.0 ++ u ∷ [], path_more m (t ∷ before.0) u v w before.1 junction l e)
-
-  -- so where it is local, each lies in the State that it leaves
-  pub local_ends : (s : VertexId) (u : TransId) (w : VertexId) → Goes m t Local → Leaves m t s → On p u → Enters m u w → LiesInState m w s
-  local_ends s u w goes l on e =
-      let path = path_to u w (route.reached u on) e in
+  -- what lies in a region lies in those around it
+  pub within_further : (r q k : RegionId) → IsWithin m r q → IsWithin m q k → IsWithin m r k
+  within_further r q k first second =
       ⊎_elim
-      (λ lies. lies)
-      (λ out. absurd (nested.rules (places.At (elements.Transition t)) 14
-      (E14 (goes, inr (s, w, path.0, inl (l, local_leaves nested shape t s goes l), path.1, out)))))
-      (known_in_state shape w s)
+      (λ same. subst (λ x. IsWithin m x k) (sym same) second)
+      (λ under. inr (⊎_elim
+      (λ same. subst (λ x. LiesUnder m (Region r) (Region x)) same under)
+      (λ more. under_further under more)
+      second))
+      first
 
-module _ {m : DraftMachine} (shape : HasShape m) (nested : IsPlainlyNested m) where
-  pub is_route : (p : Route) → IsStepRoute m p → IsRoute m p
-  is_route p is = ⊎_elim (λ fires. fires.0) (λ late. late.1.0) is
-
-  -- it has one start
-  pub has_start : (p : Route) → IsStepRoute m p → (t : TransId) × (p.starts ≡ t ∷ [])
-  has_start p is =
+  pub within_in : (r q : RegionId) (area : Scope) → IsWithin m r q → IsRegionIn m q area → IsRegionIn m r area
+  within_in r q Nowhere within inside = inside
+  within_in r q (Inside w) within inside =
       ⊎_elim
-      (λ fires. (let from = state_route_from (single_legs nested) p fires in (from.0, from.2.starts)))
-      (λ late. (late.1.1.0, late.1.1.1))
-      is
+      (λ same. subst (λ x. LiesUnder m (Region x) (State w)) (sym same) inside)
+      (λ under. under_further under inside)
+      within
+  within_in r q (Within k) within inside = within_further r q k within inside
 
-  -- and ends on one vertex
-  pub one_end : (p : Route) (v w : VertexId) → IsStepRoute m p → EndsOn m p v → EndsOn m p w → v ≡ w
-  one_end p v w step first second =
-      let start = has_start p step in
-      one_last (single_legs nested) shape p (is_route p step) start.0 start.1 v w first second
-
-  -- what a route enters stands on the owner chain of its last vertex
-  pub entered_reached : (p : Route) (s w : VertexId) → IsStepRoute m p → IsEnteredBy m p s → EndsOn m p w → IsAtOrUnder m w s
-  entered_reached p s w step h ends =
-      let last = one_end p h.1.0 w step h.1.1 ends in
+  -- what stands at an end lies where that lies
+  at_end_in_region : (v s : VertexId) (r : RegionId) → IsEndState m v s → LiesInRegion m v r → LiesInRegion m s r
+  at_end_in_region v s r at lies =
       ⊎_elim
-      (λ same. inl (sym last ∙ same.0))
-      (λ around. inr (subst (λ x. LiesUnder m (State x) (State s)) last (under_further around.1.2 (owned around.1.1))))
-      h.1.2
+      (λ same. subst (λ x. LiesInRegion m x r) (sym same.1) lies)
+      (λ entry. state_under m (State v) s r entry.1 lies)
+      at
 
-  -- a route out of States exits and enters somewhere, or nowhere
-  state_area : (p : Route) → IsStateRoute m p → (area : Scope) × IsArea m p area
-  state_area p is =
-      let from = state_route_from (single_legs nested) p is in
-      let leg = some_scope (single_legs nested) shape p is.0 from.0 from.2.starts from.1 from.2.leaves in
-      (leg.0, (leg_scope_is nested shape p is.0 from.0 from.2.starts from.0 leg.0 leg.1).1)
+  pub at_end_in_scope : (v s : VertexId) (area : Scope) → IsEndState m v s → LiesInScope m v area → LiesInScope m s area
+  at_end_in_scope v s Nowhere at lies = lies
+  at_end_in_scope v s (Inside w) at lies = (lies.0, lies.1, at_end_in_region v s lies.0 at lies.2)
+  at_end_in_scope v s (Within r) at lies = at_end_in_region v s r at lies
 
-  -- an internal route ends on the State that it leaves, so on no choice or history
-  internal_stays : (t : TransId) (s c : VertexId) → Goes m t Internal → Leaves m t s → Enters m t c → IsGoOn m c → ⊥
-  internal_stays t s c goes l e on =
-      nested.rules _ 13 (E13 (
-        goes,
-        (
-          s,
-          l,
-          inr (λ back. (
-              let state = internal_leaves nested shape t s goes l in
-              go_on_is_no m c kinds.State (λ same. cc) (λ same. cc) (λ same. cc) on
-              (subst (λ x. HasKind m x kinds.State) (enters_one m t s c back e) state)
-              )),
-        ),
-      ))
+  -- the vertex that a State is, or is in, at or under which another lies
+  pub under_or_at : (v s : VertexId) → IsOrLiesIn m v s → IsAtOrUnder m v s
+  under_or_at v s h = ⊎_elim (λ same. inl same) (λ lies. inr (under_further lies.2 (owned lies.1))) h
 
-  late_not_internal : (p : Route) (c : VertexId) → IsStepRoute m p → EndsLate m p c → GoesAs m p Internal → ⊥
-  late_not_internal p c step ends goes =
-      let route = is_route p step in
-      let from = source_of (single_legs nested) shape p route goes.0 goes.1 goes.0 (on_start (single_legs nested) shape p route goes.0 goes.1) in
-      let state = internal_leaves nested shape goes.0 from.0 goes.2 from.1 in
-      let only = alone (single_legs nested) shape p route goes.0 goes.1 from.0 ends.0.0 from.1 state goes.2 ends.0.1 in
-      internal_stays goes.0 from.0 c goes.2 from.1 (subst (λ u. Enters m u c) only ends.0.2) ends.1
+  pub under_at : (v w s : VertexId) → LiesUnder m (State v) (State w) → IsAtOrUnder m w s → LiesUnder m (State v) (State s)
+  under_at v w s under at =
+      ⊎_elim (λ same. subst (λ x. LiesUnder m (State v) (State x)) same under) (λ more. under_further under more) at
 
-  -- the kind of a transition that leaves an initial vertex, a history or a choice is external
-  pub no_state : (v : VertexId) → IsLateOrigin m v → HasKind m v kinds.State → ⊥
-  no_state v late state =
+  pub in_region_at : (v s : VertexId) (r : RegionId) → IsAtOrUnder m v s → LiesInRegion m s r → LiesInRegion m v r
+  in_region_at v s r at lies =
+      ⊎_elim (λ same. subst (λ x. LiesInRegion m x r) (sym same) lies) (λ under. under_further under lies) at
+
+  -- of a place where a vertex lies and a State in which it lies, either the place lies in the State, or the State in the place
+  of_one : (w s : VertexId) (r q : RegionId) → owner_of m (Region r) ≡ Some (State w) → owner_of m (Region q) ≡ Some (State s) → r ≡ q → w ≡ s
+  of_one w s r q e f same = same_state w s (one_owner m (Region q) (State w) (State s) (subst (λ x. owner_of m (Region x) ≡ Some (State w)) same e) f)
+
+  pub in_or_around : (q s : VertexId) (area : Scope) → LiesInScope m q area → LiesInState m q s → IsPlaceIn m area s ⊎ LiesInScope m s area
+  in_or_around q s Nowhere lies inside = absurd lies
+  in_or_around q s (Inside w) lies inside =
       ⊎_elim
-      (λ i. other_kind m v kinds.Initial kinds.State (λ e. cc) i state)
-      (⊎_elim
-      (⊎_elim
-      (λ y. other_kind m v kinds.ShallowHistory kinds.State (λ e. cc) y state)
-      (λ y. other_kind m v kinds.DeepHistory kinds.State (λ e. cc) y state))
-      (λ c. other_kind m v kinds.Choice kinds.State (λ e. cc) c state))
-      late
-
-  external_from : (v : VertexId) (t : TransId) (k : TransKind) → IsLateOrigin m v → Leaves m t v → Goes m t k → Goes m t External
-  external_from v t External late l goes = goes
-  external_from v t Local late l goes = absurd (no_state v late (local_leaves nested shape t v goes l))
-  external_from v t Internal late l goes = absurd (no_state v late (internal_leaves nested shape t v goes l))
-
-  goes_externally : (v : VertexId) (t : TransId) → IsLateOrigin m v → Leaves m t v → Goes m t External
-  goes_externally v t late l =
-      let x = mapped_some (λ (y : Transition). y.source) (transition_at m t) v l in
-      external_from v t x.0.kind late l (mapped_at (λ (y : Transition). y.kind) (transition_at m t) x.0 x.1)
-
--- where a route that starts within a step exits and enters
-module _ {m : DraftMachine} (shape : HasShape m) (nested : IsPlainlyNested m) (p : Route) (r : RegionId) (v : VertexId) (late : IsLateIn m p r v) where
-  route : IsRoute m p
-  route = late.0.0
-
-  from : IsStartFrom m p v
-  from = late.0.1
-
-  -- an inner path leads from its start to each vertex on which one of its transitions ends
-  comes_after : (u : TransId) (w : VertexId) → IsReached m p u → Enters m u w → ComesAfter m from.0 w
-  comes_after u w (reached_first h) e =
-      after_end (subst (λ x. Enters m x w) (is_start (single_legs nested) shape p route from.0 from.1 u h) e)
-  comes_after u w (reached_after {u = k} {v = q} before enters l h) e =
-      after_inner u (comes_after k q before enters)
-      (inl (passes_junction (single_legs nested) shape p route from.0 from.1 u k q (reached_is_on m p k before) enters l h)) l e
-
-  -- so each of these lies in the region
-  stays_inside : (u : TransId) (w : VertexId) → On p u → Enters m u w → LiesInRegion m w r
-  stays_inside u w is e =
+      (λ within. ⊎_elim
+      (λ same. inl (inl (of_one w s lies.0 inside.0 lies.1 inside.1 same)))
+      (λ under. inl (inr (inside.0, inside.1, state_under m (Region lies.0) w inside.0 lies.1 under)))
+      within)
+      (λ within. ⊎_elim
+      (λ same. inl (inl (of_one w s lies.0 inside.0 lies.1 inside.1 (sym same))))
+      (λ under. inr (lies.0, lies.1, state_under m (Region inside.0) s lies.0 inside.1 under))
+      within)
+      (on_one_chain m (State q) lies.0 inside.0 lies.2 inside.2)
+  in_or_around q s (Within r) lies inside =
       ⊎_elim
-      (λ lies. lies)
-      (λ out. absurd (nested.rules (places.At (elements.Vertex v)) 20 (E20 (inl (
-        late.0.2,
-        (from.0, r, from.2, late.1, (w, comes_after u w (route.reached u is) e, out)),
-      )))))
-      (known_in_region shape w r)
+      (λ within. inl (⊎_elim
+      (λ same. owned (subst (λ x. owner_of m (Region x) ≡ Some (State s)) (sym same) inside.1))
+      (λ under. under_further under (owned inside.1))
+      within))
+      (λ within. ⊎_elim
+      (λ same. inl (owned (subst (λ x. owner_of m (Region x) ≡ Some (State s)) same inside.1)))
+      (λ under. inr (state_under m (Region inside.0) s r inside.1 under))
+      within)
+      (on_one_chain m (State q) r inside.0 lies inside.2)
 
-  pub late_ends : (w : VertexId) → IsEndOf m p w → LiesInRegion m w r
-  late_ends w (u, is, inr enters) = stays_inside u w is enters
-  late_ends w (u, is, inl leaves) =
-      ⊎_elim
-      (λ same. subst (λ x. LiesInRegion m x r) (leaves_one m from.0 v w from.2 (subst (λ x. Leaves m x w) same leaves)) (owned late.1))
-      (λ in_rest. (
-      let before = comes_from (single_legs nested) shape p route from.0 from.1 u in_rest in
-      subst (λ x. LiesInRegion m x r) (leaves_one m u before.junction w before.leaves leaves)
-      (stays_inside before.before before.junction before.there before.enters)
-      ))
-      (start_or_rest (single_legs nested) shape p route from.0 from.1 u is)
-
-  -- and that is its span
-  late_span : IsSpan m p r
-  late_span = record {
-    common = late_ends;
-    innermost = λ q all under. ⊎_elim
-        (λ same. no_circle shape q (subst (λ x. LiesUnder m (Region q) (Region x)) same under))
-        (λ out. no_circle shape q (under_further under out))
-        (region_cases m (State v) r q late.1 (all v (from.0, on_start (single_legs nested) shape p route from.0 from.1, inl from.2)));
-  }
-
-  -- it is external, so it exits and enters there
-  pub late_is_area : IsArea m p (Within r)
-  late_is_area = ((from.0, from.1, goes_externally shape nested v from.0 late.0.2 from.2), late_span)
-
-  pub late_area : (area : Scope) → IsArea m p area → area ≡ Within r
-  late_area area is = one_area m p area (Within r) is late_is_area
-
-  -- so it starts in one region
-  pub one_late_region : (q : RegionId) (w : VertexId) → IsLateIn m p q w → r ≡ q
-  one_late_region q w other =
-      let at = other.0.1 in
-      let same : w ≡ v = leaves_one m from.0 w v (subst (λ t. Leaves m t w) (start_same m p at.0 from.0 at.1 from.1) at.2) from.2 in
-      let owner = subst (λ x. owner_of m (State x) ≡ Some (Region q)) same other.1 in
-      same_region_place r q (one_owner m (State v) (Region r) (Region q) late.1 owner)
-
-  -- what it enters lies in the region
-  pub late_lies : (s : VertexId) → IsEnteredBy m p s → LiesInRegion m s r
-  late_lies s h =
-      ⊎_elim
-      (λ same. subst (λ x. LiesInRegion m x r) same.0 (late_ends h.1.0 (h.1.1.0, h.1.1.1, inr h.1.1.2)))
-      (λ around. subst (λ x. LiesInScope m s x) (late_area around.0.0 around.0.1) around.0.2)
-      h.1.2
-
-module _ {m : DraftMachine} (shape : HasShape m) (nested : IsPlainlyNested m) where
-  -- the region in which it starts
-  pub late_in : (p : Route) (v : VertexId) → IsLateFrom m p v → (r : RegionId) × IsLateIn m p r v
-  late_in p v late = let home = home_of_late shape v late.2 in (home.0, (late, home.1))
-
-  -- each route by which steps go exits and enters somewhere, or nowhere
-  pub has_area : (p : Route) → IsStepRoute m p → (area : Scope) × IsArea m p area
-  has_area p is =
-      ⊎_elim
-      (λ fires. state_area shape nested p fires)
-      (λ late. (let at = late_in p late.0 late.1 in (Within at.0, late_is_area shape nested p at.0 late.0 at.1)))
-      is
-
-  -- what it ends on lies there
-  target_in_area : (p : Route) (v : VertexId) (area : Scope) → IsStepRoute m p → EndsOn m p v → (GoesAs m p Internal → ⊥) → IsArea m p area
-      → LiesInScope m v area
-  target_in_area p v Nowhere step ends not is = absurd (not is)
-  target_in_area p v (Inside s) step ends not is =
-      let goes = is.0 in
-      local_ends shape nested p (is_route shape nested p step) goes.0 goes.1 s ends.0 v goes.2 (source_is_left p goes.0 goes.1 m s is.1) ends.1 ends.2
-  target_in_area p v (Within r) step ends not is = is.1.common v (ends.0, ends.1, inr ends.2)
-
-  -- and so does what it enters
-  pub entered_in_area : (p : Route) (s : VertexId) → IsStepRoute m p → IsEnteredBy m p s → LiesInArea m p s
-  entered_in_area p s step h =
-      ⊎_elim
-      (λ same. (
-      let area = has_area p step in
-      (area.0, area.1, subst (λ x. LiesInScope m x area.0) same.0 (target_in_area p h.1.0 area.0 step h.1.1 h.0 area.1))
-      ))
-      (λ inside. inside.0)
-      h.1.2
-
-  -- so it fills the region that owns what it enters
-  pub entered_fills : (p : Route) (s : VertexId) (r : RegionId) → IsStepRoute m p → owner_of m (State s) ≡ Some (Region r)
-      → IsEnteredBy m p s → Fills m p r
-  entered_fills p s r step e h =
-      let inside = entered_in_area p s step h in (
-        ⊎_elim
-            (λ same. (h.1.0, h.1.1, subst (λ x. LiesInRegion m x r) (sym same.0) (owned e)))
-            (λ around. (h.1.0, h.1.1, under_further around.1.2 (further around.1.1 (owned e))))
-            h.1.2,
-        (inside.0, inside.1, home_in_scope m s r inside.0 e inside.2),
-      )
-
-  -- a choice or history on which it ends lies there, and it fills the region that owns that
-  pub late_end_in_area : (p : Route) (c : VertexId) → IsStepRoute m p → EndsLate m p c → LiesInArea m p c
-  late_end_in_area p c step ends =
-      let area = has_area p step in
-      (area.0, area.1, target_in_area p c area.0 step ends.0 (late_not_internal shape nested p c step ends) area.1)
-
-  pub late_end_fills : (p : Route) (c : VertexId) (r : RegionId) → IsStepRoute m p → owner_of m (State c) ≡ Some (Region r)
-      → EndsLate m p c → Fills m p r
-  late_end_fills p c r step e ends =
-      let inside = late_end_in_area p c step ends in
-      ((c, ends.0, owned e), (inside.0, inside.1, home_in_scope m c r inside.0 e inside.2))
-
-  -- it enters the States around that which lie there
-  pub late_end_enters : (p : Route) (c o : VertexId) → IsStepRoute m p → EndsLate m p c → LiesInArea m p o → LiesInState m c o
-      → IsEnteredBy m p o
-  late_end_enters p c o step ends inside lies = (
-    late_not_internal shape nested p c step ends,
-    (c, ends.0, inr (inside, lies, λ terminates. go_on_is_no m c kinds.Terminate (λ e. cc) (λ e. cc) (λ e. cc) ends.1 terminates)),
-  )
-
-module _ (m : DraftMachine) where
-  -- what ends in a region ends in the one around it
-  pub fills_out : (p : Route) (r h : RegionId) (s : VertexId) (area : Scope) → owner_of m (Region r) ≡ Some (State s)
-      → owner_of m (State s) ≡ Some (Region h) → EndsIn m p r → IsArea m p area → IsRegionIn m h area → Fills m p h
-  fills_out p r h s area e f ends is inside =
-      ((ends.0, ends.1, under_further ends.2 (further e (owned f))), (area, is, inside))
-
-  -- and so many regions stand above that
+  -- so many regions stand above the region around one
   pub outer_above : (r h : RegionId) (s : VertexId) (k : ℕ) → owner_of m (Region r) ≡ Some (State s)
       → owner_of m (State s) ≡ Some (Region h)
       → HasRegionsAbove m (Region r) k → (j : ℕ) × (k ≡ suc j) × HasRegionsAbove m (Region h) j
   outer_above r h s k e f above = region_down h f (state_down_region s r e k above)
+
+module _ {m : DraftMachine} (shape : HasShape m) where
+  -- a State does not lie in a place that lies in it
+  pub place_apart : (s : VertexId) (area : Scope) → IsPlaceIn m area s → LiesInScope m s area → ⊥
+  place_apart s Nowhere inside lies = inside
+  place_apart s (Inside w) inside lies =
+      no_circle shape lies.0 (⊎_elim
+      (λ same. further (subst (λ x. owner_of m (Region lies.0) ≡ Some (State x)) same lies.1) lies.2)
+      (λ deep. further lies.1 (under_further deep.2 (further deep.1 lies.2)))
+      inside)
+  place_apart s (Within r) inside lies = no_circle shape r (under_further inside lies)

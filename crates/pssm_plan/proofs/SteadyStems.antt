@@ -14,46 +14,78 @@ use Rattle.pssm_model.specs.declared.steps.How.{How}
 use Rattle.pssm_model.specs.declared.steps.How.TheVariants.{Restore}
 use Rattle.pssm_model.specs.declared.steps.Item.{Item}
 use Rattle.pssm_model.specs.declared.steps.Item.TheVariants as items
-use Rattle.pssm_model.specs.Forest.{HasKind, owner_of}
+use Rattle.pssm_model.specs.Forest.{HasKind, owner_of, LiesInState}
 use Rattle.pssm_model.specs.Shapes.{HasShape}
+use Rattle.pssm_model.specs.WellFormed.{KeepsModelRules}
 use Rattle.pssm_model.specs.Routes.{Truth, IsSource}
+use Rattle.pssm_model.specs.RouteWords.{IsStepRoute}
 use Rattle.pssm_model.specs.FiringSets.{IsLateRoute}
 use Rattle.pssm_model.specs.Configuration.{Configuration, IsDirect}
 use Rattle.pssm_model.specs.Course.{Head, Course, FiresBy, HasRun, RemembersSoFar}
+use Rattle.pssm_model.specs.Items.{LegEnds, Before}
+use Rattle.pssm_model.specs.Items.Before.{effect_end, enter_end, later}
 use Rattle.pssm_model.specs.Ways.{Memory, IsWay}
 use Rattle.pssm_model.specs.Order.{HasGone, IsReady, course_by}
 use Rattle.pssm_model.specs.Order.HasGone.{begun as gone_begun, more as gone_more}
-use Rattle.pssm_model.specs.Nested.{IsPlainlyNested}
-use Rattle.pssm_model.specs.Legs.{On}
+use Rattle.pssm_model.specs.Legs.{Leaves, On, SameLeg, LaterLeg, IsLastVertex, LegEnters}
+use Rattle.pssm_model.specs.Legs.SameLeg.{itself as itself_leg}
 use Rattle.pssm_plan.specs.Steadiness.{BeginsWell}
-use Rattle.pssm_plan.specs.inner.OverRoutes.{GoesBy, IsHistoryFor, EndsOnHistory, CallsAtEnd, IsEnteredBy, IsOpenedFor, IsCalledOver, IsOrderedOver}
+use Rattle.pssm_plan.specs.inner.OverRoutes.{LiesInArea, GoesBy, IsHistoryFor, IsItemAt, IsOpenedFor, IsCalledOver}
 use Rattle.pssm_model.proofs.ElementLaws.{leaves_one, nothing_in_nil, kind_unique}
 use Rattle.pssm_model.proofs.RouteLaws.{is_one}
-use Rattle.pssm_model.proofs.StateRoutes.{source_is_left}
 use Rattle.pssm_model.proofs.OwnerChains.{one_owner}
-use Rattle.pssm_plan.proofs.RouteItems.{called_is, called_of, before_of}
-use Rattle.pssm_plan.proofs.RouteMore.{over_more, opened_kept, called_kept}
+use Rattle.pssm_model.proofs.InnerPaths.{late_is_kind}
+use Rattle.pssm_model.proofs.LegRoots.{leg_begins, leg_turned}
+use Rattle.pssm_model.proofs.LegShapes.{later_begins_on}
+use Rattle.pssm_model.proofs.LegEntries.{enters_turned}
+use Rattle.pssm_model.proofs.Stations.{entries_around}
+use Rattle.pssm_plan.proofs.RouteLegs.{last_of_end}
+use Rattle.pssm_plan.proofs.RouteItems.{leg_at, called_is, called_in}
+use Rattle.pssm_plan.proofs.RouteMore.{over_more, goes_kept, opened_kept, called_kept}
 use Rattle.pssm_plan.proofs.RouteSteps.{opening_by, opening_restores, pick_by, way_is_late, gone_by_routes, fires_states}
 use Rattle.pssm_plan.proofs.MoreRan.{gone_on, nothing_ran, begins_by, ran_kept, ran_now, run_more}
-use Rattle.pssm_plan.proofs.SteadyPlaces.{IsLateFrom, IsStepRoute, IsGoOn, EndsLate, no_state, one_end, home_of_late, same_region_place}
+use Rattle.pssm_plan.proofs.SteadyPlaces.{IsGoOn, go_on_is_no, home_of_late, same_region_place}
+use Rattle.pssm_plan.proofs.RoutePlaces.{IsLateFrom, EndsLate, late_is_within, late_end_enters}
 use Rattle.pssm_plan.proofs.Arrivals.{Arrival, Arrives, IsFiring, IsProper, IsComingIn, IsBroughtBy, HasBrought, how_of, comes_proper}
 use Rattle.pssm_plan.proofs.Arrivals.Arrival.{Along, Back}
+
+-- The leg of the first transition is that of the second, or an earlier one.
+abbrev pub IsUpTo : DraftMachine → Route → TransId → TransId → Type 0
+IsUpTo m p t u = SameLeg m p t u ⊎ LaterLeg m p t u
 
 -- The step opens the region, which the arrival begins in, and has opened it so.
 abbrev pub IsOpenedBy : DraftMachine → Course → Arrival → RegionId → Mode → Type 0
 IsOpenedBy m course x r mode = IsOpenedFor m course r mode × IsComingIn m x r × HasBrought course (items.Opened r mode) x
 
--- The route has ended on a choice or history of the region, its effects and entries have run, and the step has gone on from there so.
-pub record IsNextBy (m : DraftMachine) (course : Course) (w : Route) (x : Arrival) (c : VertexId) (r : RegionId) : Type 0 where
+-- The step goes by the route, which has ended on a choice or history of the region: the effects and entries of the leg that ends there, and of those before
+-- it, have run.
+pub record HasComeTo (m : DraftMachine) (course : Course) (w : Route) (c : VertexId) (r : RegionId) : Type 0 where
   pub goes : GoesBy course w
   pub ends : EndsLate m w c
   pub home : owner_of m (State c) ≡ Some (Region r)
+  pub effects : (t : TransId) → IsUpTo m w t ends.0.0 → HasRun course (items.Effect t)
+  pub entries : (a : TransId) (s : VertexId) → IsUpTo m w a ends.0.0 → LegEnters m w a s → HasRun course (items.Enter s)
+
+-- the States around the end that it enters have been entered
+pub come_entered : {m : DraftMachine} → HasShape m → KeepsModelRules m → (course : Course) (w : Route) (c : VertexId) (r : RegionId) (o : VertexId)
+    → IsStepRoute m w → HasComeTo m course w c r → LiesInState m c o → LiesInArea m w o → HasRun course (items.Enter o)
+come_entered {m = m} shape rules course w c r o step come inside area =
+    let ends = come.ends in
+    let stops = λ (k : HasKind m c kinds.Junction). (
+    let wrong : ⊥ = go_on_is_no m c kinds.Junction (λ clash. cc) (λ clash. cc) (λ clash. cc) ends.1 k in wrong) in
+    let enters = late_end_enters shape rules w step c o ends area inside in
+    ⊎_elim
+    (λ here. come.entries ends.0.0 o (inl (itself_leg ends.0.1)) here)
+    (λ earlier. come.entries earlier.0 o (inr earlier.1) earlier.2)
+    (entries_around shape rules w step ends.0.0 c o (last_of_end rules shape w step c ends.0 stops) ends.0 enters inside)
+
+-- The route has come to such an end, and the step has gone on from there so.
+pub record IsNextBy (m : DraftMachine) (course : Course) (w : Route) (x : Arrival) (c : VertexId) (r : RegionId) : Type 0 where
+  pub come : HasComeTo m course w c r
   pub comes : IsComingIn m x r
   pub item : Item
-  pub called : CallsAtEnd m w item
+  pub at : IsItemAt m c item
   pub brought : HasBrought course item x
-  pub effects : (t : TransId) → On w t → HasRun course (items.Effect t)
-  pub entries : (s : VertexId) → IsEnteredBy m w s → HasRun course (items.Enter s)
 
 -- how the step comes to stand so
 pub data Stems (m : DraftMachine) (course : Course) : Arrival → Type 0 where
@@ -65,11 +97,11 @@ pub data Stems (m : DraftMachine) (course : Course) : Arrival → Type 0 where
 abbrev pub ComesWithin : DraftMachine → Course → Arrival → RegionId → Type 0
 ComesWithin m course x r = IsComingIn m x r × ((item : Item) × HasBrought course item x)
 
--- The arrival begins in a region that the step opens, or of a choice or history on which a route ends.
+-- The arrival begins in a region that the step opens, or of a choice or history to which a route has come.
 abbrev pub IsNewIn : DraftMachine → Course → Arrival → Type 0
 IsNewIn m course x =
     ((r : RegionId) × (mode : Mode) × IsOpenedFor m course r mode × IsComingIn m x r)
-    ⊎ ((w : Route) × (c : VertexId) × (r : RegionId) × GoesBy course w × EndsLate m w c × (owner_of m (State c) ≡ Some (Region r)) × IsComingIn m x r)
+    ⊎ ((w : Route) × (c : VertexId) × (r : RegionId) × HasComeTo m course w c r × IsComingIn m x r)
 
 -- what has run is the one more item, or had run before
 either_ran : (course : Course) (item : Item) (how : How) (x : Item × How) → Contains (gone_on course item how).ran x
@@ -85,17 +117,22 @@ module _ (m : DraftMachine) (course : Course) (item : Item) (how : How) where
   opened_more : (x : Arrival) (r : RegionId) (mode : Mode) → IsOpenedBy m course x r mode → IsOpenedBy m (gone_on course item how) x r mode
   opened_more x r mode h = (opened_kept course item how m r mode h.0, h.1, brought_more x (items.Opened r mode) h.2)
 
-  next_more : (w : Route) (x : Arrival) (c : VertexId) (r : RegionId) → IsNextBy m course w x c r → IsNextBy m (gone_on course item how) w x c r
-  next_more w x c r h = record {
-    goes = (over_more course item how w).1 (inl h.goes);
+  come_more : (w : Route) (c : VertexId) (r : RegionId) → HasComeTo m course w c r → HasComeTo m (gone_on course item how) w c r
+  come_more w c r h = record {
+    goes = goes_kept course item how w h.goes;
     ends = h.ends;
     home = h.home;
+    effects = λ t up. (run_more course item how (items.Effect t)).1 (inl (h.effects t up));
+    entries = λ a s up enters. (run_more course item how (items.Enter s)).1 (inl (h.entries a s up enters));
+  }
+
+  next_more : (w : Route) (x : Arrival) (c : VertexId) (r : RegionId) → IsNextBy m course w x c r → IsNextBy m (gone_on course item how) w x c r
+  next_more w x c r h = record {
+    come = come_more w c r h.come;
     comes = h.comes;
     item = h.item;
-    called = h.called;
+    at = h.at;
     brought = brought_more x h.item h.brought;
-    effects = λ t on. (run_more course item how (items.Effect t)).1 (inl (h.effects t on));
-    entries = λ s enters. (run_more course item how (items.Enter s)).1 (inl (h.entries s enters));
   }
 
   stems_more : (x : Arrival) → Stems m course x → Stems m (gone_on course item how) x
@@ -104,7 +141,7 @@ module _ (m : DraftMachine) (course : Course) (item : Item) (how : How) where
   stems_more x (goes_on {w = w} {c = c} {r = r} before h) = goes_on (stems_more (Along w) before) (next_more w x c r h)
 
   -- the step comes so by the one more item, or came so before
-  arrives_more : (x : Arrival) → Arrives (gone_on course item how) x → Arrives course x ⊎ ((how ≡ how_of x) × IsBroughtBy x item)
+  pub arrives_more : (x : Arrival) → Arrives (gone_on course item how) x → Arrives course x ⊎ ((how ≡ how_of x) × IsBroughtBy x item)
   arrives_more (Along p) h = ⊎_elim (λ was. inl was) (λ is. inr (is, tt)) ((over_more course item how p).0 h)
   arrives_more (Back r mode s) h =
       ⊎_elim
@@ -147,39 +184,41 @@ go_on_history m v Plain h = absurd h
 go_on_history m v Shallow h = inr (inl h)
 go_on_history m v Deep h = inr (inr h)
 
-module _ {m : DraftMachine} (shape : HasShape m) (nested : IsPlainlyNested m) where
-  one_opening : (p : Route) (r q : RegionId) (a b : Mode) → IsStepRoute m p → EndsOnHistory m p r a → EndsOnHistory m p q b
-      → items.Opened r a ≡ items.Opened q b
-  one_opening p r q a b step h g =
-      let same = one_end shape nested p h.0 g.0 step h.1 g.1 in
-      let modes = history_modes m g.0 a b (subst (λ v. IsHistoryFor m v a) same h.2) g.2 in
-      let homes = same_region_place r q
-      (one_owner m (State g.0) (Region r) (Region q) (subst (λ v. owner_of m (State v) ≡ Some (Region r)) same h.3) g.3) in
-      cc
+-- one item is that by which a step goes on from a vertex
+pub one_at_end : (m : DraftMachine) (v : VertexId) (x y : Item) → IsItemAt m v x → IsItemAt m v y → x ≡ y
+one_at_end m v (items.Pick c) (items.Pick d) h g = ap items.Pick (sym h.0 ∙ g.0)
+one_at_end m v (items.Pick c) (items.Opened r a) h g =
+    absurd (history_is_no_choice m c a (subst (λ x. IsHistoryFor m x a) h.0 g.0) h.1)
+one_at_end m v (items.Pick c) (items.Exit s) h g = absurd g
+one_at_end m v (items.Pick c) (items.Effect t) h g = absurd g
+one_at_end m v (items.Pick c) (items.Enter s) h g = absurd g
+one_at_end m v (items.Opened r a) (items.Pick c) h g =
+    absurd (history_is_no_choice m c a (subst (λ x. IsHistoryFor m x a) g.0 h.0) g.1)
+one_at_end m v (items.Opened r a) (items.Opened q b) h g =
+    let modes = history_modes m v a b h.0 g.0 in
+    let homes = same_region_place r q (one_owner m (State v) (Region r) (Region q) h.1 g.1) in
+    cc
+one_at_end m v (items.Opened r a) (items.Exit s) h g = absurd g
+one_at_end m v (items.Opened r a) (items.Effect t) h g = absurd g
+one_at_end m v (items.Opened r a) (items.Enter s) h g = absurd g
+one_at_end m v (items.Exit s) y h g = absurd h
+one_at_end m v (items.Effect t) y h g = absurd h
+one_at_end m v (items.Enter s) y h g = absurd h
 
-  no_pick_and_opening : (p : Route) (c : VertexId) (r : RegionId) (a : Mode) → IsStepRoute m p → CallsAtEnd m p (items.Pick c) → EndsOnHistory m p r a → ⊥
-  no_pick_and_opening p c r a step h g =
-      let same = one_end shape nested p g.0 c step g.1 h.0 in
-      history_is_no_choice m c a (subst (λ v. IsHistoryFor m v a) same g.2) h.1
+-- the leg that ends on the vertex calls it
+leg_ends_at : (m : DraftMachine) (p : Route) (a : TransId) (v : VertexId) (item : Item) → IsItemAt m v item → IsLastVertex m p a v → LegEnds m p a item
+leg_ends_at m p a v (items.Pick c) at last = (subst (λ x. IsLastVertex m p a x) at.0 last, at.1)
+leg_ends_at m p a v (items.Opened r Plain) at last = absurd at.0
+leg_ends_at m p a v (items.Opened r Shallow) at last = (v, last, at.0, at.1)
+leg_ends_at m p a v (items.Opened r Deep) at last = (v, last, at.0, at.1)
+leg_ends_at m p a v (items.Exit s) at last = absurd at
+leg_ends_at m p a v (items.Effect t) at last = absurd at
+leg_ends_at m p a v (items.Enter s) at last = absurd at
 
-  pub one_at_end : (p : Route) (x y : Item) → IsStepRoute m p → CallsAtEnd m p x → CallsAtEnd m p y → x ≡ y
-  one_at_end p (items.Pick c) (items.Pick d) step h g = ap items.Pick (one_end shape nested p c d step h.0 g.0)
-  one_at_end p (items.Pick c) (items.Opened r a) step h g = absurd (no_pick_and_opening p c r a step h g)
-  one_at_end p (items.Pick c) (items.Exit s) step h g = absurd g
-  one_at_end p (items.Pick c) (items.Effect t) step h g = absurd g
-  one_at_end p (items.Pick c) (items.Enter s) step h g = absurd g
-  one_at_end p (items.Opened r a) (items.Pick c) step h g = absurd (no_pick_and_opening p c r a step g h)
-  one_at_end p (items.Opened r a) (items.Opened q b) step h g = one_opening p r q a b step h g
-  one_at_end p (items.Opened r a) (items.Exit s) step h g = absurd g
-  one_at_end p (items.Opened r a) (items.Effect t) step h g = absurd g
-  one_at_end p (items.Opened r a) (items.Enter s) step h g = absurd g
-  one_at_end p (items.Exit s) y step h g = absurd h
-  one_at_end p (items.Effect t) y step h g = absurd h
-  one_at_end p (items.Enter s) y step h g = absurd h
-
+module _ {m : DraftMachine} (shape : HasShape m) (rules : KeepsModelRules m) where
   -- a late route starts at its origin
   late_from : (truth : Truth) (v : VertexId) (p : Route) → IsLateRoute m truth v p → IsLateFrom m p v
-  late_from truth v p late = (late.route_is, late.leaves, late.origin_is)
+  late_from truth v p late = (late.leaves.0, late.origin_is, late.route_is, late.leaves.1, late.leaves.2)
 
   -- The item opens the region, or picks a choice of it.
   abbrev pub IsItemIn : Item → RegionId → Type 0
@@ -209,25 +248,12 @@ module _ {m : DraftMachine} (shape : HasShape m) (nested : IsPlainlyNested m) wh
   new_in truth memory direct (items.Enter s) how way (Along p) e by = let none = way in absurd (cc)
   new_in truth memory direct (items.Enter s) how way (Back k was q) e by = let none = way in absurd (cc)
 
-  new_called : (course : Course) (item : Item) → IsCalledOver m course item → (x : Arrival)
-      → (r : RegionId) × IsComingIn m x r × IsItemIn item r → IsNewIn m course x
-  new_called course (items.Opened q mode) called x new =
-      let comes = subst (λ r. IsComingIn m x r) (sym new.2) new.1 in
-      ⊎_elim
-      (λ opened. inl (q, mode, opened, comes))
-      (λ over. (let at = over.1.1 in inr (over.0, at.0, q, over.1.0, (at.1, go_on_history m at.0 mode at.2), at.3, comes)))
-      called
-  new_called course (items.Pick c) called x new = inr (called.0, c, new.0, called.1.0, (called.1.1.0, inl called.1.1.1), new.2, new.1)
-  new_called course (items.Exit s) called x new = absurd new.2
-  new_called course (items.Effect t) called x new = absurd new.2
-  new_called course (items.Enter s) called x new = absurd new.2
-
   module _ (head : Head) (now : Configuration) where
     -- a ready item is called
     pub called_ready : (ran : List (Item × How)) → HasGone m head now ran → (item : Item) → IsReady m (course_by head now ran) item
         → IsCalledOver m (course_by head now ran) item
     called_ready ran gone item ready =
-        called_is nested shape (course_by head now ran) (gone_by_routes nested shape head now ran gone) item ready.waiting.called
+        called_is rules shape (course_by head now ran) (gone_by_routes rules shape head now ran gone) item ready.waiting.called
 
     -- what has run was called
     pub ran_was_called : (ran : List (Item × How)) → HasGone m head now ran
@@ -284,7 +310,10 @@ module _ {m : DraftMachine} (shape : HasShape m) (nested : IsPlainlyNested m) wh
 
     pub step_route : (ran : List (Item × How)) → HasGone m head now ran → (p : Route) → GoesBy (course_by head now ran) p → IsStepRoute m p
     step_route ran gone p over =
-        ⊎_elim (λ is. inl (fires_states nested shape head now ran gone p is)) (λ late. inr late) (fires_or_late ran gone p over)
+        ⊎_elim
+        (λ is. inl (fires_states rules shape head now ran gone p is))
+        (λ late. late_is_within m p late.0 late.1)
+        (fires_or_late ran gone p over)
 
     -- and one that leaves a State fires
     pub fires_from_state : (ran : List (Item × How)) → HasGone m head now ran → (p : Route) (s : VertexId) → GoesBy (course_by head now ran) p
@@ -293,11 +322,69 @@ module _ {m : DraftMachine} (shape : HasShape m) (nested : IsPlainlyNested m) wh
         ⊎_elim
         (λ is. is)
         (λ late. (
-        let from = late.1.1 in
-        absurd (no_state shape nested late.0 late.1.2
-        (subst (λ x. HasKind m x kinds.State) (leaves_one m from.0 s late.0 (source_is_left p from.0 from.1 m s source) from.2) state))
+        let from = late.1 in
+        let same = is_one from.0 source.0 (subst (λ ts. Contains ts source.0) from.3 source.1) in
+        let here = leaves_one m from.0 s late.0 (subst (λ t. Leaves m t s) same source.2) from.4 in
+        absurd (late_is_kind m late.0 kinds.State from.1 (subst (λ x. HasKind m x kinds.State) here state))
         ))
         (fires_or_late ran gone p over)
+
+    -- where an item is ready by which a step goes on from an end of a route, the route has come to it
+    come_to : (ran : List (Item × How)) → HasGone m head now ran → (item : Item) → IsReady m (course_by head now ran) item
+        → (w : Route) (c : VertexId) (r : RegionId) → GoesBy (course_by head now ran) w → EndsLate m w c
+        → owner_of m (State c) ≡ Some (Region r) → IsItemAt m c item → HasComeTo m (course_by head now ran) w c r
+    come_to ran gone item ready w c r goes ends home at =
+        let course = course_by head now ran in
+        let g = gone_by_routes rules shape head now ran gone in
+        let step = step_route ran gone w goes in
+        let e = ends.0.0 in
+        let e_on = ends.0.1 in
+        let stops = λ (k : HasKind m c kinds.Junction). (
+        let wrong : ⊥ = go_on_is_no m c kinds.Junction (λ clash. cc) (λ clash. cc) (λ clash. cc) ends.1 k in wrong) in
+        let calls = leg_ends_at m w e c item at (last_of_end rules shape w step c ends.0 stops) in
+        record {
+          goes = goes;
+          ends = ends;
+          home = home;
+          effects = λ t up. (
+              let on : On w t = ⊎_elim (λ leg. leg_begins m w leg) (λ more. later_begins_on m w t e more) up in
+              let before : Before m course (items.Effect t) item =
+              ⊎_elim
+              (λ leg. effect_end (leg_at w e) (goes, e_on) tt (leg_turned m w leg) (inl calls))
+              (λ more. later (leg_at w t) e (goes, on) more (itself_leg on) (inr (inl calls)))
+              up in
+              ready.cleared (items.Effect t) (called_in rules shape course g (leg_at w t) (goes, on) (items.Effect t) (itself_leg on)) before);
+          entries = λ a s up enters. (
+              let on : On w a = leg_begins m w enters.1.1 in
+              let before : Before m course (items.Enter s) item =
+              ⊎_elim
+              (λ leg. enter_end (leg_at w e) (goes, e_on) tt (enters_turned shape rules w step a e s leg enters) calls)
+              (λ more. later (leg_at w a) e (goes, on) more enters (inr (inl calls)))
+              up in
+              ready.cleared (items.Enter s) (called_in rules shape course g (leg_at w a) (goes, on) (items.Enter s) enters) before);
+        }
+
+    -- what a ready item brings
+    new_called : (ran : List (Item × How)) → HasGone m head now ran → (item : Item) → IsReady m (course_by head now ran) item
+        → IsCalledOver m (course_by head now ran) item → (x : Arrival)
+        → (r : RegionId) × IsComingIn m x r × IsItemIn item r → IsNewIn m (course_by head now ran) x
+    new_called ran gone (items.Opened q mode) ready called x new =
+        let comes = subst (λ r. IsComingIn m x r) (sym new.2) new.1 in
+        ⊎_elim
+        (λ opened. inl (q, mode, opened, comes))
+        (λ over. (
+        let at = over.1.1 in
+        let come = come_to ran gone (items.Opened q mode) ready over.0 at.0 q over.1.0 (at.1, go_on_history m at.0 mode at.2) at.3 (at.2, at.3) in
+        inr (over.0, at.0, q, come, comes)
+        ))
+        called
+    new_called ran gone (items.Pick c) ready called x new =
+        let over = called.1 in
+        let come = come_to ran gone (items.Pick c) ready called.0 c new.0 over.0 (over.1.0, inl over.1.1) new.2 (refl, over.1.1) in
+        inr (called.0, c, new.0, come, new.1)
+    new_called ran gone (items.Exit s) ready called x new = absurd new.2
+    new_called ran gone (items.Effect t) ready called x new = absurd new.2
+    new_called ran gone (items.Enter s) ready called x new = absurd new.2
 
     module _ (begins : BeginsWell m head now) where
       -- what is remembered is direct
@@ -310,35 +397,23 @@ module _ {m : DraftMachine} (shape : HasShape m) (nested : IsPlainlyNested m) wh
           → IsBroughtBy x item → IsNewIn m (course_by head now ran) x
       newly ran item how gone ready truth way x is by =
           let course = course_by head now ran in
-          new_called course item (called_ready ran gone item ready) x
+          new_called ran gone item ready (called_ready ran gone item ready) x
           (new_in truth (RemembersSoFar m course) (remembered_direct ran) item how way x is by)
 
       -- what the item that runs brings
-      module _ (ran : List (Item × How)) (item : Item) (how : How) (before : HasGone m head now ran) (ready : IsReady m (course_by head now ran) item)
-          (x : Arrival) (is : how ≡ how_of x) (by : IsBroughtBy x item) where
-        newly_next : (w : Route) (c : VertexId) (r : RegionId) → GoesBy (course_by head now ran) w → CallsAtEnd m w item → EndsLate m w c
-            → owner_of m (State c) ≡ Some (Region r) → IsComingIn m x r
-            → ((t : TransId) → On w t → IsOrderedOver m (course_by head now ran) (items.Effect t) item)
-            → ((s : VertexId) → IsEnteredBy m w s → IsOrderedOver m (course_by head now ran) (items.Enter s) item)
-            → IsNextBy m (gone_on (course_by head now ran) item how) w x c r
-        newly_next w c r goes called ends home comes effects entries =
-            let course = course_by head now ran in
-            let g = gone_by_routes nested shape head now ran before in
-            record {
-              goes = (over_more course item how w).1 (inl goes);
-              ends = ends;
-              home = home;
-              comes = comes;
-              item = item;
-              called = called;
-              brought = now_brought m course item how x item refl is by;
-              effects = λ t on. (run_more course item how (items.Effect t)).1 (inl (
-                  ready.cleared (items.Effect t) (called_of nested shape course g (items.Effect t) (w, goes, on))
-                  (before_of nested shape course g (items.Effect t) item (effects t on))));
-              entries = λ s enters. (run_more course item how (items.Enter s)).1 (inl (
-                  ready.cleared (items.Enter s) (called_of nested shape course g (items.Enter s) (inl (w, (goes, enters))))
-                  (before_of nested shape course g (items.Enter s) item (entries s enters))));
-            }
+      newly_next : (ran : List (Item × How)) (item : Item) (how : How) → HasGone m head now ran → IsReady m (course_by head now ran) item
+          → (x : Arrival) → how ≡ how_of x → IsBroughtBy x item → (w : Route) (c : VertexId) (r : RegionId) → GoesBy (course_by head now ran) w
+          → EndsLate m w c → owner_of m (State c) ≡ Some (Region r) → IsItemAt m c item → IsComingIn m x r
+          → IsNextBy m (gone_on (course_by head now ran) item how) w x c r
+      newly_next ran item how before ready x is by w c r goes ends home at comes =
+          let course = course_by head now ran in
+          record {
+            come = come_more m course item how w c r (come_to ran before item ready w c r goes ends home at);
+            comes = comes;
+            item = item;
+            at = at;
+            brought = now_brought m course item how x item refl is by;
+          }
 
       abbrev AllStem : List (Item × How) → Type 0
       AllStem ran = (x : Arrival) → Arrives (course_by head now ran) x → Stems m (course_by head now ran) x
@@ -356,9 +431,7 @@ module _ {m : DraftMachine} (shape : HasShape m) (nested : IsPlainlyNested m) wh
           let w = over.0 in
           let at = over.1.1 in
           goes_on (stems_more m course item how (Along w) (all (Along w) over.1.0))
-          (newly_next ran item how before ready x is by w at.0 r over.1.0 at (at.1, go_on_history m at.0 mode at.2) at.3 comes
-          (λ t on. (w, inr over.1, on))
-          (λ s enters. (w, over.1, enters)))
+          (newly_next ran item how before ready x is by w at.0 r over.1.0 (at.1, go_on_history m at.0 mode at.2) at.3 (at.2, at.3) comes)
           ))
           called
 
@@ -370,16 +443,16 @@ module _ {m : DraftMachine} (shape : HasShape m) (nested : IsPlainlyNested m) wh
           let course = course_by head now ran in
           let item = items.Pick c in
           let w = called.0 in
+          let ends = called.1.1 in
           goes_on (stems_more m course item how (Along w) (all (Along w) called.1.0))
-          (newly_next ran item how before ready x is by w c r called.1.0 called.1.1 (called.1.1.0, inl called.1.1.1) home comes
-          (λ t on. (w, called.1, on))
-          (λ s enters. (w, called.1, enters)))
+          (newly_next ran item how before ready x is by w c r called.1.0 (ends.0, inl ends.1) home (refl, ends.1) comes)
 
       new_stems : (ran : List (Item × How)) (item : Item) (how : How) (before : HasGone m head now ran)
           → IsReady m (course_by head now ran) item → AllStem ran → (x : Arrival) → how ≡ how_of x → IsBroughtBy x item
           → (r : RegionId) × IsComingIn m x r × IsItemIn item r → Stems m (gone_on (course_by head now ran) item how) x
       new_stems ran (items.Opened q mode) how before ready all x is by new =
-          opened_now ran q mode how before ready all x is by (subst (λ r. IsComingIn m x r) (sym new.2) new.1) (called_ready ran before (items.Opened q mode) ready)
+          opened_now ran q mode how before ready all x is by (subst (λ r. IsComingIn m x r) (sym new.2) new.1)
+          (called_ready ran before (items.Opened q mode) ready)
       new_stems ran (items.Pick c) how before ready all x is by new =
           picked_now ran c how before ready all x is by new.0 new.1 new.2 (called_ready ran before (items.Pick c) ready)
       new_stems ran (items.Exit s) how before ready all x is by new = absurd new.2
@@ -417,5 +490,5 @@ module _ {m : DraftMachine} (shape : HasShape m) (nested : IsPlainlyNested m) wh
       proper ran gone (Back r mode s) h =
           ⊎_elim
           (λ none. absurd none)
-          (λ comes. comes_proper shape nested (Back r mode s) comes.0 comes.1.0)
+          (λ comes. comes_proper shape rules (Back r mode s) comes.0 comes.1.0)
           (fires_or_comes ran gone (Back r mode s) h)

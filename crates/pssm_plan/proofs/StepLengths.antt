@@ -1,4 +1,4 @@
--- A step of a plainly nested machine that begins well runs each item at most once, and opens no region in two modes of which it has no history;
+-- A step that has begun well runs each item at most once, and opens no region in two modes of which it has no history;
 -- so it is no longer than the machine is large.
 use Rattle.std.proofs.Common.{◌≡◌, ◌⊎◌, ◌+◌, ◌<◌, ◌≤◌, ℕ, List, [], ◌∷◌, length, map, Bool, true, false, Contains, Some, refl, sym, ap, subst, inl, inr, ⊎_elim, arith, eqb}
 use Rattle.std.specs.List.{list_any, IsDistinct}
@@ -16,7 +16,6 @@ use Rattle.pssm_model.specs.declared.elements.DraftMachine.{DraftMachine}
 use Rattle.pssm_model.specs.declared.elements.VertexKind.TheVariants as kinds
 use Rattle.pssm_model.specs.declared.elements.Vertex.{Vertex}
 use Rattle.pssm_model.specs.declared.elements.Owner.TheVariants.{Region, State}
-use Rattle.pssm_model.specs.declared.steps.Route.{Route}
 use Rattle.pssm_model.specs.declared.steps.Mode.{Mode}
 use Rattle.pssm_model.specs.declared.steps.Mode.TheVariants.{Plain, Shallow, Deep}
 use Rattle.pssm_model.specs.declared.steps.How.{How}
@@ -26,13 +25,13 @@ use Rattle.pssm_model.specs.Forest.{vertex_at, HasKind, IsStateOrFinal, owner_of
 use Rattle.pssm_model.specs.Shapes.{HasShape}
 use Rattle.pssm_model.specs.Configuration.{Configuration}
 use Rattle.pssm_model.specs.Course.{Head, Course, HasRun}
-use Rattle.pssm_model.specs.Order.{HasGone, course_by, entries_at_most, IsNestedStep}
+use Rattle.pssm_model.specs.Order.{HasGone, course_by, entries_at_most}
 use Rattle.pssm_model.specs.Order.HasGone.{begun, more}
-use Rattle.pssm_model.specs.Nested.{IsPlainlyNested}
+use Rattle.pssm_model.specs.WellFormed.{KeepsModelRules}
 use Rattle.pssm_legs.specs.Calls.{IsItemIn}
 use Rattle.pssm_plan.specs.Steadiness.{BeginsWell}
-use Rattle.pssm_plan.specs.inner.OverRoutes.{IsHistoryFor, IsEnteredBy, GoesByRoutes, IsOpenedFor, IsCalledOver}
-use Rattle.pssm_model.proofs.OverJunctions.{other_kind}
+use Rattle.pssm_plan.specs.Steps.{IsStep}
+use Rattle.pssm_plan.specs.inner.OverRoutes.{IsHistoryFor, GoesByRoutes, IsOpenedFor, IsCalledOver}
 use Rattle.pssm_model.proofs.ElementLaws.{same_vertex, same_transition}
 use Rattle.pssm_model.proofs.ElementLaws.{same_region}
 use Rattle.pssm_model.proofs.ElementLaws.{mapped_some, nothing_in_nil}
@@ -43,7 +42,8 @@ use Rattle.pssm_plan.proofs.RouteSteps.{gone_by_routes}
 use Rattle.pssm_plan.proofs.RouteCourses.{called_there as names_there}
 use Rattle.pssm_plan.proofs.Known.{Known}
 use Rattle.pssm_plan.proofs.KnownPlaces.{known_history}
-use Rattle.pssm_plan.proofs.SteadyPlaces.{go_on_is_no, same_region_place}
+use Rattle.pssm_plan.proofs.SteadyPlaces.{other_kind, go_on_is_no, same_region_place}
+use Rattle.pssm_plan.proofs.RoutePlaces.{entered_is_state}
 use Rattle.pssm_plan.proofs.SteadyStems.{history_modes, history_is_no_choice, go_on_history, ran_was_called}
 use Rattle.pssm_plan.proofs.SteadyFilling.{one_mode}
 
@@ -237,39 +237,34 @@ module _ {m : DraftMachine} (shape : HasShape m) where
       ))
       (Contains-append_cases (number_of x.0 ∷ []) (numbers_of ran) n h)
 
-  -- what a route enters is a State or final state
-  entered_is_state : (p : Route) (s : VertexId) → IsEnteredBy m p s → IsStateOrFinal m s
-  entered_is_state p s h =
-      ⊎_elim
-      (λ ends. subst (λ v. IsStateOrFinal m v) ends.0 ends.1)
-      (λ around. inl (shape.regions around.1.0 (State s) around.1.1).0)
-      h.1.2
-
   -- what is called is there
-  pub called_there : (b : IsPlainlyNested m) (head : Head) (now : Configuration) (ran : List (Item × How)) → HasGone m head now ran
+  pub called_there : (rules : KeepsModelRules m) (head : Head) (now : Configuration) (ran : List (Item × How)) → HasGone m head now ran
       → (x : Item) → IsCalledOver m (course_by head now ran) x → IsThere m x
-  called_there b head now ran gone x h = plain x h
+  called_there rules head now ran gone x h = plain x h
     where
       g : GoesByRoutes m (course_by head now ran)
-      g = gone_by_routes b shape head now ran gone
+      g = gone_by_routes rules shape head now ran gone
 
       named : (y : Item) → IsCalledOver m (course_by head now ran) y → IsItemIn m y
-      named y called = names_there shape (course_by head now ran) g y called
+      named y called = names_there shape rules (course_by head now ran) g y called
 
       plain : (y : Item) → IsCalledOver m (course_by head now ran) y → IsThere m y
       plain (items.Exit s) called = named (items.Exit s) called
       plain (items.Effect t) called = named (items.Effect t) called
       plain (items.Enter s) called = (
         named (items.Enter s) called,
-        ⊎_elim (λ over. entered_is_state over.0 s over.1.1) (λ back. inl (g.restored back.0 s back.1)) called,
+        ⊎_elim
+            (λ over. entered_is_state shape rules over.0 (g.routes over.0 over.1.0) s over.1.1)
+            (λ back. inl (g.restored back.0 s back.1))
+            called,
       )
       plain (items.Opened r mode) called = named (items.Opened r mode) called
       plain (items.Pick c) called = (named (items.Pick c) called, called.1.1.1)
 
-  module _ (b : IsPlainlyNested m) (head : Head) (now : Configuration) (begins : BeginsWell m head now) where
+  module _ (rules : KeepsModelRules m) (head : Head) (now : Configuration) (begins : BeginsWell m head now) where
     ran_there : (ran : List (Item × How)) → HasGone m head now ran → (x : Item × How) → Contains ran x → IsThere m x.0
     ran_there ran gone x inside =
-        called_there b head now ran gone x.0 (ran_was_called shape b head now ran gone x.0 (x.1, inside))
+        called_there rules head now ran gone x.0 (ran_was_called shape rules head now ran gone x.0 (x.1, inside))
 
     -- no two called items clash
     opened_for : (ran : List (Item × How)) (r : RegionId) (mode : Mode) → (HasHistory m r mode → ⊥)
@@ -285,7 +280,7 @@ module _ {m : DraftMachine} (shape : HasShape m) where
     clash_is_same ran gone (items.Opened r a) (items.Opened q mode) clash first second =
         let opened = opened_for ran r a clash.1 first in
         let too = opened_for ran q mode clash.2 second in
-        let modes = one_mode shape b head now begins ran gone q a mode (subst (λ z. IsOpenedFor m (course_by head now ran) z a) clash.0 opened) too in
+        let modes = one_mode shape rules head now begins ran gone q a mode (subst (λ z. IsOpenedFor m (course_by head now ran) z a) clash.0 opened) too in
         let regions = clash.0 in
         cc
     clash_is_same ran gone (items.Opened r a) (items.Exit s) clash first second = absurd clash
@@ -307,8 +302,8 @@ module _ {m : DraftMachine} (shape : HasShape m) where
             → list_any (eqb (number_of item)) (numbers_of ran) ≡ false
         by true e =
             let at = numbered ran (number_of item) (Contains-from_any eqb-true (number_of item) (numbers_of ran) e) in
-            let was = ran_was_called shape b head now ran gone at.0.0 (at.0.1, at.1) in
-            let one = same_item at.0.0 item (ran_there ran gone at.0 at.1) (called_there b head now ran gone item called) at.2 in
+            let was = ran_was_called shape rules head now ran gone at.0.0 (at.0.1, at.1) in
+            let one = same_item at.0.0 item (ran_there ran gone at.0 at.1) (called_there rules head now ran gone item called) at.2 in
             let same : at.0.0 ≡ item = ⊎_elim (λ is. is) (λ clash. clash_is_same ran gone at.0.0 item clash was called) one in
             absurd (not (at.0.1, subst (λ y. Contains ran (y, at.0.1)) same at.1))
         by false e = e
@@ -318,21 +313,20 @@ module _ {m : DraftMachine} (shape : HasShape m) where
     distinct _ (begun fires) = tt
     distinct _ (more {ran = ran} item how before ready truth way) =
         let course = course_by head now ran in
-        let called = called_is b shape course (gone_by_routes b shape head now ran before) item ready.waiting.called in
+        let called = called_is rules shape course (gone_by_routes rules shape head now ran before) item ready.waiting.called in
         subst (IsDistinct eqb) (sym (map-append (λ (x : Item × How). number_of x.0) ran ((item, how) ∷ [])))
         (IsDistinct-push nat_eq_equiv (numbers_of ran) (number_of item) (distinct ran before)
         (is_new ran item before called ready.waiting.not_run))
 
 -- so a step has at most so many items
-pub step_length : (m : DraftMachine) (course : Course) → IsNestedStep m course → BeginsWell m course.head course.at_head
-    → length course.ran ≤ entries_at_most m
-step_length m course h begins =
+pub step_length : (m : DraftMachine) (course : Course) → IsStep m course → length course.ran ≤ entries_at_most m
+step_length m course h =
     let few = length-le_from_distinct_below (numbers_of h.shape course.ran) (entries_at_most m)
-    (distinct h.shape h.nested course.head course.at_head begins course.ran h.gone)
+    (distinct h.shape h.rules course.head course.at_head h.begins course.ran h.gone)
     (λ q found. (
     let at = numbered h.shape course.ran q (Contains-from_any eqb-true q (numbers_of h.shape course.ran) found) in
     subst (λ n. n < entries_at_most m) at.2
-    (in_range h.shape at.0.0 (ran_there h.shape h.nested course.head course.at_head begins course.ran h.gone at.0 at.1))
+    (in_range h.shape at.0.0 (ran_there h.shape h.rules course.head course.at_head h.begins course.ran h.gone at.0 at.1))
     )) in
     let same = length-map course.ran (λ (x : Item × How). number_of h.shape x.0) in
     subst (λ n. n ≤ entries_at_most m) same few

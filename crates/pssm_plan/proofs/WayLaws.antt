@@ -28,7 +28,8 @@ use Rattle.pssm_model.specs.Items.{CanExit, LegCalls, LegEnds, LegOpens, restore
 use Rattle.pssm_model.specs.Items.{IsCalledInLeg as IsCalledByLeg, IsItemOfLeg as IsItemByLeg}
 use Rattle.pssm_model.specs.Items.Called.{start, run, ends, opens, restored, entered}
 use Rattle.pssm_model.specs.Items.Before.{inner_exit, outer_enter, exit_effect, path, effect_enter, effect_end, enter_end, later}
-use Rattle.pssm_model.specs.Routes.{Truth, IsRoute}
+use Rattle.pssm_model.specs.Routes.{Truth}
+use Rattle.pssm_model.specs.RouteWords.{IsStepRoute}
 use Rattle.pssm_model.specs.Ways.{Memory, IsWay}
 use Rattle.pssm_model.specs.Order.{HasGone, course_by, IsWayNow}
 use Rattle.pssm_model.specs.Order.HasGone.{begun as gone_begun, more as gone_more}
@@ -42,7 +43,8 @@ use Rattle.pssm_plan.specs.inner.Sequence.{IsNestedPair, IsSequence, IsOpenedByS
 use Rattle.pssm_plan.specs.inner.Calling.{MayRun, IsOfWays, IsDefaultOf, IsRestoredOf, IsOpenedByEntry}
 use Rattle.pssm_model.proofs.ElementLaws.{mapped_some, nothing_in_nil}
 use Rattle.pssm_model.proofs.OwnerChains.{owned_is_place}
-use Rattle.pssm_model.proofs.OneLeg.{leg_ends_on}
+use Rattle.pssm_model.proofs.LegRoots.{leg_ends}
+use Rattle.pssm_model.proofs.EndsApart.{step_is_route}
 use Rattle.pssm_plan.proofs.Depths.{scope_there}
 use Rattle.pssm_plan.proofs.MoreRan.{restored_more}
 
@@ -374,10 +376,10 @@ module _ {m : DraftMachine} (shape : HasShape m) where
       (λ point. kind_there m s kinds.State (owner_vertex v (State s) point.1).1))
       h.4
 
-  calls_there : (Active : VertexId → Type 0) (p : Route) → IsRoute m p → (t : TransId) (x : Item) → LegCalls m Active p t x → IsItemIn m x
+  calls_there : (Active : VertexId → Type 0) (p : Route) → IsStepRoute m p → (t : TransId) (x : Item) → LegCalls m Active p t x → IsItemIn m x
   calls_there Active p route t (items.Exit s) h = let would = h.0.1 in scope_there m s would.0 would.2
   calls_there Active p route t (items.Effect u) h =
-      All-contains (λ (w : TransId). w.0 < length m.transitions) (transitions_of p) u route.in_range (leg_ends_on m p t u h)
+      All-contains (λ (w : TransId). w.0 < length m.transitions) (transitions_of p) u (step_is_route route).in_range (leg_ends m p h)
   calls_there Active p route t (items.Enter s) h = entered_there p t s h
   calls_there Active p route t (items.Opened r mode) h = absurd h
   calls_there Active p route t (items.Pick c) h = absurd h
@@ -419,10 +421,10 @@ module _ {m : DraftMachine} (shape : HasShape m) where
 
 module _ {m : DraftMachine} (course : Course) (ways : List Way) (states : List Restored) (are : AreWaysOf m course ways states) where
   -- a route by which the step goes is one of the machine
-  route_there : (p : Route) → (FiresBy course.head p ⊎ HasGoneBy course p) → IsRoute m p
+  route_there : (p : Route) → (FiresBy course.head p ⊎ HasGoneBy course p) → IsStepRoute m p
   route_there p goes =
       let w = (are.taken p).1 goes in
-      subst (λ q. IsRoute m q) w.2 (are.legs w.0 w.1).route
+      subst (λ q. IsStepRoute m q) w.2 (are.legs w.0 w.1).route
 
   -- what such a step calls is there
   pub called_there : HasShape m → HasGone m course.head course.at_head course.ran → (x : Item) → Called m course x → IsItemIn m x

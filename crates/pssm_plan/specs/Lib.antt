@@ -4,4 +4,5 @@ pub mod Ways
 pub mod Plans
 pub mod Standings
 pub mod Steadiness
+pub mod Steps
 pub mod inner

@@ -2,20 +2,15 @@
 use Rattle.std.specs.Prelude.{◌≡◌, ◌⊎◌, List, [], ◌∷◌, Some}
 use Rattle.pssm_model.specs.declared.ids.VertexId.{VertexId}
 use Rattle.pssm_model.specs.declared.ids.RegionId.{RegionId}
-use Rattle.pssm_model.specs.declared.ids.TransId.{TransId}
 use Rattle.pssm_model.specs.declared.elements.DraftMachine.{DraftMachine}
-use Rattle.pssm_model.specs.declared.elements.VertexKind.TheVariants as kinds
 use Rattle.pssm_model.specs.declared.elements.Owner.TheVariants.{Top, Region, State}
 use Rattle.pssm_model.specs.declared.steps.Route.{Route}
 use Rattle.pssm_model.specs.declared.steps.How.{How}
 use Rattle.pssm_model.specs.declared.steps.How.TheVariants.{Nothing}
 use Rattle.pssm_model.specs.declared.steps.Item.{Item}
 use Rattle.pssm_model.specs.declared.steps.Item.TheVariants as items
-use Rattle.pssm_model.specs.Forest.{HasKind, IsStateOrFinal, owner_of, LiesInRegion}
-use Rattle.pssm_model.specs.Legs.{Leaves, Enters}
-use Rattle.pssm_model.specs.Paths.{IsInitialOf}
+use Rattle.pssm_model.specs.Forest.{IsStateOrFinal, owner_of}
 use Rattle.pssm_model.specs.Routes.{IsSource, Conflict}
-use Rattle.pssm_model.specs.WellFormed.{ShareRegion}
 use Rattle.pssm_model.specs.Configuration.{Configuration, IsDirect}
 use Rattle.pssm_model.specs.Changes.{entered, exited, opened_none, opened_way}
 use Rattle.pssm_model.specs.Course.{Head, FiresBy}
@@ -28,16 +23,6 @@ pub record IsConsistent (m : DraftMachine) (now : Configuration) : Type 0 where
   pub one_each : (r : RegionId) (s q : VertexId) → IsDirect m s r → IsDirect m q r → now.Active s → now.Active q → s ≡ q
   pub owners : (r : RegionId) (s : VertexId) → IsDirect m s r → now.Active s
       → (owner_of m (Region r) ≡ Some Top) ⊎ ((q : VertexId) × (owner_of m (Region r) ≡ Some (State q)) × now.Active q)
-
--- A region has at most one initial vertex, and at most one transition leaves that, which ends in the region
--- (UML 2.5.1 14.2.3.7 and 14.5.6, initial vertices); and the ends of each transition share a region
--- (UML 2.5.1 14.2.3.8, transitions; this profile's choice). The rules of models say so.
-pub record KeepsInitials (m : DraftMachine) : Type 0 where
-  pub one_initial : (r : RegionId) (v w : VertexId) → IsInitialOf m r v → IsInitialOf m r w → v ≡ w
-  pub one_out : (v : VertexId) (t u : TransId) → HasKind m v kinds.Initial → Leaves m t v → Leaves m u v → t ≡ u
-  pub stays : (r : RegionId) (v w : VertexId) (t : TransId) → IsInitialOf m r v → Leaves m t v → Enters m t w
-      → LiesInRegion m w r
-  pub shared : (t : TransId) (v w : VertexId) → Leaves m t v → Enters m t w → ShareRegion m v w
 
 -- A step begins so: with a start where nothing is active, or with routes that fire, no two of which conflict, and whose sources are active; and
 -- what a region remembers is a direct vertex of it (UML 2.5.1 14.2.3.9, run to completion and conflicting transitions; 14.2.3.4, State history;

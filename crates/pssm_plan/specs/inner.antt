@@ -4,3 +4,4 @@ pub mod Calling
 pub mod Going
 pub mod Views
 pub mod OverRoutes
+pub mod Near

@@ -6,6 +6,7 @@
 
 mod laws;
 mod listing;
+mod near;
 mod plan;
 mod progress;
 mod ready;

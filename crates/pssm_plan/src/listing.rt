@@ -1,28 +1,33 @@
 //! Lists the items that the parts of a step call.
-ghost use Rattle.std.specs.Prelude.{◌≡◌, ◌⊎◌, ◌↔◌, ◌<◌, Some, IsTrue, OnOk, Contains, length};
+ghost use Rattle.std.specs.Prelude.{◌≡◌, ◌↔◌, ◌<◌, Some, IsTrue, OnOk, Contains, length};
+ghost use Rattle.pssm_model.specs.declared.ids.TransId.{TransId as Transition};
 ghost use Rattle.pssm_model.specs.declared.steps.Item.{Item as Called};
 ghost use Rattle.pssm_model.specs.Items.{restored_mode as opened_mode};
-ghost use Rattle.pssm_model.specs.Forest.{LiesInState};
-ghost use Rattle.pssm_model.specs.SingleLegs.{HasSingleLegs};
+ghost use Rattle.pssm_model.specs.WellFormed.{KeepsModelRules};
 ghost use Rattle.pssm_config.specs.Tables.{Fits, configuration_of};
 ghost use Rattle.pssm_legs.specs.Calls.{IsItemIn};
+ghost use Rattle.pssm_legs.specs.LegsOf.{IsLegIn};
+ghost use Rattle.pssm_legs.specs.declared.legs.Leg.{Leg as TakenLeg};
 ghost use Rattle.pssm_plan.specs.Ways.{IsWayIn, AreWaysIn, calls_by};
 ghost use Rattle.pssm_plan.specs.inner.Marks.{IsListed, IsLonger};
 ghost use Rattle.pssm_plan.specs.inner.Sequence.{IsRoster, IsExtended};
 ghost use Rattle.pssm_plan.specs.inner.Calling.{IsTopOpening, IsExitBy, IsEffectBy, IsEntryBy, IsOpeningBy, IsPickBy};
+ghost use Rattle.pssm_plan.specs.inner.Calling.{IsEffectAmong, IsEffectOf, IsEffectOfSome, IsPickAt, IsPickAtSome};
 ghost use Rattle.pssm_plan.specs.inner.Calling.{IsOtherBy, IsReopened, IsLate, IsOfRestored, IsOpeningOf, MayRun};
 ghost use Rattle.pssm_plan.specs.inner.Calling.{IsDefaultOf, IsRestoredOf, IsOpenedByEntry, IsEntered};
 
+use crate::near::comes_near;
 use crate::progress::Restored;
 use crate::roster::{Call, Roster, has_run};
-use crate::ways::{Way, lies_in, some_way_opens, way_calls, way_opens};
+use crate::ways::{Way, some_way_opens, way_calls, way_opens};
 use pssm_config::Config;
+use pssm_legs::Leg;
 use pssm_model::{Item, Machine, Mode, Owner, RegionId, TransId, VertexId};
 use std::alloc::AllocError as NoMemory;
 
 /// Whether a listed item is one that the way calls.
 pub fn meets(machine: &Machine, calls: &[Call], way: &Way) -> bool
-    requires single { HasSingleLegs machine.now }
+    requires rules { KeepsModelRules machine.now }
     requires way { IsWayIn machine.now way.now }
     requires items { (x : Called) → IsListed calls.now x → IsItemIn machine.now x }
     ensures { IsTrue result ↔ ((x : Called) × IsListed calls.now x × calls_by machine.now way.now x) }
@@ -37,7 +42,7 @@ pub fn meets(machine: &Machine, calls: &[Call], way: &Way) -> bool
 
 // Whether a vertex is active, and the way calls its exit.
 fn calls_exit(machine: &Machine, config: &Config, way: &Way, s: VertexId) -> bool
-    requires single { HasSingleLegs machine.now }
+    requires rules { KeepsModelRules machine.now }
     requires fits { Fits machine.now config.now }
     requires way { IsWayIn machine.now way.now }
     requires vertex { s.0 < length machine.now.vertices }
@@ -46,24 +51,15 @@ fn calls_exit(machine: &Machine, config: &Config, way: &Way, s: VertexId) -> boo
     config.is_active(s) && way_calls(machine, way, Item::Exit(s))
 }
 
-// Whether the way calls the entry of a vertex. It enters what it ends on, and States in which that lies.
+// Whether the way calls the entry of a vertex. It enters what a leg ends on, the State of an entry point, and States in
+// which that lies.
 fn calls_entry(machine: &Machine, way: &Way, s: VertexId) -> bool
-    requires single { HasSingleLegs machine.now }
+    requires rules { KeepsModelRules machine.now }
     requires way { IsWayIn machine.now way.now }
     requires vertex { s.0 < length machine.now.vertices }
     ensures { IsTrue result ↔ calls_by machine.now way.now (Called.Enter s) }
 {
-    let _shaped = machine.regions();
-    is_near(machine, way.legs.last, s) && way_calls(machine, way, Item::Enter(s))
-}
-
-// Whether a vertex is this one or lies in it.
-fn is_near(machine: &Machine, v: VertexId, s: VertexId) -> bool
-    requires vertex { v.0 < length machine.now.vertices }
-    requires state { s.0 < length machine.now.vertices }
-    ensures { IsTrue result ↔ ((s ≡ v) ⊎ LiesInState machine.now v s) }
-{
-    s == v || lies_in(machine, v, s)
+    comes_near(machine, way, s) && way_calls(machine, way, Item::Enter(s))
 }
 
 impl Roster {
@@ -82,7 +78,7 @@ impl Roster {
 
     // Lists the exits of what is active where a way exits.
     fn list_exits(&mut self, machine: &Machine, config: &Config, way: &Way) -> Result<(), NoMemory>
-        requires single { HasSingleLegs machine.now }
+        requires rules { KeepsModelRules machine.now }
         requires roster { IsRoster machine.now self.old.calls.items }
         requires fits { Fits machine.now config.now }
         requires way { IsWayIn machine.now way.now }
@@ -97,32 +93,72 @@ impl Roster {
         Ok(())
     }
 
-    // Lists the effects that a way calls.
+    // Lists the effects of transitions.
+    fn list_transitions(
+        &mut self,
+        machine: &Machine,
+        transitions: &[TransId],
+    ) -> Result<(), NoMemory>
+        requires roster { IsRoster machine.now self.old.calls.items }
+        requires there { (t : Transition) → Contains transitions.now t → t.0 < length machine.now.transitions }
+        ensures calls { IsLonger self.old.calls.items self.new.calls.items }
+        ensures added { OnOk result (IsExtended machine.now self.old.calls.items
+            (IsEffectAmong transitions.now) self.new.calls.items) }
+    {
+        for t in transitions {
+            self.add(machine, Item::Effect(*t), true)?;
+        }
+        Ok(())
+    }
+
+    // Lists the effects of the transitions of a leg.
+    fn list_leg(&mut self, machine: &Machine, leg: &Leg) -> Result<(), NoMemory>
+        requires roster { IsRoster machine.now self.old.calls.items }
+        requires leg { IsLegIn machine.now leg.now }
+        ensures calls { IsLonger self.old.calls.items self.new.calls.items }
+        ensures added { OnOk result (IsExtended machine.now self.old.calls.items
+            (IsEffectOf leg.now) self.new.calls.items) }
+    {
+        self.add(machine, Item::Effect(leg.named), true)?;
+        self.list_transitions(machine, leg.further.as_slice())
+    }
+
+    // Lists the effects of the transitions of legs.
+    fn list_legs(&mut self, machine: &Machine, legs: &[Leg]) -> Result<(), NoMemory>
+        requires roster { IsRoster machine.now self.old.calls.items }
+        requires legs { (leg : TakenLeg) → Contains legs.now leg → IsLegIn machine.now leg }
+        ensures calls { IsLonger self.old.calls.items self.new.calls.items }
+        ensures added { OnOk result (IsExtended machine.now self.old.calls.items
+            (IsEffectOfSome legs.now) self.new.calls.items) }
+    {
+        for leg in legs {
+            self.list_leg(machine, leg)?;
+        }
+        Ok(())
+    }
+
+    // Lists the effects that a way calls: those of the transitions of its legs.
     fn list_effects(&mut self, machine: &Machine, way: &Way) -> Result<(), NoMemory>
-        requires single { HasSingleLegs machine.now }
         requires roster { IsRoster machine.now self.old.calls.items }
         requires way { IsWayIn machine.now way.now }
         ensures calls { IsLonger self.old.calls.items self.new.calls.items }
         ensures added { OnOk result (IsExtended machine.now self.old.calls.items
             (IsEffectBy machine.now way.now) self.new.calls.items) }
     {
-        for number in 0..machine.transitions() {
-            let effect = Item::Effect(TransId(number));
-            let wanted = way_calls(machine, way, effect);
-            self.add(machine, effect, wanted)?;
-        }
-        Ok(())
+        self.list_leg(machine, &way.legs.first)?;
+        self.list_legs(machine, way.legs.more.as_slice())
     }
 
     // Lists the entries that a way calls.
     fn list_entries(&mut self, machine: &Machine, way: &Way) -> Result<(), NoMemory>
-        requires single { HasSingleLegs machine.now }
+        requires rules { KeepsModelRules machine.now }
         requires roster { IsRoster machine.now self.old.calls.items }
         requires way { IsWayIn machine.now way.now }
         ensures calls { IsLonger self.old.calls.items self.new.calls.items }
         ensures added { OnOk result (IsExtended machine.now self.old.calls.items
             (IsEntryBy machine.now way.now) self.new.calls.items) }
     {
+        let _shaped = machine.regions();
         for number in 0..machine.vertices() {
             let wanted = calls_entry(machine, way, VertexId(number));
             self.add(machine, Item::Enter(VertexId(number)), wanted)?;
@@ -131,8 +167,9 @@ impl Roster {
     }
 
     // Lists the openings in a mode that a way calls.
+    #[inline(always)]
     fn list_openings(&mut self, machine: &Machine, way: &Way, mode: Mode) -> Result<(), NoMemory>
-        requires single { HasSingleLegs machine.now }
+        requires rules { KeepsModelRules machine.now }
         requires roster { IsRoster machine.now self.old.calls.items }
         requires way { IsWayIn machine.now way.now }
         ensures calls { IsLonger self.old.calls.items self.new.calls.items }
@@ -147,24 +184,61 @@ impl Roster {
         Ok(())
     }
 
-    // Lists the pick that a way calls, which is on its last vertex.
+    // Lists the pick of the vertex on which a leg of a way ends, where the way calls it.
+    #[inline(always)]
+    fn list_pick(&mut self, machine: &Machine, way: &Way, leg: &Leg) -> Result<(), NoMemory>
+        requires rules { KeepsModelRules machine.now }
+        requires roster { IsRoster machine.now self.old.calls.items }
+        requires way { IsWayIn machine.now way.now }
+        requires leg { IsLegIn machine.now leg.now }
+        ensures calls { IsLonger self.old.calls.items self.new.calls.items }
+        ensures added { OnOk result (IsExtended machine.now self.old.calls.items
+            (IsPickAt machine.now way.now leg.now) self.new.calls.items) }
+    {
+        let pick = Item::Pick(leg.last);
+        let wanted = way_calls(machine, way, pick);
+        self.add(machine, pick, wanted)
+    }
+
+    // Lists such picks of some of the legs.
+    #[inline(never)]
+    fn list_further_picks(
+        &mut self,
+        machine: &Machine,
+        way: &Way,
+        legs: &[Leg],
+    ) -> Result<(), NoMemory>
+        requires rules { KeepsModelRules machine.now }
+        requires roster { IsRoster machine.now self.old.calls.items }
+        requires way { IsWayIn machine.now way.now }
+        requires legs { (leg : TakenLeg) → Contains legs.now leg → IsLegIn machine.now leg }
+        ensures calls { IsLonger self.old.calls.items self.new.calls.items }
+        ensures added { OnOk result (IsExtended machine.now self.old.calls.items
+            (IsPickAtSome machine.now way.now legs.now) self.new.calls.items) }
+    {
+        for leg in legs {
+            self.list_pick(machine, way, leg)?;
+        }
+        Ok(())
+    }
+
+    // Lists the picks that a way calls: of the choices on which its legs end.
+    #[inline(always)]
     fn list_picks(&mut self, machine: &Machine, way: &Way) -> Result<(), NoMemory>
-        requires single { HasSingleLegs machine.now }
+        requires rules { KeepsModelRules machine.now }
         requires roster { IsRoster machine.now self.old.calls.items }
         requires way { IsWayIn machine.now way.now }
         ensures calls { IsLonger self.old.calls.items self.new.calls.items }
         ensures added { OnOk result (IsExtended machine.now self.old.calls.items
             (IsPickBy machine.now way.now) self.new.calls.items) }
     {
-        let _shaped = machine.regions();
-        let pick = Item::Pick(way.legs.last);
-        let wanted = way_calls(machine, way, pick);
-        self.add(machine, pick, wanted)
+        self.list_pick(machine, way, &way.legs.first)?;
+        self.list_further_picks(machine, way, way.legs.more.as_slice())
     }
 
     // Lists what a way calls, but for exits.
     fn list_others(&mut self, machine: &Machine, way: &Way) -> Result<(), NoMemory>
-        requires single { HasSingleLegs machine.now }
+        requires rules { KeepsModelRules machine.now }
         requires roster { IsRoster machine.now self.old.calls.items }
         requires way { IsWayIn machine.now way.now }
         ensures calls { IsLonger self.old.calls.items self.new.calls.items }
@@ -186,7 +260,7 @@ impl Roster {
         config: &Config,
         way: &Way,
     ) -> Result<(), NoMemory>
-        requires single { HasSingleLegs machine.now }
+        requires rules { KeepsModelRules machine.now }
         requires roster { IsRoster machine.now self.old.calls.items }
         requires fits { Fits machine.now config.now }
         requires way { IsWayIn machine.now way.now }
@@ -200,7 +274,7 @@ impl Roster {
 
     // Whether the region is one of a State whose entry has run, and opens now since the way enters the State.
     fn is_reopened(&self, machine: &Machine, way: &Way, r: RegionId) -> bool
-        requires single { HasSingleLegs machine.now }
+        requires rules { KeepsModelRules machine.now }
         requires way { IsWayIn machine.now way.now }
         requires region { r.0 < length machine.now.regions }
         ensures { IsTrue result ↔ IsReopened machine.now self.now.calls.items way.now (Called.Opened r Mode.Plain) }
@@ -216,7 +290,7 @@ impl Roster {
 
     // Lists the openings of regions of States whose entries have run, and which a way enters once more.
     fn list_reopened(&mut self, machine: &Machine, way: &Way) -> Result<(), NoMemory>
-        requires single { HasSingleLegs machine.now }
+        requires rules { KeepsModelRules machine.now }
         requires roster { IsRoster machine.now self.old.calls.items }
         requires way { IsWayIn machine.now way.now }
         ensures calls { IsLonger self.old.calls.items self.new.calls.items }
@@ -236,7 +310,7 @@ impl Roster {
 
     /// Lists what a late way calls.
     pub fn list_late(&mut self, machine: &Machine, way: &Way) -> Result<(), NoMemory>
-        requires single { HasSingleLegs machine.now }
+        requires rules { KeepsModelRules machine.now }
         requires roster { IsRoster machine.now self.old.calls.items }
         requires way { IsWayIn machine.now way.now }
         ensures calls { IsLonger self.old.calls.items self.new.calls.items }
@@ -292,7 +366,7 @@ impl Roster {
         ways: &[Way],
         s: VertexId,
     ) -> Result<(), NoMemory>
-        requires single { HasSingleLegs machine.now }
+        requires rules { KeepsModelRules machine.now }
         requires roster { IsRoster machine.now self.old.calls.items }
         requires ways { AreWaysIn machine.now ways.now }
         requires state { s.0 < length machine.now.vertices }
@@ -335,7 +409,7 @@ impl Roster {
         restored: &[Restored],
         s: VertexId,
     ) -> Result<(), NoMemory>
-        requires single { HasSingleLegs machine.now }
+        requires rules { KeepsModelRules machine.now }
         requires roster { IsRoster machine.now self.old.calls.items }
         requires ways { AreWaysIn machine.now ways.now }
         requires state { s.0 < length machine.now.vertices }
@@ -357,7 +431,7 @@ impl Roster {
         restored: &[Restored],
         item: Item,
     ) -> Result<(), NoMemory>
-        requires single { HasSingleLegs machine.now }
+        requires rules { KeepsModelRules machine.now }
         requires roster { IsRoster machine.now self.old.calls.items }
         requires ways { AreWaysIn machine.now ways.now }
         requires item { IsItemIn machine.now item }

@@ -1,7 +1,7 @@
 //! `Plan`: the items that a step calls, which of them have run, and which are ready.
 ghost use Rattle.std.specs.Prelude.{◌≡◌, ◌↔◌, ◌<◌, ◌++◌, ◌∷◌, [], length, slice_get, Some, IsTrue, IfOk, OnOk, OnErr, Contains};
 ghost use Rattle.pssm_model.specs.declared.elements.DraftMachine.{DraftMachine};
-ghost use Rattle.pssm_model.specs.SingleLegs.{HasSingleLegs};
+ghost use Rattle.pssm_model.specs.WellFormed.{KeepsModelRules};
 ghost use Rattle.pssm_model.specs.Course.Head.{Starts, Fires};
 ghost use Rattle.pssm_model.specs.Items.{HasRunOut};
 ghost use Rattle.pssm_model.specs.Changes.{Agree, nothing_yet};
@@ -115,7 +115,7 @@ impl Plan {
     ///
     /// `NoMemory`: memory ran out.
     pub fn of_start(alloc: Global, machine: &Machine) -> Result<Plan, NoMemory>
-        requires single { HasSingleLegs machine.now }
+        requires rules { KeepsModelRules machine.now }
         ensures head { IfOk result (λ plan. plan.head ≡ Starts) }
         ensures at_head { IfOk result (λ plan. Agree (configuration_of plan.at_head) nothing_yet) }
         ensures none_ran { IfOk result (λ plan. plan.ran ≡ []) }
@@ -140,7 +140,7 @@ impl Plan {
         config: &Config,
         firing: &Firing,
     ) -> Result<Plan, NoMemory>
-        requires single { HasSingleLegs machine.now }
+        requires rules { KeepsModelRules machine.now }
         requires fits { Fits machine.now config.now }
         requires routes { (route : Route) → Contains firing.now.routes route → IsStateRoute machine.now route }
         ensures head { IfOk result (λ plan. plan.head ≡ Fires firing.now.routes) }
@@ -169,7 +169,7 @@ impl Plan {
         config: &Config,
         firing: &Firing,
     ) -> Result<(), NoMemory>
-        requires single { HasSingleLegs machine.now }
+        requires rules { KeepsModelRules machine.now }
         requires fits { Fits machine.now config.now }
         requires routes { (route : Route) → Contains firing.now.routes route → IsStateRoute machine.now route }
         ensures head { OnOk result (self.new.head ≡ Fires firing.now.routes) }
@@ -197,7 +197,7 @@ impl Plan {
         item: Item,
         how: &How,
     ) -> Result<(), NoMemory>
-        requires single { HasSingleLegs machine.now }
+        requires rules { KeepsModelRules machine.now }
         requires plan { IsPlanOf machine.now self.old }
         requires ready { IsReady machine.now (course_of self.old) item }
         requires way { (truth : Truth) × IsWayNow machine.now truth (course_of self.old) item how.now }

@@ -3,8 +3,8 @@ ghost use Rattle.std.specs.Prelude.{◌^◌, ◌≡◌, ◌≢◌, ◌<◌, [], 
 ghost use Rattle.std.specs.Prelude.{OnOk, OnErr, IfOk, IsTrue};
 ghost use Rattle.pssm_model.specs.declared.steps.Route.{Route as TheRoute};
 ghost use Rattle.pssm_model.specs.declared.steps.How.TheVariants.{Restore};
-ghost use Rattle.pssm_model.specs.Routes.{IsRoute};
-ghost use Rattle.pssm_model.specs.SingleLegs.{HasSingleLegs};
+ghost use Rattle.pssm_model.specs.RouteWords.{IsStepRoute};
+ghost use Rattle.pssm_model.specs.WellFormed.{KeepsModelRules};
 ghost use Rattle.pssm_config.specs.Tables.{Fits, configuration_of};
 ghost use Rattle.pssm_legs.specs.Calls.{IsItemIn};
 ghost use Rattle.pssm_plan.specs.declared.roster.Call.{Call};
@@ -20,11 +20,10 @@ ghost use Rattle.pssm_plan.specs.inner.Going.{IsLongerProgress, IsFinished, IsRu
 
 use crate::listing::meets;
 use crate::roster::Roster;
-use crate::ways::{Way, room_of, way_in, way_of};
+use crate::ways::{Way, way_of};
 use pssm_config::Config;
-use pssm_model::{How, Item, Machine, Mode, Route, TransId, VertexId};
+use pssm_model::{How, Item, Machine, Mode, Route, VertexId};
 use std::alloc::{AllocError as NoMemory, Global};
-use std::mem;
 
 /// A State that an opening has restored, in the mode of that opening.
 #[derive(Clone, Copy, PartialEq, Eq, Debug)]
@@ -51,7 +50,7 @@ fn list_all_fired(
     config: &Config,
     ways: &[Way],
 ) -> Result<(), NoMemory>
-    requires single { HasSingleLegs machine.now }
+    requires rules { KeepsModelRules machine.now }
     requires roster { IsRoster machine.now roster.old.calls.items }
     requires fits { Fits machine.now config.now }
     requires ways { AreWaysIn machine.now ways.now }
@@ -64,44 +63,29 @@ fn list_all_fired(
     Ok(())
 }
 
-// Puts the ways of routes that fire into a list that is empty. The path of the first takes the room of a vector without
-// items.
+// Puts the ways of routes that fire into a list that is empty.
 #[tactic(auto, using(crate::proofs::Firing::fired_none))]
 fn add_ways(
     alloc: Global,
-    room: Vec<TransId>,
     ways: &mut Vec<Way>,
     machine: &Machine,
     routes: &[Route],
 ) -> Result<(), NoMemory>
-    requires single { HasSingleLegs machine.now }
-    requires routes { (p : TheRoute) → Contains routes.now p → IsRoute machine.now p }
+    requires rules { KeepsModelRules machine.now }
+    requires routes { (p : TheRoute) → Contains routes.now p → IsStepRoute machine.now p }
     requires none { ways.old.items ≡ [] }
-    requires empty { room.items ≡ [] }
     ensures fired { OnOk result (AreFired machine.now routes.now ways.new.items) }
 {
-    let mut room = room;
     for route in routes {
-        let path = mem::replace(&mut room, Vec::new(alloc));
-        let way = way_in(path, machine, route, true)?;
+        let way = way_of(alloc, machine, route, true)?;
         ways.push(way)?;
     }
     Ok(())
 }
 
-// The room of the path of the last way, which goes, without items.
-fn last_room(alloc: Global, ways: &mut Vec<Way>) -> Vec<TransId>
-    ensures { result.items ≡ [] }
-{
-    match ways.pop() {
-        Some(way) => room_of(way),
-        None => Vec::new(alloc),
-    }
-}
-
 // Settles a roster of items of which none has looked at the others yet, if they are not too many.
 fn settle_first(roster: &mut Roster, machine: &Machine, ways: &[Way]) -> Result<(), NoMemory>
-    requires single { HasSingleLegs machine.now }
+    requires rules { KeepsModelRules machine.now }
     requires ways { AreWaysIn machine.now ways.now }
     requires items { AreItemsOf machine.now roster.old.calls.items }
     requires fresh { (call : Call) → Contains roster.old.calls.items call → IsFresh call }
@@ -134,7 +118,7 @@ impl Progress {
     /// The progress of a start.
     #[tactic(auto, using(crate::proofs::Firing::none_are_ways))]
     pub fn of_start(alloc: Global, machine: &Machine) -> Result<Progress, NoMemory>
-        requires single { HasSingleLegs machine.now }
+        requires rules { KeepsModelRules machine.now }
         ensures few { IfOk result (λ progress. length progress.roster.calls.items < 2 ^ 32) }
         ensures ways { IfOk result (λ progress. progress.ways.items ≡ []) }
         ensures restored { IfOk result (λ progress. progress.restored.items ≡ []) }
@@ -154,9 +138,9 @@ impl Progress {
         config: &Config,
         routes: &[Route],
     ) -> Result<Progress, NoMemory>
-        requires single { HasSingleLegs machine.now }
+        requires rules { KeepsModelRules machine.now }
         requires fits { Fits machine.now config.now }
-        requires routes { (p : TheRoute) → Contains routes.now p → IsRoute machine.now p }
+        requires routes { (p : TheRoute) → Contains routes.now p → IsStepRoute machine.now p }
         ensures few { IfOk result (λ progress. length progress.roster.calls.items < 2 ^ 32) }
         ensures ways { IfOk result (λ progress.
             AreFired machine.now routes.now progress.ways.items) }
@@ -178,9 +162,9 @@ impl Progress {
         config: &Config,
         routes: &[Route],
     ) -> Result<(), NoMemory>
-        requires single { HasSingleLegs machine.now }
+        requires rules { KeepsModelRules machine.now }
         requires fits { Fits machine.now config.now }
-        requires routes { (p : TheRoute) → Contains routes.now p → IsRoute machine.now p }
+        requires routes { (p : TheRoute) → Contains routes.now p → IsStepRoute machine.now p }
         ensures few { OnOk result (length self.new.roster.calls.items < 2 ^ 32) }
         ensures ways { OnOk result (AreFired machine.now routes.now self.new.ways.items) }
         ensures restored { OnOk result (self.new.restored.items ≡ []) }
@@ -189,10 +173,9 @@ impl Progress {
             self.new.roster.calls.items) }
     {
         self.roster.calls.clear();
-        let room = last_room(alloc, &mut self.ways);
         self.ways.clear();
         self.restored.clear();
-        add_ways(alloc, room, &mut self.ways, machine, routes)?;
+        add_ways(alloc, &mut self.ways, machine, routes)?;
         let ways = self.ways.as_slice();
         list_all_fired(&mut self.roster, machine, config, ways)?;
         settle_first(&mut self.roster, machine, ways)?;
@@ -219,9 +202,9 @@ impl Progress {
         machine: &Machine,
         route: &Route,
     ) -> Result<bool, NoMemory>
-        requires single { HasSingleLegs machine.now }
+        requires rules { KeepsModelRules machine.now }
         requires roster { IsRoster machine.now self.old.roster.calls.items }
-        requires route { IsRoute machine.now route.now }
+        requires route { IsStepRoute machine.now route.now }
         ensures longer { IsLongerProgress self.old self.new }
         ensures followed { OnOk result (IsFollowedBy machine.now self.old route.now self.new) }
         ensures kept { IfOk result (λ anew. (IsTrue anew → ⊥)
@@ -265,7 +248,7 @@ impl Progress {
     // Lists what an item calls that runs without a way.
     #[inline(always)]
     fn follow_plainly(&mut self, machine: &Machine, item: Item) -> Result<(), NoMemory>
-        requires single { HasSingleLegs machine.now }
+        requires rules { KeepsModelRules machine.now }
         requires roster { IsRoster machine.now self.old.roster.calls.items }
         requires ways { AreWaysIn machine.now self.old.ways.items }
         requires item { IsItemIn machine.now item }
@@ -287,7 +270,7 @@ impl Progress {
         item: Item,
         how: &How,
     ) -> Result<bool, NoMemory>
-        requires single { HasSingleLegs machine.now }
+        requires rules { KeepsModelRules machine.now }
         requires roster { IsRoster machine.now self.old.roster.calls.items }
         requires ways { AreWaysIn machine.now self.old.ways.items }
         requires item { IsItemIn machine.now item }
@@ -321,7 +304,7 @@ impl Progress {
         item: Item,
         how: &How,
     ) -> Result<bool, NoMemory>
-        requires single { HasSingleLegs machine.now }
+        requires rules { KeepsModelRules machine.now }
         requires roster { IsRoster machine.now self.old.roster.calls.items }
         requires ways { AreWaysIn machine.now self.old.ways.items }
         requires item { IsItemIn machine.now item }
@@ -350,7 +333,7 @@ impl Progress {
         item: Item,
         how: &How,
     ) -> Result<bool, NoMemory>
-        requires single { HasSingleLegs machine.now }
+        requires rules { KeepsModelRules machine.now }
         requires roster { IsRoster machine.now self.old.roster.calls.items }
         requires ways { AreWaysIn machine.now self.old.ways.items }
         requires item { IsItemIn machine.now item }
@@ -384,7 +367,7 @@ impl Progress {
         how: &How,
         hint: usize,
     ) -> Result<(), NoMemory>
-        requires single { HasSingleLegs machine.now }
+        requires rules { KeepsModelRules machine.now }
         requires roster { IsRoster machine.now self.old.roster.calls.items }
         requires ways { AreWaysIn machine.now self.old.ways.items }
         requires item { IsItemIn machine.now item }
@@ -444,7 +427,7 @@ fn note(roster: &mut Roster, machine: &Machine, ways: &[Way], item: Item, hint: 
 #[inline(always)]
 #[tactic(auto, using(crate::proofs::Following::noted_items))]
 fn finish(roster: &mut Roster, machine: &Machine, ways: &[Way], item: Item, hint: usize, anew: bool)
-    requires single { HasSingleLegs machine.now }
+    requires rules { KeepsModelRules machine.now }
     requires ways { AreWaysIn machine.now ways.now }
     requires roster { IsRoster machine.now roster.old.calls.items }
     requires few { length roster.old.calls.items < 2 ^ 32 }

@@ -1,82 +1,137 @@
 //! Which of the listed items wait for others.
 ghost use Rattle.std.specs.Prelude.{◌↔◌, ◌<◌, ◌^◌, IsTrue, Contains, length};
-ghost use Rattle.pssm_model.specs.SingleLegs.{HasSingleLegs};
+ghost use Rattle.pssm_model.specs.WellFormed.{KeepsModelRules};
 ghost use Rattle.pssm_legs.specs.Calls.{IsItemIn};
 ghost use Rattle.pssm_plan.specs.declared.roster.Call.{Call};
 ghost use Rattle.pssm_plan.specs.Waiting.{HoldsUp};
 ghost use Rattle.pssm_plan.specs.Ways.{AreWaysIn};
-ghost use Rattle.pssm_plan.specs.inner.Marks.{HasSeen, IsUpToDate, IsSettled, ArePairwise};
-ghost use Rattle.pssm_plan.specs.inner.Sequence.{IsSequence, AreItemsOf};
+ghost use Rattle.pssm_plan.specs.inner.Marks.{HasSeen, IsHeldAt, IsUpToDate, IsSettled, IsSettledSo, ArePairwise};
+ghost use Rattle.pssm_plan.specs.inner.Sequence.{IsSomeLong, IsSequence, AreItemsOf};
 
 use crate::roster::{Call, Roster};
-use crate::ways::{Way, comes_before, ways_of};
-use pssm_model::{Item, Machine};
+use crate::ways::{Way, comes_before, some_is_long, ways_of};
+use pssm_model::Machine;
 
-// Whether a call holds up an item: it comes before it and has not run.
-fn holds_up(machine: &Machine, ways: &[Way], on: Call, item: Item) -> bool
-    requires single { HasSingleLegs machine.now }
+/// Whether an item waits, and how far it has looked.
+#[derive(Clone, Copy)]
+pub struct Wait {
+    pub blocked: bool,
+    pub seen: u32,
+}
+
+// Whether a call holds up another: it comes before it and has not run.
+#[inline(always)]
+fn holds_up(machine: &Machine, ways: &[Way], long: bool, on: &Call, call: &Call) -> bool
+    requires rules { KeepsModelRules machine.now }
     requires ways { AreWaysIn machine.now ways.now }
-    requires on { IsItemIn machine.now on.item }
-    requires item { IsItemIn machine.now item }
-    ensures { IsTrue result ↔ HoldsUp (IsSequence machine.now ways.now) on item }
+    requires long { IsSomeLong ways.now → IsTrue long }
+    requires on { IsItemIn machine.now on.now.item }
+    requires item { IsItemIn machine.now call.now.item }
+    ensures { IsTrue result ↔ HoldsUp (IsSequence machine.now ways.now) on.now call.now.item }
 {
-    !on.ran && comes_before(machine, ways, on.item, item)
+    !on.ran && comes_before(machine, ways, long, &on.item, &call.item)
+}
+
+// Whether the call with a place has not run.
+#[inline(always)]
+fn holds_at(calls: &[Call], place: u32) -> bool
+    ensures { IsTrue result → IsHeldAt calls.now place }
+{
+    match calls.get(place as usize) {
+        Some(on) => !on.ran,
+        None => false,
+    }
 }
 
 // Whether a call is blocked by one that has not run yet, or has seen them all.
+#[inline(always)]
 fn is_up_to_date(calls: &[Call], call: Call) -> bool
     ensures { IsTrue result → IsUpToDate calls.now call }
 {
-    match calls.get(call.seen as usize) {
-        Some(on) => call.blocked && !on.ran,
-        None => !call.blocked,
+    if call.blocked {
+        holds_at(calls, call.seen)
+    } else {
+        calls.len() <= call.seen as usize
     }
 }
 
-// The call once it has looked further, for the first call that holds it up.
-fn look_further(machine: &Machine, ways: &[Way], calls: &[Call], call: Call) -> Call
-    requires single { HasSingleLegs machine.now }
+// Whether a call waits, once it has looked further for the first call that holds it up.
+#[inline(always)]
+fn look_further(machine: &Machine, ways: &[Way], long: bool, calls: &[Call], call: &Call) -> Wait
+    requires rules { KeepsModelRules machine.now }
     requires ways { AreWaysIn machine.now ways.now }
+    requires long { IsSomeLong ways.now → IsTrue long }
     requires items { AreItemsOf machine.now calls.now }
-    requires item { IsItemIn machine.now call.item }
+    requires item { IsItemIn machine.now call.now.item }
     requires few { length calls.now < 2 ^ 32 }
-    requires seen { HasSeen (IsSequence machine.now ways.now) calls.now call }
-    ensures { IsSettled (IsSequence machine.now ways.now) calls.now call result }
+    requires seen { HasSeen (IsSequence machine.now ways.now) calls.now call.now }
+    ensures { IsSettledSo (IsSequence machine.now ways.now) calls.now call.now result }
 {
     let count = calls.len() as u32;
     for place in call.seen..count {
-        if holds_up(machine, ways, calls[place as usize], call.item) {
-            return Call {
+        if holds_up(machine, ways, long, &calls[place as usize], call) {
+            return Wait {
                 blocked: true,
                 seen: place,
-                ..call
             };
         }
     }
-    Call {
+    Wait {
         blocked: false,
         seen: count,
-        ..call
     }
 }
 
-// The call once it has looked further. Of the ways, those that do not call its item say nothing of it.
-fn look_on(machine: &Machine, ways: &[Way], calls: &[Call], call: Call) -> Call
-    requires single { HasSingleLegs machine.now }
+// Whether a call waits, once it has looked further, by ways of which one may be long.
+#[inline(never)]
+fn look_long(machine: &Machine, ways: &[Way], calls: &[Call], call: &Call) -> Wait
+    requires rules { KeepsModelRules machine.now }
     requires ways { AreWaysIn machine.now ways.now }
     requires items { AreItemsOf machine.now calls.now }
-    requires item { IsItemIn machine.now call.item }
+    requires item { IsItemIn machine.now call.now.item }
     requires few { length calls.now < 2 ^ 32 }
-    requires seen { HasSeen (IsSequence machine.now ways.now) calls.now call }
-    ensures { IsSettled (IsSequence machine.now ways.now) calls.now call result }
+    requires seen { HasSeen (IsSequence machine.now ways.now) calls.now call.now }
+    ensures { IsSettledSo (IsSequence machine.now ways.now) calls.now call.now result }
 {
-    let near = ways_of(machine, ways, call.item);
-    look_further(machine, near, calls, call)
+    look_further(machine, ways, true, calls, call)
+}
+
+// Whether a call waits, once it has looked further by these ways.
+#[inline(always)]
+fn look_by(machine: &Machine, ways: &[Way], calls: &[Call], call: &Call) -> Wait
+    requires rules { KeepsModelRules machine.now }
+    requires ways { AreWaysIn machine.now ways.now }
+    requires items { AreItemsOf machine.now calls.now }
+    requires item { IsItemIn machine.now call.now.item }
+    requires few { length calls.now < 2 ^ 32 }
+    requires seen { HasSeen (IsSequence machine.now ways.now) calls.now call.now }
+    ensures { IsSettledSo (IsSequence machine.now ways.now) calls.now call.now result }
+{
+    if some_is_long(ways) {
+        look_long(machine, ways, calls, call)
+    } else {
+        look_further(machine, ways, false, calls, call)
+    }
+}
+
+// Whether a call waits, once it has looked further. Of the ways, those that do not call its item say nothing of it.
+#[inline(always)]
+fn look_on(machine: &Machine, ways: &[Way], calls: &[Call], call: &Call) -> Wait
+    requires rules { KeepsModelRules machine.now }
+    requires ways { AreWaysIn machine.now ways.now }
+    requires items { AreItemsOf machine.now calls.now }
+    requires item { IsItemIn machine.now call.now.item }
+    requires few { length calls.now < 2 ^ 32 }
+    requires seen { HasSeen (IsSequence machine.now ways.now) calls.now call.now }
+    ensures { IsSettledSo (IsSequence machine.now ways.now) calls.now call.now result }
+{
+    let near = ways_of(machine, ways, &call.item);
+    look_by(machine, near, calls, call)
 }
 
 // Says of each call whether it waits, and for which one.
 fn settle_all(machine: &Machine, ways: &[Way], calls: &mut [Call])
-    requires single { HasSingleLegs machine.now }
+    requires rules { KeepsModelRules machine.now }
     requires ways { AreWaysIn machine.now ways.now }
     requires items { AreItemsOf machine.now calls.old }
     requires few { length calls.old < 2 ^ 32 }
@@ -84,9 +139,14 @@ fn settle_all(machine: &Machine, ways: &[Way], calls: &mut [Call])
     ensures { ArePairwise (IsSettled (IsSequence machine.now ways.now) calls.old) calls.old calls.new }
 {
     for k in 0..calls.len() {
-        let call = calls[k];
-        if !is_up_to_date(calls, call) {
-            calls[k] = look_on(machine, ways, calls, call);
+        if !is_up_to_date(calls, calls[k]) {
+            let all = &calls[..];
+            let wait = look_on(machine, ways, all, &all[k]);
+            calls[k] = Call {
+                blocked: wait.blocked,
+                seen: wait.seen,
+                ..calls[k]
+            };
         }
     }
 }
@@ -95,7 +155,7 @@ impl Roster {
     /// Says of each call whether it waits, and for which one.
     #[inline(never)]
     pub fn settle(&mut self, machine: &Machine, ways: &[Way])
-        requires single { HasSingleLegs machine.now }
+        requires rules { KeepsModelRules machine.now }
         requires ways { AreWaysIn machine.now ways.now }
         requires items { AreItemsOf machine.now self.old.calls.items }
         requires few { length self.old.calls.items < 2 ^ 32 }

@@ -1,15 +1,16 @@
 //! `Way`: a route by which a step goes, with its legs.
-ghost use Rattle.std.specs.Prelude.{◌≡◌, ◌≤◌, ◌<◌, ◌↔◌, ℕ, [], IsTrue, IfOk, Contains, length, slice_get, Some};
+ghost use Rattle.std.specs.Prelude.{◌≡◌, ◌≤◌, ◌<◌, ◌↔◌, ◌⊎◌, ℕ, IsTrue, IfOk, Contains, length, slice_get, Some};
 ghost use Rattle.pssm_model.specs.Forest.{LiesInState};
-ghost use Rattle.pssm_model.specs.Routes.{IsRoute};
-ghost use Rattle.pssm_model.specs.SingleLegs.{HasSingleLegs};
+ghost use Rattle.pssm_model.specs.RouteWords.{IsStepRoute};
+ghost use Rattle.pssm_model.specs.WellFormed.{KeepsModelRules};
 ghost use Rattle.pssm_legs.specs.Calls.{IsItemIn};
 ghost use Rattle.pssm_plan.specs.declared.ways.Way.{Way as TakenWay};
 ghost use Rattle.pssm_plan.specs.Ways.{IsWayIn, AreWaysIn, calls_by, opens_by, orders_by};
-ghost use Rattle.pssm_plan.specs.inner.Sequence.{MayOrder, IsNestedPair, IsSequence, IsOrderedBySome, IsOpenedBySome};
+ghost use Rattle.pssm_plan.specs.inner.Sequence.{IsLong, IsSomeLong, MayOrder, IsNestedPair, IsSequence, IsOrderedBySome};
+ghost use Rattle.pssm_plan.specs.inner.Sequence.{IsOpenedBySome, kind_number};
 
-use pssm_legs::{Legs, calls, legs_in, opens_for, orders};
-use pssm_model::{Item, Machine, RegionId, Route, TransId, VertexId};
+use pssm_legs::{Legs, calls, legs_of, lone_legs, lone_start, opens_for, orders};
+use pssm_model::{Item, Machine, RegionId, Route, VertexId};
 use std::alloc::{AllocError as NoMemory, Global};
 use std::snapshot::Snapshot;
 
@@ -25,34 +26,35 @@ pub struct Way {
 
 /// The way of a route.
 ///
-/// `NoMemory`: memory ran out.
+/// `NoMemory`: memory ran out. A route of one transition takes none.
+#[inline(always)]
 pub fn way_of(alloc: Global, machine: &Machine, route: &Route, fires: bool) -> Result<Way, NoMemory>
-    requires single { HasSingleLegs machine.now }
-    requires route { IsRoute machine.now route.now }
+    requires rules { KeepsModelRules machine.now }
+    requires route { IsStepRoute machine.now route.now }
     ensures way { IfOk result (IsWayIn machine.now) }
     ensures route { IfOk result (λ way. way.route.value ≡ route.now) }
     ensures fires { IfOk result (λ way. way.fires ≡ fires) }
 {
-    way_in(Vec::new(alloc), machine, route, fires)
+    match lone_start(machine, route) {
+        Some(start) => Ok(Way {
+            fires,
+            route: Snapshot::of(route),
+            legs: lone_legs(alloc, machine, route, start),
+        }),
+        None => way_over(alloc, machine, route, fires),
+    }
 }
 
-/// The same, with the path of its legs in the room of a vector without items.
-///
-/// `NoMemory`: memory ran out.
-pub fn way_in(
-    room: Vec<TransId>,
-    machine: &Machine,
-    route: &Route,
-    fires: bool,
-) -> Result<Way, NoMemory>
-    requires none { room.items ≡ [] }
-    requires single { HasSingleLegs machine.now }
-    requires route { IsRoute machine.now route.now }
+// The way of a route over all its legs.
+#[inline(never)]
+fn way_over(alloc: Global, machine: &Machine, route: &Route, fires: bool) -> Result<Way, NoMemory>
+    requires rules { KeepsModelRules machine.now }
+    requires route { IsStepRoute machine.now route.now }
     ensures way { IfOk result (IsWayIn machine.now) }
     ensures route { IfOk result (λ way. way.route.value ≡ route.now) }
     ensures fires { IfOk result (λ way. way.fires ≡ fires) }
 {
-    let legs = legs_in(room, machine, route)?;
+    let legs = legs_of(alloc, machine, route)?;
     Ok(Way {
         fires,
         route: Snapshot::of(route),
@@ -60,30 +62,10 @@ pub fn way_in(
     })
 }
 
-/// The room of the path of a way, without items.
-pub fn room_of(way: Way) -> Vec<TransId>
-    ensures { result.items ≡ [] }
-{
-    let Way {
-        fires: _,
-        route: _,
-        legs,
-    } = way;
-    let Legs {
-        start: _,
-        area: _,
-        path,
-        last: _,
-    } = legs;
-    let mut room = path;
-    room.clear();
-    room
-}
-
 /// Whether a way calls an item; exits of all that lies where it exits, whether that is active or not.
 #[inline(always)]
 pub fn way_calls(machine: &Machine, way: &Way, item: Item) -> bool
-    requires single { HasSingleLegs machine.now }
+    requires rules { KeepsModelRules machine.now }
     requires way { IsWayIn machine.now way.now }
     requires item { IsItemIn machine.now item }
     ensures { IsTrue result ↔ calls_by machine.now way.now item }
@@ -93,7 +75,7 @@ pub fn way_calls(machine: &Machine, way: &Way, item: Item) -> bool
 
 /// Whether the region of a State opens by default since a way enters the State and does not aim at the region.
 pub fn way_opens(machine: &Machine, way: &Way, s: VertexId, r: RegionId) -> bool
-    requires single { HasSingleLegs machine.now }
+    requires rules { KeepsModelRules machine.now }
     requires way { IsWayIn machine.now way.now }
     requires state { s.0 < length machine.now.vertices }
     requires region { r.0 < length machine.now.regions }
@@ -104,7 +86,7 @@ pub fn way_opens(machine: &Machine, way: &Way, s: VertexId, r: RegionId) -> bool
 
 /// Whether one of the ways opens a region of a State so.
 pub fn some_way_opens(machine: &Machine, ways: &[Way], s: VertexId, r: RegionId) -> bool
-    requires single { HasSingleLegs machine.now }
+    requires rules { KeepsModelRules machine.now }
     requires ways { AreWaysIn machine.now ways.now }
     requires state { s.0 < length machine.now.vertices }
     requires region { r.0 < length machine.now.regions }
@@ -121,7 +103,7 @@ pub fn some_way_opens(machine: &Machine, ways: &[Way], s: VertexId, r: RegionId)
 // Whether the first of two items comes before the second by a way that calls both.
 #[inline(always)]
 fn way_orders(machine: &Machine, way: &Way, first: Item, second: Item) -> bool
-    requires single { HasSingleLegs machine.now }
+    requires rules { KeepsModelRules machine.now }
     requires way { IsWayIn machine.now way.now }
     requires first { IsItemIn machine.now first }
     requires second { IsItemIn machine.now second }
@@ -131,48 +113,80 @@ fn way_orders(machine: &Machine, way: &Way, first: Item, second: Item) -> bool
 }
 
 // Whether the first of two items comes before the second by one of the ways.
-fn some_way_orders(machine: &Machine, ways: &[Way], first: Item, second: Item) -> bool
-    requires single { HasSingleLegs machine.now }
+#[inline(never)]
+fn some_way_orders(machine: &Machine, ways: &[Way], first: &Item, second: &Item) -> bool
+    requires rules { KeepsModelRules machine.now }
     requires ways { AreWaysIn machine.now ways.now }
-    requires first { IsItemIn machine.now first }
-    requires second { IsItemIn machine.now second }
-    ensures { IsTrue result ↔ IsOrderedBySome machine.now ways.now first second }
+    requires first { IsItemIn machine.now first.now }
+    requires second { IsItemIn machine.now second.now }
+    ensures { IsTrue result ↔ IsOrderedBySome machine.now ways.now first.now second.now }
 {
     for way in ways {
-        if way_orders(machine, way, first, second) {
+        if way_orders(machine, way, *first, *second) {
             return true;
         }
     }
     false
 }
 
-// Whether items of these kinds may be ordered by a way.
+// Whether a way has more than one leg, or its first leg more than one transition.
+#[inline(always)]
+fn is_long(way: &Way) -> bool
+    ensures { IsTrue result ↔ IsLong way.now }
+{
+    way.legs.more.len() > 0 || way.legs.first.further.len() > 0
+}
+
+/// Whether one of the ways has more than one leg, or more than one transition in its first leg.
+#[inline(always)]
+pub fn some_is_long(ways: &[Way]) -> bool
+    ensures { IsTrue result ↔ IsSomeLong ways.now }
+{
+    for way in ways {
+        if is_long(way) {
+            return true;
+        }
+    }
+    false
+}
+
+// Whether a leg that is one transition puts items of these kinds in this order where it calls both.
 #[inline(always)]
 fn may_order(first: Item, second: Item) -> bool
     ensures { IsTrue result ↔ MayOrder first second }
 {
     match (first, second) {
         (Item::Exit(_), Item::Effect(_)) => true,
-        (Item::Effect(_), Item::Exit(_)) => false,
-        (Item::Effect(_), _) => true,
+        (Item::Effect(_), Item::Enter(_)) => true,
+        (Item::Effect(_), Item::Opened(_, _)) => true,
+        (Item::Effect(_), Item::Pick(_)) => true,
         (Item::Enter(_), Item::Opened(_, _)) => true,
         (Item::Enter(_), Item::Pick(_)) => true,
         _ => false,
     }
 }
 
-// Whether the first of two items comes before the second by one of the ways. Their kinds are asked first.
+// Whether one of the ways is long, or their legs may put the items in this order.
 #[inline(always)]
-#[tactic(auto, using(crate::proofs::OrderedKinds::ordered_by_some))]
-fn are_ordered(machine: &Machine, ways: &[Way], first: Item, second: Item) -> bool
-    requires single { HasSingleLegs machine.now }
+fn may_be_ordered(long: bool, first: Item, second: Item) -> bool
+    ensures { IsTrue result ↔ (MayOrder first second ⊎ IsTrue long) }
+{
+    may_order(first, second) || long
+}
+
+// Whether the first of two items comes before the second by one of the ways. Their kinds are asked first, which say
+// all where no way is long.
+#[inline(always)]
+fn are_ordered(machine: &Machine, ways: &[Way], long: bool, first: &Item, second: &Item) -> bool
+    requires rules { KeepsModelRules machine.now }
     requires ways { AreWaysIn machine.now ways.now }
-    requires first { IsItemIn machine.now first }
-    requires second { IsItemIn machine.now second }
-    ensures { IsTrue result ↔ IsOrderedBySome machine.now ways.now first second }
+    requires long { IsSomeLong ways.now → IsTrue long }
+    requires first { IsItemIn machine.now first.now }
+    requires second { IsItemIn machine.now second.now }
+    ensures { IsTrue result ↔ IsOrderedBySome machine.now ways.now first.now second.now }
 {
     let _shaped = machine.regions();
-    may_order(first, second) && some_way_orders(machine, ways, first, second)
+    may_be_ordered(long, *first, *second) && some_way_orders(machine, ways, first, second)
 }
 
 // Whether the first of two items comes before the second since one of their States lies in the other: exits from
@@ -199,21 +213,67 @@ pub fn lies_in(machine: &Machine, v: VertexId, s: VertexId) -> bool
     !machine.regions_of(s).is_empty() && machine.lies_in_state(v, s)
 }
 
-/// Whether the first of two items that a step calls comes before the second, in a step that goes by these ways.
+// The number of the kind of an item: exits, effects, entries, openings and picks.
 #[inline(always)]
-pub fn comes_before(machine: &Machine, ways: &[Way], first: Item, second: Item) -> bool
-    requires single { HasSingleLegs machine.now }
-    requires ways { AreWaysIn machine.now ways.now }
-    requires first { IsItemIn machine.now first }
-    requires second { IsItemIn machine.now second }
-    ensures { IsTrue result ↔ IsSequence machine.now ways.now first second }
+fn kind_of(item: Item) -> u32
+    ensures { result ≡ kind_number item }
 {
-    nests(machine, first, second) || are_ordered(machine, ways, first, second)
+    match item {
+        Item::Exit(_) => 0,
+        Item::Effect(_) => 1,
+        Item::Enter(_) => 2,
+        Item::Opened(_, _) => 3,
+        Item::Pick(_) => 4,
+    }
+}
+
+// Whether one of the ways is long, or the kind of the first of two items no later one than that of the second.
+#[inline(always)]
+fn may_come_before(long: bool, first: Item, second: Item) -> bool
+    ensures { IsTrue result ↔ (kind_number first ≤ kind_number second ⊎ IsTrue long) }
+{
+    kind_of(first) <= kind_of(second) || long
+}
+
+// Whether the first of two items comes before the second, as one of their States lies in the other, or by one of the
+// ways.
+#[inline(always)]
+fn are_in_sequence(machine: &Machine, ways: &[Way], long: bool, first: &Item, second: &Item) -> bool
+    requires rules { KeepsModelRules machine.now }
+    requires ways { AreWaysIn machine.now ways.now }
+    requires long { IsSomeLong ways.now → IsTrue long }
+    requires first { IsItemIn machine.now first.now }
+    requires second { IsItemIn machine.now second.now }
+    ensures { IsTrue result ↔ IsSequence machine.now ways.now first.now second.now }
+{
+    nests(machine, *first, *second) || are_ordered(machine, ways, long, first, second)
+}
+
+/// Whether the first of two items that a step calls comes before the second, in a step that goes by these ways, of
+/// which one may be long. Their kinds are asked first.
+#[inline(always)]
+pub fn comes_before(
+    machine: &Machine,
+    ways: &[Way],
+    long: bool,
+    first: &Item,
+    second: &Item,
+) -> bool
+    requires rules { KeepsModelRules machine.now }
+    requires ways { AreWaysIn machine.now ways.now }
+    requires long { IsSomeLong ways.now → IsTrue long }
+    requires first { IsItemIn machine.now first.now }
+    requires second { IsItemIn machine.now second.now }
+    ensures { IsTrue result ↔ IsSequence machine.now ways.now first.now second.now }
+{
+    let _shaped = machine.regions();
+    may_come_before(long, *first, *second) && are_in_sequence(machine, ways, long, first, second)
 }
 
 // How many of the ways stand before the first that calls an item.
+#[inline(never)]
 fn first_calling(machine: &Machine, ways: &[Way], item: Item) -> usize
-    requires single { HasSingleLegs machine.now }
+    requires rules { KeepsModelRules machine.now }
     requires ways { AreWaysIn machine.now ways.now }
     requires item { IsItemIn machine.now item }
     ensures within { result ≤ length ways.now }
@@ -228,8 +288,9 @@ fn first_calling(machine: &Machine, ways: &[Way], item: Item) -> usize
 }
 
 // The number of the ways up to the last that calls an item, of those from a place on; that place where none does.
+#[inline(never)]
 fn last_calling(machine: &Machine, ways: &[Way], item: Item, from: usize) -> usize
-    requires single { HasSingleLegs machine.now }
+    requires rules { KeepsModelRules machine.now }
     requires ways { AreWaysIn machine.now ways.now }
     requires item { IsItemIn machine.now item }
     requires from { from ≤ length ways.now }
@@ -246,18 +307,19 @@ fn last_calling(machine: &Machine, ways: &[Way], item: Item, from: usize) -> usi
 }
 
 /// Ways among which are all that call an item: most often one.
-pub fn ways_of<'a>(machine: &Machine, ways: &'a [Way], item: Item) -> &'a [Way]
-    requires single { HasSingleLegs machine.now }
+#[inline(always)]
+pub fn ways_of<'a>(machine: &Machine, ways: &'a [Way], item: &Item) -> &'a [Way]
+    requires rules { KeepsModelRules machine.now }
     requires ways { AreWaysIn machine.now ways.now }
-    requires item { IsItemIn machine.now item }
-    ensures all { (way : TakenWay) → Contains ways.now way → calls_by machine.now way item → Contains result.now way }
+    requires item { IsItemIn machine.now item.now }
+    ensures all { (way : TakenWay) → Contains ways.now way → calls_by machine.now way item.now → Contains result.now way }
     ensures some { (way : TakenWay) → Contains result.now way → Contains ways.now way }
 {
     if ways.len() < 2 {
         return ways;
     }
-    let first = first_calling(machine, ways, item);
-    let last = last_calling(machine, ways, item, first);
+    let first = first_calling(machine, ways, *item);
+    let last = last_calling(machine, ways, *item, first);
     if first < last {
         &ways[first..last]
     } else {

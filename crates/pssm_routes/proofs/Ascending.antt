@@ -1,14 +1,16 @@
 -- The transitions of a path in ascending number, each once, without its start.
-use Rattle.std.proofs.Common.{◌≡◌, ◌≢◌, ◌⊎◌, ◌↔◌, ◌<◌, suc, List, [], ◌∷◌, get_or, cond, ltb, eqb, All, Contains, refl, ap, subst, inl, inr, ⊎_elim, arith}
+use Rattle.std.proofs.Common.{◌≡◌, ◌≢◌, ◌⊎◌, ◌↔◌, ◌<◌, suc, List, [], ◌∷◌, get_or, cond, ltb, eqb, All, Contains, ap, subst, inl, inr, ⊎_elim, arith}
 use Rattle.std.proofs.lemmas.Bool.{cond_both, ltb-true, ltb-false, eqb-true, eqb-false}
 use Rattle.std.proofs.lemmas.List.Elements.{All-cons, All-contains, Contains-get_or}
 use Rattle.std.proofs.lemmas.List.Kept.{AllPairs-cons}
 use Rattle.pssm_model.specs.declared.ids.TransId.{TransId}
+use Rattle.pssm_model.specs.declared.elements.DraftMachine.{DraftMachine}
 use Rattle.pssm_model.specs.declared.steps.Route.{Route}
 use Rattle.pssm_model.specs.Routes.{IsAscending}
 use Rattle.pssm_model.proofs.ElementLaws.{same_transition, nothing_in_nil}
 use Rattle.pssm_model.proofs.RouteLaws.{none_in_order}
-use Rattle.pssm_routes.specs.inner.Steps.{IsRouteOver}
+use Rattle.pssm_routes.specs.inner.Starts.{AreStartsWith}
+use Rattle.pssm_routes.specs.inner.Behind.{IsRouteOver}
 use Rattle.pssm_routes.proofs.Members.{in_front, in_rest, front_or_rest}
 
 -- what holds of all that a list contains holds of all its places
@@ -140,8 +142,9 @@ others_are start (t ∷ path) u =
     (λ same. eqb-false t.0 start.0 e (ap (λ (x : TransId). x.0) same)) (others_are start path) (inserted t (others start path))) u
 
 -- each path has its route
-pub some_route_over : (start : TransId) (path : List TransId) → (q : Route) × IsRouteOver start path q
-some_route_over start path = (
-  record { starts = start ∷ []; rest = others start path },
-  record { starts = refl; rest = others_are start path; ascending = others_ascend start path },
+pub some_route_over : (m : DraftMachine) (start : TransId) (starts : List TransId) → AreStartsWith m start starts → (path : List TransId)
+    → (q : Route) × IsRouteOver m start path q
+some_route_over m start starts are path = (
+  record { starts = starts; rest = others start path },
+  record { starts = are; rest = others_are start path; ascending = others_ascend start path },
 )

@@ -1,29 +1,35 @@
--- The one leg of a route, where it exits, and when two routes conflict.
-use Rattle.std.proofs.Common.{◌≡◌, ◌≢◌, ◌↔◌, [], ◌∷◌, refl, sym, ap, subst, ◌∙◌, inl, inr, ⊎_elim, Contains}
+-- From where a route starts and where it exits, and when two routes conflict.
+use Rattle.std.proofs.Common.{◌≡◌, ◌≢◌, ◌⊎◌, ◌↔◌, refl, sym, ap, subst, ◌∙◌, inl, inr, ⊎_elim, Contains}
 use Rattle.pssm_model.specs.declared.ids.VertexId.{VertexId}
 use Rattle.pssm_model.specs.declared.ids.RegionId.{RegionId}
 use Rattle.pssm_model.specs.declared.ids.TransId.{TransId}
 use Rattle.pssm_model.specs.declared.elements.DraftMachine.{DraftMachine}
-use Rattle.pssm_model.specs.declared.elements.TransKind.{TransKind}
 use Rattle.pssm_model.specs.declared.elements.TransKind.TheVariants.{External, Local, Internal}
+use Rattle.pssm_model.specs.declared.elements.Owner.TheVariants.{State}
 use Rattle.pssm_model.specs.declared.steps.Route.{Route}
 use Rattle.pssm_model.specs.Shapes.{HasShape}
 use Rattle.pssm_model.specs.Forest.{LiesInRegion, IsOrLiesIn, IsWithin, IsScope}
-use Rattle.pssm_model.specs.declared.elements.Owner.TheVariants.{State}
-use Rattle.pssm_model.specs.Legs.{Leaves, Goes, Enters, On, IsOfLeg, Scope, LegScope, LiesInScope, Exits}
+use Rattle.pssm_model.specs.Forest.LiesUnder.{further}
+use Rattle.pssm_model.specs.Legs.{Goes, Enters, On, Scope}
 use Rattle.pssm_model.specs.Legs.Scope.{Nowhere as nowhere, Inside as inside, Within as within}
-use Rattle.pssm_model.specs.Routes.{IsRoute, IsSource, IsStateRoute, HasStarts, Conflict}
+use Rattle.pssm_model.specs.Routes.{IsSource, IsStateRoute, Conflict}
+use Rattle.pssm_model.specs.RouteWords.{IsStepRoute, IsEndOf, IsAreaOf}
+use Rattle.pssm_model.specs.WellFormed.{KeepsModelRules}
 use Rattle.pssm_model.proofs.ElementLaws.{leaves_one}
-use Rattle.pssm_model.proofs.RouteLaws.{in_one, is_one}
+use Rattle.pssm_model.proofs.OwnerChains.{under_further}
+use Rattle.pssm_model.proofs.RegionChains.{on_one_chain}
+use Rattle.pssm_model.proofs.RouteOrder.{start_or_rest, before_rest}
+use Rattle.pssm_model.proofs.RouteKinds.{some_start, kinds_agree}
+use Rattle.pssm_model.proofs.RouteAreas.{has_area}
+use Rattle.pssm_model.proofs.OneLegScope.{one_area}
+use Rattle.pssm_model.proofs.SomeAnchor.{some_anchor}
+use Rattle.pssm_model.proofs.Anchors.{sources_within, anchor_around, conflict_is}
 use Rattle.pssm_legs.specs.declared.areas.Area.{Area}
 use Rattle.pssm_legs.specs.declared.areas.Area.TheVariants.{Nowhere, Inside, Within}
-use Rattle.pssm_routes.specs.declared.areas.Footprint.{Footprint}
-use Rattle.pssm_model.specs.SingleLegs.{HasSingleLegs}
 use Rattle.pssm_legs.specs.Areas.{scope_of}
+use Rattle.pssm_routes.specs.declared.areas.Footprint.{Footprint}
 use Rattle.pssm_routes.specs.inner.Footprints.{IsFootprintOf, Clash}
-use Rattle.pssm_model.proofs.RegionChains.{on_one_chain}
-use Rattle.pssm_model.proofs.OneLeg.{source_of, source_of_leg, target_of_leg, of_leg_cases, on_start}
-use Rattle.pssm_model.proofs.LegScopes.{IsAround, IsScopeBy, start_kind, scope_by, some_scope, one_leg_scope, exits_is, exits_of, shared_touch}
+use Rattle.pssm_routes.proofs.AnchorLaws.{anchor_is, anchor_by}
 
 -- the area of a scope
 abbrev area_of : Scope → Area
@@ -47,157 +53,97 @@ scope_named (within r) = refl
 same_footprint : (a c : Footprint) → a.source ≡ c.source → a.area ≡ c.area → a ≡ c
 same_footprint a c e f = λ i. record { source = e i; area = f i }
 
-module _ {m : DraftMachine} (b : HasSingleLegs m) (shape : HasShape m) where
-  -- a route starts with one transition
-  one_start : (p : Route) → IsRoute m p → (t : TransId) × (p.starts ≡ t ∷ [])
-  one_start p route = by route.starts
-    where
-      by : HasStarts m p → (t : TransId) × (p.starts ≡ t ∷ [])
-      by (inl one) = (one.0, one.1)
-      by (inr join) = absurd (b.uncut join.0 (inr (inl join.1)))
+-- what is or lies in a State lies where that lies
+lies_with : (m : DraftMachine) (x s : VertexId) (r : RegionId) → IsOrLiesIn m x s → LiesInRegion m s r → LiesInRegion m x r
+lies_with m x s r h lies =
+    ⊎_elim
+    (λ same. subst (λ y. LiesInRegion m y r) (sym same) lies)
+    (λ deep. under_further {m = m} deep.2 (further deep.1 lies))
+    h
 
+-- what an external route has as its area: a region in which its anchor and all its targets lie, and the innermost such
+pub record IsSpan (m : DraftMachine) (p : Route) (s : VertexId) (r : RegionId) : Type 0 where
+  pub lies : LiesInRegion m s r
+  pub targets : (u : TransId) (v : VertexId) → On p u → Enters m u v → LiesInRegion m v r
+  pub innermost : (q : RegionId) → LiesInRegion m s q → ((u : TransId) (v : VertexId) → On p u → Enters m u v → LiesInRegion m v q) → IsWithin m r q
+
+module _ {m : DraftMachine} (shape : HasShape m) (rules : KeepsModelRules m) where
   -- each route of States has one footprint
   pub some_footprint : (p : Route) → IsStateRoute m p → (g : Footprint) × IsFootprintOf m p g
   some_footprint p route =
-      let first = one_start p route.0 in
-      let source = source_of b shape p route.0 first.0 first.1 first.0 (on_start b shape p route.0 first.0 first.1) in
-      let state = route.1 source.0 (first.0, subst (λ ts. Contains ts first.0) (sym first.1) (in_one first.0), source.1) in
-      let leg = some_scope b shape p route.0 first.0 first.1 source.0 source.1 in (
-        record { source = source.0; area = area_of leg.0 },
-        record {
-          start = first.0;
-          from = record { starts = first.1; leaves = source.1; state = state };
-          area = subst (LegScope m p first.0) (sym (scope_named leg.0)) leg.1;
-        },
+      let anchor = some_anchor shape rules p route in
+      let area = has_area shape rules p (inl route) in (
+        record { source = anchor.0; area = area_of area.0 },
+        record { anchor = anchor.1; area = subst (IsAreaOf m p) (sym (scope_named area.0)) area.1 },
       )
-
-  module _ (p : Route) (route : IsStateRoute m p) (g : Footprint) (footprint : IsFootprintOf m p g) where
-    starts_with : (t : TransId) → p.starts ≡ t ∷ [] → footprint.start ≡ t
-    starts_with t starts = let first = footprint.from.starts in cc
-
-    -- what the kind of its start says of its area
-    abbrev IsAreaBy : TransKind → Type 0
-    IsAreaBy kind = IsScopeBy b shape p route.0 footprint.start footprint.from.starts g.source footprint.from.leaves kind (scope_of g.area)
-
-    area_is : (kind : TransKind) → Goes m footprint.start kind → IsAreaBy kind
-    area_is kind goes =
-        scope_by b shape p route.0 footprint.start footprint.from.starts g.source footprint.from.leaves kind (scope_of g.area) goes footprint.area
-
-    source_is : (x : VertexId) → IsSource m p x → x ≡ g.source
-    source_is x h =
-        let same = is_one footprint.start h.0 (subst (λ ts. Contains ts h.0) footprint.from.starts h.1) in
-        leaves_one m footprint.start x g.source (subst (λ u. Leaves m u x) same h.2) footprint.from.leaves
-
-    is_source : IsSource m p g.source
-    is_source = (footprint.start, subst (λ ts. Contains ts footprint.start) (sym footprint.from.starts) (in_one footprint.start), footprint.from.leaves)
-
-    around : IsAround m g.source (scope_of g.area)
-    around = by kind.0 (area_is kind.0 kind.1)
-      where
-        kind : (kind : TransKind) × Goes m footprint.start kind
-        kind = start_kind b shape p route.0 footprint.start footprint.from.starts g.source footprint.from.leaves
-
-        by : (kind : TransKind) → IsAreaBy kind → IsAround m g.source (scope_of g.area)
-        by Internal h = subst (IsAround m g.source) (sym h) tt
-        by Local h = subst (IsAround m g.source) (sym h) refl
-        by External h =
-            subst (IsAround m g.source) (sym h.1)
-            (h.2.common g.source (source_of_leg b shape p route.0 footprint.start footprint.from.starts g.source footprint.from.leaves))
-
-    exits_in : (Active : VertexId → Type 0) (x : VertexId) → Exits m Active p x → LiesInScope m x (scope_of g.area)
-    exits_in Active x h =
-        (exits_is b shape p route.0 footprint.start footprint.from.starts g.source footprint.from.leaves Active (scope_of g.area) x footprint.area h).1
-
-    exits_what : (Active : VertexId → Type 0) (x : VertexId) → Active x → LiesInScope m x (scope_of g.area) → Exits m Active p x
-    exits_what Active x is lies =
-        exits_of b shape p route.0 footprint.start footprint.from.starts g.source footprint.from.leaves Active (scope_of g.area) x footprint.area is lies
 
   pub one_footprint : (p : Route) (a c : Footprint) → IsStateRoute m p → IsFootprintOf m p a → IsFootprintOf m p c → a ≡ c
   one_footprint p a c route first second =
-      let start : second.start ≡ first.start = starts_with p route c second first.start first.from.starts in
-      let source : a.source ≡ c.source =
-      leaves_one m first.start a.source c.source first.from.leaves (subst (λ u. Leaves m u c.source) start second.from.leaves) in
-      let leg : LegScope m p first.start (scope_of c.area) = subst (λ u. LegScope m p u (scope_of c.area)) start second.area in
-      same_footprint a c source (same_area a.area c.area
-      (one_leg_scope b shape p route.0 first.start first.from.starts a.source first.from.leaves
-      (scope_of a.area) (scope_of c.area) first.area leg))
+      let start = some_start shape rules p (inl route) in
+      same_footprint a c
+      (anchor_is shape rules p route start.0 c.source a.source start.1 (anchor_by shape rules p route start.0 c.source start.1 second.anchor) first.anchor)
+      (same_area a.area c.area (one_area shape rules p (inl route) (scope_of a.area) (scope_of c.area) first.area second.area))
 
-  -- the kind of the start says which area the route has
-  pub area_of_internal : (p : Route) (g : Footprint) (t : TransId) → IsStateRoute m p → IsFootprintOf m p g → p.starts ≡ t ∷ [] → Goes m t Internal
-      → g.area ≡ Nowhere
-  area_of_internal p g t route footprint starts kind =
-      same_area g.area Nowhere (area_is p route g footprint Internal (subst (λ u. Goes m u Internal) (sym (starts_with p route g footprint t starts)) kind))
+  module _ (p : Route) (g : Footprint) (t : TransId) (route : IsStateRoute m p) (footprint : IsFootprintOf m p g) (start : Contains p.starts t) where
+    step : IsStepRoute m p
+    step = inl route
 
-  pub area_of_local : (p : Route) (g : Footprint) (t : TransId) → IsStateRoute m p → IsFootprintOf m p g → p.starts ≡ t ∷ [] → Goes m t Local
-      → g.area ≡ Inside g.source
-  area_of_local p g t route footprint starts kind =
-      same_area g.area (Inside g.source)
-      (area_is p route g footprint Local (subst (λ u. Goes m u Local) (sym (starts_with p route g footprint t starts)) kind))
+    -- the kind of a start says which area the route has
+    pub area_of_internal : Goes m t Internal → g.area ≡ Nowhere
+    area_of_internal goes = by g.area footprint.area
+      where
+        by : (a : Area) → IsAreaOf m p (scope_of a) → a ≡ Nowhere
+        by Nowhere h = refl
+        by (Inside s) h = let clash = kinds_agree shape rules p step t h.0.0 Internal Local start h.0.1 goes h.0.2 in absurd (cc)
+        by (Within r) h = let clash = kinds_agree shape rules p step t h.0.0 Internal External start h.0.1 goes h.0.2 in absurd (cc)
 
-  -- the innermost region of the leg is within each in which its source and all its targets lie
-  innermost_is : (p : Route) (g : Footprint) (route : IsStateRoute m p) (footprint : IsFootprintOf m p g) (r q : RegionId) → IsScope m (IsOfLeg m p footprint.start) r
-      → LiesInRegion m g.source q → ((u : TransId) (v : VertexId) → On p u → Enters m u v → LiesInRegion m v q) → IsWithin m r q
-  innermost_is p g route footprint r q scope lies targets =
-      let start = source_of_leg b shape p route.0 footprint.start footprint.from.starts g.source footprint.from.leaves in
-      ⊎_elim
-      (λ h. ⊎_elim
-      (λ same. inl (sym same))
-      (λ under. absurd (scope.innermost q (λ v of. ⊎_elim
-      (λ same. subst (λ x. LiesInRegion m x q) (sym same) lies)
-      (λ target. targets target.0 v target.1 target.2)
-      (of_leg_cases b shape p route.0 footprint.start footprint.from.starts g.source v footprint.from.leaves of)) under))
-      h)
-      (λ h. h)
-      (on_one_chain m (State g.source) q r lies (scope.common g.source start))
+    pub area_of_local : Goes m t Local → g.area ≡ Inside g.source
+    area_of_local goes = by g.area footprint.area
+      where
+        by : (a : Area) → IsAreaOf m p (scope_of a) → a ≡ Inside g.source
+        by Nowhere h = let clash = kinds_agree shape rules p step t h.0 Local Internal start h.1 goes h.2 in absurd (cc)
+        by (Inside s) h = ap Inside (anchor_around shape rules p route g.source (inside s) footprint.anchor h)
+        by (Within r) h = let clash = kinds_agree shape rules p step t h.0.0 Local External start h.0.1 goes h.0.2 in absurd (cc)
 
-  -- the area of an external route is a region in which its source and all its targets lie, and the innermost such
-  pub area_of_external : (p : Route) (g : Footprint) (t : TransId) → IsStateRoute m p → IsFootprintOf m p g → p.starts ≡ t ∷ [] → Goes m t External
-      → (r : RegionId) × (g.area ≡ Within r) × LiesInRegion m g.source r
-      × ((u : TransId) (v : VertexId) → On p u → Enters m u v → LiesInRegion m v r)
-      × ((q : RegionId) → LiesInRegion m g.source q → ((u : TransId) (v : VertexId) → On p u → Enters m u v → LiesInRegion m v q) → IsWithin m r q)
-  area_of_external p g t route footprint starts kind =
-      let area = area_is p route g footprint External (subst (λ u. Goes m u External) (sym (starts_with p route g footprint t starts)) kind) in (
-        area.0,
-        same_area g.area (Within area.0) area.1,
-        area.2.common g.source (source_of_leg b shape p route.0 footprint.start footprint.from.starts g.source footprint.from.leaves),
-        λ u v is enters. area.2.common v (target_of_leg b shape p route.0 footprint.start footprint.from.starts u v is enters),
-        λ q lies targets. innermost_is p g route footprint area.0 q area.2 lies targets,
-      )
-
-  module _ (Active : VertexId → Type 0) (p q : Route) (a c : Footprint) (first : IsStateRoute m p) (second : IsStateRoute m q)
-      (footprint : IsFootprintOf m p a) (other : IsFootprintOf m q c) where
-    clash_of : Conflict m Active p q → Clash m a c
-    clash_of h =
+    -- all vertices of the route lie in each region in which its anchor and all its targets lie
+    all_ends : (q : RegionId) → LiesInRegion m g.source q → ((u : TransId) (v : VertexId) → On p u → Enters m u v → LiesInRegion m v q)
+        → (v : VertexId) → IsEndOf m p v → LiesInRegion m v q
+    all_ends q lies targets v (u, is, at) =
         ⊎_elim
-        (λ both. shared_touch m both.0 a.source c.source (scope_of a.area) (scope_of c.area) (around p first a footprint) (around q second c other)
-        (exits_in p first a footprint Active both.0 both.1) (exits_in q second c other Active both.0 both.2))
-        (⊎_elim
-        (λ exits. inl (subst (λ x. LiesInScope m x (scope_of a.area)) (source_is q second c other exits.0 exits.2)
-        (exits_in p first a footprint Active exits.0 exits.1)))
-        (⊎_elim
-        (λ exits. inr (inl (subst (λ x. LiesInScope m x (scope_of c.area)) (source_is p first a footprint exits.0 exits.2)
-        (exits_in q second c other Active exits.0 exits.1))))
-        (λ chain. (let s = source_is p first a footprint chain.0 chain.2 in
-        let r = source_is q second c other chain.1 chain.3 in
-        ⊎_elim
-        (λ lies. inr (inr (inl (subst (λ x. IsOrLiesIn m x c.source) s (subst (IsOrLiesIn m chain.0) r lies)))))
-        (λ lies. inr (inr (inr (subst (λ x. IsOrLiesIn m x a.source) r (subst (IsOrLiesIn m chain.1) s lies)))))
-        chain.4))))
-        h.1
+        (λ leaves. ⊎_elim
+        (λ first. lies_with m v g.source q (sources_within shape rules p route g.source v footprint.anchor (u, first, leaves)) lies)
+        (λ further.
+        let before = before_rest shape rules p route.0 u further in
+        let there = leaves_one m u before.1.at v before.1.leaves leaves in
+        targets before.0 v before.1.first (subst (Enters m before.0) there before.1.enters))
+        (start_or_rest m p u is))
+        (λ enters. targets u v is enters)
+        at
 
-    conflict_of : Active a.source → Active c.source → p ≢ q → Clash m a c → Conflict m Active p q
-    conflict_of is also apart h = (
-      apart,
-      ⊎_elim
-          (λ lies. inr (inl (c.source, exits_what p first a footprint Active c.source also lies, is_source q second c other)))
-          (⊎_elim
-          (λ lies. inr (inr (inl (a.source, exits_what q second c other Active a.source is lies, is_source p first a footprint))))
-          (λ chain. inr (inr (inr (a.source, c.source, is_source p first a footprint, is_source q second c other, chain)))))
-          h,
-    )
+    span_of : (r : RegionId) → IsScope m (IsEndOf m p) r → LiesInRegion m g.source r → IsSpan m p g.source r
+    span_of r scope lies = record {
+      lies = lies;
+      targets = λ u v is enters. scope.common v (u, is, inr enters);
+      innermost = λ q also targets. ⊎_elim
+          (λ h. ⊎_elim
+          (λ same. inl (sym same))
+          (λ under. absurd (scope.innermost q (all_ends q also targets) under))
+          h)
+          (λ h. h)
+          (on_one_chain m (State g.source) q r also lies);
+    }
+
+    pub area_of_external : Goes m t External → (r : RegionId) × (g.area ≡ Within r) × IsSpan m p g.source r
+    area_of_external goes = by g.area footprint.area
+      where
+        by : (a : Area) → IsAreaOf m p (scope_of a) → (r : RegionId) × (a ≡ Within r) × IsSpan m p g.source r
+        by Nowhere h = let clash = kinds_agree shape rules p step t h.0 External Internal start h.1 goes h.2 in absurd (cc)
+        by (Inside s) h = let clash = kinds_agree shape rules p step t h.0.0 External Local start h.0.1 goes h.0.2 in absurd (cc)
+        by (Within r) h = (r, refl, span_of r h.1 (anchor_around shape rules p route g.source (within r) footprint.anchor h))
 
   -- two routes whose sources are active conflict exactly where their footprints clash
   pub conflict_clashes : (Active : VertexId → Type 0) (p q : Route) (a c : Footprint) → IsStateRoute m p → IsStateRoute m q → IsFootprintOf m p a
-      → IsFootprintOf m q c → Active a.source → Active c.source → p ≢ q → Conflict m Active p q ↔ Clash m a c
-  conflict_clashes Active p q a c first second footprint other is also apart =
-      (clash_of Active p q a c first second footprint other, conflict_of Active p q a c first second footprint other is also apart)
+      → IsFootprintOf m q c → ((x : VertexId) → IsSource m p x ⊎ IsSource m q x → Active x) → p ≢ q → Conflict m Active p q ↔ Clash m a c
+  conflict_clashes Active p q a c first second footprint other active apart =
+      conflict_is shape rules p q first second Active (scope_of a.area) (scope_of c.area) a.source c.source footprint.anchor other.anchor footprint.area
+      other.area active apart

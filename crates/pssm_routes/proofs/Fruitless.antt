@@ -16,9 +16,9 @@ use Rattle.pssm_model.specs.Legs.{Leaves}
 use Rattle.pssm_model.specs.Routes.{Truth}
 use Rattle.pssm_model.specs.FiringSets.{Overrides}
 use Rattle.pssm_model.proofs.ElementLaws.{mapped_some, nothing_in_nil, same_vertex}
-use Rattle.pssm_model.specs.SingleLegs.{HasSingleLegs}
+use Rattle.pssm_model.specs.WellFormed.{KeepsModelRules}
 use Rattle.pssm_routes.specs.declared.seeking.Search.{Search}
-use Rattle.pssm_routes.specs.inner.Starts.{IsStarted, Reacts}
+use Rattle.pssm_routes.specs.inner.Starts.{IsStartedWith, GoesOnBy, Reacts}
 use Rattle.pssm_routes.specs.inner.Ways.{LeadsOut}
 use Rattle.pssm_routes.specs.inner.Steps.{KnowsDeadEnds}
 use Rattle.pssm_routes.proofs.Choosing.{seen_cases}
@@ -53,33 +53,35 @@ pub all_more : {X : Type 0} (P : X → Type 0) (found more : List X) (x : X) →
 all_more P found more x e all here = subst (All P) (sym e) (All-push P found x all here)
 
 module _ (m : DraftMachine) (now : Configuration) (truth : Truth) (event : Event) where
-  -- The search has seen only dead ends, and no transition among these that the event starts at the State leads out.
-  pub record IsFruitless (s : VertexId) (ts : List TransId) (search : List Search) : Type 0 where
+  -- No way leads out where the event starts the transition.
+  abbrev pub LeadsNowhere : TransId → Type 0
+  LeadsNowhere t = (u : TransId) → IsStartedWith m now event t → GoesOnBy m t u → LeadsOut m truth None u → ⊥
+
+  -- The search has seen only dead ends, and no way leads out from those of these transitions that the event starts.
+  pub record IsFruitless (ts : List TransId) (search : List Search) : Type 0 where
     pub dead : KnowsDeadEnds m truth None search
-    pub none : (t : TransId) → Contains ts t → IsStarted m now event t s → LeadsOut m truth None t → ⊥
+    pub none : (t : TransId) → Contains ts t → LeadsNowhere t
 
-  pub fruitless_start : (s : VertexId) (search : List Search) → KnowsDeadEnds m truth None search → IsFruitless s [] search
-  fruitless_start s search dead = record { dead = dead; none = λ t has started leads. nothing_in_nil t has }
+  pub fruitless_start : (search : List Search) → KnowsDeadEnds m truth None search → IsFruitless [] search
+  fruitless_start search dead = record { dead = dead; none = λ t has. absurd (nothing_in_nil t has) }
 
-  pub fruitless_more : (s : VertexId) (ts : List TransId) (n : ℕ) (d : TransId) (old new : List Search) → n < length ts
-      → IsFruitless s (take n ts) old → KnowsDeadEnds m truth None new
-      → (IsStarted m now event (get_or ts n d) s → LeadsOut m truth None (get_or ts n d) → ⊥)
-      → IsFruitless s (take (n + 1) ts) new
-  fruitless_more s ts n d old new lt h dead not = record {
+  pub fruitless_more : (ts : List TransId) (n : ℕ) (d : TransId) (old new : List Search) → n < length ts → IsFruitless (take n ts) old
+      → KnowsDeadEnds m truth None new → LeadsNowhere (get_or ts n d) → IsFruitless (take (n + 1) ts) new
+  fruitless_more ts n d old new lt h dead not = record {
     dead = dead;
-    none = λ t has started leads. ⊎_elim
-        (λ was. h.none t was started leads)
-        (λ same. subst (λ u. IsStarted m now event u s → LeadsOut m truth None u → ⊥) same not started leads)
+    none = λ t has. ⊎_elim
+        (λ was. h.none t was)
+        (λ same. subst LeadsNowhere same not)
         (seen_cases ts n d lt t has);
   }
 
   -- none of its transitions leads out: the vertex does not react
-  pub fruitless_end : HasSingleLegs m → HasShape m → (s : VertexId) (ts : List TransId) (n : ℕ) (search : List Search)
-      → ((t : TransId) → Contains ts t ↔ Leaves m t s) → length ts ≤ n → IsFruitless s (take n ts) search → Reacts m now truth event s → ⊥
-  fruitless_end b shape s ts n search lists le h reacts =
-      let leads = reacts_leads b now truth event shape s reacts in
-      h.none leads.0 (subst (λ us. Contains us leads.0) (sym (take_all n ts le)) ((lists leads.0).1 leads.1.started.leaves))
-      leads.1.started leads.1.leads
+  pub fruitless_end : KeepsModelRules m → HasShape m → (s : VertexId) (ts : List TransId) (n : ℕ) (search : List Search)
+      → ((t : TransId) → Contains ts t ↔ Leaves m t s) → length ts ≤ n → IsFruitless (take n ts) search → Reacts m now truth event s → ⊥
+  fruitless_end rules shape s ts n search lists le h reacts =
+      let leads = reacts_leads rules shape now truth event s reacts in
+      h.none leads.0 (subst (λ us. Contains us leads.0) (sym (take_all n ts le)) ((lists leads.0).1 leads.1.leaves))
+      leads.1.onward leads.1.started leads.1.on leads.1.leads
 
   -- what reacts is a vertex of the machine
   pub reacts_there : HasShape m → (s : VertexId) → Reacts m now truth event s → s.0 < length m.vertices

@@ -9,18 +9,16 @@ use Rattle.pssm_model.specs.declared.steps.Event.{Event}
 use Rattle.pssm_model.specs.Shapes.{HasShape}
 use Rattle.pssm_model.specs.Configuration.{Configuration}
 use Rattle.pssm_model.specs.Routes.{Truth, IsEnabled, IsSource, Conflict}
-use Rattle.pssm_model.proofs.RouteLaws.{in_one}
 use Rattle.pssm_model.proofs.ElementLaws.{nothing_in_nil}
 use Rattle.pssm_routes.specs.declared.areas.Footprint.{Footprint}
-use Rattle.pssm_model.specs.SingleLegs.{HasSingleLegs}
+use Rattle.pssm_model.specs.WellFormed.{KeepsModelRules}
 use Rattle.pssm_routes.specs.inner.Footprints.{IsFootprintOf, AreFootprints, Clash, ClashesWithSome}
-use Rattle.pssm_routes.specs.inner.Starts.{IsStarted, IsOutranked, IsCandidate}
+use Rattle.pssm_routes.specs.inner.Starts.{IsOutranked, IsCandidate}
 use Rattle.pssm_routes.specs.inner.Sets.{CanJoin, IsSettled, HasJoiner}
 use Rattle.pssm_routes.proofs.Members.{in_front, in_rest, front_or_rest}
-use Rattle.pssm_model.proofs.StateRoutes.{state_route_from}
-use Rattle.pssm_routes.proofs.Enabled.{enabled_start}
+use Rattle.pssm_routes.proofs.Enabled.{enabled_active}
 use Rattle.pssm_routes.proofs.Conflicts.{some_footprint, one_footprint, conflict_clashes}
-use Rattle.pssm_routes.proofs.Settling.{one_source, conflict_turns}
+use Rattle.pssm_routes.proofs.Settling.{conflict_turns}
 
 module _ (m : DraftMachine) where
   -- clashes are of both
@@ -36,14 +34,6 @@ module _ (m : DraftMachine) where
 
   pub clash_itself : (a : Footprint) → Clash m a a
   clash_itself a = inr (inr (inl (inl refl)))
-
-  -- the source of a footprint is that of its route
-  pub footprint_source : (p : Route) (g : Footprint) → IsFootprintOf m p g → IsSource m p g.source
-  footprint_source p g h = (h.start, subst (λ ts. Contains ts h.start) (sym h.from.starts) (in_one h.start), h.from.leaves)
-
-  pub started_source : (p : Route) (t : TransId) (s : VertexId) (now : Configuration) (event : Event) → p.starts ≡ t ∷ [] → IsStarted m now event t s
-      → IsSource m p s
-  started_source p t s now event starts h = (t, subst (λ ts. Contains ts t) (sym starts) (in_one t), h.leaves)
 
   -- each route has its footprint among them, and each footprint is that of a route
   pub footprint_in : (ps : List Route) (gs : List Footprint) (p : Route) → AreFootprints m ps gs → Contains ps p
@@ -76,57 +66,51 @@ module _ (m : DraftMachine) where
   footprints_more (q ∷ ps) [] p g footprints one = absurd footprints
   footprints_more (q ∷ ps) (a ∷ gs) p g footprints one = (footprints.0, footprints_more ps gs p g footprints.1 one)
 
-module _ {m : DraftMachine} (b : HasSingleLegs m) (shape : HasShape m) (now : Configuration) (truth : Truth) (event : Event) where
+module _ {m : DraftMachine} (rules : KeepsModelRules m) (shape : HasShape m) (now : Configuration) (truth : Truth) (event : Event) where
   pub enabled_conflict : (p q : Route) (a c : Footprint) → IsEnabled m now truth event p → IsEnabled m now truth event q → IsFootprintOf m p a
       → IsFootprintOf m q c → p ≢ q → Conflict m now.Active p q ↔ Clash m a c
   enabled_conflict p q a c first second footprint other apart =
-      conflict_clashes b shape now.Active p q a c first.route_of_states second.route_of_states footprint other
-      (enabled_start b now truth event p footprint.start a.source first footprint.from).active
-      (enabled_start b now truth event q other.start c.source second other.from).active
+      conflict_clashes shape rules now.Active p q a c first.route_of_states second.route_of_states footprint other
+      (λ x source. ⊎_elim (λ one. enabled_active now truth event p x first one) (λ two. enabled_active now truth event q x second two) source)
       apart
 
   module _ (routes : List Route) (footprints : List Footprint) (are : AreFootprints m routes footprints)
       (enabled : (p : Route) → Contains routes p → IsEnabled m now truth event p) where
-    -- an enabled route that starts at a State in which none reacts and clashes with none can join
-    pub joiner_can_join : (t : TransId) (s : VertexId) (q : Route) (c : Footprint) → (IsOutranked m now truth event s → ⊥) → IsStarted m now event t s
-        → IsEnabled m now truth event q → q.starts ≡ t ∷ [] → IsFootprintOf m q c → (ClashesWithSome m footprints c → ⊥)
-        → CanJoin m now truth event routes q
-    joiner_can_join t s q c first started able starts footprint free = record {
+    -- an enabled route in whose sources none reacts and that clashes with none can join
+    pub joiner_can_join : (q : Route) (c : Footprint) → ((s : VertexId) → IsSource m q s → IsOutranked m now truth event s → ⊥)
+        → IsEnabled m now truth event q → IsFootprintOf m q c → (ClashesWithSome m footprints c → ⊥) → CanJoin m now truth event routes q
+    joiner_can_join q c first able footprint free = record {
       enabled = able;
       other = λ there. (let found = footprint_in m routes footprints q are there in
-          let same = one_footprint b shape q found.0 c able.route_of_states found.2 footprint in
+          let same = one_footprint shape rules q found.0 c able.route_of_states found.2 footprint in
           free (c, subst (Contains footprints) same found.1, clash_itself m c));
       agrees = λ p there conflict. (let found = footprint_in m routes footprints p are there in
           free (found.0, found.1, (enabled_conflict p q found.0 c (enabled p there) able found.2 footprint conflict.0).0 conflict));
-      first = λ r source out. first (subst
-          (IsOutranked m now truth event)
-          (one_source b shape q r s able.route_of_states source (started_source m q t s now event starts started))
-          out);
+      first = first;
     }
 
-    -- what can join starts at a State in which none reacts and clashes with none
+    -- the sources of what can join react, and none in them does
+    pub joiner_sources : (q : Route) → CanJoin m now truth event routes q → (s : VertexId) → IsSource m q s → IsCandidate m now truth event s
+    joiner_sources q joins s source = ((q, joins.enabled, source), joins.first s source)
+
+    -- what can join clashes with none
     pub joins_by : (q : Route) → CanJoin m now truth event routes q
-        → (s : VertexId) × (t : TransId) × IsCandidate m now truth event s × IsStarted m now event t s × HasJoiner m now truth event footprints t
+        → (c : Footprint) × IsFootprintOf m q c × (ClashesWithSome m footprints c → ⊥)
     joins_by q joins =
-        let from = state_route_from b q joins.enabled.route_of_states in
-        let started = enabled_start b now truth event q from.0 from.1 joins.enabled from.2 in
-        let source = started_source m q from.0 from.1 now event from.2.starts started in
-        let footprint = some_footprint b shape q joins.enabled.route_of_states in (
-          from.1,
-          from.0,
-          ((q, joins.enabled, source), joins.first from.1 source),
-          started,
-          (
-            q,
-            footprint.0,
-            joins.enabled,
-            from.2.starts,
-            footprint.1,
-            λ clash. (let found = route_in m routes footprints clash.0 are clash.1 in
-                joins.agrees found.0 found.1 ((enabled_conflict found.0 q clash.0 footprint.0 (enabled found.0 found.1) joins.enabled found.2 footprint.1
-                (λ same. joins.other (subst (Contains routes) same found.1))).1 clash.2)),
-          ),
+        let footprint = some_footprint shape rules q joins.enabled.route_of_states in (
+          footprint.0,
+          footprint.1,
+          λ clash. (let found = route_in m routes footprints clash.0 are clash.1 in
+              joins.agrees found.0 found.1 ((enabled_conflict found.0 q clash.0 footprint.0 (enabled found.0 found.1) joins.enabled found.2 footprint.1
+              (λ same. joins.other (subst (Contains routes) same found.1))).1 clash.2)),
         )
+
+    -- it has a start, and with each of its starts it is one that can join from the States that react and in which none does
+    pub joins_with : (states : List VertexId) → ((s : VertexId) → Contains states s ↔ IsCandidate m now truth event s) → (q : Route)
+        → CanJoin m now truth event routes q → (t : TransId) → Contains q.starts t → HasJoiner m now truth event states footprints t
+    joins_with states some q joins t start =
+        let by = joins_by q joins in
+        (q, by.0, joins.enabled, start, λ s source. (some s).1 (joiner_sources q joins s source), by.1, by.2)
 
   -- nothing is settled, and stays so with what can join
   pub settled_none : IsSettled m now truth event []

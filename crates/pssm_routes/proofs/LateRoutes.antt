@@ -1,5 +1,5 @@
 -- When a route with one start is a late one.
-use Rattle.std.proofs.Common.{◌≡◌, ◌<◌, List, [], ◌∷◌, length, All, Contains, refl, sym, subst, ⊎_elim}
+use Rattle.std.proofs.Common.{◌≡◌, ◌<◌, ◌↔◌, List, length, Contains, sym, subst, ⊎_elim}
 use Rattle.std.proofs.lemmas.Option.{slice_get_within}
 use Rattle.pssm_model.specs.declared.ids.VertexId.{VertexId}
 use Rattle.pssm_model.specs.declared.ids.TransId.{TransId}
@@ -9,20 +9,21 @@ use Rattle.pssm_model.specs.declared.elements.Vertex.{Vertex}
 use Rattle.pssm_model.specs.declared.elements.VertexKind.{VertexKind}
 use Rattle.pssm_model.specs.declared.elements.VertexKind.TheVariants as kinds
 use Rattle.pssm_model.specs.Forest.{vertex_at, transition_at, HasKind}
-use Rattle.pssm_model.specs.Legs.{Leaves}
+use Rattle.pssm_model.specs.Legs.{Leaves, On}
 use Rattle.pssm_model.specs.Routes.{Truth, IsTrueAt, IsRoute}
 use Rattle.pssm_model.specs.FiringSets.{IsLateOrigin, IsLateRoute}
-use Rattle.pssm_model.specs.SingleLegs.{HasSingleLegs}
-use Rattle.pssm_model.proofs.ElementLaws.{mapped_some, leaves_one, kind_unique}
-use Rattle.pssm_routes.proofs.Made.{made, on_made, on_start, on_rest}
-use Rattle.pssm_routes.proofs.MadeEnabled.{rest_range}
+use Rattle.pssm_model.proofs.ElementLaws.{mapped_some, leaves_one}
+use Rattle.pssm_model.proofs.Through.{not_through}
+use Rattle.pssm_model.proofs.RouteLaws.{is_one, one_in_order, all_of_one}
+use Rattle.pssm_model.specs.RouteWords.{IsThrough}
+use Rattle.pssm_routes.specs.inner.Fitting.{route_with, AreInOrder, StartsOutside, StartsLate}
 
 -- a transition that leaves a vertex is there
 pub leaving_is_there : (m : DraftMachine) (t : TransId) (v : VertexId) → Leaves m t v → t.0 < length m.transitions
 leaving_is_there m t v leaves =
     let at = mapped_some (λ (x : Transition). x.source) (transition_at m t) v leaves in slice_get_within m.transitions t.0 at.0 at.1
 
--- a late origin is there, and is no junction
+-- a late origin is there
 pub late_is_there : (m : DraftMachine) (v : VertexId) → IsLateOrigin m v → v.0 < length m.vertices
 late_is_there m v late =
     ⊎_elim
@@ -37,46 +38,45 @@ late_is_there m v late =
     kind_is_there kind is =
         let at = mapped_some (λ (x : Vertex). x.kind) (vertex_at m v) kind is in slice_get_within m.vertices v.0 at.0 at.1
 
-pub late_apart : (m : DraftMachine) (origin : VertexId) (start : TransId) → IsLateOrigin m origin → Leaves m start origin
-    → (v : VertexId) → Leaves m start v → HasKind m v kinds.Junction → ⊥
-late_apart m origin start late leaves v left junction =
-    let kind = subst (λ w. HasKind m w kinds.Junction) (leaves_one m start v origin left leaves) junction in
+-- a late origin is none through which a route goes on
+pub late_not_through : (m : DraftMachine) (origin : VertexId) → IsLateOrigin m origin → IsThrough m origin → ⊥
+late_not_through m origin late through =
     ⊎_elim
-    (λ initial. let same = kind_unique m origin kinds.Initial kinds.Junction initial kind in cc)
+    (λ initial. not_through m origin kinds.Initial (λ none. none) initial through)
     (λ more. ⊎_elim
     (λ history. ⊎_elim
-    (λ shallow. let same = kind_unique m origin kinds.ShallowHistory kinds.Junction shallow kind in cc)
-    (λ deep. let same = kind_unique m origin kinds.DeepHistory kinds.Junction deep kind in cc)
+    (λ shallow. not_through m origin kinds.ShallowHistory (λ none. none) shallow through)
+    (λ deep. not_through m origin kinds.DeepHistory (λ none. none) deep through)
     history)
-    (λ choice. let same = kind_unique m origin kinds.Choice kinds.Junction choice kind in cc)
+    (λ choice. not_through m origin kinds.Choice (λ none. none) choice through)
     more)
     late
 
--- The start leaves the origin, and makes one route with the other transitions.
-abbrev pub IsAfter : DraftMachine → VertexId → TransId → List TransId → Type 0
-IsAfter m origin start rest = IsLateOrigin m origin × Leaves m start origin × IsRoute m (record { starts = start ∷ []; rest = rest })
+-- nor is what a transition out of it leaves
+pub late_not_outside : (m : DraftMachine) (origin : VertexId) → IsLateOrigin m origin → (start : TransId) → Leaves m start origin → (v : VertexId)
+    → Leaves m start v → IsThrough m v → ⊥
+late_not_outside m origin late start leaves v left through =
+    late_not_through m origin late (subst (IsThrough m) (leaves_one m start v origin left leaves) through)
 
--- All of them are true.
-abbrev pub AreTrue : DraftMachine → Truth → TransId → List TransId → Type 0
-AreTrue m truth start rest = IsTrueAt m truth start × ((t : TransId) → Contains rest t → IsTrueAt m truth t)
+module _ (m : DraftMachine) (origin : VertexId) (starts : List TransId) (h : StartsLate m origin starts) where
+  pub late_in_order : AreInOrder m starts
+  late_in_order =
+      subst (AreInOrder m) (sym h.1.1) (
+        one_in_order (λ (t u : TransId). t.0 < u.0) h.1.0,
+        all_of_one (λ (t : TransId). t.0 < length m.transitions) h.1.0 (leaving_is_there m h.1.0 origin h.1.2),
+      )
 
-pub after_is_there : (m : DraftMachine) (origin : VertexId) (start : TransId) (rest : List TransId) → IsAfter m origin start rest
-    → (start.0 < length m.transitions) × All (λ t. t.0 < length m.transitions) rest
-after_is_there m origin start rest h = (leaving_is_there m start origin h.1, (rest_range m start rest h.2).1)
+  pub late_outside : StartsOutside m starts
+  late_outside t v inside leaves through =
+      let is : t ≡ h.1.0 = is_one h.1.0 t (subst (λ ts. Contains ts t) h.1.1 inside) in
+      let at : v ≡ origin = leaves_one m h.1.0 v origin (subst (λ u. Leaves m u v) is leaves) h.1.2 in
+      late_not_through m origin h.0 (subst (IsThrough m) at through)
 
-module _ {m : DraftMachine} (b : HasSingleLegs m) (truth : Truth) (origin : VertexId) (start : TransId) (rest : List TransId) where
-  pub late_is_after : IsLateRoute m truth origin (made b start rest) → IsAfter m origin start rest
-  late_is_after h =
-      let same : start ≡ h.leaves.0 = let starts = h.leaves.1 in cc (starts) in
-      (h.origin_is, subst (λ t. Leaves m t origin) (sym same) h.leaves.2, h.route_is)
-
-  pub late_are_true : IsLateRoute m truth origin (made b start rest) → AreTrue m truth start rest
-  late_are_true h = (h.guards start (on_start b start rest), λ t inside. h.guards t (on_rest b start rest t inside))
-
-  pub after_is_late : IsAfter m origin start rest → AreTrue m truth start rest → IsLateRoute m truth origin (made b start rest)
-  after_is_late h guards = record {
-    origin_is = h.0;
-    route_is = h.2;
-    leaves = (start, refl, h.1);
-    guards = λ u on. ⊎_elim (λ same. subst (IsTrueAt m truth) (sym same) guards.0) (λ inside. guards.1 u inside) (on_made b start rest u on);
-  }
+-- a late route is one that starts late and is true
+module _ (m : DraftMachine) (truth : Truth) (origin : VertexId) (starts rest : List TransId) where
+  pub late_is : IsLateRoute m truth origin (route_with starts rest)
+      ↔ ((StartsLate m origin starts × IsRoute m (route_with starts rest)) × ((t : TransId) → On (route_with starts rest) t → IsTrueAt m truth t))
+  late_is = (
+    λ h. (((h.origin_is, h.leaves), h.route_is), h.guards),
+    λ h. record { origin_is = h.0.0.0; route_is = h.0.1; leaves = h.0.0.1; guards = h.1 },
+  )

@@ -8,7 +8,6 @@ use Rattle.pssm_model.specs.Configuration.{Configuration}
 use Rattle.pssm_model.specs.Forest.{LiesInState}
 use Rattle.pssm_model.specs.Shapes.{HasShape}
 use Rattle.pssm_model.specs.Routes.{Truth}
-use Rattle.pssm_model.specs.SingleLegs.{HasSingleLegs}
 use Rattle.pssm_model.proofs.ElementLaws.{nothing_in_nil}
 use Rattle.pssm_routes.specs.inner.Starts.{Reacts, IsCandidate}
 use Rattle.pssm_routes.proofs.Settling.{not_in_itself}
@@ -22,13 +21,13 @@ only_one (x ∷ []) q s lt first second =
     sym (is_x q first) ∙ is_x s second
 only_one (x ∷ y ∷ more) q s lt first second = absurd (omega (arith, lt))
 
-pub lone_candidates : {m : DraftMachine} → HasSingleLegs m → HasShape m → (now : Configuration) (truth : Truth) (event : Event) (found : List VertexId)
+pub lone_candidates : {m : DraftMachine} → HasShape m → (now : Configuration) (truth : Truth) (event : Event) (found : List VertexId)
     → length found < 2 → ((s : VertexId) → Contains found s ↔ Reacts m now truth event s)
     → (s : VertexId) → Contains found s ↔ IsCandidate m now truth event s
-lone_candidates {m} legs shape now truth event found lt are s = (
+lone_candidates {m} shape now truth event found lt are s = (
   λ has. (
     (are s).0 has,
-    λ (q, reacts, inside). not_in_itself legs shape s
+    λ (q, reacts, inside). not_in_itself shape s
         (subst (λ v. LiesInState m v s) (only_one found q s lt ((are q).1 reacts) has) inside),
   ),
   λ is. (are s).1 is.0,

@@ -10,7 +10,7 @@ use Rattle.pssm_model.specs.Configuration.{Configuration}
 use Rattle.pssm_model.specs.Shapes.{HasShape}
 use Rattle.pssm_model.specs.Routes.{Truth, IsEnabled}
 use Rattle.pssm_model.specs.FiringSets.{IsListed, IsFiring}
-use Rattle.pssm_model.specs.SingleLegs.{HasSingleLegs}
+use Rattle.pssm_model.specs.WellFormed.{KeepsModelRules}
 use Rattle.pssm_model.proofs.ElementLaws.{nothing_in_nil}
 use Rattle.pssm_routes.specs.declared.areas.Footprint.{Footprint}
 use Rattle.pssm_routes.specs.declared.seeking.Search.{Search}
@@ -76,9 +76,9 @@ module _ (m : DraftMachine) (now : Configuration) (truth : Truth) (event : Event
   )
 
   -- the one route fires where its footprint is complete
-  pub lone_fires : HasSingleLegs m → HasShape m → (p : Route) (g : Footprint) (s : VertexId) → IsFootprintOf m p g
+  pub lone_fires : KeepsModelRules m → HasShape m → (p : Route) (g : Footprint) (s : VertexId) → IsFootprintOf m p g
       → ReactsAlone m now truth event s → All (IsEnabled m now truth event) (p ∷ [])
-      → IsFiring m now truth event (p ∷ []) ↔ AreComplete m now truth event (s ∷ []) (g ∷ [])
+      → IsFiring m now truth event (p ∷ []) ↔ AreComplete m now truth event (s ∷ []) (p ∷ []) (g ∷ [])
   lone_fires b shape p g s is alone enabled =
       fires_complete b shape now truth event (p ∷ []) (g ∷ []) (s ∷ []) (is, tt)
-      (lone_candidates b shape now truth event (s ∷ []) (omega arith) alone) enabled (listed_one p)
+      (lone_candidates shape now truth event (s ∷ []) (omega arith) alone) enabled (listed_one p)

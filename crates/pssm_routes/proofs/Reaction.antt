@@ -1,5 +1,5 @@
 -- A State reacts exactly where a transition that the event starts there leads out.
-use Rattle.std.proofs.Common.{List, None, Contains, sym, subst}
+use Rattle.std.proofs.Common.{List, None}
 use Rattle.pssm_model.specs.declared.ids.VertexId.{VertexId}
 use Rattle.pssm_model.specs.declared.ids.TransId.{TransId}
 use Rattle.pssm_model.specs.declared.elements.DraftMachine.{DraftMachine}
@@ -8,51 +8,62 @@ use Rattle.pssm_model.specs.Configuration.{Configuration}
 use Rattle.pssm_model.specs.Shapes.{HasShape}
 use Rattle.pssm_model.specs.Legs.{Leaves}
 use Rattle.pssm_model.specs.Routes.{Truth}
-use Rattle.pssm_model.proofs.ElementLaws.{leaves_one}
-use Rattle.pssm_model.proofs.RouteLaws.{in_one, is_one}
-use Rattle.pssm_model.specs.SingleLegs.{HasSingleLegs}
+use Rattle.pssm_model.specs.WellFormed.{KeepsModelRules}
+use Rattle.pssm_model.proofs.RouteOrder.{of_start, target_of}
 use Rattle.pssm_routes.specs.declared.seeking.Step.{Step}
-use Rattle.pssm_routes.specs.inner.Starts.{IsStarted, HasRouteBy, Reacts}
+use Rattle.pssm_routes.specs.inner.Starts.{IsStartedWith, GoesOnBy, HasRouteBy, Reacts}
 use Rattle.pssm_routes.specs.inner.Ways.{LeadsOut, IsWayOut}
 use Rattle.pssm_routes.specs.inner.Steps.{IsFound}
-use Rattle.pssm_model.proofs.StateRoutes.{state_route_from}
-use Rattle.pssm_routes.proofs.Enabled.{enabled_start, enabled_of}
-use Rattle.pssm_routes.proofs.Leading.{route_leads}
-use Rattle.pssm_routes.proofs.Routed.{way_routed, way_true}
-use Rattle.pssm_routes.proofs.Ascending.{some_route_over}
+use Rattle.pssm_routes.proofs.Enabled.{started_state, enabled_started, enabled_with}
+use Rattle.pssm_routes.proofs.JoiningSteps.{state_outside}
+use Rattle.pssm_routes.proofs.LeadingOn.{route_leads}
+use Rattle.pssm_routes.proofs.Routed.{over_routed, over_true}
+use Rattle.pssm_routes.proofs.RoutesOver.{some_route_behind}
+use Rattle.pssm_routes.proofs.StartLaws.{is_among_starts, some_onward, onward_on}
+use Rattle.pssm_routes.proofs.WayEnds.{out_leads_further}
 
--- The event starts the transition at the State, and it leads out.
+-- The event starts the transition out of the State, alone or with others, and that by which a route with it goes on leads out.
 pub record IsReaction (m : DraftMachine) (now : Configuration) (truth : Truth) (event : Event) (s : VertexId) (t : TransId) : Type 0 where
-  pub started : IsStarted m now event t s
-  pub leads : LeadsOut m truth None t
+  pub leaves : Leaves m t s
+  pub started : IsStartedWith m now event t
+  pub onward : TransId
+  pub on : GoesOnBy m t onward
+  pub leads : LeadsOut m truth None onward
 
-module _ {m : DraftMachine} (b : HasSingleLegs m) (now : Configuration) (truth : Truth) (event : Event) where
+module _ {m : DraftMachine} (rules : KeepsModelRules m) (shape : HasShape m) (now : Configuration) (truth : Truth) (event : Event) where
   -- each route that starts at the State starts with such a transition
-  pub reacts_leads : HasShape m → (s : VertexId) → Reacts m now truth event s → (t : TransId) × IsReaction m now truth event s t
-  reacts_leads shape s h =
-      let p = h.0 in
-      let from = state_route_from b p h.1.route_of_states in
-      let same_start = is_one from.0 h.2.0 (subst (λ ts. Contains ts h.2.0) from.2.starts h.2.1) in
-      let same = leaves_one m from.0 from.1 s from.2.leaves (subst (λ t. Leaves m t s) same_start h.2.2) in (
-        from.0,
+  pub reacts_leads : (s : VertexId) → Reacts m now truth event s → (t : TransId) × IsReaction m now truth event s t
+  reacts_leads s (p, enabled, (t, start, leaves)) =
+      let route = enabled.route_of_states.0 in
+      let end = target_of shape rules p route t (of_start m p t start) in
+      let onward = some_onward rules t end.0 end.1 in (
+        t,
         record {
-          started = subst (IsStarted m now event from.0) same (enabled_start b now truth event p from.0 from.1 h.1 from.2);
-          leads = route_leads b shape truth None p from.0 h.1.route_of_states from.2.starts h.1.guards (λ u v on enters. tt);
+          leaves = leaves;
+          started = enabled_started now truth event p t enabled start;
+          onward = onward.0;
+          on = onward.1;
+          leads = route_leads shape rules truth p route enabled.guards None (λ u v is enters. tt) onward.0 (onward_on rules p t onward.0 route start onward.1);
         },
       )
 
   -- and each way out of such a transition is a route
-  pub way_reacts : (s : VertexId) (t last : TransId) (path : List TransId) → IsStarted m now event t s → IsWayOut m truth None t last path
-      → HasRouteBy m now truth event t
-  way_reacts s t last path started way =
-      let q = some_route_over t path in
-      let routed = way_routed b truth None t last path way s started.leaves started.state q.0 q.1 in
-      let true_at = way_true b truth None t last path way s started.leaves started.state q.0 q.1 in
-      (q.0, enabled_of b now truth event q.0 t s routed q.1.starts started true_at, q.1.starts)
+  pub way_reacts : (s : VertexId) (t u last : TransId) (path : List TransId) → Leaves m t s → IsStartedWith m now event t → GoesOnBy m t u
+      → IsWayOut m truth None u last path → HasRouteBy m now truth event t
+  way_reacts s t u last path leaves started on way =
+      let outside = state_outside m t s leaves (started_state now event t s started leaves) in
+      let made = some_route_behind rules shape truth t last path started.0 started.1 (out_leads_further rules truth None t u last path way on) in
+      let q = made.0 in
+      let over = made.1 in
+      let start = is_among_starts m t q.starts over.over.starts in
+      let route = over_routed shape rules truth None t u last path way.passed way.way on outside over.end over.enters over.behind over.goes_on q over.over in
+      let guards = over_true shape rules truth None t u last path way.passed way.way on outside over.end over.enters over.behind over.goes_on q over.over in
+      (q, enabled_with now truth event q t route start started guards, start)
 
   pub route_by_reacts : (s : VertexId) (t : TransId) → Leaves m t s → HasRouteBy m now truth event t → Reacts m now truth event s
-  route_by_reacts s t leaves h = (h.0, h.1, (t, subst (λ ts. Contains ts t) (sym h.2) (in_one t), leaves))
+  route_by_reacts s t leaves h = (h.0, h.1, (t, h.2, leaves))
 
-  pub found_reacts : (s : VertexId) (t : TransId) (steps : List Step) (last : Step) → IsStarted m now event t s → IsFound m truth None steps t last
-      → Reacts m now truth event s
-  found_reacts s t steps last started found = route_by_reacts s t started.leaves (way_reacts s t last.by found.0 started found.2)
+  pub found_reacts : (s : VertexId) (t u : TransId) (steps : List Step) (last : Step) → Leaves m t s → IsStartedWith m now event t → GoesOnBy m t u
+      → IsFound m truth None steps u last → Reacts m now truth event s
+  found_reacts s t u steps last leaves started on found =
+      route_by_reacts s t leaves (way_reacts s t u last.by found.0 leaves started on found.2)

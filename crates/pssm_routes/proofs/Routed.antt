@@ -1,221 +1,298 @@
--- A way out is a route: its transitions, in ascending number.
-use Rattle.std.proofs.Common.{◌≡◌, ◌⊎◌, ◌<◌, List, [], ◌∷◌, length, Option, Some, Contains, sym, subst, ◌∙◌, inl, inr, ⊎_elim, get_or}
-use Rattle.std.proofs.lemmas.List.Elements.{Contains-push, Contains-push_cases, Contains-append_left, Contains-append_right, Contains-append_cases, All-contains_itself}
+-- A way, and what a route goes on with behind its end, make a route: their transitions, in ascending number.
+use Rattle.std.proofs.Common.{◌≡◌, ◌≢◌, ◌⊎◌, ◌<◌, List, ◌++◌, length, Option, Contains, sym, subst, ◌∙◌, inl, inr, ⊎_elim, get_or}
+use Rattle.std.proofs.lemmas.List.Elements.{Contains-append_left, Contains-append_right, Contains-append_cases, All-contains_itself}
 use Rattle.std.proofs.lemmas.Option.{slice_get_within}
 use Rattle.pssm_model.specs.declared.ids.VertexId.{VertexId}
 use Rattle.pssm_model.specs.declared.ids.RegionId.{RegionId}
 use Rattle.pssm_model.specs.declared.ids.TransId.{TransId}
 use Rattle.pssm_model.specs.declared.elements.DraftMachine.{DraftMachine}
-use Rattle.pssm_model.specs.declared.elements.Transition.{Transition}
-use Rattle.pssm_model.specs.declared.elements.Guard.{Guard}
-use Rattle.pssm_model.specs.declared.elements.Guard.TheVariants.{Always, Otherwise, When}
-use Rattle.pssm_model.specs.declared.elements.VertexKind.{VertexKind}
 use Rattle.pssm_model.specs.declared.elements.VertexKind.TheVariants as kinds
 use Rattle.pssm_model.specs.declared.steps.Route.{Route}
-use Rattle.pssm_model.specs.Forest.{HasKind, transition_at}
-use Rattle.pssm_model.specs.Legs.{Leaves, Enters, On, transitions_of}
-use Rattle.pssm_model.specs.Routes.{Truth, IsReached, IsRoute, IsStateRoute, IsTrueAt, EndsAt, GoesOnAt, HasOne, guard_of, IsAscending}
-use Rattle.pssm_model.specs.Routes.IsReached.{start as reached_first, on as reached_after}
-use Rattle.pssm_model.proofs.ElementLaws.{mapped_some, mapped_at, leaves_one, kind_unique}
-use Rattle.pssm_model.proofs.RouteLaws.{in_one, is_one, one_in_order}
-use Rattle.pssm_model.specs.SingleLegs.{HasSingleLegs}
-use Rattle.pssm_routes.specs.inner.Ways.{IsAllowed, IsOpen, LeadsOut, IsWay, IsWayOut}
-use Rattle.pssm_routes.specs.inner.Ways.LeadsOut.{ends, on}
-use Rattle.pssm_routes.specs.inner.Ways.IsWay.{begins, goes_on}
-use Rattle.pssm_routes.specs.inner.Steps.{IsRouteOver}
-use Rattle.pssm_model.proofs.StateRoutes.{is_start, start_is, source_is_left}
+use Rattle.pssm_model.specs.Forest.{HasKind}
+use Rattle.pssm_model.specs.Shapes.{HasShape}
+use Rattle.pssm_model.specs.Legs.{Leaves, Enters, On, IsCut, transitions_of}
+use Rattle.pssm_model.specs.Paths.LeadsOn.{after}
+use Rattle.pssm_model.specs.Routes.{Truth, IsRoute, IsStateRoute, IsTrueAt, HasStarts, IsAscending}
+use Rattle.pssm_model.specs.RouteWords.{IsThrough}
+use Rattle.pssm_model.specs.WellFormed.{KeepsModelRules}
+use Rattle.pssm_model.proofs.ElementLaws.{leaves_one, enters_one}
+use Rattle.pssm_model.proofs.RouteLaws.{is_one, one_in_order}
+use Rattle.pssm_model.proofs.Known.{known_transition}
+use Rattle.pssm_model.proofs.Through.{kinds_clash, not_through, no_cycle, join_from_state, join_one_out, exit_one_out}
+use Rattle.pssm_model.proofs.LegShapes.{cut_no_junction}
+use Rattle.pssm_model.proofs.RouteOrder.{of_start, of_rest, start_or_rest}
+use Rattle.pssm_routes.specs.inner.Fitting.{PassesBy, FitsTogether, StartsOutside}
+use Rattle.pssm_routes.specs.inner.Starts.{AreStartsWith, GoesOnBy}
+use Rattle.pssm_routes.specs.inner.Passing.{IsPassedOver}
+use Rattle.pssm_routes.specs.inner.Ways.{IsWay}
+use Rattle.pssm_routes.specs.inner.Behind.{GoesOnFrom, IsRouteOver}
+use Rattle.pssm_routes.proofs.Fitting.{fits_is_route}
+use Rattle.pssm_routes.proofs.LeadingOn.{passed_through}
+use Rattle.pssm_routes.proofs.StartLaws.{is_among_starts}
+use Rattle.pssm_routes.proofs.Unguarded.{join_true}
+use Rattle.pssm_routes.proofs.WayPaths.{true_is_there, GoesOver, way_has_start, way_has_last, way_is_open, way_leaves, way_goes_on, way_entered, way_led, way_leaves_once}
 
--- a transition that is true is there
-true_has_guard : (m : DraftMachine) (truth : Truth) (t : TransId) → IsTrueAt m truth t → (g : Guard) × (guard_of m t ≡ Some g)
-true_has_guard m truth t h =
-    ⊎_elim (λ value. ⊎_elim (λ always. (Always, always)) (λ asked. (When asked.0, asked.1)) value) (λ other. (Otherwise, other.0)) h
+module _ {m : DraftMachine} (shape : HasShape m) (rules : KeepsModelRules m) (truth : Truth) (within : Option RegionId) (t first last : TransId)
+    (path : List TransId) (passed : List VertexId) (way : IsWay m truth within first last passed path) (onward : GoesOnBy m t first)
+    (outside : (v : VertexId) → Leaves m t v → IsThrough m v → ⊥) (end : VertexId) (ends : Enters m last end) (behind : List TransId)
+    (goes : GoesOnFrom m truth end behind) (q : Route) (over : IsRouteOver m t (path ++ behind) q) where
+  -- the start is one of the route's, and leaves no vertex through which routes go on; neither do the others
+  begins_with : Contains q.starts t
+  begins_with = is_among_starts m t q.starts over.starts
 
-true_is_there : (m : DraftMachine) (truth : Truth) (t : TransId) → IsTrueAt m truth t → (x : Transition) × (transition_at m t ≡ Some x)
-true_is_there m truth t h =
-    let guard = true_has_guard m truth t h in
-    let at = mapped_some (λ (x : Transition). x.guard) (transition_at m t) guard.0 guard.1 in
-    (at.0, at.1)
-
-module _ {m : DraftMachine} {truth : Truth} {within : Option RegionId} {start : TransId} where
-  -- where a way begins and ends, and that it is open
-  way_has_start : {t : TransId} {junctions : List VertexId} {path : List TransId} → IsWay m truth within start t junctions path → Contains path start
-  way_has_start (begins opened) = in_one start
-  way_has_start (goes_on {u = u} {path = path} before enters kind new leaves opened) = Contains-append_left path (u ∷ []) start (way_has_start before)
-
-  way_has_last : {t : TransId} {junctions : List VertexId} {path : List TransId} → IsWay m truth within start t junctions path → Contains path t
-  way_has_last (begins opened) = in_one start
-  way_has_last (goes_on {u = u} {path = path} before enters kind new leaves opened) = Contains-push path u
-
-  way_is_open : {t : TransId} {junctions : List VertexId} {path : List TransId} → IsWay m truth within start t junctions path
-      → (w : TransId) → Contains path w → IsOpen m truth within w
-  way_is_open (begins opened) w inside = subst (IsOpen m truth within) (sym (is_one start w inside)) opened
-  way_is_open (goes_on {u = u} {path = path} before enters kind new leaves opened) w inside =
-      ⊎_elim (way_is_open before w) (λ same. subst (IsOpen m truth within) same opened) (Contains-push_cases path u w inside)
-
-  -- a way leads where its end does
-  way_leads_by : {t : TransId} {junctions : List VertexId} {path : List TransId} → IsWay m truth within start t junctions path
-      → LeadsOut m truth within t → LeadsOut m truth within start
-  way_leads_by (begins opened) out = out
-  way_leads_by (goes_on {t = t} before enters kind new leaves opened) out =
-      way_leads_by before (on (way_is_open before t (way_has_last before)) enters kind leaves out)
-
-  -- each transition but the start leaves a junction that the way has passed
-  way_leaves : {t : TransId} {junctions : List VertexId} {path : List TransId} → IsWay m truth within start t junctions path
-      → (w : TransId) → Contains path w → (w ≡ start) ⊎ ((v : VertexId) × Contains junctions v × HasKind m v kinds.Junction × Leaves m w v)
-  way_leaves (begins opened) w inside = inl (is_one start w inside)
-  way_leaves (goes_on {u = u} {v = v} {junctions = junctions} {path = path} before enters kind new leaves opened) w inside =
+  pub starts_outside : StartsOutside m q.starts
+  starts_outside u v inside leaves through =
       ⊎_elim
-      (λ earlier. ⊎_elim
-      (λ is. inl is)
-      (λ left. inr (left.0, Contains-append_right (v ∷ []) junctions left.0 left.1, left.2, left.3))
-      (way_leaves before w earlier))
-      (λ same. inr (v, Contains-append_left (v ∷ []) junctions v (in_one v), kind, subst (λ x. Leaves m x v) same leaves))
-      (Contains-push_cases path u w inside)
+      (λ single. outside v (subst (λ x. Leaves m x v) (is_one t u (subst (λ ts. Contains ts u) single.0 inside)) leaves) through)
+      (λ join. not_through m v kinds.State (λ none. none) (join_from_state rules u join.0 v join.2 ((join.3 u).0 inside) leaves) through)
+      over.starts
 
-  -- a junction on which a transition of the way ends is gone on from, unless that is the last
-  way_goes_on : {t : TransId} {junctions : List VertexId} {path : List TransId} → IsWay m truth within start t junctions path
-      → (w : TransId) (v : VertexId) → Contains path w → Enters m w v → (w ≡ t) ⊎ ((u : TransId) × Contains path u × Leaves m u v)
-  way_goes_on (begins opened) w v inside enters = inl (is_one start w inside)
-  way_goes_on (goes_on {t = t} {u = u} {v = q} {path = path} before end kind new leaves opened) w v inside enters =
+  -- what leaves a vertex over which ways pass is not the way's first, nor what leaves a junction
+  first_outside : (v : VertexId) → Leaves m first v → IsPassedOver m v → ⊥
+  first_outside v leaves kind =
       ⊎_elim
-      (λ earlier. ⊎_elim
-      (λ is. (
-      let ends_there : Enters m t v = subst (λ x. Enters m x v) is enters in
-      let same : q ≡ v = cc in
-      inr (u, Contains-push path u, subst (Leaves m u) same leaves)
-      ))
-      (λ left. inr (left.0, Contains-append_left path (u ∷ []) left.0 left.1, left.2))
-      (way_goes_on before w v earlier enters))
-      (λ same. inl (sym same))
-      (Contains-push_cases path u w inside)
+      (λ single. outside v (subst (λ x. Leaves m x v) single.0 leaves) (passed_through m v kind))
+      (λ join.
+      let here : join.0 ≡ v = leaves_one m first join.0 v join.3 leaves in
+      ⊎_elim
+      (λ junction. kinds_clash m v kinds.Join kinds.Junction (λ e. cc) (subst (λ x. HasKind m x kinds.Join) here join.2) junction)
+      (λ exit. kinds_clash m v kinds.Join kinds.ExitPoint (λ e. cc) (subst (λ x. HasKind m x kinds.Join) here join.2) exit)
+      kind)
+      onward
 
-  -- where the start leaves no junction, no two of the transitions leave the same one
-  module _ (no : (v : VertexId) → Leaves m start v → HasKind m v kinds.Junction → ⊥) where
-    way_differs : {t : TransId} {junctions : List VertexId} {path : List TransId} → IsWay m truth within start t junctions path
-        → (w : TransId) (v : VertexId) → Contains path w → Leaves m w v → HasKind m v kinds.Junction → Contains junctions v
-    way_differs {junctions = junctions} way w v inside leaves kind =
-        ⊎_elim
-        (λ is. absurd (no v (subst (λ x. Leaves m x v) is leaves) kind))
-        (λ left. subst (Contains junctions) (leaves_one m w left.0 v left.3 leaves) left.1)
-        (way_leaves way w inside)
+  -- all transitions of the way and behind it are of the route
+  any_on : (u : TransId) → Contains (path ++ behind) u → On q u
+  any_on u inside =
+      ⊎_elim
+      (λ same. subst (On q) (sym same) (of_start m q t begins_with))
+      (λ apart. of_rest m q u ((over.rest u).1 (inside, apart)))
+      (known_transition u t)
 
-    way_leaves_once : {t : TransId} {junctions : List VertexId} {path : List TransId} → IsWay m truth within start t junctions path
-        → (w x : TransId) (v : VertexId) → Contains path w → Contains path x → Leaves m w v → Leaves m x v → HasKind m v kinds.Junction → w ≡ x
-    way_leaves_once (begins opened) w x v first second left right kind = is_one start w first ∙ sym (is_one start x second)
-    way_leaves_once (goes_on {u = u} {v = q} {junctions = junctions} {path = path} before enters at new leaves opened) w x v first second left right kind =
-        let clash = λ (y : TransId) (earlier : Contains path y) (out : Leaves m y v) (last : Leaves m u v).
-        new (subst (Contains junctions) (leaves_one m u v q last leaves) (way_differs before y v earlier out kind)) in
-        ⊎_elim
-        (λ a. ⊎_elim
-        (λ c. way_leaves_once before w x v a c left right kind)
-        (λ same. absurd (clash w a left (subst (λ y. Leaves m y v) (sym same) right)))
-        (Contains-push_cases path u x second))
-        (λ same. ⊎_elim
-        (λ c. absurd (clash x c right (subst (λ y. Leaves m y v) (sym same) left)))
-        (λ again. sym same ∙ again)
-        (Contains-push_cases path u x second))
-        (Contains-push_cases path u w first)
+  path_on : (u : TransId) → Contains path u → On q u
+  path_on u inside = any_on u (Contains-append_left path behind u inside)
 
-module _ {m : DraftMachine} (b : HasSingleLegs m) (truth : Truth) (within : Option RegionId) (start last : TransId) (path : List TransId)
-    (way : IsWayOut m truth within start last path) where
-  pub way_leads : LeadsOut m truth within start
-  way_leads =
-      let opened = way_is_open way.way last (way_has_last way.way) in
-      let at = true_is_there m truth last opened.guard in
-      let enters : Enters m last at.0.target = mapped_at (λ (x : Transition). x.target) (transition_at m last) at.0 at.1 in
-      way_leads_by way.way (ends opened enters (way.ends at.0.target enters))
+  behind_on : (u : TransId) → Contains behind u → On q u
+  behind_on u inside = any_on u (Contains-append_right path behind u inside)
 
-  -- where the start leaves no junction
-  module _ (no_junction : (v : VertexId) → Leaves m start v → HasKind m v kinds.Junction → ⊥) (q : Route) (over : IsRouteOver start path q) where
-    on_path : (u : TransId) → On q u → Contains path u
-    on_path u is_on =
-        ⊎_elim
-        (λ first. subst (Contains path) (sym (start_is q start over.starts u first)) (way_has_start way.way))
-        (λ later. ((over.rest u).0 later).0)
-        (Contains-append_cases q.starts q.rest u is_on)
+  -- and the route has no others but its starts
+  on_cases : (u : TransId) → On q u → Contains q.starts u ⊎ Contains path u ⊎ Contains behind u
+  on_cases u is =
+      ⊎_elim
+      (λ start. inl start)
+      (λ further. inr (Contains-append_cases path behind u ((over.rest u).0 further).0))
+      (start_or_rest m q u is)
 
-    in_rest : (u : TransId) (v : VertexId) → Contains path u → Leaves m u v → HasKind m v kinds.Junction → Contains q.rest u
-    in_rest u v inside left kind = (over.rest u).1 (inside, λ same. no_junction v (subst (λ x. Leaves m x v) same left) kind)
+  last_on : On q last
+  last_on = path_on last (way_has_last way)
 
-    rest_leaves : (u : TransId) (v : VertexId) → Contains q.rest u → Leaves m u v → HasKind m v kinds.Junction
-    rest_leaves u v inside left =
-        let there = (over.rest u).0 inside in
-        ⊎_elim
-        (λ is. absurd (there.1 is))
-        (λ at. subst (λ w. HasKind m w kinds.Junction) (leaves_one m u at.0 v at.3 left) at.2)
-        (way_leaves way.way u there.0)
+  -- what comes behind the end of the way is not what the way has passed
+  pub passed_apart : (v : VertexId) → Contains passed v → IsPassedOver m v → Contains goes.come v → ⊥
+  passed_apart v inside kind come =
+      let through = passed_through m v kind in
+      ⊎_elim
+      (λ same.
+      let here = subst (λ x. Enters m last x) same ends in
+      no_cycle rules v (way_led way v v inside here through))
+      (λ led. no_cycle rules v (after (way_led way v end inside ends led.0) led.1))
+      (goes.led v come through)
 
-    reached_on : {t : TransId} {junctions : List VertexId} {part : List TransId} → IsWay m truth within start t junctions part
-        → ((u : TransId) → Contains part u → Contains path u) → (u : TransId) → Contains part u → IsReached m q u
-    reached_on (begins opened) more u inside =
-        subst (IsReached m q) (sym (is_one start u inside)) (reached_first (is_start q start over.starts))
-    reached_on (goes_on {t = t} {u = x} {v = v} {path = part} before enters kind new left opened) more u inside =
-        let earlier = reached_on before (λ y there. more y (Contains-append_left part (x ∷ []) y there)) in
-        ⊎_elim
-        (earlier u)
-        (λ same. subst (IsReached m q) same
-        (reached_after (earlier t (way_has_last before)) enters left (in_rest x v (more x (Contains-push part x)) left kind)))
-        (Contains-push_cases part x u inside)
+  -- a transition behind the end begins where one of the route ends
+  pub behind_leaves : (u : TransId) (v : VertexId) → Contains behind u → Leaves m u v → Contains goes.come v × IsThrough m v
+  behind_leaves u v inside leaves =
+      let at = goes.leave u inside in
+      let here = leaves_one m u at.0 v at.2 leaves in
+      (subst (Contains goes.come) here at.1, subst (IsThrough m) here at.3)
 
-    one_from : (t : TransId) (v : VertexId) → On q t → Enters m t v → HasKind m v kinds.Junction → HasOne m (transitions_of q) v
-    one_from t v is_on enters kind =
-        ⊎_elim
-        (λ is. absurd (way.ends v (subst (λ x. Enters m x v) is enters) kind))
-        (λ next. (
-          next.0,
-          Contains-append_right q.starts q.rest next.0 (in_rest next.0 v next.1 next.2 kind),
-          next.2,
-          λ u also left. way_leaves_once no_junction way.way u next.0 v (on_path u also) next.1 left next.2 kind,
-        ))
-        (way_goes_on way.way t v (on_path t is_on) enters)
+  come_entered : (v : VertexId) → Contains goes.come v → (u : TransId) × On q u × Enters m u v
+  come_entered v come =
+      ⊎_elim
+      (λ same. (last, last_on, subst (Enters m last) (sym same) ends))
+      (λ by. (by.0, behind_on by.0 by.1, by.2))
+      (goes.entered v come)
 
-    ends_at : (v : VertexId) (kind : VertexKind) → HasKind m v kind → (kind ≡ kinds.Junction → ⊥) → EndsAt m q v
-    ends_at v kind is other t inside left = other (kind_unique m v kind kinds.Junction is (rest_leaves t v inside left))
+  -- Where a later transition begins.
+  abbrev BeginsThere : VertexId → Type 0
+  BeginsThere v = IsThrough m v × ((u : TransId) × On q u × Enters m u v)
 
-    goes_on_at : (t : TransId) (v : VertexId) (kind : VertexKind) → On q t → Enters m t v → HasKind m v kind → GoesOnAt m q v kind
-    goes_on_at t v kinds.Junction is_on enters is = one_from t v is_on enters is
-    goes_on_at t v kinds.Fork is_on enters is = absurd (b.uncut v (inl is))
-    goes_on_at t v kinds.Join is_on enters is = absurd (b.uncut v (inr (inl is)))
-    goes_on_at t v kinds.EntryPoint is_on enters is = absurd (b.uncut v (inr (inr (inl is))))
-    goes_on_at t v kinds.ExitPoint is_on enters is = absurd (b.uncut v (inr (inr (inr is))))
-    goes_on_at t v kinds.State is_on enters is = ends_at v kinds.State is (λ e. cc)
-    goes_on_at t v kinds.Initial is_on enters is = ends_at v kinds.Initial is (λ e. cc)
-    goes_on_at t v kinds.Final is_on enters is = ends_at v kinds.Final is (λ e. cc)
-    goes_on_at t v kinds.DeepHistory is_on enters is = ends_at v kinds.DeepHistory is (λ e. cc)
-    goes_on_at t v kinds.ShallowHistory is_on enters is = ends_at v kinds.ShallowHistory is (λ e. cc)
-    goes_on_at t v kinds.Choice is_on enters is = ends_at v kinds.Choice is (λ e. cc)
-    goes_on_at t v kinds.Terminate is_on enters is = ends_at v kinds.Terminate is (λ e. cc)
+  first_leaves : (v : VertexId) → Leaves m first v → first ≢ t → BeginsThere v
+  first_leaves v leaves apart =
+      ⊎_elim
+      (λ single. absurd (apart single.0))
+      (λ join.
+      let here : join.0 ≡ v = leaves_one m first join.0 v join.3 leaves in
+      subst BeginsThere here (inr (inr (inl join.2)), (t, of_start m q t begins_with, join.1)))
+      onward
 
-    pub over_true : (u : TransId) → On q u → IsTrueAt m truth u
-    over_true u is_on = (way_is_open way.way u (on_path u is_on)).guard
+  path_leaves : (u : TransId) (v : VertexId) → Contains path u → u ≢ t → Leaves m u v → BeginsThere v
+  path_leaves u v inside apart leaves =
+      ⊎_elim
+      (λ same. first_leaves v (subst (λ x. Leaves m x v) same leaves) (λ is. apart (same ∙ is)))
+      (λ left.
+      let by = way_entered way left.0 left.1 in
+      subst BeginsThere (leaves_one m u left.0 v left.3 leaves) (passed_through m left.0 left.2, (by.0, path_on by.0 by.1, by.2)))
+      (way_leaves way u inside)
 
-    there_on : (u : TransId) → On q u → u.0 < length m.transitions
-    there_on u is_on = let at = true_is_there m truth u (over_true u is_on) in slice_get_within m.transitions u.0 at.0 at.1
+  rest_leaves : (u : TransId) (v : VertexId) → Contains q.rest u → Leaves m u v → BeginsThere v
+  rest_leaves u v inside leaves =
+      let there = (over.rest u).0 inside in
+      ⊎_elim
+      (λ here. path_leaves u v here there.1 leaves)
+      (λ later. (let at = behind_leaves u v later leaves in (at.1, come_entered v at.0)))
+      (Contains-append_cases path behind u there.0)
 
-    pub over_routed : IsRoute m q
-    over_routed = record {
-      in_range = λ k d lt. there_on (get_or (transitions_of q) k d) (All-contains_itself (transitions_of q) k d lt);
-      starts = inl (start, over.starts, λ v enters join. b.uncut v (inr (inl join)));
-      ascending = (subst IsAscending (sym over.starts) (one_in_order (λ (t u : TransId). t.0 < u.0) start), over.ascending);
-      apart = λ t first later. ((over.rest t).0 later).1 (start_is q start over.starts t first);
-      reached = λ t is_on. reached_on way.way (λ u inside. inside) t (on_path t is_on);
-      goes_on = goes_on_at;
-    }
+  -- no transition of the way leaves a vertex behind its end
+  path_not_behind : (u : TransId) (v : VertexId) → Contains path u → Leaves m u v → HasKind m v kinds.Junction → Contains goes.come v → ⊥
+  path_not_behind u v inside leaves junction come =
+      ⊎_elim
+      (λ same. first_outside v (subst (λ x. Leaves m x v) same leaves) (inl junction))
+      (λ left.
+      let here = leaves_one m u left.0 v left.3 leaves in
+      passed_apart v (subst (Contains passed) here left.1) (inl junction) come)
+      (way_leaves way u inside)
 
-  module _ (s : VertexId) (leaves : Leaves m start s) (state : HasKind m s kinds.State) (q : Route) (over : IsRouteOver start path q) where
-    no_junction : (v : VertexId) → Leaves m start v → HasKind m v kinds.Junction → ⊥
-    no_junction v left kind =
-        let same = leaves_one m start s v leaves left in
-        let clash = kind_unique m v kinds.State kinds.Junction (subst (λ w. HasKind m w kinds.State) same state) kind in cc
+  -- the route goes on from each vertex behind the end
+  come_passes : (v : VertexId) → Contains goes.come v → PassesBy m (On q) v
+  come_passes v come =
+      let by = goes.passes v come in
+      record {
+        one = λ junction.
+            let one = by.one junction in (
+              one.0,
+              behind_on one.0 one.1,
+              one.2,
+              λ u is leaves. ⊎_elim
+                  (λ start. absurd (starts_outside u v start leaves (inl junction)))
+                  (⊎_elim
+                  (λ here. absurd (path_not_behind u v here leaves junction come))
+                  (λ later. one.3 u later leaves))
+                  (on_cases u is),
+            );
+        every = λ cut u leaves. behind_on u (by.every cut u leaves);
+      }
 
-    pub way_true : (u : TransId) → On q u → IsTrueAt m truth u
-    way_true u is_on = over_true no_junction q over u is_on
+  -- and from each that the way has passed
+  exit_of : (v : VertexId) → IsPassedOver m v → IsCut m v → HasKind m v kinds.ExitPoint
+  exit_of v kind cut = ⊎_elim (λ junction. absurd (cut_no_junction m v cut junction)) (λ exit. exit) kind
 
-    pub way_allowed : (u : TransId) (v : VertexId) → On q u → Enters m u v → IsAllowed m within v
-    way_allowed u v is_on enters = (way_is_open way.way u (on_path no_junction q over u is_on)).target v enters
+  over_passes : (v : VertexId) → GoesOver m passed path v → PassesBy m (On q) v
+  over_passes v h = record {
+    one = λ junction. (
+      h.next,
+      path_on h.next h.among,
+      h.leaves,
+      λ u is leaves. ⊎_elim
+          (λ start. absurd (starts_outside u v start leaves (inl junction)))
+          (⊎_elim
+          (λ here. way_leaves_once first_outside way u h.next v here h.among leaves h.leaves h.over)
+          (λ later. absurd (passed_apart v h.inside h.over (behind_leaves u v later leaves).0)))
+          (on_cases u is),
+    );
+    every = λ cut u leaves. subst (On q) (exit_one_out rules v h.next u (exit_of v h.over cut) h.leaves leaves) (path_on h.next h.among);
+  }
 
-    pub way_routed : IsStateRoute m q
-    way_routed = (
-      over_routed no_junction q over,
-      λ v source. subst (λ w. HasKind m w kinds.State) (leaves_one m start s v leaves (source_is_left q start over.starts m v source)) state,
-    )
+  path_passes : (u : TransId) (v : VertexId) → Contains path u → Enters m u v → PassesBy m (On q) v
+  path_passes u v inside enters =
+      ⊎_elim
+      (λ same.
+      let here : end ≡ v = enters_one m last end v ends (subst (λ x. Enters m x v) same enters) in
+      subst (PassesBy m (On q)) here (come_passes end goes.begins))
+      (λ left. over_passes v left)
+      (way_goes_on way u v inside enters)
+
+  -- from the join of its starts the route goes on by the first transition of the way
+  join_passes : (v : VertexId) → Enters m t v → HasKind m v kinds.Join → PassesBy m (On q) v
+  join_passes v enters join =
+      ⊎_elim
+      (λ single. absurd (single.1 v enters join))
+      (λ other.
+      let here : other.0 ≡ v = enters_one m t other.0 v other.1 enters in
+      let out : Leaves m first v = subst (Leaves m first) here other.3 in
+      record {
+        one = λ junction. absurd (kinds_clash m v kinds.Junction kinds.Join (λ e. cc) junction join);
+        every = λ cut u leaves. subst (On q) (join_one_out rules v first u join out leaves) (path_on first (way_has_start way));
+      })
+      onward
+
+  -- a route with one start goes on as its way does
+  pub alone_in_path : ((v : VertexId) → Enters m t v → HasKind m v kinds.Join → ⊥) → Contains path t
+  alone_in_path none =
+      ⊎_elim
+      (λ single. subst (Contains path) single.0 (way_has_start way))
+      (λ join. absurd (none join.0 join.1 join.2))
+      onward
+
+  start_passes : (u : TransId) (v : VertexId) → Contains q.starts u → Enters m u v → PassesBy m (On q) v
+  start_passes u v inside enters =
+      ⊎_elim
+      (λ single.
+      let same = is_one t u (subst (λ ts. Contains ts u) single.0 inside) in
+      path_passes t v (alone_in_path single.1) (subst (λ x. Enters m x v) same enters))
+      (λ join.
+      let here : join.0 ≡ v = enters_one m u join.0 v ((join.3 u).0 inside) enters in
+      join_passes v (subst (Enters m t) here join.1) (subst (λ x. HasKind m x kinds.Join) here join.2))
+      over.starts
+
+  over_fits : FitsTogether m q
+  over_fits = record {
+    leave = rest_leaves;
+    passes = λ u v is enters. ⊎_elim
+        (λ start. start_passes u v start enters)
+        (⊎_elim
+        (λ here. path_passes u v here enters)
+        (λ later. come_passes v (goes.ends u v later enters)))
+        (on_cases u is);
+  }
+
+  -- the guards are true
+  start_true : (u : TransId) → Contains q.starts u → IsTrueAt m truth u
+  start_true u inside =
+      ⊎_elim
+      (λ single.
+      let same = is_one t u (subst (λ ts. Contains ts u) single.0 inside) in
+      subst (IsTrueAt m truth) (sym same) (way_is_open way t (alone_in_path single.1)).guard)
+      (λ join. join_true rules truth u join.0 ((join.3 u).0 inside) join.2)
+      over.starts
+
+  pub over_true : (u : TransId) → On q u → IsTrueAt m truth u
+  over_true u is =
+      ⊎_elim (start_true u) (⊎_elim (λ here. (way_is_open way u here).guard) (λ later. goes.guards u later)) (on_cases u is)
+
+  there_on : (u : TransId) → On q u → u.0 < length m.transitions
+  there_on u is = let at = true_is_there m truth u (over_true u is) in slice_get_within m.transitions u.0 at.0 at.1
+
+  has_starts : HasStarts m q
+  has_starts =
+      ⊎_elim
+      (λ single. inl (t, single.0, single.1))
+      (λ join. inr (join.0, join.2, λ u inside. (join.3 u).0 inside, λ u into. (join.3 u).1 into))
+      over.starts
+
+  starts_ascend : IsAscending q.starts
+  starts_ascend =
+      ⊎_elim
+      (λ single. subst IsAscending (sym single.0) (one_in_order (λ (a b : TransId). a.0 < b.0) t))
+      (λ join. join.4)
+      over.starts
+
+  pub over_routed : IsRoute m q
+  over_routed =
+      fits_is_route shape rules q
+      (λ k d lt. there_on (get_or (transitions_of q) k d) (All-contains_itself (transitions_of q) k d lt))
+      over_fits has_starts starts_ascend over.ascending starts_outside
+
+  -- a transition of the route is of the way, or comes behind it, or is one of the starts
+  pub over_cases : (u : TransId) → On q u → Contains q.starts u ⊎ Contains path u ⊎ Contains behind u
+  over_cases = on_cases
+
+-- a route is one of States where its start leaves one
+pub states_over : {m : DraftMachine} → KeepsModelRules m → (t : TransId) (q : Route) (s : VertexId) → Leaves m t s → HasKind m s kinds.State → IsRoute m q
+    → AreStartsWith m t q.starts → IsStateRoute m q
+states_over {m} rules t q s leaves state route starts = (
+  route,
+  λ v source. ⊎_elim
+      (λ single.
+      let same = is_one t source.0 (subst (λ ts. Contains ts source.0) single.0 source.1) in
+      subst (λ x. HasKind m x kinds.State) (leaves_one m t s v leaves (subst (λ x. Leaves m x v) same source.2)) state)
+      (λ join. join_from_state rules source.0 join.0 v join.2 ((join.3 source.0).0 source.1) source.2)
+      starts,
+)

@@ -11,17 +11,17 @@ use Rattle.pssm_model.specs.Legs.{Leaves}
 use Rattle.pssm_model.specs.Paths.{HasOut}
 use Rattle.pssm_model.specs.Routes.{Truth, IsTrueAt}
 use Rattle.pssm_model.specs.FiringSets.{IsLateOrigin, IsLateRoute}
-use Rattle.pssm_model.specs.SingleLegs.{HasSingleLegs}
+use Rattle.pssm_model.specs.WellFormed.{KeepsModelRules}
 use Rattle.pssm_routes.specs.LateStarts.{AreTrueFrom, IsSettledStart}
 use Rattle.pssm_routes.proofs.SomeLate.{late_branch}
 
-module _ {m : DraftMachine} (b : HasSingleLegs m) (truth : Truth) (origin : VertexId) (late : IsLateOrigin m origin) (out : HasOut m origin)
+module _ {m : DraftMachine} (rules : KeepsModelRules m) (truth : Truth) (origin : VertexId) (late : IsLateOrigin m origin) (out : HasOut m origin)
     (starts : List TransId) (are : AreTrueFrom m truth origin starts) (word count place : ℕ) (counted : count ≡ length starts)
     (placed : 0 < count → place ≡ word % count) where
   -- there is one
   some_start : 0 < length starts
   some_start =
-      let (t, leaves, is) = late_branch b truth origin late out in
+      let (t, leaves, is) = late_branch rules truth origin late out in
       let inside = ((are.members t).1 (leaves, is)).1 in omega (arith, inside)
 
   remains : place ≡ word % length starts

@@ -1,26 +1,31 @@
 -- A set of routes fires exactly where its routes are settled and none can join.
-use Rattle.std.proofs.Common.{◌≡◌, ◌↔◌, List, ◌∷◌, Contains, sym, subst, inl, inr, ⊎_elim, ◌∙◌}
+use Rattle.std.proofs.Common.{◌≡◌, ◌≢◌, ◌↔◌, List, ◌∷◌, Contains, sym, subst, inl, inr, ⊎_elim, ◌∙◌}
 use Rattle.std.proofs.lemmas.List.Elements.{All-contains, All-cons}
 use Rattle.pssm_model.specs.declared.ids.VertexId.{VertexId}
+use Rattle.pssm_model.specs.declared.ids.TransId.{TransId}
 use Rattle.pssm_model.specs.declared.elements.DraftMachine.{DraftMachine}
+use Rattle.pssm_model.specs.declared.elements.Element.TheVariants as elements
+use Rattle.pssm_model.specs.declared.elements.FaultPlace.TheVariants as places
+use Rattle.pssm_model.specs.declared.elements.VertexKind.TheVariants as kinds
 use Rattle.pssm_model.specs.declared.elements.Owner.TheVariants.{State}
 use Rattle.pssm_model.specs.declared.steps.Route.{Route}
 use Rattle.pssm_model.specs.declared.steps.Event.{Event}
-use Rattle.pssm_model.specs.Forest.{LiesInState}
+use Rattle.pssm_model.specs.Forest.{HasKind, LiesInState}
 use Rattle.pssm_model.specs.Shapes.{HasShape}
-use Rattle.pssm_model.specs.Legs.{Leaves}
+use Rattle.pssm_model.specs.Legs.{Leaves, Enters}
 use Rattle.pssm_model.specs.Configuration.{Configuration}
 use Rattle.pssm_model.specs.Routes.{Truth, IsStateRoute, IsEnabled, IsSource, Conflict}
 use Rattle.pssm_model.specs.FiringSets.{IsSound, IsFiringSet}
 use Rattle.pssm_model.proofs.ElementLaws.{leaves_one}
-use Rattle.pssm_model.proofs.RouteLaws.{is_one}
+use Rattle.pssm_model.proofs.Known.{known_transition}
+use Rattle.pssm_model.proofs.RouteOrder.{same_or_join}
 use Rattle.pssm_model.proofs.OwnerChains.{under_further, circle_is_endless}
-use Rattle.pssm_model.specs.Forest.LiesUnder.{owned}
-use Rattle.pssm_model.specs.SingleLegs.{HasSingleLegs}
+use Rattle.pssm_model.specs.Forest.LiesUnder.{owned, further}
+use Rattle.pssm_model.specs.WellFormed.{KeepsModelRules}
+use Rattle.pssm_model.specs.WellFormed.Breaks.{E07}
 use Rattle.pssm_routes.specs.inner.Starts.{IsOutranked}
 use Rattle.pssm_routes.specs.inner.Sets.{CanJoin, IsSettled, IsFull}
 use Rattle.pssm_routes.proofs.Members.{all_of_members, in_front, in_rest, front_or_rest, is_there_or_not}
-use Rattle.pssm_model.proofs.StateRoutes.{state_route_from}
 
 -- a conflict is one of both
 pub conflict_turns : (m : DraftMachine) (Active : VertexId → Type 0) (p q : Route) → Conflict m Active p q → Conflict m Active q p
@@ -38,31 +43,43 @@ conflict_turns m Active p q h = (
       h.1,
 )
 
-module _ {m : DraftMachine} (b : HasSingleLegs m) (shape : HasShape m) where
-  -- the one source of a route
-  pub one_source : (p : Route) (s r : VertexId) → IsStateRoute m p → IsSource m p s → IsSource m p r → s ≡ r
-  one_source p s r route first second =
-      let from = state_route_from b p route in
-      let t = from.0 in
-      let leaves = λ (v : VertexId) (source : IsSource m p v). subst
-      (λ u. Leaves m u v)
-      (is_one t source.0 (subst (λ ts. Contains ts source.0) from.2.starts source.1))
-      source.2 in
-      leaves_one m t s r (leaves s first) (leaves r second)
+-- no State lies in itself
+pub not_in_itself : {m : DraftMachine} → HasShape m → (s : VertexId) → LiesInState m s s → ⊥
+not_in_itself {m} shape s h = circle_is_endless {m = m} (under_further {m = m} (owned h.1) h.2) (shape.regions h.0 (State s) h.1).1.2
 
-  -- no State lies in itself
-  pub not_in_itself : (s : VertexId) → LiesInState m s s → ⊥
-  not_in_itself s h = circle_is_endless {m = m} (under_further {m = m} (owned h.1) h.2) (shape.regions h.0 (State s) h.1).1.2
+module _ {m : DraftMachine} (rules : KeepsModelRules m) (shape : HasShape m) where
+  -- different transitions into one join leave States that do not lie in one another
+  segments_apart : (t u : TransId) (s r j : VertexId) → t ≢ u → HasKind m j kinds.Join → Enters m t j → Enters m u j → Leaves m t s → Leaves m u r
+      → LiesInState m r s → ⊥
+  segments_apart t u s r j apart k e f l g lies =
+      rules (places.At (elements.Vertex j)) 7 (E07 (
+        k,
+        inr (λ beside.
+            let around = beside.5.inside t s (e, l) in
+            beside.5.apart t u s r around.0 apart (e, l) (f, g) around.1 around.2 (under_further lies.2 (further lies.1 around.2))),
+      ))
+
+  -- no source of a route lies in another
+  pub sources_apart : (p : Route) (s r : VertexId) → IsStateRoute m p → IsSource m p s → IsSource m p r → LiesInState m r s → ⊥
+  sources_apart p s r route (t, first, l) (u, second, g) lies =
+      let alone = λ (same : t ≡ u). (
+      let here : s ≡ r = leaves_one m u s r (subst (λ x. Leaves m x s) same l) g in
+      not_in_itself shape s (subst (λ x. LiesInState m x s) (sym here) lies)
+      ) in
+      ⊎_elim
+      (λ same. alone same)
+      (λ apart. ⊎_elim
+      (λ same. apart same)
+      (λ join. segments_apart t u s r join.0 apart join.1 join.2 join.3 l g lies)
+      (same_or_join shape rules p route.0 t u first second))
+      (known_transition t u)
 
   module _ (now : Configuration) (truth : Truth) (event : Event) (routes : List Route) where
     -- an enabled route that starts in a source of another conflicts with it
     outranked_conflicts : (p q : Route) (s r : VertexId) → IsEnabled m now truth event p → IsSource m p s → IsSource m q r → LiesInState m r s
         → Conflict m now.Active p q
     outranked_conflicts p q s r enabled source other lies = (
-      λ same. not_in_itself s (subst
-          (λ v. LiesInState m v s)
-          (one_source p r s enabled.route_of_states (subst (λ x. IsSource m x r) (sym same) other) source)
-          lies),
+      λ same. sources_apart p s r enabled.route_of_states source (subst (λ x. IsSource m x r) (sym same) other) lies,
       inr (inr (inr (s, r, source, other, inr (inr lies)))),
     )
 

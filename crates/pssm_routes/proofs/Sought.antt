@@ -1,4 +1,4 @@
--- A search for a way out: what coming to a junction does to what the search keeps, and what it knows at its end.
+-- A search for a way out: what coming to a junction or exit point does to what the search keeps, and what it knows at its end.
 use Rattle.std.proofs.Common.{◌≡◌, ◌⊎◌, ◌<◌, ◌≤◌, ◌+◌, ℕ, zero, suc, List, [], ◌∷◌, ◌++◌, length, take, map, get_or, set, replicate, Bool, true, false, eqb, Option, Some, None, IfNone, slice_get, option_map, unwrap_or, Contains, refl, sym, ap, subst, ◌∙◌, inl, inr, ⊎_elim, append-nil, arith}
 use Rattle.std.specs.List.{IsDistinct}
 use Rattle.std.proofs.lemmas.Bool.{eqb-true, cases_lt}
@@ -15,6 +15,7 @@ use Rattle.pssm_model.specs.declared.ids.TransId.{TransId}
 use Rattle.pssm_model.specs.declared.elements.DraftMachine.{DraftMachine}
 use Rattle.pssm_model.specs.declared.elements.Transition.{Transition}
 use Rattle.pssm_model.specs.declared.elements.Vertex.{Vertex}
+use Rattle.pssm_model.specs.declared.elements.VertexKind.{VertexKind}
 use Rattle.pssm_model.specs.declared.elements.VertexKind.TheVariants as kinds
 use Rattle.pssm_model.specs.Forest.{vertex_at, transition_at, HasKind}
 use Rattle.pssm_model.specs.Legs.{Leaves, Enters}
@@ -24,7 +25,8 @@ use Rattle.pssm_model.proofs.ElementLaws.{mapped_some, enters_one, same_vertex, 
 use Rattle.pssm_model.proofs.RouteLaws.{is_one}
 use Rattle.pssm_routes.specs.declared.seeking.Step.{Step}
 use Rattle.pssm_routes.specs.declared.seeking.Search.{Search}
-use Rattle.pssm_routes.specs.inner.Ways.{EndsOnJunction, IsOpen, LeadsOut}
+use Rattle.pssm_routes.specs.inner.Passing.{IsPassedOver}
+use Rattle.pssm_routes.specs.inner.Ways.{EndsInside, IsOpen, LeadsOut}
 use Rattle.pssm_routes.specs.inner.Ways.IsWay.{begins, goes_on}
 use Rattle.pssm_routes.specs.inner.Ways.LeadsOut.{ends, on}
 use Rattle.pssm_routes.specs.inner.Steps.{IsTrail, IsSeen, IsFound, SeesDeadEnds}
@@ -116,7 +118,7 @@ module _ {old new : Search} (g : Grows old new) where
   module _ {m : DraftMachine} {truth : Truth} {within : Option RegionId} where
     abbrev led_grows : (start : TransId) (step : Step) → IsLed m truth within start old step → IsLed m truth within start new step
     led_grows start step h = record {
-      junctions = h.junctions;
+      passed = h.passed;
       path = h.path;
       trail = subst (λ xs. IsTrail xs step h.path) (sym g.steps) (trail_more g.more h.trail);
       way = h.way;
@@ -236,7 +238,7 @@ module _ {m : DraftMachine} {old : Search} (step : Step) {v : VertexId} (h : Com
           let inside = slice_get_within (kept old) k b was in
           ⊎_elim (λ there. there) (λ is. let same = is.0 in absurd (omega (arith, lt, inside, same))) (at_cases (kept old) step i a at)
 
-  pub room_for : HasKind m v kinds.Junction → HasShape m → length old.steps ≡ 4096 → old.count < 4096
+  pub room_for : IsPassedOver m v → HasShape m → length old.steps ≡ 4096 → old.count < 4096
   room_for j shape long =
       let there : EndThere m (kept old ++ step ∷ []) = λ k a at.
       ⊎_elim
@@ -250,8 +252,11 @@ module _ {m : DraftMachine} {old : Search} (step : Step) {v : VertexId} (h : Com
       let limit = shape.limits.vertices in
       omega (arith, most, longer, whole, limit)
     where
-      kind_there : (w : VertexId) → HasKind m w kinds.Junction → w.0 < length m.vertices
-      kind_there w is = let x = mapped_some (λ (y : Vertex). y.kind) (vertex_at m w) kinds.Junction is in slice_get_within m.vertices w.0 x.0 x.1
+      of_kind : (w : VertexId) (k : VertexKind) → HasKind m w k → w.0 < length m.vertices
+      of_kind w k is = let x = mapped_some (λ (y : Vertex). y.kind) (vertex_at m w) k is in slice_get_within m.vertices w.0 x.0 x.1
+
+      kind_there : (w : VertexId) → IsPassedOver m w → w.0 < length m.vertices
+      kind_there w is = ⊎_elim (λ k. of_kind w kinds.Junction k) (λ k. of_kind w kinds.ExitPoint k) is
 
 once_more : {m : DraftMachine} {old new : Search} {step : Step} {ends : Bool} → ComesOnce m old → ComesTo m old step new ends → new.count ≤ 4096
     → ComesOnce m new
@@ -267,23 +272,23 @@ once_more {m = m} {old = old} {new = new} {step = step} h (first {v = v} e j fre
   room = room;
 }
 
--- a step whose transition ends on no junction is the last of a way out
+-- a step whose transition ends on no junction or exit point is the last of a way out
 module _ {m : DraftMachine} {truth : Truth} {within : Option RegionId} where
   found_at_end : (start : TransId) {old new : Search} {step : Step} → IsLed m truth within start old step → ComesTo m old step new true
       → IsFound m truth within new.steps start step
   found_at_end start {old = old} {new = new} {step = step} led (out free same) = (
     led.path,
     subst (λ (s : Search). IsTrail s.steps step led.path) (sym same) (trail_of_taken old.count led.trail),
-    record { junctions = led.junctions; way = led.way; ends = free },
+    record { passed = led.passed; way = led.way; ends = free },
   )
 
   tried_at_end : {old new : Search} {step : Step} → ComesTo m old step new false → IsTried m truth within new step.by
   tried_at_end {old = old} {new = new} {step = step} (again {v = v} e j seen same) w opened enters =
       let at = enters_one m step.by v w e enters in
-      (subst (λ u. HasKind m u kinds.Junction) at j, subst (IsSeen new) at (subst (λ s. IsSeen s v) (sym same) seen))
+      (subst (λ u. IsPassedOver m u) at j, subst (IsSeen new) at (subst (λ s. IsSeen s v) (sym same) seen))
   tried_at_end {old = old} {new = new} {step = step} (first {v = v} e j free marks steps) w opened enters =
       let at = enters_one m step.by v w e enters in
-      (subst (λ u. HasKind m u kinds.Junction) at j, subst (IsSeen new) at ((marks v).1 (inr refl)))
+      (subst (λ u. IsPassedOver m u) at j, subst (IsSeen new) at ((marks v).1 (inr refl)))
 
   -- what trying a step leaves, and what it tells
   module _ {old new : Search} {step : Step} where
@@ -309,7 +314,7 @@ module _ {m : DraftMachine} {truth : Truth} {within : Option RegionId} {start : 
   -- the start begins a way, and an open transition out of the target of a kept step goes on with one
   start_led : (search : Search) → IsOpen m truth within start → IsLed m truth within start search (record { by = start; before = None })
   start_led search opened = record {
-    junctions = [];
+    passed = [];
     path = start ∷ [];
     trail = trail_first start;
     way = begins opened;
@@ -317,14 +322,14 @@ module _ {m : DraftMachine} {truth : Truth} {within : Option RegionId} {start : 
   }
 
   led_on : (search : Search) (place : ℕ) (step : Step) (u : TransId) (v : VertexId) → IsLedOn m truth within start search step
-      → slice_get (kept search) place ≡ Some step → Enters m step.by v → HasKind m v kinds.Junction → IsSeen search v → Leaves m u v
+      → slice_get (kept search) place ≡ Some step → Enters m step.by v → IsPassedOver m v → IsSeen search v → Leaves m u v
       → IsOpen m truth within u → IsLed m truth within start search (record { by = u; before = Some place })
   led_on search place step u v h at enters j seen leaves opened = record {
-    junctions = v ∷ h.led.junctions;
+    passed = v ∷ h.led.passed;
     path = h.led.path ++ u ∷ [];
     trail = further u at h.led.trail;
     way = goes_on h.led.way enters j (h.fresh v enters) leaves opened;
-    seen = λ w is. ⊎_elim (λ same. subst (IsSeen search) (sym same) seen) (λ later. h.led.seen w later) (in_cons v h.led.junctions w is);
+    seen = λ w is. ⊎_elim (λ same. subst (IsSeen search) (sym same) seen) (λ later. h.led.seen w later) (in_cons v h.led.passed w is);
   }
 
   -- a search that keeps nothing yet, and has tried the start
@@ -345,11 +350,11 @@ module _ {m : DraftMachine} {truth : Truth} {within : Option RegionId} {start : 
               (start_led empty) tries;
         }
 
-  -- an open transition that ends on no junction is a way out
-  pub found_alone : (EndsOnJunction m start → ⊥) → IsOpen m truth within start → (steps : List Step)
+  -- an open transition that ends on no junction or exit point is a way out
+  pub found_alone : (EndsInside m start → ⊥) → IsOpen m truth within start → (steps : List Step)
       → IsFound m truth within steps start (record { by = start; before = None })
   found_alone apart opened steps =
-      (start ∷ [], trail_first start, record { junctions = []; way = begins opened; ends = λ v enters kind. apart (v, enters, kind) })
+      (start ∷ [], trail_first start, record { passed = []; way = begins opened; ends = λ v enters kind. apart (v, enters, kind) })
 
   pub found_from_start : {empty new : Search} → Tries m truth within empty (record { by = start; before = None }) new true
       → IsFound m truth within new.steps start (record { by = start; before = None })
@@ -379,7 +384,7 @@ module _ {m : DraftMachine} {truth : Truth} {within : Option RegionId} {start : 
     start_dead (ends {v = w} opened enters not) = not (h.begun w opened enters).0
     start_dead (on {u = onward} {v = w} opened enters j leaves rest) = all_dead w onward (h.begun w opened enters).1 leaves rest
 
--- going on from one junction
+-- going on from one junction or exit point
 module _ {m : DraftMachine} {Told : Truth → Type 0} {within : Option RegionId} {place : ℕ} {items : List TransId} {initial search : Search} {step : Step}
     {v : VertexId} (at : slice_get (kept initial) place ≡ Some step) (e : Enters m step.by v) where
   module _ {index : ℕ} (h : GoesOn m Told within place items initial search index) where
@@ -391,7 +396,7 @@ module _ {m : DraftMachine} {Told : Truth → Type 0} {within : Option RegionId}
         let came = h.once.comes place step there in
         let same = enters_one m step.by came.0 v came.1 e in
         led_on search place step u v ((h.keeps truth start before told under).keeps.led place step there) there e
-        (subst (λ w. HasKind m w kinds.Junction) same came.2) (subst (IsSeen search) same came.3) leaves opened
+        (subst (λ w. IsPassedOver m w) same came.2) (subst (IsSeen search) same came.3) leaves opened
 
     module _ {new : Search} {u : TransId} (leaves : Leaves m u v) where
       pub goes_more : slice_get items index ≡ Some u → ComesOnce m new
@@ -419,7 +424,7 @@ module _ {m : DraftMachine} {Told : Truth → Type 0} {within : Option RegionId}
           → IsFound m truth within new.steps start (record { by = u; before = Some place })
       goes_out truth start before told under tries = tries_finds start (led_from_here truth start before u told leaves under) tries
 
-    -- where all transitions out of the junction are tried, it has gone on from one step more
+    -- where all transitions out of it are tried, it has gone on from one step more
     pub goes_on_at_end : length items ≤ index → ((u : TransId) → Leaves m u v → Contains items u) → (truth : Truth) (start : TransId) (before : Search)
         → Told truth → IsUnderWay m truth within start before initial place → IsUnderWay m truth within start before search (place + 1)
     goes_on_at_end all listed truth start before told under =
@@ -455,9 +460,9 @@ nothing_marked n k h =
     cc)
     (cases_lt k n)
 
--- to mark a junction and to keep the step is to come to it for the first time
+-- to mark a junction or exit point and to keep the step is to come to it for the first time
 module _ {m : DraftMachine} {old : Search} (step : Step) {v : VertexId} where
-  pub comes_first : ComesOnce m old → Enters m step.by v → HasKind m v kinds.Junction → (IsSeen old v → ⊥) → v.0 < length old.seen → HasShape m
+  pub comes_first : ComesOnce m old → Enters m step.by v → IsPassedOver m v → (IsSeen old v → ⊥) → v.0 < length old.seen → HasShape m
       → length old.steps ≡ 4096
       → ComesTo m old step (record { seen = set old.seen v.0 true; steps = set old.steps old.count step; count = old.count + 1 }) false
   comes_first once e j free inside shape long =
@@ -475,7 +480,7 @@ module _ {m : DraftMachine} {old : Search} (step : Step) {v : VertexId} where
       (eqb_tells w.0 v.0))
       (take_more_set old.steps old.count step (let room = room_for step once e free j shape long in omega (arith, room, long)))
 
-  pub once_first : ComesOnce m old → Enters m step.by v → HasKind m v kinds.Junction → (IsSeen old v → ⊥) → v.0 < length old.seen → HasShape m
+  pub once_first : ComesOnce m old → Enters m step.by v → IsPassedOver m v → (IsSeen old v → ⊥) → v.0 < length old.seen → HasShape m
       → length old.steps ≡ 4096 → ComesOnce m (record { seen = set old.seen v.0 true; steps = set old.steps old.count step; count = old.count + 1 })
   once_first once e j free inside shape long =
       once_more once (comes_first once e j free inside shape long) (let room = room_for step once e free j shape long in omega (arith, room))

@@ -5,7 +5,7 @@ use Rattle.std.proofs.lemmas.Bool.{eqb-true, cases_Bool}
 use Rattle.std.proofs.lemmas.Bool.Decides.{nat_tests}
 use Rattle.std.proofs.lemmas.Cmp.{nat_eq_equiv}
 use Rattle.std.proofs.lemmas.List.{length_push}
-use Rattle.std.proofs.lemmas.List.Elements.{Contains-push, Contains-push_cases, Contains-append_left}
+use Rattle.std.proofs.lemmas.List.Elements.{Contains-push, Contains-push_cases, Contains-append_left, Contains-append_right, Contains-append_cases}
 use Rattle.std.proofs.lemmas.Map.Keys.{IsDistinct-push}
 use Rattle.std.proofs.lemmas.Map.Steps.{length-le_from_distinct_below}
 use Rattle.std.proofs.lemmas.Map.Views.{Contains-from_any}
@@ -13,8 +13,14 @@ use Rattle.std.proofs.lemmas.Option.{slice_get_within}
 use Rattle.pssm_model.specs.declared.ids.TransId.{TransId}
 use Rattle.pssm_model.proofs.ElementLaws.{same_transition, nothing_in_nil}
 use Rattle.pssm_routes.specs.declared.seeking.Step.{Step}
-use Rattle.pssm_model.specs.Routes.{IsAscending}
-use Rattle.pssm_routes.specs.inner.Steps.{IsTrail, IsRouteOver}
+use Rattle.pssm_model.specs.declared.ids.VertexId.{VertexId}
+use Rattle.pssm_model.specs.declared.elements.DraftMachine.{DraftMachine}
+use Rattle.pssm_model.specs.Legs.{Leaves, Enters}
+use Rattle.pssm_model.specs.Routes.{Truth, IsAscending}
+use Rattle.pssm_model.specs.RouteWords.{IsThrough}
+use Rattle.pssm_routes.specs.inner.Starts.{AreStartsWith}
+use Rattle.pssm_routes.specs.inner.Behind.{GoesOnFrom, IsRouteBehind}
+use Rattle.pssm_routes.specs.inner.Steps.{IsTrail}
 use Rattle.pssm_routes.specs.inner.Steps.IsTrail.{first, further}
 use Rattle.pssm_routes.specs.inner.Trails.{step_before}
 
@@ -233,14 +239,35 @@ module _ (steps : List Step) (start : TransId) (last : Step) where
       → (path : List TransId) → IsTrail steps last path → (u : TransId) → Contains found u ↔ (Contains path u × (u ≢ start))
   traced_none found next turns none h = traced_end found turns (subst (λ o. IsTracedTo steps start last found o turns) none h)
 
--- the route of the transitions that were met, put in order
-pub route_over : (start : TransId) (path starts found sorted rest : List TransId) → starts ≡ start ∷ []
-    → ((u : TransId) → Contains found u ↔ (Contains path u × (u ≢ start)))
-    → ((u : TransId) → Contains sorted u ↔ Contains found u) → IsAscending sorted → rest ≡ sorted
-    → IsRouteOver start path (record { starts = starts; rest = rest })
-route_over start path starts found sorted rest one met same ascending put = record {
-  starts = one;
-  rest = λ u. subst (λ ts. Contains ts u ↔ (Contains path u × (u ≢ start))) (sym put)
-      (λ inside. (met u).0 ((same u).0 inside), λ both. (same u).1 ((met u).1 both));
-  ascending = subst IsAscending (sym put) ascending;
-}
+-- the route of the transitions that were met and of those behind them, put in order
+module _ (m : DraftMachine) (truth : Truth) (start last : TransId) (path : List TransId) (end : VertexId) (enters : Enters m last end)
+    (behind : List TransId) (goes : GoesOnFrom m truth end behind) (starts later sorted rest : List TransId)
+    (outside : (v : VertexId) → Leaves m start v → IsThrough m v → ⊥) where
+  -- the start is none of those behind
+  behind_apart : (u : TransId) → Contains behind u → u ≢ start
+  behind_apart u inside same =
+      let at = goes.leave u inside in outside at.0 (subst (λ x. Leaves m x at.0) same at.2) at.3
+
+  pub route_behind : AreStartsWith m start starts → ((u : TransId) → Contains later u ↔ (Contains path u × (u ≢ start)))
+      → ((u : TransId) → Contains sorted u ↔ Contains (later ++ behind) u) → IsAscending sorted → rest ≡ sorted
+      → IsRouteBehind m truth start last path (record { starts = starts; rest = rest })
+  route_behind are met same ascending put = record {
+    end = end;
+    enters = enters;
+    behind = behind;
+    goes_on = goes;
+    over = record {
+      starts = are;
+      rest = λ u. subst (λ ts. Contains ts u ↔ (Contains (path ++ behind) u × (u ≢ start))) (sym put) (
+        λ inside. ⊎_elim
+            (λ here. (Contains-append_left path behind u ((met u).0 here).0, ((met u).0 here).1))
+            (λ there. (Contains-append_right path behind u there, behind_apart u there))
+            (Contains-append_cases later behind u ((same u).0 inside)),
+        λ both. (same u).1 (⊎_elim
+            (λ here. Contains-append_left later behind u ((met u).1 (here, both.1)))
+            (λ there. Contains-append_right later behind u there)
+            (Contains-append_cases path behind u both.0)),
+      );
+      ascending = subst IsAscending (sym put) ascending;
+    };
+  }

@@ -1,4 +1,5 @@
 pub mod Footprints
+pub mod Spans
 pub mod Starts
 pub mod Ways
 pub mod Steps
@@ -6,5 +7,7 @@ pub mod Seeking
 pub mod Sets
 pub mod Rooms
 pub mod Trails
-pub mod Onward
+pub mod Behind
+pub mod Fitting
+pub mod Passing
 pub mod Picks

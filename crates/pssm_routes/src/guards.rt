@@ -37,6 +37,7 @@ fn is_another_true<T: Fn(GuardId) -> bool>(
 }
 
 // Whether another transition out of its source has a true guard.
+#[inline(never)]
 fn another_is_true<T: Fn(GuardId) -> bool>(machine: &Machine, truth: &T, t: TransId) -> bool
     requires there { t.0 < length machine.now.transitions }
     requires askable { CanBeAsked machine.now (T.pre truth.now) }
@@ -54,6 +55,7 @@ fn another_is_true<T: Fn(GuardId) -> bool>(machine: &Machine, truth: &T, t: Tran
 
 /// Whether the transition is true: by its value, or as `else` where no other transition out of its source has a true
 /// guard (UML 2.5.1, 14.2.3.7 and 14.2.3.8).
+#[inline(always)]
 pub fn is_true_at<T: Fn(GuardId) -> bool>(machine: &Machine, truth: &T, t: TransId) -> bool
     requires there { t.0 < length machine.now.transitions }
     requires askable { CanBeAsked machine.now (T.pre truth.now) }

@@ -2,25 +2,28 @@
 ghost use Rattle.std.specs.Prelude.{◌↔◌, ◌<◌, Option, length, All, IsTrue, IfSome, IfNone};
 ghost use Rattle.pssm_model.specs.declared.ids.VertexId.{VertexId};
 ghost use Rattle.pssm_model.specs.declared.ids.RegionId.{RegionId};
+ghost use Rattle.pssm_model.specs.declared.ids.TransId.{TransId};
 ghost use Rattle.pssm_model.specs.declared.elements.Owner.{Owner};
 ghost use Rattle.pssm_model.specs.declared.elements.VertexKind.TheVariants as kinds;
 ghost use Rattle.pssm_model.specs.Forest.{HasKind, LiesUnder, LiesInRegion};
 ghost use Rattle.pssm_model.specs.Legs.{Leaves};
 ghost use Rattle.pssm_model.specs.Routes.{Truth};
 ghost use Rattle.pssm_routes.specs.Telling.{CanBeAsked, Tells};
-ghost use Rattle.pssm_model.specs.SingleLegs.{HasSingleLegs};
+ghost use Rattle.pssm_model.specs.WellFormed.{KeepsModelRules};
 ghost use Rattle.pssm_routes.specs.inner.Footprints.{IsFootprintIn};
-ghost use Rattle.pssm_routes.specs.inner.Ways.{EndsOnJunction};
+ghost use Rattle.pssm_routes.specs.inner.Starts.{GoesOnBy};
+ghost use Rattle.pssm_routes.specs.inner.Ways.{EndsInside};
 ghost use Rattle.pssm_routes.specs.inner.Steps.{KnowsDeadEnds, IsJoiningStep, steps_of};
 ghost use Rattle.pssm_routes.specs.inner.Sets.{HasFreeRoute, IsTouched, HoldsSource, IsCeiling};
 ghost use Rattle.pssm_routes.specs.inner.Rooms.{Touches, IsNextOut, IsRoomFor, IsRoomIn};
 
-use crate::areas::{Footprint, are_on_one_chain};
-use crate::seeking::{Search, Step, ends_on_junction, find_way};
+use crate::areas::{Footprint, anchor_of, are_on_one_chain};
+use crate::leading::onward;
+use crate::seeking::{Search, Step, ends_inside, find_way};
 use pssm_legs::covers;
 use pssm_model::{GuardId, Machine, Owner, RegionId, TransId, TransKind, VertexId};
 
-// Whether the State is on one owner chain with the source of the footprint, or lies in its area.
+// Whether the State is on one owner chain with the anchor of the footprint, or lies in its area.
 fn touches(machine: &Machine, footprint: Footprint, s: VertexId) -> bool
     requires there { s.0 < length machine.now.vertices }
     requires footprint { IsFootprintIn machine.now footprint }
@@ -29,7 +32,7 @@ fn touches(machine: &Machine, footprint: Footprint, s: VertexId) -> bool
     covers(machine, footprint.area, s) || are_on_one_chain(machine, footprint.source, s)
 }
 
-// Whether a source is the State, lies in it or has it inside, or an area covers the State.
+// Whether an anchor is the State, lies in it or has it inside, or an area covers the State.
 fn is_touched(machine: &Machine, footprints: &[Footprint], s: VertexId) -> bool
     requires there { s.0 < length machine.now.vertices }
     requires footprints { All (IsFootprintIn machine.now) footprints.now }
@@ -43,7 +46,7 @@ fn is_touched(machine: &Machine, footprints: &[Footprint], s: VertexId) -> bool
     false
 }
 
-// Whether a source lies in the region.
+// Whether an anchor lies in the region.
 fn holds_source(machine: &Machine, footprints: &[Footprint], region: RegionId) -> bool
     requires there { region.0 < length machine.now.regions }
     requires footprints { All (IsFootprintIn machine.now) footprints.now }
@@ -72,7 +75,7 @@ fn next_out(machine: &Machine, region: RegionId) -> Option<RegionId>
     }
 }
 
-// The largest region around the State in which no source lies; none exactly where there is none.
+// The largest region around the State in which no anchor lies; none exactly where there is none.
 fn ceiling(machine: &Machine, footprints: &[Footprint], s: VertexId) -> Option<RegionId>
     requires there { s.0 < length machine.now.vertices }
     requires footprints { All (IsFootprintIn machine.now) footprints.now }
@@ -106,19 +109,19 @@ enum Room {
 
 // Where a route with this start may go.
 fn room_for(machine: &Machine, footprints: &[Footprint], t: TransId) -> Room
-    requires legs { HasSingleLegs machine.now }
+    requires rules { KeepsModelRules machine.now }
     requires there { t.0 < length machine.now.transitions }
     requires footprints { All (IsFootprintIn machine.now) footprints.now }
     ensures inside { IsRoomIn machine.now result }
     ensures room { IsRoomFor machine.now footprints.now t result }
 {
     let _shaped = machine.regions();
-    let source = machine.source(t);
-    if is_touched(machine, footprints, source) {
+    let anchor = anchor_of(machine, t);
+    if is_touched(machine, footprints, anchor) {
         return Room::Shut;
     }
     match machine.transition(t).kind {
-        TransKind::External => match ceiling(machine, footprints, source) {
+        TransKind::External => match ceiling(machine, footprints, anchor) {
             Some(region) => Room::Open(Some(region)),
             None => Room::Shut,
         },
@@ -126,9 +129,8 @@ fn room_for(machine: &Machine, footprints: &[Footprint], t: TransId) -> Room
     }
 }
 
-/// Seeks a way for a route with this start that clashes with none of the footprints; none exactly where there is no
-/// such route.
-#[tactic(auto, using(crate::proofs::JoiningSteps::state_no_junction))]
+/// Seeks a way for a route with this start that clashes with none of the footprints; none exactly
+/// where there is no such route.
 pub fn find_joiner<T: Fn(GuardId) -> bool>(
     machine: &Machine,
     truth: &T,
@@ -136,14 +138,15 @@ pub fn find_joiner<T: Fn(GuardId) -> bool>(
     t: TransId,
     search: &mut [Search],
 ) -> Option<Step>
-    requires legs { HasSingleLegs machine.now }
+    requires rules { KeepsModelRules machine.now }
     requires there { t.0 < length machine.now.transitions }
     requires footprints { All (IsFootprintIn machine.now) footprints.now }
     requires askable { CanBeAsked machine.now (T.pre truth.now) }
     requires source { (v : VertexId) → Leaves machine.now t v → HasKind machine.now v kinds.State }
-    requires room { EndsOnJunction machine.now t → 0 < length search.old }
+    requires room { (u : TransId) → GoesOnBy machine.now t u → EndsInside machine.now u → 0 < length search.old }
     requires nothing { (values : Truth) (within : Option RegionId)
         → KnowsDeadEnds machine.now values within search.old }
+    ensures there { IfSome result (λ last. last.by.0 < length machine.now.transitions) }
     ensures some { (values : Truth) → Tells machine.now (T.post truth.now) values
         → IfSome result (IsJoiningStep machine.now values footprints.now (steps_of search.new) t) }
     ensures none { (values : Truth) → Tells machine.now (T.post truth.now) values
@@ -152,11 +155,12 @@ pub fn find_joiner<T: Fn(GuardId) -> bool>(
     let _shaped = machine.regions();
     match room_for(machine, footprints, t) {
         Room::Shut => None,
-        Room::Open(within) => find_way(machine, truth, within, t, search),
+        Room::Open(within) => find_way(machine, truth, within, onward(machine, t), search),
     }
 }
 
-// Whether there is a route with this start that clashes with none of the footprints, by this search.
+// Whether there is a route with this start that clashes with none of the footprints, by this
+// search.
 fn finds_joiner<T: Fn(GuardId) -> bool>(
     machine: &Machine,
     truth: &T,
@@ -164,12 +168,12 @@ fn finds_joiner<T: Fn(GuardId) -> bool>(
     t: TransId,
     search: &mut [Search],
 ) -> bool
-    requires legs { HasSingleLegs machine.now }
+    requires rules { KeepsModelRules machine.now }
     requires there { t.0 < length machine.now.transitions }
     requires footprints { All (IsFootprintIn machine.now) footprints.now }
     requires askable { CanBeAsked machine.now (T.pre truth.now) }
     requires source { (v : VertexId) → Leaves machine.now t v → HasKind machine.now v kinds.State }
-    requires room { EndsOnJunction machine.now t → 0 < length search.old }
+    requires room { (u : TransId) → GoesOnBy machine.now t u → EndsInside machine.now u → 0 < length search.old }
     requires nothing { (values : Truth) (within : Option RegionId)
         → KnowsDeadEnds machine.now values within search.old }
     ensures { (values : Truth) → Tells machine.now (T.post truth.now) values
@@ -179,8 +183,8 @@ fn finds_joiner<T: Fn(GuardId) -> bool>(
     find_joiner(machine, truth, footprints, t, search).is_some()
 }
 
-// Whether there is a route with this start that clashes with none of the footprints. The search stands in this call
-// alone.
+// Whether there is a route with this start that clashes with none of the footprints. The search
+// stands in this call alone.
 #[inline(never)]
 fn has_joiner_by_search<T: Fn(GuardId) -> bool>(
     machine: &Machine,
@@ -188,7 +192,7 @@ fn has_joiner_by_search<T: Fn(GuardId) -> bool>(
     footprints: &[Footprint],
     t: TransId,
 ) -> bool
-    requires legs { HasSingleLegs machine.now }
+    requires rules { KeepsModelRules machine.now }
     requires there { t.0 < length machine.now.transitions }
     requires footprints { All (IsFootprintIn machine.now) footprints.now }
     requires askable { CanBeAsked machine.now (T.pre truth.now) }
@@ -206,7 +210,7 @@ pub fn has_joiner<T: Fn(GuardId) -> bool>(
     footprints: &[Footprint],
     t: TransId,
 ) -> bool
-    requires legs { HasSingleLegs machine.now }
+    requires rules { KeepsModelRules machine.now }
     requires there { t.0 < length machine.now.transitions }
     requires footprints { All (IsFootprintIn machine.now) footprints.now }
     requires askable { CanBeAsked machine.now (T.pre truth.now) }
@@ -214,7 +218,7 @@ pub fn has_joiner<T: Fn(GuardId) -> bool>(
     ensures { (values : Truth) → Tells machine.now (T.post truth.now) values
         → (IsTrue result ↔ HasFreeRoute machine.now values footprints.now t) }
 {
-    if ends_on_junction(machine, t) {
+    if ends_inside(machine, onward(machine, t)) {
         return has_joiner_by_search(machine, truth, footprints, t);
     }
     finds_joiner(machine, truth, footprints, t, &mut [])

@@ -6,14 +6,15 @@ ghost use Rattle.pssm_model.specs.Legs.{Leaves};
 ghost use Rattle.pssm_model.specs.Paths.{HasOut};
 ghost use Rattle.pssm_model.specs.Routes.{Truth, IsTrueAt, IsRoute};
 ghost use Rattle.pssm_model.specs.FiringSets.{IsLateOrigin, IsLateRoute};
-ghost use Rattle.pssm_model.specs.SingleLegs.{HasSingleLegs};
+ghost use Rattle.pssm_model.specs.WellFormed.{KeepsModelRules};
 ghost use Rattle.pssm_routes.specs.Telling.{CanBeAsked, Tells};
+ghost use Rattle.pssm_routes.specs.inner.Fitting.{route_with, StartsLate};
 ghost use Rattle.pssm_routes.specs.LateStarts.{AreTrueFrom, IsSettledStart};
 
 use crate::guards::is_true_at;
 use crate::pick::place_of;
-use crate::route::{are_all_true, is_route_from};
-use crate::seeking::{ends_on_junction, find_way, search_if, steps_of};
+use crate::route::{are_all_true, is_route_over};
+use crate::seeking::{ends_inside, find_way, search_if, steps_of};
 use crate::tracing::route_of_trail;
 use pssm_model::{GuardId, Machine, Route, Row, TransId, VertexId, VertexKind};
 use std::alloc::{AllocError as NoMemory, Global};
@@ -34,42 +35,50 @@ fn is_late_origin(machine: &Machine, v: VertexId) -> bool
 
 // Whether the transition leaves the vertex, and a route goes on from that within a step.
 fn starts_late(machine: &Machine, origin: VertexId, start: TransId) -> bool
-    requires there { start.0 < length machine.now.transitions }
     ensures { IsTrue result ↔ (IsLateOrigin machine.now origin × Leaves machine.now start origin) }
 {
     let _shaped = machine.regions();
-    machine.source(start) == origin && is_late_origin(machine, origin)
-}
-
-// Whether the start leaves the vertex, from which a route goes on within a step, and makes one route
-// with the other transitions.
-fn is_route_after(machine: &Machine, origin: VertexId, start: TransId, rest: &[TransId]) -> bool
-    requires legs { HasSingleLegs machine.now }
-    ensures { IsTrue result ↔ (IsLateOrigin machine.now origin × Leaves machine.now start origin
-        × IsRoute machine.now (record { starts = start ∷ []; rest = rest.now })) }
-{
     if start.0 >= machine.transitions() {
         return false;
     }
-    starts_late(machine, origin, start) && is_route_from(machine, start, rest)
+    machine.source(start) == origin && is_late_origin(machine, origin)
 }
 
-// Whether the start and the other transitions make one late route from the vertex, with true
+// Whether it is one transition, which does so.
+fn start_late(machine: &Machine, origin: VertexId, starts: &[TransId]) -> bool
+    ensures { IsTrue result ↔ StartsLate machine.now origin starts.now }
+{
+    if starts.len() == 1 {
+        return starts_late(machine, origin, starts[0]);
+    }
+    false
+}
+
+// Whether the starts are one transition out of the vertex, from which a route goes on within a step, and make one route
+// with the other transitions.
+fn is_route_after(machine: &Machine, origin: VertexId, starts: &[TransId], rest: &[TransId]) -> bool
+    requires rules { KeepsModelRules machine.now }
+    ensures { IsTrue result ↔ (StartsLate machine.now origin starts.now
+        × IsRoute machine.now (route_with starts.now rest.now)) }
+{
+    start_late(machine, origin, starts) && is_route_over(machine, starts, rest)
+}
+
+// Whether the starts and the other transitions make one late route from the vertex, with true
 // guards.
 fn is_late_from<T: Fn(GuardId) -> bool>(
     machine: &Machine,
     truth: &T,
     origin: VertexId,
-    start: TransId,
+    starts: &[TransId],
     rest: &[TransId],
 ) -> bool
-    requires legs { HasSingleLegs machine.now }
+    requires rules { KeepsModelRules machine.now }
     requires askable { CanBeAsked machine.now (T.pre truth.now) }
     ensures { (values : Truth) → Tells machine.now (T.post truth.now) values
-        → (IsTrue result ↔ IsLateRoute machine.now values origin
-        (record { starts = start ∷ []; rest = rest.now })) }
+        → (IsTrue result ↔ IsLateRoute machine.now values origin (route_with starts.now rest.now)) }
 {
-    is_route_after(machine, origin, start, rest) && are_all_true(machine, truth, start, rest)
+    is_route_after(machine, origin, starts, rest) && are_all_true(machine, truth, starts, rest)
 }
 
 /// Whether the route is a late one from the vertex, with true guards (UML 2.5.1, 14.2.3.7 and
@@ -80,16 +89,14 @@ pub fn check_late<T: Fn(GuardId) -> bool>(
     origin: VertexId,
     route: &Route,
 ) -> bool
-    requires legs { HasSingleLegs machine.now }
+    requires rules { KeepsModelRules machine.now }
     requires askable { CanBeAsked machine.now (T.pre truth.now) }
     ensures { (values : Truth) → Tells machine.now (T.post truth.now) values
         → (IsTrue result ↔ IsLateRoute machine.now values origin route.now) }
 {
+    let starts = route.starts.as_slice();
     let rest = route.rest.as_slice();
-    match route.starts.as_slice() {
-        [start] => is_late_from(machine, truth, origin, *start, rest),
-        _ => false,
-    }
+    is_late_from(machine, truth, origin, starts, rest)
 }
 
 // The transitions out of the vertex that are true, in ascending number.
@@ -131,7 +138,7 @@ fn late_route_by<T: Fn(GuardId) -> bool>(
     origin: VertexId,
     start: TransId,
 ) -> Result<Route, NoMemory>
-    requires legs { HasSingleLegs machine.now }
+    requires rules { KeepsModelRules machine.now }
     requires askable { CanBeAsked machine.now (T.pre truth.now) }
     requires origin { IsLateOrigin machine.now origin }
     requires leaves { Leaves machine.now start origin }
@@ -140,10 +147,10 @@ fn late_route_by<T: Fn(GuardId) -> bool>(
         → IfOk result (λ route. IsLateRoute machine.now values origin route × (route.starts ≡ start ∷ [])) }
 {
     let _shaped = machine.regions();
-    let mut made = search_if(alloc, ends_on_junction(machine, start))?;
+    let mut made = search_if(alloc, ends_inside(machine, start))?;
     let search = made.as_mut_slice();
     match find_way(machine, truth, None, start, search) {
-        Some(last) => route_of_trail(alloc, steps_of(search), start, last),
+        Some(last) => route_of_trail(alloc, machine, truth, steps_of(search), start, last),
         None => Ok(no_route(alloc)),
     }
 }
@@ -162,7 +169,7 @@ pub fn pick_late<T: Fn(GuardId) -> bool>(
     origin: VertexId,
     word: u64,
 ) -> Result<Route, NoMemory>
-    requires legs { HasSingleLegs machine.now }
+    requires rules { KeepsModelRules machine.now }
     requires askable { CanBeAsked machine.now (T.pre truth.now) }
     requires origin { IsLateOrigin machine.now origin }
     requires out { HasOut machine.now origin }

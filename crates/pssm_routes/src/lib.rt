@@ -8,6 +8,8 @@ mod areas;
 mod guards;
 mod joining;
 mod late;
+mod leading;
+mod passing;
 mod pick;
 mod reacting;
 mod route;

@@ -3,94 +3,121 @@ ghost use Rattle.std.specs.Prelude.{◌≡◌, ◌↔◌, ◌<◌, ◌≤◌, �
 ghost use Rattle.std.specs.List.Sorted.{IsPermutation};
 ghost use Rattle.pssm_model.specs.declared.ids.TransId.{TransId};
 ghost use Rattle.pssm_model.specs.declared.ids.VertexId.{VertexId};
+ghost use Rattle.pssm_model.specs.Legs.{Leaves};
 ghost use Rattle.pssm_model.specs.Routes.{Truth, IsStateRoute};
 ghost use Rattle.pssm_model.specs.FiringSets.{IsFiringSet, IsListed, IsFiring};
 ghost use Rattle.pssm_config.specs.Tables.{Fits, configuration_of};
 ghost use Rattle.pssm_routes.specs.Telling.{CanBeAsked, Tells};
-ghost use Rattle.pssm_model.specs.SingleLegs.{HasSingleLegs};
+ghost use Rattle.pssm_model.specs.WellFormed.{KeepsModelRules};
 ghost use Rattle.pssm_routes.specs.inner.Footprints.{IsFootprintIn};
-ghost use Rattle.pssm_routes.specs.inner.Starts.{IsStarted, IsOutranked, IsCandidate};
+ghost use Rattle.pssm_routes.specs.inner.Starts.{IsStartedWith, StartsAmong, IsOutranked, IsCandidate};
 ghost use Rattle.pssm_routes.specs.inner.Sets.{HasJoiner};
 ghost use Rattle.pssm_routes.specs.inner.Picks.{first_number, StartApart, IsFreeRoute, IsFreeFrom};
 ghost use Rattle.pssm_routes.specs.inner.Picks.{IsSpent, IsChosen, IsAdded, IsGrown};
 
 use crate::areas::{Footprint, footprint_of};
 use crate::joining::find_joiner;
+use crate::leading::{is_started_with, onward, start_all_among};
 use crate::reacting::candidates;
 use crate::route::check_route;
-use crate::seeking::{ends_on_junction, search_if, steps_of};
-use crate::starting::is_started;
+use crate::seeking::{ends_inside, search_if, steps_of};
 use crate::tracing::route_of_trail;
 use pssm_config::Config;
 use pssm_model::{Event, Firing, GuardId, Machine, Route, Row, TransId, VertexId};
 use std::alloc::{AllocError as NoMemory, Global};
 
-// A route with this start that the event enables and that clashes with none of the footprints, if there is one. What
-// the search has found is checked, since only the values of the guards say that it is enabled.
+// Whether the event starts the transition, alone or with the others into its join, from States that
+// are among these.
+fn starts_here(
+    machine: &Machine,
+    config: &Config,
+    event: Event,
+    states: &[VertexId],
+    t: TransId,
+) -> bool
+    requires rules { KeepsModelRules machine.now }
+    requires fits { Fits machine.now config.now }
+    requires there { t.0 < length machine.now.transitions }
+    requires source { (s : VertexId) → Leaves machine.now t s → Contains states.now s }
+    ensures { IsTrue result ↔ (IsStartedWith machine.now (configuration_of config.now) event t
+        × StartsAmong machine.now states.now t) }
+{
+    is_started_with(machine, config, event, t) && start_all_among(machine, states, t)
+}
+
+// A route from these States with this start that the event enables and that clashes with none of
+// the footprints, if there is one. What the search has found is checked, since only the values of
+// the guards say that it is enabled.
 fn free_route<T: Fn(GuardId) -> bool>(
     alloc: Global,
     machine: &Machine,
     config: &Config,
     truth: &T,
     event: Event,
+    states: &[VertexId],
     footprints: &[Footprint],
     t: TransId,
 ) -> Result<Option<Route>, NoMemory>
-    requires legs { HasSingleLegs machine.now }
+    requires rules { KeepsModelRules machine.now }
     requires fits { Fits machine.now config.now }
     requires askable { CanBeAsked machine.now (T.pre truth.now) }
     requires footprints { All (IsFootprintIn machine.now) footprints.now }
     requires there { t.0 < length machine.now.transitions }
+    requires source { (s : VertexId) → Leaves machine.now t s → Contains states.now s }
     ensures route { IfOk result (λ found. IfSome found (IsStateRoute machine.now)) }
     ensures some { (values : Truth) → Tells machine.now (T.post truth.now) values
         → IfOk result (λ found. IfSome found
-        (λ q. (s : VertexId) × IsStarted machine.now (configuration_of config.now) event t s
-        × IsFreeRoute machine.now (configuration_of config.now) values event footprints.now t q)) }
+        (IsFreeRoute machine.now (configuration_of config.now) values event states.now footprints.now t)) }
     ensures none { (values : Truth) → Tells machine.now (T.post truth.now) values
         → IfOk result (λ found. IfNone found
-        ((s : VertexId) → IsStarted machine.now (configuration_of config.now) event t s
-        → HasJoiner machine.now (configuration_of config.now) values event footprints.now t → ⊥)) }
+        (HasJoiner machine.now (configuration_of config.now) values event states.now footprints.now t → ⊥)) }
 {
-    if !is_started(machine, config, event, t) {
+    let _shaped = machine.regions();
+    if !starts_here(machine, config, event, states, t) {
         return Ok(None);
     }
-    let mut made = search_if(alloc, ends_on_junction(machine, t))?;
+    let mut made = search_if(alloc, ends_inside(machine, onward(machine, t)))?;
     let search = made.as_mut_slice();
     let Some(last) = find_joiner(machine, truth, footprints, t, search) else {
         return Ok(None);
     };
-    let route = route_of_trail(alloc, steps_of(search), t, last)?;
+    let route = route_of_trail(alloc, machine, truth, steps_of(search), t, last)?;
     if !check_route(machine, config, truth, event, &route) {
         return Ok(None);
     }
     Ok(Some(route))
 }
 
-// A route from this State that the event enables and that clashes with none of the footprints, if there is one.
+// A route from these States, and from this one of them, that the event enables and that clashes
+// with none of the footprints, if there is one.
 fn free_route_from<T: Fn(GuardId) -> bool>(
     alloc: Global,
     machine: &Machine,
     config: &Config,
     truth: &T,
     event: Event,
+    states: &[VertexId],
     footprints: &[Footprint],
     source: VertexId,
 ) -> Result<Option<Route>, NoMemory>
-    requires legs { HasSingleLegs machine.now }
+    requires rules { KeepsModelRules machine.now }
     requires fits { Fits machine.now config.now }
     requires askable { CanBeAsked machine.now (T.pre truth.now) }
     requires footprints { All (IsFootprintIn machine.now) footprints.now }
     requires there { source.0 < length machine.now.vertices }
+    requires among { Contains states.now source }
     ensures route { IfOk result (λ found. IfSome found (IsStateRoute machine.now)) }
     ensures some { (values : Truth) → Tells machine.now (T.post truth.now) values
         → IfOk result (λ found. IfSome found
-        (IsFreeFrom machine.now (configuration_of config.now) values event footprints.now source)) }
+        (IsFreeFrom machine.now (configuration_of config.now) values event states.now footprints.now source)) }
     ensures none { (values : Truth) → Tells machine.now (T.post truth.now) values
         → IfOk result (λ found. IfNone found
-        (IsSpent machine.now (configuration_of config.now) values event footprints.now source)) }
+        (IsSpent machine.now (configuration_of config.now) values event states.now footprints.now source)) }
 {
     for t in machine.outgoing(source) {
-        if let Some(route) = free_route(alloc, machine, config, truth, event, footprints, *t)? {
+        if let Some(route) = free_route(
+            alloc, machine, config, truth, event, states, footprints, *t,
+        )? {
             return Ok(Some(route));
         }
     }
@@ -107,7 +134,7 @@ struct Chosen {
 impl Chosen {
     // Adds the route and its footprint.
     fn add(&mut self, machine: &Machine, route: Route) -> Result<(), NoMemory>
-        requires legs { HasSingleLegs machine.now }
+        requires rules { KeepsModelRules machine.now }
         requires route { IsStateRoute machine.now route }
         ensures { OnOk result (IsAdded machine.now route self.old.routes.items self.old.footprints.items
             self.new.routes.items
@@ -118,7 +145,8 @@ impl Chosen {
         Ok(())
     }
 
-    // Adds a route that starts at the State, if there is one that clashes with none of those that were chosen.
+    // Adds a route from the States that starts at this one of them, if there is one that clashes
+    // with none of those that were chosen.
     fn add_from<T: Fn(GuardId) -> bool>(
         &mut self,
         alloc: Global,
@@ -126,19 +154,22 @@ impl Chosen {
         config: &Config,
         truth: &T,
         event: Event,
+        states: &[VertexId],
         source: VertexId,
     ) -> Result<(), NoMemory>
-        requires legs { HasSingleLegs machine.now }
+        requires rules { KeepsModelRules machine.now }
         requires fits { Fits machine.now config.now }
         requires askable { CanBeAsked machine.now (T.pre truth.now) }
         requires footprints { All (IsFootprintIn machine.now) self.old.footprints.items }
         requires there { source.0 < length machine.now.vertices }
+        requires among { Contains states.now source }
         ensures footprints { OnOk result (All (IsFootprintIn machine.now) self.new.footprints.items) }
         ensures grown { (values : Truth) → Tells machine.now (T.post truth.now) values
-            → (IsOutranked machine.now (configuration_of config.now) values event source → ⊥)
+            → ((s : VertexId) → Contains states.now s
+            → IsOutranked machine.now (configuration_of config.now) values event s → ⊥)
             → IsChosen machine.now (configuration_of config.now) values event self.old.routes.items
             self.old.footprints.items
-            → OnOk result (IsGrown machine.now (configuration_of config.now) values event (λ s. s ≡ source)
+            → OnOk result (IsGrown machine.now (configuration_of config.now) values event states.now (λ s. s ≡ source)
             self.old.footprints.items self.new.routes.items self.new.footprints.items) }
     {
         let found = free_route_from(
@@ -147,6 +178,7 @@ impl Chosen {
             config,
             truth,
             event,
+            states,
             self.footprints.as_slice(),
             source,
         )?;
@@ -156,7 +188,7 @@ impl Chosen {
         }
     }
 
-    // Adds what can be added from each of the States in turn.
+    // Adds what can be added from the States, from each of some of them in turn.
     fn add_from_each<T: Fn(GuardId) -> bool>(
         &mut self,
         alloc: Global,
@@ -165,23 +197,25 @@ impl Chosen {
         truth: &T,
         event: Event,
         states: &[VertexId],
+        some: &[VertexId],
     ) -> Result<(), NoMemory>
-        requires legs { HasSingleLegs machine.now }
+        requires rules { KeepsModelRules machine.now }
         requires fits { Fits machine.now config.now }
         requires askable { CanBeAsked machine.now (T.pre truth.now) }
         requires footprints { All (IsFootprintIn machine.now) self.old.footprints.items }
-        requires there { All (λ s. s.0 < length machine.now.vertices) states.now }
+        requires there { All (λ s. s.0 < length machine.now.vertices) some.now }
+        requires among { (s : VertexId) → Contains some.now s → Contains states.now s }
         ensures footprints { OnOk result (All (IsFootprintIn machine.now) self.new.footprints.items) }
         ensures grown { (values : Truth) → Tells machine.now (T.post truth.now) values
             → ((s : VertexId) → Contains states.now s
             → IsOutranked machine.now (configuration_of config.now) values event s → ⊥)
             → IsChosen machine.now (configuration_of config.now) values event self.old.routes.items
             self.old.footprints.items
-            → OnOk result (IsGrown machine.now (configuration_of config.now) values event (Contains states.now)
+            → OnOk result (IsGrown machine.now (configuration_of config.now) values event states.now (Contains some.now)
             self.old.footprints.items self.new.routes.items self.new.footprints.items) }
     {
-        for s in states {
-            self.add_from(alloc, machine, config, truth, event, *s)?;
+        for s in some {
+            self.add_from(alloc, machine, config, truth, event, states, *s)?;
         }
         Ok(())
     }
@@ -217,8 +251,8 @@ pub fn place_of(word: u64, count: usize) -> usize
     (word % count as u64) as usize
 }
 
-// Routes that fire together, of those that start at these States: from the place on that the word names, and then from
-// the first on.
+// Routes that fire together, of those that start at these States: from the place on that the word
+// names, and then from the first on.
 fn choose<T: Fn(GuardId) -> bool>(
     alloc: Global,
     machine: &Machine,
@@ -228,7 +262,7 @@ fn choose<T: Fn(GuardId) -> bool>(
     states: &[VertexId],
     word: u64,
 ) -> Result<Vec<Route>, NoMemory>
-    requires legs { HasSingleLegs machine.now }
+    requires rules { KeepsModelRules machine.now }
     requires fits { Fits machine.now config.now }
     requires askable { CanBeAsked machine.now (T.pre truth.now) }
     requires there { All (λ s. s.0 < length machine.now.vertices) states.now }
@@ -243,8 +277,8 @@ fn choose<T: Fn(GuardId) -> bool>(
         routes: Vec::new(alloc),
         footprints: Vec::new(alloc),
     };
-    chosen.add_from_each(alloc, machine, config, truth, event, first)?;
-    chosen.add_from_each(alloc, machine, config, truth, event, later)?;
+    chosen.add_from_each(alloc, machine, config, truth, event, states, first)?;
+    chosen.add_from_each(alloc, machine, config, truth, event, states, later)?;
     let Chosen {
         routes,
         footprints: _,
@@ -252,8 +286,9 @@ fn choose<T: Fn(GuardId) -> bool>(
     Ok(routes)
 }
 
-/// Routes that the event fires together. From all sets that it may fire the word settles one: of the States that react,
-/// those from a place on come first that the word names (UML 2.5.1, 14.2.3.9, transition selection).
+/// Routes that the event fires together. From all sets that it may fire the word settles one: of
+/// the States that react, those from a place on come first that the word names (UML 2.5.1,
+/// 14.2.3.9, transition selection).
 ///
 /// `NoMemory`: memory ran out.
 pub fn pick_firing_set<T: Fn(GuardId) -> bool>(
@@ -264,7 +299,7 @@ pub fn pick_firing_set<T: Fn(GuardId) -> bool>(
     event: Event,
     word: u64,
 ) -> Result<Firing, NoMemory>
-    requires legs { HasSingleLegs machine.now }
+    requires rules { KeepsModelRules machine.now }
     requires fits { Fits machine.now config.now }
     requires askable { CanBeAsked machine.now (T.pre truth.now) }
     ensures { (values : Truth) → Tells machine.now (T.post truth.now) values

@@ -13,19 +13,21 @@ ghost use Rattle.pssm_model.specs.Routes.{Truth};
 ghost use Rattle.pssm_model.specs.FiringSets.{Overrides};
 ghost use Rattle.pssm_config.specs.Tables.{Fits, configuration_of};
 ghost use Rattle.pssm_routes.specs.Telling.{CanBeAsked, Tells};
-ghost use Rattle.pssm_model.specs.SingleLegs.{HasSingleLegs};
-ghost use Rattle.pssm_routes.specs.inner.Starts.{IsStarted, Reacts, IsCandidate, HasSearch, IsFirstReacting, NoneReactsFrom, ReactsAlone};
-ghost use Rattle.pssm_routes.specs.inner.Ways.{EndsOnJunction, LeadsOut};
+ghost use Rattle.pssm_model.specs.WellFormed.{KeepsModelRules};
+ghost use Rattle.pssm_routes.specs.inner.Starts.{IsStartedWith, GoesOnBy, Reacts, IsCandidate, HasSearch};
+ghost use Rattle.pssm_routes.specs.inner.Starts.{IsFirstReacting, NoneReactsFrom, ReactsAlone};
+ghost use Rattle.pssm_routes.specs.inner.Ways.{EndsInside, LeadsOut};
 ghost use Rattle.pssm_routes.specs.inner.Steps.{KnowsDeadEnds};
 
-use crate::seeking::{Search, ends_on_junction, find_way, search_if};
-use crate::starting::is_started;
+use crate::areas::state_around;
+use crate::leading::{is_started_with, onward};
+use crate::seeking::{Search, find_way, search_if};
 use pssm_config::Config;
-use pssm_model::{Event, GuardId, Machine, Owner, SignalId, TransId, VertexId};
+use pssm_model::{Event, GuardId, Machine, SignalId, TransId, VertexId, VertexKind};
 use std::alloc::{AllocError as NoMemory, Global};
 
-// Whether the event starts the transition, and a way leads out from it over junctions that the
-// search has not seen.
+// Whether the event starts the transition, alone or with the others into its join, and a way leads
+// out from there over junctions and exit points that the search has not seen.
 fn leads<T: Fn(GuardId) -> bool>(
     machine: &Machine,
     config: &Config,
@@ -34,7 +36,7 @@ fn leads<T: Fn(GuardId) -> bool>(
     t: TransId,
     search: &mut [Search],
 ) -> bool
-    requires legs { HasSingleLegs machine.now }
+    requires rules { KeepsModelRules machine.now }
     requires fits { Fits machine.now config.now }
     requires askable { CanBeAsked machine.now (T.pre truth.now) }
     requires there { t.0 < length machine.now.transitions }
@@ -46,16 +48,17 @@ fn leads<T: Fn(GuardId) -> bool>(
     ensures none { (values : Truth) → Tells machine.now (T.post truth.now) values
         → KnowsDeadEnds machine.now values None search.old
         → result ≡ false
-        → (s : VertexId) → IsStarted machine.now (configuration_of config.now) event t s
-        → LeadsOut machine.now values None t → ⊥ }
+        → (u : TransId) → IsStartedWith machine.now (configuration_of config.now) event t → GoesOnBy machine.now t u
+        → LeadsOut machine.now values None u → ⊥ }
     ensures dead { (values : Truth) → Tells machine.now (T.post truth.now) values
         → KnowsDeadEnds machine.now values None search.old
         → result ≡ false → KnowsDeadEnds machine.now values None search.new }
 {
-    if !is_started(machine, config, event, t) {
+    let _shaped = machine.regions();
+    if !is_started_with(machine, config, event, t) {
         return false;
     }
-    find_way(machine, truth, None, t, search).is_some()
+    find_way(machine, truth, None, onward(machine, t), search).is_some()
 }
 
 // Whether a route that the event enables starts at the vertex. The search goes on from what it has
@@ -68,7 +71,7 @@ fn reacts<T: Fn(GuardId) -> bool>(
     source: VertexId,
     search: &mut [Search],
 ) -> bool
-    requires legs { HasSingleLegs machine.now }
+    requires rules { KeepsModelRules machine.now }
     requires fits { Fits machine.now config.now }
     requires askable { CanBeAsked machine.now (T.pre truth.now) }
     requires there { source.0 < length machine.now.vertices }
@@ -108,7 +111,7 @@ fn reacts_within<T: Fn(GuardId) -> bool>(
     source: VertexId,
     search: &mut [Search],
 ) -> bool
-    requires legs { HasSingleLegs machine.now }
+    requires rules { KeepsModelRules machine.now }
     requires fits { Fits machine.now config.now }
     requires askable { CanBeAsked machine.now (T.pre truth.now) }
     requires state { state.0 < length machine.now.vertices }
@@ -129,28 +132,44 @@ fn reacts_within<T: Fn(GuardId) -> bool>(
     reacts(machine, config, truth, event, source, search)
 }
 
-// Whether the event starts a transition that ends on a junction.
-fn starts_over_junction(machine: &Machine, config: &Config, event: Event) -> bool
+// Whether a search is wanted for a transition: it ends on a junction, an exit point, or a join,
+// from which the route may go on to one.
+fn wants_search(machine: &Machine, t: TransId) -> bool
+    requires there { t.0 < length machine.now.transitions }
+    ensures { IsFalse result → (u : TransId) → GoesOnBy machine.now t u → EndsInside machine.now u → ⊥ }
+{
+    match machine.vertex(machine.target(t)).kind {
+        VertexKind::Junction => true,
+        VertexKind::ExitPoint => true,
+        VertexKind::Join => true,
+        _ => false,
+    }
+}
+
+// Whether the event starts the transition, alone or with others, and a search is wanted for it.
+fn starts_search(machine: &Machine, config: &Config, event: Event, t: TransId) -> bool
+    requires rules { KeepsModelRules machine.now }
     requires fits { Fits machine.now config.now }
-    ensures { IsFalse result → (t : TransId) (s : VertexId)
-        → IsStarted machine.now (configuration_of config.now) event t s → EndsOnJunction machine.now t → ⊥ }
+    requires there { t.0 < length machine.now.transitions }
+    ensures { IsFalse result → (u : TransId) → IsStartedWith machine.now (configuration_of config.now) event t
+        → GoesOnBy machine.now t u → EndsInside machine.now u → ⊥ }
+{
+    wants_search(machine, t) && is_started_with(machine, config, event, t)
+}
+
+// Whether the event starts a transition for which a search is wanted.
+fn some_start_search(machine: &Machine, config: &Config, event: Event) -> bool
+    requires rules { KeepsModelRules machine.now }
+    requires fits { Fits machine.now config.now }
+    ensures { IsFalse result → (t u : TransId) → IsStartedWith machine.now (configuration_of config.now) event t
+        → GoesOnBy machine.now t u → EndsInside machine.now u → ⊥ }
 {
     for number in 0..machine.transitions() {
-        if is_start_over_junction(machine, config, event, TransId(number)) {
+        if starts_search(machine, config, event, TransId(number)) {
             return true;
         }
     }
     false
-}
-
-// Whether the event starts the transition, and it ends on a junction.
-fn is_start_over_junction(machine: &Machine, config: &Config, event: Event, t: TransId) -> bool
-    requires fits { Fits machine.now config.now }
-    requires there { t.0 < length machine.now.transitions }
-    ensures { IsFalse result → (s : VertexId)
-        → IsStarted machine.now (configuration_of config.now) event t s → EndsOnJunction machine.now t → ⊥ }
-{
-    ends_on_junction(machine, t) && is_started(machine, config, event, t)
 }
 
 // Whether a route that the signal enables starts at the State or in it, by this search.
@@ -162,7 +181,7 @@ fn overrides_with<T: Fn(GuardId) -> bool>(
     state: VertexId,
     search: &mut [Search],
 ) -> bool
-    requires legs { HasSingleLegs machine.now }
+    requires rules { KeepsModelRules machine.now }
     requires fits { Fits machine.now config.now }
     requires askable { CanBeAsked machine.now (T.pre truth.now) }
     requires there { state.0 < length machine.now.vertices }
@@ -191,7 +210,7 @@ fn overrides_by_search<T: Fn(GuardId) -> bool>(
     signal: SignalId,
     state: VertexId,
 ) -> bool
-    requires legs { HasSingleLegs machine.now }
+    requires rules { KeepsModelRules machine.now }
     requires fits { Fits machine.now config.now }
     requires askable { CanBeAsked machine.now (T.pre truth.now) }
     requires there { state.0 < length machine.now.vertices }
@@ -210,14 +229,14 @@ pub fn overrides<T: Fn(GuardId) -> bool>(
     signal: SignalId,
     state: VertexId,
 ) -> bool
-    requires legs { HasSingleLegs machine.now }
+    requires rules { KeepsModelRules machine.now }
     requires fits { Fits machine.now config.now }
     requires askable { CanBeAsked machine.now (T.pre truth.now) }
     requires there { state.0 < length machine.now.vertices }
     ensures { (values : Truth) → Tells machine.now (T.post truth.now) values
         → (IsTrue result ↔ Overrides machine.now (configuration_of config.now) values signal state) }
 {
-    if starts_over_junction(machine, config, Event::Signal(signal)) {
+    if some_start_search(machine, config, Event::Signal(signal)) {
         return overrides_by_search(machine, config, truth, signal, state);
     }
     overrides_with(machine, config, truth, signal, state, &mut [])
@@ -244,7 +263,7 @@ fn reacts_afresh<T: Fn(GuardId) -> bool>(
     source: VertexId,
     search: &mut [Search],
 ) -> bool
-    requires legs { HasSingleLegs machine.now }
+    requires rules { KeepsModelRules machine.now }
     requires fits { Fits machine.now config.now }
     requires askable { CanBeAsked machine.now (T.pre truth.now) }
     requires there { source.0 < length machine.now.vertices }
@@ -273,7 +292,7 @@ fn reacting_from<T: Fn(GuardId) -> bool>(
     first: u16,
     search: &mut [Search],
 ) -> Option<VertexId>
-    requires legs { HasSingleLegs machine.now }
+    requires rules { KeepsModelRules machine.now }
     requires fits { Fits machine.now config.now }
     requires askable { CanBeAsked machine.now (T.pre truth.now) }
     requires room { HasSearch machine.now (configuration_of config.now) event search.old }
@@ -306,7 +325,7 @@ fn lone_with<T: Fn(GuardId) -> bool>(
     event: Event,
     search: &mut [Search],
 ) -> Option<VertexId>
-    requires legs { HasSingleLegs machine.now }
+    requires rules { KeepsModelRules machine.now }
     requires fits { Fits machine.now config.now }
     requires askable { CanBeAsked machine.now (T.pre truth.now) }
     requires room { HasSearch machine.now (configuration_of config.now) event search.old }
@@ -322,22 +341,21 @@ fn lone_with<T: Fn(GuardId) -> bool>(
     }
 }
 
-/// The vertex that reacts to the event, where it is the only one and no start of the event ends on a junction. It takes no
-/// memory.
+/// The vertex that reacts to the event, where it is the only one and no start of the event wants a search. It takes no memory.
 pub fn lone_reacting<T: Fn(GuardId) -> bool>(
     machine: &Machine,
     config: &Config,
     truth: &T,
     event: Event,
 ) -> Option<VertexId>
-    requires legs { HasSingleLegs machine.now }
+    requires rules { KeepsModelRules machine.now }
     requires fits { Fits machine.now config.now }
     requires askable { CanBeAsked machine.now (T.pre truth.now) }
     ensures there { IfSome result (λ s. s.0 < length machine.now.vertices) }
     ensures alone { (values : Truth) → Tells machine.now (T.post truth.now) values
         → IfSome result (ReactsAlone machine.now (configuration_of config.now) values event) }
 {
-    if starts_over_junction(machine, config, event) {
+    if some_start_search(machine, config, event) {
         return None;
     }
     lone_with(machine, config, truth, event, &mut [])
@@ -351,7 +369,7 @@ fn reacting_states<T: Fn(GuardId) -> bool>(
     truth: &T,
     event: Event,
 ) -> Result<Vec<VertexId>, NoMemory>
-    requires legs { HasSingleLegs machine.now }
+    requires rules { KeepsModelRules machine.now }
     requires fits { Fits machine.now config.now }
     requires askable { CanBeAsked machine.now (T.pre truth.now) }
     ensures states { (values : Truth) → Tells machine.now (T.post truth.now) values
@@ -359,7 +377,7 @@ fn reacting_states<T: Fn(GuardId) -> bool>(
         ↔ Reacts machine.now (configuration_of config.now) values event s) }
     ensures there { IfOk result (λ found. All (λ s. s.0 < length machine.now.vertices) found.items) }
 {
-    let mut made = search_if(alloc, starts_over_junction(machine, config, event))?;
+    let mut made = search_if(alloc, some_start_search(machine, config, event))?;
     let search = made.as_mut_slice();
     let mut found = Vec::new(alloc);
     for number in 0..machine.vertices() {
@@ -369,22 +387,6 @@ fn reacting_states<T: Fn(GuardId) -> bool>(
         }
     }
     Ok(found)
-}
-
-// The innermost State in which the vertex lies, if there is one.
-fn state_around(machine: &Machine, v: VertexId) -> Option<VertexId>
-    requires { v.0 < length machine.now.vertices }
-    ensures there { IfSome result (λ s. s.0 < length machine.now.vertices) }
-    ensures around { IfSome result (LiesInState machine.now v) }
-    ensures innermost { IfSome result (λ s. (q : VertexId)
-        → LiesInState machine.now v q → IsOrLiesIn machine.now s q) }
-    ensures none { IfNone result ((s : VertexId) → LiesInState machine.now v s → ⊥) }
-{
-    let _has_shape = machine.regions();
-    match machine.region_owner(machine.home(v)) {
-        Owner::State(s) => Some(s),
-        _ => None,
-    }
 }
 
 // Marks the States in which the vertex lies.
@@ -449,7 +451,7 @@ pub fn candidates<T: Fn(GuardId) -> bool>(
     truth: &T,
     event: Event,
 ) -> Result<Vec<VertexId>, NoMemory>
-    requires legs { HasSingleLegs machine.now }
+    requires rules { KeepsModelRules machine.now }
     requires fits { Fits machine.now config.now }
     requires askable { CanBeAsked machine.now (T.pre truth.now) }
     ensures there { IfOk result (λ found. All (λ s. s.0 < length machine.now.vertices) found.items) }

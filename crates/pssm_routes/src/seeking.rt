@@ -1,34 +1,35 @@
-//! The search for a way over junctions: each junction is gone on from once.
+//! The search for a way over junctions and exit points: each of them is gone on from once.
 ghost use Rattle.std.specs.Prelude.{◌≡◌, ◌↔◌, ◌<◌, ◌≤◌, ◌+◌, List, Option, length, IsTrue, IfSome, IfNone, IfOk};
-ghost use Rattle.pssm_model.specs.declared.ids.VertexId.{VertexId};
 ghost use Rattle.pssm_model.specs.declared.ids.RegionId.{RegionId};
 ghost use Rattle.pssm_model.specs.declared.ids.TransId.{TransId};
 ghost use Rattle.pssm_model.specs.declared.elements.DraftMachine.{DraftMachine};
 ghost use Rattle.pssm_model.specs.declared.elements.VertexKind.TheVariants as kinds;
 ghost use Rattle.pssm_model.specs.Forest.{HasKind};
-ghost use Rattle.pssm_model.specs.Legs.{Leaves};
 ghost use Rattle.pssm_model.specs.Routes.{Truth};
 ghost use Rattle.pssm_routes.specs.declared.seeking.Search.{Search};
 ghost use Rattle.pssm_routes.specs.declared.seeking.Step.{Step};
 ghost use Rattle.pssm_routes.specs.Telling.{CanBeAsked, Tells};
-ghost use Rattle.pssm_routes.specs.inner.Ways.{IsAllowed, EndsOnJunction, IsOpen, LeadsOut};
+ghost use Rattle.pssm_routes.specs.inner.Passing.{IsPassedOver, HasWay, CanBePassed};
+ghost use Rattle.pssm_routes.specs.inner.Ways.{IsAllowed, EndsInside, IsOpen, LeadsOut};
 ghost use Rattle.pssm_routes.specs.inner.Steps.{SeesDeadEnds, KnowsDeadEnds, steps_of, IsFound};
 ghost use Rattle.pssm_routes.specs.inner.Seeking.{ComesTo, Tries, ComesOnce, IsUnderWay};
 
 use crate::guards::is_true_at;
+use crate::passing::Points;
+use crate::route::has_no_out;
 use pssm_model::{GuardId, Machine, RegionId, TransId, VertexId, VertexKind};
 use std::alloc::{AllocError as NoMemory, Global};
 
-/// By which transition a search came to a junction, and the place of the step before it, if there
-/// is one.
+/// By which transition a search came to a junction or exit point, and the place of the step before
+/// it, if there is one.
 #[derive(Clone, Copy, PartialEq, Eq, Debug)]
 pub struct Step {
     pub by: TransId,
     pub before: Option<u16>,
 }
 
-/// What a search has seen: a mark for each junction, and the steps by which it came to them, in the
-/// order in which it did. A machine has at most 4,096 vertices.
+/// What a search has seen: a mark for each junction and exit point, and the steps by which it came
+/// to them, in the order in which it did. A machine has at most 4,096 vertices.
 #[derive(Drop)]
 pub struct Search {
     pub seen: [bool; 4096],
@@ -62,8 +63,8 @@ impl Search {
         *self = Search::new();
     }
 
-    // Comes to the target of a step's transition. It answers whether that is no junction; a
-    // junction is marked, and the step kept, unless it was seen before.
+    // Comes to the target of a step's transition. It answers whether that is no junction or exit
+    // point; one that is gets a mark, and the step is kept, unless it was seen before.
     fn comes_out(&mut self, machine: &Machine, step: Step) -> bool
         requires there { step.by.0 < length machine.now.transitions }
         requires once { ComesOnce machine.now self.now }
@@ -72,7 +73,7 @@ impl Search {
     {
         let _shaped = machine.regions();
         let target = machine.target(step.by);
-        if machine.vertex(target).kind != VertexKind::Junction {
+        if !is_passed_over(machine, target) {
             return true;
         }
         if !self.seen[target.0 as usize] {
@@ -84,7 +85,7 @@ impl Search {
     }
 
     // Comes to the target of a step's transition if the transition is open. It answers whether it
-    // is and its target is no junction.
+    // is and its target is no junction or exit point.
     fn try_step<T: Fn(GuardId) -> bool>(
         &mut self,
         machine: &Machine,
@@ -103,8 +104,8 @@ impl Search {
         is_open(machine, truth, within, step.by) && self.comes_out(machine, step)
     }
 
-    // Goes on from the junction to which the step with this place came. It answers the last step of
-    // a way out, if it comes to the end of one.
+    // Goes on from the junction or exit point to which the step with this place came. It answers
+    // the last step of a way out, if it comes to the end of one.
     fn go_on<T: Fn(GuardId) -> bool>(
         &mut self,
         machine: &Machine,
@@ -116,6 +117,7 @@ impl Search {
         requires region { IfSome within (λ r. r.0 < length machine.now.regions) }
         requires askable { CanBeAsked machine.now (T.pre truth.now) }
         requires once { ComesOnce machine.now self.now }
+        ensures there { IfSome result (λ last. last.by.0 < length machine.now.transitions) }
         ensures found { (values : Truth) (start : TransId) (before : Search)
             → Tells machine.now (T.post truth.now) values
             → IsUnderWay machine.now values within start before self.old place
@@ -127,8 +129,8 @@ impl Search {
             (IsUnderWay machine.now values within start before self.new (place + 1)) }
         ensures once { ComesOnce machine.now self.new }
     {
-        let junction = machine.target(self.steps[place as usize].by);
-        for t in machine.outgoing(junction) {
+        let passed = machine.target(self.steps[place as usize].by);
+        for t in machine.outgoing(passed) {
             let step = Step {
                 by: *t,
                 before: Some(place),
@@ -141,13 +143,72 @@ impl Search {
     }
 }
 
-/// Whether the transition ends on a junction.
-pub fn ends_on_junction(machine: &Machine, t: TransId) -> bool
-    requires { t.0 < length machine.now.transitions }
-    ensures { IsTrue result ↔ EndsOnJunction machine.now t }
+// Whether the vertex is a junction or exit point.
+fn is_passed_over(machine: &Machine, v: VertexId) -> bool
+    requires { v.0 < length machine.now.vertices }
+    ensures { IsTrue result ↔ IsPassedOver machine.now v }
 {
-    let _shaped = machine.regions();
-    machine.vertex(machine.target(t)).kind == VertexKind::Junction
+    match machine.vertex(v).kind {
+        VertexKind::Junction => true,
+        VertexKind::ExitPoint => true,
+        _ => false,
+    }
+}
+
+/// Whether the transition ends on a junction or exit point.
+pub fn ends_inside(machine: &Machine, t: TransId) -> bool
+    requires { t.0 < length machine.now.transitions }
+    ensures { IsTrue result ↔ EndsInside machine.now t }
+{
+    is_passed_over(machine, machine.target(t))
+}
+
+// Whether a way leads on from the vertex. What is marked stands in this call alone.
+#[inline(never)]
+fn has_way<T: Fn(GuardId) -> bool>(machine: &Machine, truth: &T, v: VertexId) -> bool
+    requires there { v.0 < length machine.now.vertices }
+    requires askable { CanBeAsked machine.now (T.pre truth.now) }
+    ensures { (values : Truth) → Tells machine.now (T.post truth.now) values
+        → (IsTrue result ↔ HasWay machine.now values v) }
+{
+    let points = Points::of(machine, truth);
+    points.has(machine, v)
+}
+
+// Whether the vertex is an entry point.
+fn is_entry_point(machine: &Machine, v: VertexId) -> bool
+    requires { v.0 < length machine.now.vertices }
+    ensures { IsTrue result ↔ HasKind machine.now v kinds.EntryPoint }
+{
+    machine.vertex(v).kind == VertexKind::EntryPoint
+}
+
+// Whether a way leads on from the entry point. One without transitions out is passed at once.
+fn passes_entry<T: Fn(GuardId) -> bool>(machine: &Machine, truth: &T, v: VertexId) -> bool
+    requires there { v.0 < length machine.now.vertices }
+    requires entry { HasKind machine.now v kinds.EntryPoint }
+    requires askable { CanBeAsked machine.now (T.pre truth.now) }
+    ensures { (values : Truth) → Tells machine.now (T.post truth.now) values
+        → (IsTrue result ↔ HasWay machine.now values v) }
+{
+    if has_no_out(machine, v) {
+        return true;
+    }
+    has_way(machine, truth, v)
+}
+
+// Whether the transition ends on no entry point from which no way leads on.
+fn can_be_passed<T: Fn(GuardId) -> bool>(machine: &Machine, truth: &T, t: TransId) -> bool
+    requires there { t.0 < length machine.now.transitions }
+    requires askable { CanBeAsked machine.now (T.pre truth.now) }
+    ensures { (values : Truth) → Tells machine.now (T.post truth.now) values
+        → (IsTrue result ↔ CanBePassed machine.now values t) }
+{
+    let v = machine.target(t);
+    if !is_entry_point(machine, v) {
+        return true;
+    }
+    passes_entry(machine, truth, v)
 }
 
 // Whether the vertex lies in the region, if one is named.
@@ -162,7 +223,8 @@ fn is_allowed(machine: &Machine, within: Option<RegionId>, v: VertexId) -> bool
     }
 }
 
-// Whether the transition is true and ends where it may.
+// Whether the transition is true, ends where it may, and not on an entry point from which no way
+// leads on.
 fn is_open<T: Fn(GuardId) -> bool>(
     machine: &Machine,
     truth: &T,
@@ -175,10 +237,12 @@ fn is_open<T: Fn(GuardId) -> bool>(
     ensures { (values : Truth) → Tells machine.now (T.post truth.now) values
         → (IsTrue result ↔ IsOpen machine.now values within t) }
 {
-    is_allowed(machine, within, machine.target(t)) && is_true_at(machine, truth, t)
+    is_allowed(machine, within, machine.target(t))
+        && is_true_at(machine, truth, t)
+        && can_be_passed(machine, truth, t)
 }
 
-// The step by a transition that ends on no junction, where it is open.
+// The step by a transition that ends on no junction or exit point, where it is open.
 fn step_alone<T: Fn(GuardId) -> bool>(
     machine: &Machine,
     truth: &T,
@@ -188,7 +252,8 @@ fn step_alone<T: Fn(GuardId) -> bool>(
     requires there { t.0 < length machine.now.transitions }
     requires region { IfSome within (λ r. r.0 < length machine.now.regions) }
     requires askable { CanBeAsked machine.now (T.pre truth.now) }
-    requires out { EndsOnJunction machine.now t → ⊥ }
+    requires out { EndsInside machine.now t → ⊥ }
+    ensures there { IfSome result (λ last. last.by.0 < length machine.now.transitions) }
     ensures found { (values : Truth) (steps : List Step) → Tells machine.now (T.post truth.now) values
         → IfSome result (IsFound machine.now values within steps t) }
     ensures none { (values : Truth) → Tells machine.now (T.post truth.now) values
@@ -203,8 +268,9 @@ fn step_alone<T: Fn(GuardId) -> bool>(
     })
 }
 
-// Seeks a way from the transition over junctions that the search has not seen. It answers the last transition of a
-// way, and the place of the step before it; none exactly where there is no way.
+// Seeks a way from the transition over junctions and exit points that the search has not seen. It
+// answers the last transition of a way, and the place of the step before it; none exactly where
+// there is no way.
 fn find_way_over<T: Fn(GuardId) -> bool>(
     machine: &Machine,
     truth: &T,
@@ -215,8 +281,7 @@ fn find_way_over<T: Fn(GuardId) -> bool>(
     requires there { start.0 < length machine.now.transitions }
     requires region { IfSome within (λ r. r.0 < length machine.now.regions) }
     requires askable { CanBeAsked machine.now (T.pre truth.now) }
-    requires source { (v : VertexId) → Leaves machine.now start v
-        → HasKind machine.now v kinds.Junction → ⊥ }
+    ensures there { IfSome result (λ last. last.by.0 < length machine.now.transitions) }
     ensures found { (values : Truth) → Tells machine.now (T.post truth.now) values
         → IfSome result (IsFound machine.now values within search.new.steps start) }
     ensures none { (values : Truth) → Tells machine.now (T.post truth.now) values
@@ -244,9 +309,9 @@ fn find_way_over<T: Fn(GuardId) -> bool>(
     None
 }
 
-/// Seeks a way from the transition over junctions that the search has not seen. It answers the last transition of a
-/// way, and the place of the step before it; none exactly where there is no way. Where the transition ends on no
-/// junction, it takes no search.
+/// Seeks a way from the transition over junctions and exit points that the search has not seen. It
+/// answers the last transition of a way, and the place of the step before it; none exactly where
+/// there is no way. Where the transition ends on no junction or exit point, it takes no search.
 pub fn find_way<T: Fn(GuardId) -> bool>(
     machine: &Machine,
     truth: &T,
@@ -257,9 +322,8 @@ pub fn find_way<T: Fn(GuardId) -> bool>(
     requires there { start.0 < length machine.now.transitions }
     requires region { IfSome within (λ r. r.0 < length machine.now.regions) }
     requires askable { CanBeAsked machine.now (T.pre truth.now) }
-    requires source { (v : VertexId) → Leaves machine.now start v
-        → HasKind machine.now v kinds.Junction → ⊥ }
-    requires room { EndsOnJunction machine.now start → 0 < length search.old }
+    requires room { EndsInside machine.now start → 0 < length search.old }
+    ensures there { IfSome result (λ last. last.by.0 < length machine.now.transitions) }
     ensures same { length search.new ≡ length search.old }
     ensures found { (values : Truth) → Tells machine.now (T.post truth.now) values
         → IfSome result (IsFound machine.now values within (steps_of search.new) start) }
@@ -270,7 +334,7 @@ pub fn find_way<T: Fn(GuardId) -> bool>(
         → KnowsDeadEnds machine.now values within search.old
         → IfNone result (KnowsDeadEnds machine.now values within search.new) }
 {
-    if ends_on_junction(machine, start) {
+    if ends_inside(machine, start) {
         find_way_over(machine, truth, within, start, &mut search[0])
     } else {
         step_alone(machine, truth, within, start)

@@ -1,22 +1,23 @@
-//! Whether routes are what fires: a largest set of enabled ones that do not conflict (UML 2.5.1, 14.2.3.9).
+//! Whether routes are what fires: a largest set of enabled ones that do not conflict (UML 2.5.1,
+//! 14.2.3.9).
 ghost use Rattle.std.specs.Prelude.{◌≢◌, ◌↔◌, ◌<◌, [], length, All, Contains, IsTrue, IfOk, IfSome};
 ghost use Rattle.pssm_model.specs.declared.ids.VertexId.{VertexId};
 ghost use Rattle.pssm_model.specs.declared.ids.TransId.{TransId};
-ghost use Rattle.pssm_model.specs.declared.steps.Route.{Route};
-ghost use Rattle.pssm_model.specs.Routes.{Truth, IsEnabled, IsStateRoute};
+ghost use Rattle.pssm_model.specs.declared.steps.Route.{Route as DraftRoute};
+ghost use Rattle.pssm_model.specs.Legs.{Leaves};
+ghost use Rattle.pssm_model.specs.Routes.{Truth, IsSource, IsEnabled, IsStateRoute};
 ghost use Rattle.pssm_model.specs.FiringSets.{StartsBefore, IsListed, IsFiring};
 ghost use Rattle.pssm_config.specs.Tables.{Fits, configuration_of};
 ghost use Rattle.pssm_routes.specs.Telling.{CanBeAsked, Tells};
-ghost use Rattle.pssm_model.specs.SingleLegs.{HasSingleLegs};
+ghost use Rattle.pssm_model.specs.WellFormed.{KeepsModelRules};
 ghost use Rattle.pssm_routes.specs.inner.Footprints.{AreFootprints, IsFootprintIn, ClashesWithSome};
-ghost use Rattle.pssm_routes.specs.inner.Starts.{IsStarted};
 ghost use Rattle.pssm_routes.specs.inner.Sets.{AreApart, HasJoiner, HasJoinerFrom, AreComplete};
 
 use crate::areas::{Footprint, clash, footprint_of};
 use crate::joining::has_joiner;
+use crate::leading::{is_started_with, leave_among, start_all_among};
 use crate::reacting::{candidates, lone_reacting};
 use crate::route::check_route;
-use crate::starting::is_started;
 use pssm_config::Config;
 use pssm_model::{Event, Firing, GuardId, Machine, Route, TransId, VertexId};
 use std::alloc::{AllocError as NoMemory, Global};
@@ -29,7 +30,7 @@ fn are_enabled<T: Fn(GuardId) -> bool>(
     event: Event,
     routes: &[Route],
 ) -> bool
-    requires legs { HasSingleLegs machine.now }
+    requires rules { KeepsModelRules machine.now }
     requires fits { Fits machine.now config.now }
     requires askable { CanBeAsked machine.now (T.pre truth.now) }
     ensures enabled { (values : Truth) → Tells machine.now (T.post truth.now) values
@@ -73,7 +74,7 @@ fn footprints_of(
     machine: &Machine,
     routes: &[Route],
 ) -> Result<Vec<Footprint>, NoMemory>
-    requires legs { HasSingleLegs machine.now }
+    requires rules { KeepsModelRules machine.now }
     requires routes { All (IsStateRoute machine.now) routes.now }
     ensures footprints { IfOk result (λ footprints. AreFootprints machine.now routes.now footprints.items) }
     ensures there { IfOk result (λ footprints. All (IsFootprintIn machine.now) footprints.items) }
@@ -114,76 +115,84 @@ fn are_apart(machine: &Machine, footprints: &[Footprint]) -> bool
     true
 }
 
-// Whether the State is one of these.
-fn is_among(states: &[VertexId], s: VertexId) -> bool
-    ensures { IsTrue result ↔ Contains states.now s }
+// Whether the sources of the route are among the States.
+fn starts_among(machine: &Machine, states: &[VertexId], route: &Route) -> bool
+    requires route { IsStateRoute machine.now route.now }
+    ensures { IsTrue result ↔ ((s : VertexId) → IsSource machine.now route.now s → Contains states.now s) }
 {
-    states.contains(&s)
+    leave_among(machine, states, route.starts.as_slice())
 }
 
-// Whether the sources of all the footprints are among the States.
-fn start_among(footprints: &[Footprint], states: &[VertexId]) -> bool
-    ensures { IsTrue result ↔ All (λ footprint. Contains states.now footprint.source) footprints.now }
+// Whether the sources of all the routes are among the States.
+fn start_among(machine: &Machine, states: &[VertexId], routes: &[Route]) -> bool
+    requires routes { All (IsStateRoute machine.now) routes.now }
+    ensures { IsTrue result ↔ ((p : DraftRoute) (s : VertexId) → Contains routes.now p
+        → IsSource machine.now p s → Contains states.now s) }
 {
-    for footprint in footprints {
-        if !is_among(states, footprint.source) {
+    for route in routes {
+        if !starts_among(machine, states, route) {
             return false;
         }
     }
     true
 }
 
-// Whether a route with this start could join those of the footprints.
+// Whether a route from these States with this start could join those of the footprints.
 fn joins_by<T: Fn(GuardId) -> bool>(
     machine: &Machine,
     config: &Config,
     truth: &T,
     event: Event,
+    states: &[VertexId],
     footprints: &[Footprint],
     t: TransId,
 ) -> bool
-    requires legs { HasSingleLegs machine.now }
+    requires rules { KeepsModelRules machine.now }
     requires fits { Fits machine.now config.now }
     requires footprints { All (IsFootprintIn machine.now) footprints.now }
     requires askable { CanBeAsked machine.now (T.pre truth.now) }
     requires there { t.0 < length machine.now.transitions }
+    requires source { (s : VertexId) → Leaves machine.now t s → Contains states.now s }
     ensures { (values : Truth) → Tells machine.now (T.post truth.now) values
-        → (IsTrue result ↔ ((s : VertexId) × IsStarted machine.now (configuration_of config.now) event t s
-        × HasJoiner machine.now (configuration_of config.now) values event footprints.now t)) }
+        → (IsTrue result
+        ↔ HasJoiner machine.now (configuration_of config.now) values event states.now footprints.now t) }
 {
-    if !is_started(machine, config, event, t) {
+    if !is_started_with(machine, config, event, t) {
         return false;
     }
-    has_joiner(machine, truth, footprints, t)
+    start_all_among(machine, states, t) && has_joiner(machine, truth, footprints, t)
 }
 
-// Whether a route that starts at the State could join those of the footprints.
+// Whether a route from these States that starts at this one of them could join those of the
+// footprints.
 fn joins_from<T: Fn(GuardId) -> bool>(
     machine: &Machine,
     config: &Config,
     truth: &T,
     event: Event,
+    states: &[VertexId],
     footprints: &[Footprint],
     source: VertexId,
 ) -> bool
-    requires legs { HasSingleLegs machine.now }
+    requires rules { KeepsModelRules machine.now }
     requires fits { Fits machine.now config.now }
     requires footprints { All (IsFootprintIn machine.now) footprints.now }
     requires askable { CanBeAsked machine.now (T.pre truth.now) }
     requires there { source.0 < length machine.now.vertices }
+    requires among { Contains states.now source }
     ensures { (values : Truth) → Tells machine.now (T.post truth.now) values
-        → (IsTrue result ↔ ((t : TransId) × IsStarted machine.now (configuration_of config.now) event t source
-        × HasJoiner machine.now (configuration_of config.now) values event footprints.now t)) }
+        → (IsTrue result ↔ ((t : TransId) × Leaves machine.now t source
+        × HasJoiner machine.now (configuration_of config.now) values event states.now footprints.now t)) }
 {
     for t in machine.outgoing(source) {
-        if joins_by(machine, config, truth, event, footprints, *t) {
+        if joins_by(machine, config, truth, event, states, footprints, *t) {
             return true;
         }
     }
     false
 }
 
-// Whether a route that starts at one of the States could join those of the footprints.
+// Whether a route that starts at the States could join those of the footprints.
 fn joins_from_some<T: Fn(GuardId) -> bool>(
     machine: &Machine,
     config: &Config,
@@ -192,7 +201,7 @@ fn joins_from_some<T: Fn(GuardId) -> bool>(
     footprints: &[Footprint],
     states: &[VertexId],
 ) -> bool
-    requires legs { HasSingleLegs machine.now }
+    requires rules { KeepsModelRules machine.now }
     requires fits { Fits machine.now config.now }
     requires footprints { All (IsFootprintIn machine.now) footprints.now }
     requires askable { CanBeAsked machine.now (T.pre truth.now) }
@@ -202,33 +211,35 @@ fn joins_from_some<T: Fn(GuardId) -> bool>(
         ↔ HasJoinerFrom machine.now (configuration_of config.now) values event states.now footprints.now) }
 {
     for s in states {
-        if joins_from(machine, config, truth, event, footprints, *s) {
+        if joins_from(machine, config, truth, event, states, footprints, *s) {
             return true;
         }
     }
     false
 }
 
-// Whether the sources of the footprints are among the States, no two of them clash, and no route that starts at one of
-// the States could join theirs.
+// Whether the sources of the routes are among the States, no two of their footprints clash, and no
+// route that starts at the States could join them.
 fn are_complete<T: Fn(GuardId) -> bool>(
     machine: &Machine,
     config: &Config,
     truth: &T,
     event: Event,
+    routes: &[Route],
     footprints: &[Footprint],
     states: &[VertexId],
 ) -> bool
-    requires legs { HasSingleLegs machine.now }
+    requires rules { KeepsModelRules machine.now }
     requires fits { Fits machine.now config.now }
+    requires routes { All (IsStateRoute machine.now) routes.now }
     requires footprints { All (IsFootprintIn machine.now) footprints.now }
     requires askable { CanBeAsked machine.now (T.pre truth.now) }
     requires there { All (λ s. s.0 < length machine.now.vertices) states.now }
     ensures { (values : Truth) → Tells machine.now (T.post truth.now) values
-        → (IsTrue result
-        ↔ AreComplete machine.now (configuration_of config.now) values event states.now footprints.now) }
+        → (IsTrue result ↔ AreComplete machine.now (configuration_of config.now) values event states.now
+        routes.now footprints.now) }
 {
-    start_among(footprints, states)
+    start_among(machine, states, routes)
         && are_apart(machine, footprints)
         && !joins_from_some(machine, config, truth, event, footprints, states)
 }
@@ -242,7 +253,7 @@ fn told_by_lone<T: Fn(GuardId) -> bool>(
     event: Event,
     routes: &[Route],
 ) -> Option<bool>
-    requires legs { HasSingleLegs machine.now }
+    requires rules { KeepsModelRules machine.now }
     requires fits { Fits machine.now config.now }
     requires askable { CanBeAsked machine.now (T.pre truth.now) }
     requires routes { All (IsStateRoute machine.now) routes.now }
@@ -255,7 +266,15 @@ fn told_by_lone<T: Fn(GuardId) -> bool>(
         [route] => {
             let state = lone_reacting(machine, config, truth, event)?;
             let footprint = footprint_of(machine, route);
-            Some(are_complete(machine, config, truth, event, &[footprint], &[state]))
+            Some(are_complete(
+                machine,
+                config,
+                truth,
+                event,
+                routes,
+                &[footprint],
+                &[state],
+            ))
         }
         _ => None,
     }
@@ -270,7 +289,7 @@ fn is_set_of_enabled<T: Fn(GuardId) -> bool>(
     event: Event,
     routes: &[Route],
 ) -> Result<bool, NoMemory>
-    requires legs { HasSingleLegs machine.now }
+    requires rules { KeepsModelRules machine.now }
     requires fits { Fits machine.now config.now }
     requires askable { CanBeAsked machine.now (T.pre truth.now) }
     requires routes { All (IsStateRoute machine.now) routes.now }
@@ -289,14 +308,16 @@ fn is_set_of_enabled<T: Fn(GuardId) -> bool>(
         config,
         truth,
         event,
+        routes,
         footprints.as_slice(),
         states.as_slice(),
     ))
 }
 
-/// Whether these routes are what the event fires: enabled routes no two of which conflict, none of which conflicts with
-/// an enabled one that has priority over it, and to which none can be added; listed in ascending number of their first
-/// starts (UML 2.5.1, 14.2.3.9, transition selection; the order is this profile's choice).
+/// Whether these routes are what the event fires: enabled routes no two of which conflict, none of
+/// which conflicts with an enabled one that has priority over it, and to which none can be added;
+/// listed in ascending number of their first starts (UML 2.5.1, 14.2.3.9, transition selection; the
+/// order is this profile's choice).
 ///
 /// `NoMemory`: memory ran out.
 pub fn is_firing_set<T: Fn(GuardId) -> bool>(
@@ -307,7 +328,7 @@ pub fn is_firing_set<T: Fn(GuardId) -> bool>(
     event: Event,
     firing: &Firing,
 ) -> Result<bool, NoMemory>
-    requires legs { HasSingleLegs machine.now }
+    requires rules { KeepsModelRules machine.now }
     requires fits { Fits machine.now config.now }
     requires askable { CanBeAsked machine.now (T.pre truth.now) }
     ensures { (values : Truth) → Tells machine.now (T.post truth.now) values

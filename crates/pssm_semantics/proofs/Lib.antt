@@ -18,7 +18,7 @@ pub mod Meaning
 pub mod Blocks
 pub mod ArgumentLaws
 pub mod ProperSettings
-pub mod BuiltSettings
+pub mod SettingClasses
 pub mod Outcomes
 pub mod EightParameters
 pub mod Configurations

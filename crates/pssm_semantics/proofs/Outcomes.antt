@@ -26,7 +26,7 @@ use Rattle.pssm_semantics.specs.Known.{IsOutOf}
 use Rattle.pssm_semantics.specs.Proper.{CanSend, ClassFits}
 use Rattle.pssm_semantics.specs.Rules.{KeepsOuts}
 use Rattle.pssm_semantics.specs.Classes.{IsProperClass}
-use Rattle.pssm_semantics.proofs.BuiltSettings.{all_there}
+use Rattle.pssm_semantics.proofs.SettingClasses.{all_there}
 
 -- what is so of both is so of either
 either : (P : Outcome → Type 0) (b : Bool) (x y : Outcome) → P x → P y → P (if b then x else y)

@@ -1,23 +1,13 @@
--- A setting that the code runs is well formed, and the names of a proper one differ.
+-- The names of a proper setting differ.
 use Rattle.std.proofs.Common.{arith}
 use Rattle.std.proofs.lemmas.List.{length-map}
 use Rattle.std.proofs.lemmas.List.Elements.{All-weaker, recursion_from_All}
-use Rattle.pssm_model.specs.WellFormed.{KeepsModelRules}
-use Rattle.pssm_model.specs.BuiltMachine.{IsBuiltMachine}
 use Rattle.pssm_semantics.specs.declared.setting.Class.{Class}
 use Rattle.pssm_semantics.specs.declared.setting.Setting.{Setting}
 use Rattle.pssm_semantics.specs.declared.setting.SignalDecl.{SignalDecl}
 use Rattle.pssm_semantics.specs.declared.setting.ObjectDecl.{ObjectDecl}
-use Rattle.pssm_semantics.specs.Built.{IsBuilt}
 use Rattle.pssm_semantics.specs.Names.{AreApart, NamesDiffer}
-use Rattle.pssm_semantics.specs.Proper.{ClassFits, IsProper, IsWellFormed}
-
--- a setting that the code runs is well formed
-pub built_is_well_formed : (setting : Setting) → IsBuilt setting → IsWellFormed setting
-built_is_well_formed setting b = record {
-  proper = b.proper;
-  rules = All-weaker (λ (c : Class). IsBuiltMachine c.machine) (λ (c : Class). KeepsModelRules c.machine) (λ c built. built.rules) setting.classes b.machines;
-}
+use Rattle.pssm_semantics.specs.Proper.{ClassFits, IsProper}
 
 marks_apart : (class : Class) (setting : Setting) → ClassFits setting class → AreApart 65536 class.program.marks
 marks_apart class setting fits = (fits.program.names.2.1, let few = fits.program.limits.2 in omega (arith, few))

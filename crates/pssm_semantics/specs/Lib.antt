@@ -1,4 +1,4 @@
-pub mod Built
+pub mod Forms
 pub mod Settings
 pub mod Journal
 pub mod Values

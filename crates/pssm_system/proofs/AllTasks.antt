@@ -16,8 +16,8 @@ use Rattle.pssm_semantics.specs.declared.setting.Class.{Class}
 use Rattle.pssm_semantics.specs.declared.setting.Setting.{Setting}
 use Rattle.pssm_semantics.specs.Settings.{class_of}
 use Rattle.pssm_semantics.specs.Tasks.{IsReadyTask}
-use Rattle.pssm_semantics.specs.Built.{IsBuilt}
-use Rattle.pssm_semantics.proofs.BuiltSettings.{built_class}
+use Rattle.pssm_semantics.specs.Proper.{IsWellFormed}
+use Rattle.pssm_semantics.proofs.SettingClasses.{class_of_object}
 use Rattle.pssm_object.specs.Standing.{Standing}
 use Rattle.pssm_object.specs.Tasks.{ready_tasks, ListsTasks}
 use Rattle.pssm_object.proofs.TaskLists.{lists_tasks}
@@ -123,7 +123,7 @@ module _ (setting : Setting) where
 pub tasks-as : (setting : Setting) (class : Class) (x : Standing) → class_of setting x.own ≡ Some class → tasks_for setting x ≡ ready_tasks class.machine x
 tasks-as setting class x is = ap (λ c. option_map_or (λ (k : Class). ready_tasks k.machine x) c []) is
 
-module _ {setting : Setting} (b : IsBuilt setting) {J : List Entry} {objects : List Standing} (are : AreObjects setting J objects) where
+module _ {setting : Setting} (b : IsWellFormed setting) {J : List Entry} {objects : List Standing} (are : AreObjects setting J objects) where
   -- the object at a place
   pub object_at : (k : ℕ) (x : Standing) → slice_get objects k ≡ Some x → k < length objects
       → (class : Class) × (class_of setting (let o : ObjectId = record { 0 = k } in o) ≡ Some class) × IsObject class J (record { 0 = k }) x
@@ -137,7 +137,7 @@ module _ {setting : Setting} (b : IsBuilt setting) {J : List Entry} {objects : L
       → ListsTasks class.machine J x.own (tasks_for setting x)
   lists_here o class x is object =
       subst (ListsTasks class.machine J x.own) (sym (tasks-as setting class x (ap (class_of setting) object.own ∙ is)))
-      (lists_tasks class (built_class setting b o class is).0 object.stands)
+      (lists_tasks class (class_of_object setting b o class is).0 object.stands)
 
   all_numbered : AreNumbered setting 0 objects
   all_numbered =
@@ -179,10 +179,10 @@ module _ {setting : Setting} (b : IsBuilt setting) {J : List Entry} {objects : L
   few_at : (k : ℕ) (x : Standing) → slice_get objects k ≡ Some x → length (tasks_for setting x) ≤ 20480
   few_at k x at =
       let here = object_at k x at (slice_get_within objects k x at) in
-      let built = (built_class setting b (record { 0 = k }) here.0 here.1).0 in
-      let few = few_tasks here.0 built here.2.stands in
+      let formed = (class_of_object setting b (record { 0 = k }) here.0 here.1).0 in
+      let few = few_tasks here.0 formed here.2.stands in
       let same = ap (λ (ts : List Task). length ts) (tasks-as setting here.0 x (ap (class_of setting) here.2.own ∙ here.1)) in
-      let limits = built.machine.shape.limits in
+      let limits = here.2.stands.fits.shape.limits in
       let vertices = limits.vertices in
       let transitions = limits.transitions in
       omega arith

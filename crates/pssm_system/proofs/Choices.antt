@@ -15,7 +15,8 @@ use Rattle.pssm_semantics.specs.Journal.{IsPost, object_of}
 use Rattle.pssm_semantics.specs.Pool.{told_by}
 use Rattle.pssm_semantics.specs.Tasks.{IsReadyTask}
 use Rattle.pssm_semantics.specs.Admissible.{MayFollow, IsQuiet}
-use Rattle.pssm_semantics.specs.Built.{IsBuiltClass, IsBuilt}
+use Rattle.pssm_semantics.specs.Classes.{IsWellFormedClass}
+use Rattle.pssm_semantics.specs.Proper.{IsWellFormed}
 use Rattle.pssm_pool.specs.declared.pools.Waiting.{Waiting}
 use Rattle.pssm_object.specs.Standing.{Standing, StandsAfter}
 use Rattle.pssm_object.specs.Following.{NamesPlaces, KeepsRules, IsCandidate, IsMove, IsHandedIn, stimulus_for}
@@ -77,7 +78,7 @@ task-next class x task e does places keeps signal =
     }
 
 -- where no task is ready, what may come next is a move
-module _ (class : Class) (b : IsBuiltClass class) {J : List Entry} {x : Standing} (s : StandsAfter class J x) (signal : Option Waiting)
+module _ (class : Class) (b : IsWellFormedClass class) {J : List Entry} {x : Standing} (s : StandsAfter class J x) (signal : Option Waiting)
     (none : ready_tasks class.machine x ≡ []) where
   not_ready : (task : Task) → IsReadyTask class.machine J x.own task → ⊥
   not_ready task ready = nothing_in_nil task (subst (λ ts. Contains ts task) none (((lists_tasks class b s).each task).1 ready))
@@ -109,7 +110,7 @@ module _ (class : Class) (b : IsBuiltClass class) {J : List Entry} {x : Standing
       absurd (not_ready (tasks.DoStep v k) (subst (λ q. IsReadyTask class.machine J q (tasks.DoStep v k)) c.own ready))
 
 -- What was found for the first signal that waits and is not deferred is what may follow.
-module _ {setting : Setting} (b : IsBuilt setting) {s : Situation} {J : List Entry} (stands : StandsSo setting J s) (o : ObjectId) (class : Class)
+module _ {setting : Setting} (b : IsWellFormed setting) {s : Situation} {J : List Entry} (stands : StandsSo setting J s) (o : ObjectId) (class : Class)
     (x : Standing) (is : class_of setting o ≡ Some class) (at : slice_get s.objects.items o.0 ≡ Some x) (first : Option Waiting)
     (f : IsFirstFor setting s o first) where
   pub part : IsPart setting J s.pools.waiting o class x
@@ -141,7 +142,7 @@ module _ {setting : Setting} (b : IsBuilt setting) {s : Situation} {J : List Ent
   pub next-some : objects.HasNext class x first J → IsQuiet setting J → ⊥
   next-some (e, c, keeps) quiet =
       quiet e c.no_post
-      (next_follows part first_is e (candidate_as e c) (names_places class part.built part.object.stands first e c keeps) keeps)
+      (next_follows part first_is e (candidate_as e c) (names_places class part.well_formed part.object.stands first e c keeps) keeps)
 
 -- a signal is handed in where one waits
 pub handed_in : (signal : Option Waiting) (waiting : Bool) → waiting ≡ is_some signal → IsHandedIn waiting signal

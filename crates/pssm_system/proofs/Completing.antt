@@ -36,9 +36,9 @@ use Rattle.pssm_semantics.specs.Pool.{told_by}
 use Rattle.pssm_semantics.specs.Rules.{KeepsOwn}
 use Rattle.pssm_semantics.specs.Admissible.{MayFollow, IsAdmissibleIn, IsCompleteRun}
 use Rattle.pssm_semantics.specs.Laws.{CompletesWithin, HasOpenStep, needs_at_most, CompletesInTime}
-use Rattle.pssm_semantics.specs.Built.{IsBuilt}
+use Rattle.pssm_semantics.specs.Proper.{IsWellFormed}
 use Rattle.pssm_semantics.proofs.Appending.{admissible_push}
-use Rattle.pssm_semantics.proofs.BuiltSettings.{built_class}
+use Rattle.pssm_semantics.proofs.SettingClasses.{class_of_object}
 use Rattle.pssm_semantics.proofs.Members.{first_in, later_in, in_cases}
 use Rattle.pssm_semantics.proofs.Outcomes.{known_outs}
 use Rattle.pssm_object.specs.Standing.{Standing, StandsAfter}
@@ -163,7 +163,7 @@ differ-pairs [] h = none_in_order (λ a b. a ≢ b)
 differ-pairs (o ∷ rest) h =
     AllPairs-cons (λ a b. a ≢ b) o rest (λ k d lt. h.0 (get_or rest k d) (Contains-get_or rest k d lt)) (differ-pairs rest h.1)
 
-module _ {setting : Setting} (b : IsBuilt setting) where
+module _ {setting : Setting} (b : IsWellFormed setting) where
   -- an object of the setting stands somewhere after these entries
   pub record StandsIn (J : List Entry) (o : ObjectId) : Type 0 where
     pub class : Class
@@ -175,7 +175,7 @@ module _ {setting : Setting} (b : IsBuilt setting) where
     -- an entry that goes on with its step may follow
     may-go_on : (J : List Entry) (e : Entry) → GoesOn class J o e → MayFollow setting J e
     may-go_on J e h rule =
-        let fits = (built_class setting b o class is).1 in
+        let fits = (class_of_object setting b o class is).1 in
         let here : class_of setting (object_of e) ≡ Some class = ap (λ q. class_of setting q) h.own ∙ is in
         let free = work-free e h.works in
         let outs = known_outs setting class fits o (object_there setting o class is) (told_by J) J e h.own (h.keeps A12) in
@@ -217,9 +217,9 @@ module _ {setting : Setting} (b : IsBuilt setting) where
   }
   completes-these (o ∷ rest) J admissible differ stand finished =
       let here = stand o (first_in o rest) in
-      let built = (built_class setting b o here.class here.class_is).0 in
+      let formed = (class_of_object setting b o here.class here.class_is).0 in
       let ends : Finishes here.class J o (entries_at_most here.class.machine) =
-      subst (λ q. Finishes here.class J q (entries_at_most here.class.machine)) here.object.own (finishes here.class built here.object.stands) in
+      subst (λ q. Finishes here.class J q (entries_at_most here.class.machine)) here.object.own (finishes here.class formed here.object.stands) in
       let later = completes-these rest (J ++ ends.more) (admissible-through o here.class here.class_is J ends.more ends.goes_on admissible) differ.1
       (λ q inside.
       let was = stand q (later_in o rest q inside) in
@@ -275,7 +275,7 @@ module _ {setting : Setting} (b : IsBuilt setting) where
       let o : ObjectId = record { 0 = n } in
       let before = open-below J stand n (omega arith) in
       let here = stand o (let lt : n < length setting.objects = omega arith in lt) in
-      let built = (built_class setting b o here.class here.class_is).0 in
+      let formed = (class_of_object setting b o here.class here.class_is).0 in
       let own : (q : ObjectId) → q.0 ≡ n → q ≡ o = λ q same. ap (λ k. let p : ObjectId = record { 0 = k } in p) same in
       ⊎_elim
       (λ finished. (
@@ -317,7 +317,7 @@ module _ {setting : Setting} (b : IsBuilt setting) where
           );
         },
       ))
-      (step_known here.class built here.object.stands)
+      (step_known here.class formed here.object.stands)
 
   -- A journal after which each object stands somewhere can be completed in time.
   pub completes : (J : List Entry) → IsAdmissibleIn setting J → ((o : ObjectId) → o.0 < length setting.objects → StandsIn J o) → CompletesInTime setting J
@@ -332,7 +332,7 @@ module _ {setting : Setting} (b : IsBuilt setting) where
         completes-these all.0 J admissible all.1.differ (λ o inside. stand o (all.1.only o inside).0)
             (λ o class is outside.
             let here = stand o (object_there setting o class is) in
-            let built = (built_class setting b o here.class here.class_is).0 in
+            let formed = (class_of_object setting b o here.class here.class_is).0 in
             let one : here.class ≡ class = one_class setting o here.class class here.class_is is in
             ⊎_elim
             (λ finished.
@@ -340,5 +340,5 @@ module _ {setting : Setting} (b : IsBuilt setting) where
             (λ unfinished.
             absurd (outside (all.1.each o (object_there setting o class is)
             (here.class, here.class_is, λ finished. unfinished (subst (IsStepFinished here.class.machine J) (sym here.object.own) finished)))))
-            (step_known here.class built here.object.stands)),
+            (step_known here.class formed here.object.stands)),
       )

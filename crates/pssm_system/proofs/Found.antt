@@ -8,7 +8,7 @@ use Rattle.pssm_semantics.specs.declared.setting.Class.{Class}
 use Rattle.pssm_semantics.specs.declared.setting.Setting.{Setting}
 use Rattle.pssm_semantics.specs.Journal.{object_of}
 use Rattle.pssm_semantics.specs.Admissible.{IsQuiet}
-use Rattle.pssm_semantics.specs.Built.{IsBuilt}
+use Rattle.pssm_semantics.specs.Proper.{IsWellFormed}
 use Rattle.pssm_pool.specs.declared.pools.Waiting.{Waiting}
 use Rattle.pssm_object.specs.Standing.{Standing, StandsAfter}
 use Rattle.pssm_object.specs.Following as objects
@@ -25,7 +25,7 @@ use Rattle.pssm_system.proofs.Choices.{part, found-follows, none-follows, quiet-
 same_number : (o p : ObjectId) → o.0 ≡ p.0 → o ≡ p
 same_number o p e = ap (λ n. let x : ObjectId = record { 0 = n } in x) e
 
-module _ {setting : Setting} (b : IsBuilt setting) (s : Situation) {K : List Entry} {o : ObjectId} {class : Class} {x : Standing}
+module _ {setting : Setting} (b : IsWellFormed setting) (s : Situation) {K : List Entry} {o : ObjectId} {class : Class} {x : Standing}
     (m : IsMember setting K s.objects.items o class x) (first : Option Waiting) (f : IsFirstFor setting s o first) where
   -- the entry that was found, or that there is none
   found_one : (wanted : Wanted) (chosen : Option Entry) → Finds class x first wanted chosen → FindsAmong setting s wanted o.0 (o.0 + 1) chosen

@@ -15,17 +15,15 @@ use Rattle.pssm_semantics.specs.Rules.{Holds}
 use Rattle.pssm_semantics.specs.Verdict.{IsFirstBroken}
 use Rattle.pssm_semantics.specs.Admissible.{MayFollow, IsQuiet, KeepsJournalLimits}
 use Rattle.pssm_semantics.specs.Laws.{CompletesInTime, KeepsTakes, KeepsRegions}
-use Rattle.pssm_semantics.specs.Built.{IsBuilt}
 use Rattle.pssm_semantics.proofs.Appending.{every_push, admissible_push, admissible_none}
 use Rattle.pssm_semantics.proofs.Outputs.{signals_of-within}
-use Rattle.pssm_semantics.proofs.ProperSettings.{built_is_well_formed}
 use Rattle.pssm_semantics.proofs.Takes.{admissible-keeps_takes}
 use Rattle.pssm_object.specs.Standing.{Standing}
 use Rattle.pssm_object.specs.Following.{IsMove}
 use Rattle.pssm_system.specs.declared.situation.Situation.{Situation}
 use Rattle.pssm_system.specs.declared.choosing.Wanted.TheVariants.{AnyEntry, Move}
 use Rattle.pssm_system.specs.History.{History}
-use Rattle.pssm_semantics.specs.Built.{IsBuiltEntry}
+use Rattle.pssm_semantics.specs.Forms.{IsRunEntry}
 use Rattle.pssm_system.specs.Tasks.{AreReady, HasNoMove}
 use Rattle.pssm_system.specs.inner.Keeping.{StandsSo, Stands, CanCome, IsUnchanged, KeepsRun, tasks_of}
 use Rattle.pssm_system.specs.inner.Judging.{IsKnown, IsVerdict}
@@ -33,7 +31,7 @@ use Rattle.pssm_system.specs.inner.Choosing.{FindsAmong}
 use Rattle.pssm_system.proofs.AllTasks.{are_ready}
 use Rattle.pssm_system.proofs.Choices.{none-of_all}
 use Rattle.pssm_system.proofs.Completing.{completes}
-use Rattle.pssm_system.proofs.Regions.{keeps_regions, is_built_entry}
+use Rattle.pssm_system.proofs.Regions.{keeps_regions, is_run_entry}
 use Rattle.pssm_system.proofs.Members.{IsMember, member}
 use Rattle.pssm_system.proofs.Stepped.{class_exists, told_after, stands_in, stands_unchanged}
 
@@ -52,19 +50,16 @@ module _ (h : History) (setting : Setting) (J : List Entry) (s : Situation) (k :
   pub stands_here : Stands setting s
   stands_here = (J, k.stands)
 
-  pub built_seen : IsBuilt h.setting
-  built_seen = seen (λ x js. IsBuilt x) k.built
-
   pub well_formed_seen : IsWellFormed h.setting
-  well_formed_seen = seen (λ x js. IsWellFormed x) (built_is_well_formed setting k.built)
+  well_formed_seen = seen (λ x js. IsWellFormed x) k.well_formed
 
   pub completes_seen : CompletesInTime h.setting h.journal
-  completes_seen = seen CompletesInTime (completes k.built J k.admissible (stands_in k.built k.stands.objects))
+  completes_seen = seen CompletesInTime (completes k.well_formed J k.admissible (stands_in k.well_formed k.stands.objects))
 
   pub laws_seen : KeepsTakes h.setting h.journal × KeepsRegions h.setting h.journal
   laws_seen = (
     seen KeepsTakes (admissible-keeps_takes setting J k.admissible),
-    seen KeepsRegions (keeps_regions k.built (stands_in k.built k.stands.objects)),
+    seen KeepsRegions (keeps_regions k.well_formed (stands_in k.well_formed k.stands.objects)),
   )
 
   -- what an entry names is known
@@ -96,7 +91,7 @@ module _ (h : History) (setting : Setting) (J : List Entry) (s : Situation) (k :
         follows = follows;
         few =
             let within = signals_of-within (J ++ e ∷ []) in
-            let all = told_after k.built k.stands e follows in
+            let all = told_after k.well_formed k.stands e follows in
             let most = here.outputs in
             omega (arith, within, all, most);
       }
@@ -107,10 +102,10 @@ module _ (h : History) (setting : Setting) (J : List Entry) (s : Situation) (k :
   keeps_longer e may limits new goes =
       let follows = unseen (λ x js. MayFollow x js e) may in
       record {
-        built = k.built;
+        well_formed = k.well_formed;
         admissible = admissible_push setting J e k.admissible follows;
         limits = unseen (λ x js. KeepsJournalLimits (js ++ e ∷ [])) limits;
-        entries = every_push IsBuiltEntry J e k.entries (is_built_entry k.built k.stands e follows);
+        entries = every_push IsRunEntry J e k.entries (is_run_entry k.well_formed k.stands e follows);
         stands = goes J k.stands follows;
       }
 
@@ -147,12 +142,12 @@ module _ (h : History) (setting : Setting) (J : List Entry) (s : Situation) (k :
   tasks_are = sym (ap (λ (v : History). v.tasks) view_is)
 
   pub ready_seen : AreReady h.setting h.journal h.tasks
-  ready_seen = subst (λ (v : History). AreReady v.setting v.journal v.tasks) view_is (are_ready k.built k.stands.objects)
+  ready_seen = subst (λ (v : History). AreReady v.setting v.journal v.tasks) view_is (are_ready k.well_formed k.stands.objects)
 
   -- the values of an object
   module _ (o : ObjectId) (x : Standing) (n : ℕ) (read : x ≡ get_or s.objects.items n x) (at : n ≡ o.0) where
     member_here : (c : Class) → class_of h.setting o ≡ Some c → IsMember setting J s.objects.items o c x
-    member_here c is = member k.built k.stands.objects o c x n (unseen (λ y js. class_of y o ≡ Some c) is) at read
+    member_here c is = member k.well_formed k.stands.objects o c x n (unseen (λ y js. class_of y o ≡ Some c) is) at read
 
     pub store_seen : (c : Class) → class_of h.setting o ≡ Some c → x.store ≡ store_of c (told_by h.journal) h.journal o
     store_seen c is =
@@ -162,7 +157,7 @@ module _ (h : History) (setting : Setting) (J : List Entry) (s : Situation) (k :
 
     pub params_seen : o.0 < length h.setting.objects → x.params ≡ params_of (told_by h.journal) h.journal o
     params_seen there =
-        let class = class_exists h.setting built_seen o there in
+        let class = class_exists h.setting well_formed_seen o there in
         let m = member_here class.0 class.1 in
         seen (λ y js. x.params ≡ params_of (told_by js) js o)
         (m.object.stands.params_is ∙ ap (λ q. params_of (told_by J) J q) m.object.own)
@@ -174,7 +169,7 @@ module _ (h : History) (setting : Setting) (J : List Entry) (s : Situation) (k :
 pub keeps_same : (setting : Setting) (J K : List Entry) (s new : Situation) → KeepsRun setting J s → K ≡ J → IsUnchanged s new → KeepsRun setting K new
 keeps_same setting J K s new k same unchanged =
     let here : KeepsRun setting J new = record {
-      built = k.built;
+      well_formed = k.well_formed;
       admissible = k.admissible;
       limits = k.limits;
       entries = k.entries;
@@ -183,10 +178,10 @@ keeps_same setting J K s new k same unchanged =
     subst (λ js. KeepsRun setting js new) (sym same) here
 
 -- a system that has just been made
-pub keeps_new : (setting : Setting) (J : List Entry) (s : Situation) → IsBuilt setting → J ≡ [] → StandsSo setting [] s → KeepsRun setting J s
-keeps_new setting J s built empty stands =
+pub keeps_new : (setting : Setting) (J : List Entry) (s : Situation) → IsWellFormed setting → J ≡ [] → StandsSo setting [] s → KeepsRun setting J s
+keeps_new setting J s formed empty stands =
     let here : KeepsRun setting [] s = record {
-      built = built;
+      well_formed = formed;
       admissible = admissible_none setting;
       limits = record { entries = omega arith; outputs = omega arith };
       entries = tt;

@@ -17,8 +17,9 @@ use Rattle.pssm_semantics.specs.Known.{IsOutOf, NamesKnown}
 use Rattle.pssm_semantics.specs.Rules.{KeepsPool, KeepsOwn, Holds, taken_by}
 use Rattle.pssm_semantics.specs.Verdict.{number_of}
 use Rattle.pssm_semantics.specs.Proper.{ClassFits}
-use Rattle.pssm_semantics.specs.Built.{IsBuiltClass, IsBuilt}
-use Rattle.pssm_semantics.proofs.BuiltSettings.{built_class}
+use Rattle.pssm_semantics.specs.Classes.{IsWellFormedClass}
+use Rattle.pssm_semantics.specs.Proper.{IsWellFormed}
+use Rattle.pssm_semantics.proofs.SettingClasses.{class_of_object}
 use Rattle.pssm_pool.specs.declared.pools.Waiting.{Waiting}
 use Rattle.pssm_object.specs.Standing.{Standing}
 use Rattle.pssm_object.specs.Following.{NamesPlaces, NamesSignal, IsTold, KeepsRule, stimulus_for}
@@ -147,20 +148,20 @@ places_of setting class (Opened o r mode how) known = known
 places_of setting class (Pick o v route) known = known
 places_of setting class (DoStep o v k outs) known = known.0
 
--- an object of a setting that the code runs, with what is kept of a journal
+-- an object of a well-formed setting, with what is kept of a journal
 pub record IsPart (setting : Setting) (J : List Entry) (pools : List (List Waiting)) (o : ObjectId) (class : Class) (x : Standing) : Type 0 where
-  pub built : IsBuiltClass class
+  pub well_formed : IsWellFormedClass class
   pub fits : ClassFits setting class
   pub class_is : class_of setting o ≡ Some class
   pub object : IsObject class J o x
   pub pools_are : ArePools setting J pools
 
-pub is_part : {setting : Setting} (b : IsBuilt setting) {J : List Entry} {objects : List Standing} {pools : List (List Waiting)} → AreObjects setting J objects
+pub is_part : {setting : Setting} (b : IsWellFormed setting) {J : List Entry} {objects : List Standing} {pools : List (List Waiting)} → AreObjects setting J objects
     → ArePools setting J pools → (o : ObjectId) (class : Class) (x : Standing) → class_of setting o ≡ Some class → slice_get objects o.0 ≡ Some x
     → IsPart setting J pools o class x
 is_part {setting = setting} b ao pools o class x is at = record {
-  built = (built_class setting b o class is).0;
-  fits = (built_class setting b o class is).1;
+  well_formed = (class_of_object setting b o class is).0;
+  fits = (class_of_object setting b o class is).1;
   class_is = is;
   object = ao.each o class x is at;
   pools_are = pools;

@@ -33,12 +33,11 @@ use Rattle.pssm_semantics.specs.Completion.{IsQueueHead}
 use Rattle.pssm_semantics.specs.Journal.{configuration_after}
 use Rattle.pssm_semantics.specs.Known.{IsFiringOf, IsRouteOf, IsVertexOf}
 use Rattle.pssm_semantics.specs.Rules.{IsCalledItem}
-use Rattle.pssm_semantics.specs.Built.{IsBuiltClass}
+use Rattle.pssm_semantics.specs.Classes.{IsWellFormedClass}
 use Rattle.pssm_pool.specs.declared.pools.Waiting.{Waiting}
 use Rattle.pssm_object.specs.Standing.{Standing, IsStepOf, StandsAfter}
 use Rattle.pssm_object.specs.Following.{NamesPlaces, KeepsRules, IsCandidate, stimulus_of}
-use Rattle.pssm_object.proofs.BuiltMachines.{nested}
-use Rattle.pssm_object.proofs.BuiltWays.{way_there}
+use Rattle.pssm_object.proofs.SomeWays.{way_there}
 use Rattle.pssm_object.proofs.Rules.{no_step}
 use Rattle.pssm_object.proofs.UnderWay.{called_item_waits}
 
@@ -62,7 +61,7 @@ firing_there : (m : DraftMachine) (now : Configuration) (truth : Truth) (event :
     → All (IsRouteOf m) routes
 firing_there m now truth event routes fires = λ i route lt. (fires.0.sound.enabled i route lt).route_of_states.0.in_range
 
-module _ (class : Class) (b : IsBuiltClass class) {J : List Entry} {x : Standing} (s : StandsAfter class J x) where
+module _ (class : Class) (b : IsWellFormedClass class) {J : List Entry} {x : Standing} (s : StandsAfter class J x) where
   abbrev m : DraftMachine
   m = class.machine
 
@@ -71,16 +70,16 @@ module _ (class : Class) (b : IsBuiltClass class) {J : List Entry} {x : Standing
   waits_in None step item called = absurd (no_step J x.own step.posts called.step called.last)
   waits_in (Some p) step item called =
       let u = step.1 in
-      called_there b.machine.shape (nested b.machine) p.head _ p.ran u.gone item
-      (called_is (nested b.machine) b.machine.shape _
-      (gone_by_routes (nested b.machine) b.machine.shape p.head _ p.ran u.gone) item (called_item_waits u item called).called)
+      called_there s.fits.shape b.rules p.head _ p.ran u.gone item
+      (called_is b.rules s.fits.shape _
+      (gone_by_routes b.rules s.fits.shape p.head _ p.ran u.gone) item (called_item_waits u item called).called)
 
   waits_there : (o : ObjectId) (item : Item) → o ≡ x.own → IsCalledItem m J o item → IsThere m item
   waits_there o item own called = waits_in x.plan s.step_is item (subst (λ q. IsCalledItem m J q item) own called)
 
   -- a completion that waits is that of a vertex of the machine
   head_there : (o : ObjectId) (v : VertexId) → IsQueueHead m J o v → IsVertexOf m v
-  head_there o v head = let leaves = head.1.transition in leaves_there b.machine.shape leaves.0 v leaves.1
+  head_there o v head = let leaves = head.1.transition in leaves_there s.fits.shape leaves.0 v leaves.1
 
   take_there : (signal : Option Waiting) (o : ObjectId) (number : ℕ) (firing : Firing) → IsCandidate x.own signal (Take o number firing)
       → KeepsRules class x signal J (Take o number firing) → IsFiringOf m firing
@@ -98,6 +97,6 @@ module _ (class : Class) (b : IsBuiltClass class) {J : List Entry} {x : Standing
   names_places signal (Effect o t outs) c keeps = waits_there o (items.Effect t) c.own (keeps A8)
   names_places signal (Enter o v outs) c keeps = (waits_there o (items.Enter v) c.own (keeps A8)).0
   names_places signal (Opened o r mode how) c keeps =
-      (waits_there o (items.Opened r mode) c.own (keeps A8), way_there b.machine _ r (configuration_after m J o).Remembers mode how (keeps A10))
+      (waits_there o (items.Opened r mode) c.own (keeps A8), way_there s.fits.shape b.rules _ r (configuration_after m J o).Remembers mode how (keeps A10))
   names_places signal (Pick o v route) c keeps = ((waits_there o (items.Pick v) c.own (keeps A8)).0, (let way = keeps A10 in way.route_is.in_range))
   names_places signal (DoStep o v k outs) c keeps = step_there m (configuration_after m J o) v k (keeps A11)

@@ -16,7 +16,7 @@ use Rattle.pssm_semantics.specs.Pool.{told_by}
 use Rattle.pssm_semantics.specs.Known.{NamesKnown}
 use Rattle.pssm_semantics.specs.Rules.{IsFirstWaiting, KeepsPool, KeepsOwn, taken_by}
 use Rattle.pssm_semantics.specs.Admissible.{MayFollow}
-use Rattle.pssm_semantics.specs.Built.{IsBuilt}
+use Rattle.pssm_semantics.specs.Proper.{IsWellFormed}
 use Rattle.pssm_semantics.proofs.Outcomes.{known_outs}
 use Rattle.pssm_pool.specs.declared.pools.Waiting.{Waiting}
 use Rattle.pssm_object.specs.Standing.{Standing}
@@ -144,7 +144,7 @@ first_in {setting = setting} {s = s} stands o class x is at first f =
     }
 
 -- The verdict, where what the object says is known.
-module _ {setting : Setting} (b : IsBuilt setting) {J : List Entry} {s : Situation} (stands : StandsSo setting J s) (e : Entry) (known : IsKnown setting e)
+module _ {setting : Setting} (b : IsWellFormed setting) {J : List Entry} {s : Situation} (stands : StandsSo setting J s) (e : Entry) (known : IsKnown setting e)
     (answer : Option Rule) (signal : Option Waiting) (comes : ComesWith setting s e signal)
     (says : (class : Class) (x : Standing) → class_of setting (object_of e) ≡ Some class → slice_get s.objects.items (object_of e).0 ≡ Some x
     → Says class x signal e answer) where

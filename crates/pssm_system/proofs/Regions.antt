@@ -1,4 +1,4 @@
--- The laws of all journals of a setting that the code runs.
+-- The laws of all journals of a well-formed setting.
 use Rattle.std.proofs.Common.{refl, ◌≡◌, ◌<◌, ℕ, zero, suc, List, length, Option, Some, None, IsSomeAnd, sym, subst, arith}
 use Rattle.pssm_plan.specs.Steadiness.{IsConsistent}
 use Rattle.pssm_semantics.specs.declared.entry.ObjectId.{ObjectId}
@@ -13,14 +13,14 @@ use Rattle.pssm_semantics.specs.Journal.{object_of, configuration_after}
 use Rattle.pssm_semantics.specs.Pool.{told_by}
 use Rattle.pssm_semantics.specs.Admissible.{MayFollow}
 use Rattle.pssm_semantics.specs.Laws.{KeepsRegions}
-use Rattle.pssm_semantics.specs.Built.{IsBuilt}
-use Rattle.pssm_semantics.proofs.BuiltSettings.{built_class}
+use Rattle.pssm_semantics.specs.Proper.{IsWellFormed}
+use Rattle.pssm_semantics.proofs.SettingClasses.{class_of_object}
 use Rattle.pssm_pool.specs.declared.pools.Waiting.{Waiting}
 use Rattle.pssm_object.specs.Following.{IsTold, NamesSignal, stimulus_of, stimulus_for}
 use Rattle.pssm_object.proofs.Regions.{consistent_after, one_becomes}
-use Rattle.pssm_object.proofs.Forms.{has_built_form}
+use Rattle.pssm_object.proofs.Forms.{has_form}
 use Rattle.pssm_system.specs.declared.situation.Situation.{Situation}
-use Rattle.pssm_semantics.specs.Built.{CountsFromOne, IsBuiltEntry}
+use Rattle.pssm_semantics.specs.Forms.{CountsFromOne, IsRunEntry}
 use Rattle.pssm_system.specs.inner.Pooling.{signal_taken}
 use Rattle.pssm_system.specs.inner.Keeping.{StandsSo}
 use Rattle.pssm_system.proofs.Following.{object_there, one_class, names_of}
@@ -28,15 +28,15 @@ use Rattle.pssm_system.proofs.Judged.{shown}
 use Rattle.pssm_system.proofs.Completing.{StandsIn}
 use Rattle.pssm_system.proofs.Stepped.{part_here, signal_here}
 
-module _ {setting : Setting} (b : IsBuilt setting) {J : List Entry} (stand : (o : ObjectId) → o.0 < length setting.objects → StandsIn b J o) where
+module _ {setting : Setting} (b : IsWellFormed setting) {J : List Entry} (stand : (o : ObjectId) → o.0 < length setting.objects → StandsIn b J o) where
   -- what is active for an object lies as it must
   consistent : (o : ObjectId) (class : Class) → class_of setting o ≡ Some class → IsConsistent class.machine (configuration_after class.machine J o)
   consistent o class is =
       let here = stand o (object_there setting o class is) in
       let one : here.class ≡ class = one_class setting o here.class class here.class_is is in
-      let built = (built_class setting b o here.class here.class_is).0 in
+      let formed = (class_of_object setting b o here.class here.class_is).0 in
       subst (λ (k : Class). IsConsistent k.machine (configuration_after k.machine J o)) one
-      (subst (λ q. IsConsistent here.class.machine (configuration_after here.class.machine J q)) here.object.own (consistent_after here.class built here.object.stands))
+      (subst (λ q. IsConsistent here.class.machine (configuration_after here.class.machine J q)) here.object.own (consistent_after here.class formed here.object.stands))
 
   pub keeps_regions : KeepsRegions setting J
   keeps_regions = record {
@@ -71,12 +71,12 @@ counts J o signal (Pick q v route) named told = tt
 counts J o signal (DoStep q v k outs) named told = tt
 
 -- An entry that may follow is one of those that runs have.
-pub is_built_entry : {setting : Setting} (b : IsBuilt setting) {J : List Entry} {s : Situation} → StandsSo setting J s → (e : Entry) → MayFollow setting J e → IsBuiltEntry e
-is_built_entry {setting = setting} b {J = J} {s = s} stands e may =
+pub is_run_entry : {setting : Setting} (b : IsWellFormed setting) {J : List Entry} {s : Situation} → StandsSo setting J s → (e : Entry) → MayFollow setting J e → IsRunEntry e
+is_run_entry {setting = setting} b {J = J} {s = s} stands e may =
     let part = part_here b stands e may in
     let has = signal_here b stands e may in
     record {
-      form = has_built_form (may A1).0 part.built part.object.stands (signal_taken s.pools.waiting e) e (sym part.object.own) has.names
+      form = has_form (may A1).0 part.well_formed part.object.stands (signal_taken s.pools.waiting e) e (sym part.object.own) has.names
           (λ rule. shown part (signal_taken s.pools.waiting e) e refl (names_of setting J e (may A1).0 (may A1).1 (may A1)) has.pool has.signal_is rule (may rule));
       numbered = counts J (object_of e) (signal_taken s.pools.waiting e) e has.names has.told;
     }

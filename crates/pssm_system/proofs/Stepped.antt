@@ -21,8 +21,8 @@ use Rattle.pssm_semantics.specs.Pool.{signals_of_out, signals_of_entry, signals_
 use Rattle.pssm_semantics.specs.Known.{IsOutOf, NamesKnown}
 use Rattle.pssm_semantics.specs.Rules.{KeepsPool, KeepsOwn}
 use Rattle.pssm_semantics.specs.Admissible.{MayFollow}
-use Rattle.pssm_semantics.specs.Built.{IsBuilt}
-use Rattle.pssm_semantics.proofs.BuiltSettings.{all_there}
+use Rattle.pssm_semantics.specs.Proper.{IsWellFormed}
+use Rattle.pssm_semantics.proofs.SettingClasses.{all_there}
 use Rattle.pssm_semantics.proofs.Waiting.{signals_of-append}
 use Rattle.pssm_pool.specs.declared.pools.Waiting.{Waiting}
 use Rattle.pssm_pool.specs.Waits.{held_in}
@@ -40,8 +40,8 @@ use Rattle.pssm_system.proofs.Nexts.{HasSignal, no_take-has}
 use Rattle.pssm_system.proofs.Completing.{StandsIn}
 use Rattle.pssm_object.proofs.Advancing.{other_entries}
 
--- each object of a setting that the code runs has a class
-pub class_exists : (setting : Setting) → IsBuilt setting → (o : ObjectId) → o.0 < length setting.objects → (class : Class) × (class_of setting o ≡ Some class)
+-- each object of a well-formed setting has a class
+pub class_exists : (setting : Setting) → IsWellFormed setting → (o : ObjectId) → o.0 < length setting.objects → (class : Class) × (class_of setting o ≡ Some class)
 class_exists setting b o lt =
     let object = some_at setting.objects o.0 lt in
     let in_range = all_there (λ (d : ObjectDecl). d.class < length setting.classes) setting.objects o.0 object.0 b.proper.objects object.1 in
@@ -49,7 +49,7 @@ class_exists setting b o lt =
     (class.0, rw object.1 class.1)
 
 -- and stands where it is kept
-pub stands_in : {setting : Setting} (b : IsBuilt setting) {J : List Entry} {objects : List Standing} → AreObjects setting J objects → (o : ObjectId)
+pub stands_in : {setting : Setting} (b : IsWellFormed setting) {J : List Entry} {objects : List Standing} → AreObjects setting J objects → (o : ObjectId)
     → o.0 < length setting.objects → StandsIn b J o
 stands_in {setting = setting} b {objects = objects} are o lt =
     let class = class_exists setting b o lt in
@@ -96,7 +96,7 @@ signals-there setting class (Opened o r mode how) there known = tt
 signals-there setting class (Pick o v route) there known = tt
 signals-there setting class (DoStep o v k xs) there known = sends-there setting class xs known.1
 
-module _ {setting : Setting} (b : IsBuilt setting) {J : List Entry} {s : Situation} (stands : StandsSo setting J s) (e : Entry) (may : MayFollow setting J e) where
+module _ {setting : Setting} (b : IsWellFormed setting) {J : List Entry} {s : Situation} (stands : StandsSo setting J s) (e : Entry) (may : MayFollow setting J e) where
   -- the object of the entry with its class
   pub class_here : (class : Class) × (class_of setting (object_of e) ≡ Some class)
   class_here = ((may A1).0, (may A1).1)
@@ -204,7 +204,7 @@ module _ {setting : Setting} (b : IsBuilt setting) {J : List Entry} {s : Situati
   }
 
 -- A post changes the pool of its object alone.
-pub brings-posted : {setting : Setting} → IsBuilt setting → (old new : Situation) (e : Entry) (x : Stimulus) → e ≡ Post x.object x.signal x.args
+pub brings-posted : {setting : Setting} → IsWellFormed setting → (old new : Situation) (e : Entry) (x : Stimulus) → e ≡ Post x.object x.signal x.args
     → HasPosted old x new → Brings setting old e new
 brings-posted {setting = setting} b old new e x is h = λ J stands may.
     let post : IsPost e = subst IsPost (sym is) tt in
@@ -229,7 +229,7 @@ stands_unchanged {setting = setting} {J = J} {s = s} {new = new} stands same = r
 }
 
 -- What an entry that can come asks of the parts, before it comes.
-module _ {setting : Setting} (b : IsBuilt setting) {s : Situation} {e : Entry} (can : CanCome setting s e) where
+module _ {setting : Setting} (b : IsWellFormed setting) {s : Situation} {e : Entry} (can : CanCome setting s e) where
   pub pools_there : HavePools (signals_of_entry e) (length s.pools.waiting)
   pools_there =
       subst (HavePools (signals_of_entry e)) (sym can.stands.pools.count)

@@ -14,7 +14,8 @@ use Rattle.pssm_semantics.specs.Journal.{object_of}
 use Rattle.pssm_semantics.specs.Pool.{told_by}
 use Rattle.pssm_semantics.specs.Rules.{KeepsOwn}
 use Rattle.pssm_semantics.specs.Verdict.{IsFirstBroken}
-use Rattle.pssm_semantics.specs.Built.{IsBuiltClass, IsBuilt}
+use Rattle.pssm_semantics.specs.Classes.{IsWellFormedClass}
+use Rattle.pssm_semantics.specs.Proper.{IsWellFormed}
 use Rattle.pssm_pool.specs.declared.pools.Waiting.{Waiting}
 use Rattle.pssm_object.specs.Standing.{Standing, StandsAfter}
 use Rattle.pssm_object.specs.Following.{NamesPlaces, KeepsRule, KeepsRules, IsCandidate, IsMove, IsTold, CanCome, stimulus_for}
@@ -63,12 +64,12 @@ pub move_is_any : (class : Class) (x : Standing) (signal : Option Waiting) (e : 
 move_is_any class x signal e n = record { wanted_is = move-no_post e n.wanted_is; candidate = n.candidate; places = n.places; keeps = n.keeps }
 
 -- where there is no move and no task is ready, there is nothing
-pub nothing_next : (class : Class) (b : IsBuiltClass class) (x : Standing) (signal : Option Waiting) → ready_tasks class.machine x ≡ [] → HasNoNext class x signal Move
+pub nothing_next : (class : Class) (b : IsWellFormedClass class) (x : Standing) (signal : Option Waiting) → ready_tasks class.machine x ≡ [] → HasNoNext class x signal Move
     → HasNoNext class x signal AnyEntry
 nothing_next class b x signal empty none J e s is_wanted c keeps = none J e s (only-moves class b s signal empty e c keeps) c keeps
 
 -- the object of an entry goes on by it, and the others stay where they are
-module _ {setting : Setting} (b : IsBuilt setting) {objects : List Standing} {signal : Option Waiting} {e : Entry} (can : CanStep setting objects signal e)
+module _ {setting : Setting} (b : IsWellFormed setting) {objects : List Standing} {signal : Option Waiting} {e : Entry} (can : CanStep setting objects signal e)
     (class : Class) (x new : Standing) (m : IsMember setting can.before objects (object_of e) class x) where
   pub can_come : CanCome class x signal e
   can_come = record {

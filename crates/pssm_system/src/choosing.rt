@@ -2,7 +2,8 @@
 ghost use Rattle.std.specs.Prelude.{◌≡◌, ◌≤◌, ◌<◌, ◌+◌, ◌↔◌, List, length, IsTrue, IfOk};
 ghost use Rattle.std.specs.Option.{option_copied};
 ghost use Rattle.pssm_semantics.specs.declared.entry.Entry.{Entry as AnEntry};
-ghost use Rattle.pssm_semantics.specs.Built.{IsBuiltClass, IsBuilt};
+ghost use Rattle.pssm_semantics.specs.Classes.{IsWellFormedClass};
+ghost use Rattle.pssm_semantics.specs.Proper.{IsWellFormed};
 ghost use Rattle.pssm_semantics.specs.Admissible.{IsQuiet};
 ghost use Rattle.pssm_object.specs.Standing.{Stands as ObjectStands};
 ghost use Rattle.pssm_object.specs.Tasks.{ready_tasks};
@@ -30,7 +31,7 @@ impl Situation {
 
     /// Whether no entry but a post may come next.
     pub fn is_quiet(&self, setting: &Setting) -> bool
-        requires built { IsBuilt setting.now }
+        requires well_formed { IsWellFormed setting.now }
         requires stands { Stands setting.now self.now }
         ensures { (J : List AnEntry) → StandsSo setting.now J self.now → (IsTrue result ↔ IsQuiet setting.now J) }
     {
@@ -54,7 +55,7 @@ impl Situation {
         wanted: Wanted,
         word: u64,
     ) -> Result<Option<Entry>, NoMemory>
-        requires built { IsBuilt setting.now }
+        requires well_formed { IsWellFormed setting.now }
         requires stands { Stands setting.now self.now }
         ensures { IfOk result (FindsAmong setting.now self.now wanted 0 (length self.now.objects.items)) }
     {
@@ -80,7 +81,7 @@ impl Situation {
         wanted: Wanted,
         word: u64,
     ) -> Result<Option<Entry>, NoMemory>
-        requires built { IsBuilt setting.now }
+        requires well_formed { IsWellFormed setting.now }
         requires stands { Stands setting.now self.now }
         requires there { to ≤ length self.now.objects.items }
         ensures { IfOk result (FindsAmong setting.now self.now wanted from to) }
@@ -102,7 +103,7 @@ impl Situation {
         wanted: Wanted,
         word: u64,
     ) -> Result<Option<Entry>, NoMemory>
-        requires built { IsBuilt setting.now }
+        requires well_formed { IsWellFormed setting.now }
         requires stands { Stands setting.now self.now }
         requires there { own.0 < length self.now.objects.items }
         ensures { IfOk result (FindsAmong setting.now self.now wanted own.0 (own.0 + 1)) }
@@ -123,7 +124,7 @@ fn next_of(
     wanted: Wanted,
     word: u64,
 ) -> Result<Option<Entry>, NoMemory>
-    requires class { IsBuiltClass class.now }
+    requires class { IsWellFormedClass class.now }
     requires stands { ObjectStands class.now object.now }
     ensures { IfOk result (Finds class.now object.now (option_copied signal.entry) wanted) }
 {
@@ -141,7 +142,7 @@ fn next_entry(
     signal: Option<&Waiting>,
     word: u64,
 ) -> Result<Option<Entry>, NoMemory>
-    requires class { IsBuiltClass class.now }
+    requires class { IsWellFormedClass class.now }
     requires stands { ObjectStands class.now object.now }
     ensures { IfOk result (Finds class.now object.now (option_copied signal.entry) Wanted.AnyEntry) }
 {
@@ -163,7 +164,7 @@ fn next_entry(
 
 // The entry of the ready task with a number.
 fn task_entry(alloc: Global, object: &Object, class: &Class, i: u32) -> Result<Entry, NoMemory>
-    requires class { IsBuiltClass class.now }
+    requires class { IsWellFormedClass class.now }
     requires stands { ObjectStands class.now object.now }
     requires there { i < length (ready_tasks class.now.machine object.now) }
     ensures { IfOk result (IsNextAlways class.now object.now) }

@@ -1,7 +1,8 @@
 //! The signal that an object may take next.
 ghost use Rattle.std.specs.Prelude.{◌<◌, length};
 ghost use Rattle.std.specs.Option.{option_copied};
-ghost use Rattle.pssm_semantics.specs.Built.{IsBuiltClass, IsBuilt};
+ghost use Rattle.pssm_semantics.specs.Classes.{IsWellFormedClass};
+ghost use Rattle.pssm_semantics.specs.Proper.{IsWellFormed};
 ghost use Rattle.pssm_pool.specs.Waits.{waiting_for};
 ghost use Rattle.pssm_object.specs.Standing.{Stands as ObjectStands};
 ghost use Rattle.pssm_system.specs.inner.Deferring.{IsFirstFree};
@@ -18,7 +19,7 @@ impl Situation {
 
     /// The first signal that waits for the object and that it does not defer, if there is one.
     pub fn first_for(&self, setting: &Setting, own: ObjectId) -> Option<&Waiting>
-        requires built { IsBuilt setting.now }
+        requires well_formed { IsWellFormed setting.now }
         requires stands { Stands setting.now self.now }
         requires there { own.0 < length self.now.objects.items }
         ensures { IsFirstFor setting.now self.now own (option_copied result) }
@@ -35,7 +36,7 @@ fn first_free<'a>(
     pools: &'a Pools,
     own: ObjectId,
 ) -> Option<&'a Waiting>
-    requires class { IsBuiltClass class.now }
+    requires class { IsWellFormedClass class.now }
     requires stands { ObjectStands class.now object.now }
     ensures { IsFirstFree class.now object.now (waiting_for pools.now.waiting own) (option_copied result) }
 {

@@ -1,7 +1,6 @@
 //! `Follower`: a setting, and what is kept of the journal of an admissible run of it beside its entries.
 ghost use Rattle.std.specs.Prelude.{◌≡◌, ◌<◌, ◌↔◌, ◌++◌, ◌∷◌, [], length, slice_get, IsTrue, IfOk, IfNone, IfSome, OnOk, OnErr, Some};
 ghost use Rattle.std.specs.List.{AllByRecursion};
-ghost use Rattle.pssm_semantics.specs.Built.{IsBuilt};
 
 use crate::choosing::Wanted;
 use crate::situation::Situation;
@@ -63,14 +62,14 @@ impl Follower {
     ghost use Rattle.pssm_semantics.specs.declared.entry.Rule.TheVariants.{A1};
     ghost use Rattle.pssm_semantics.specs.declared.setting.Class.{Class};
     ghost use Rattle.pssm_object.specs.Following.{IsMove};
-    ghost use Rattle.pssm_semantics.specs.Built.{IsBuiltEntry};
+    ghost use Rattle.pssm_semantics.specs.Forms.{IsRunEntry};
     ghost use Rattle.pssm_system.specs.Tasks.{AreReady, HasNoMove};
 
     /// A follower of a journal with no entry yet.
     ///
     /// `NoMemory`: memory ran out; the setting is dropped.
     pub fn new(alloc: Global, setting: Setting) -> Result<Follower, NoMemory>
-        requires { IsBuilt setting }
+        requires { IsWellFormed setting }
         ensures setting { IfOk result (λ follower. follower.setting ≡ setting) }
         ensures start { IfOk result (λ follower. follower.journal ≡ []) }
     {
@@ -87,7 +86,6 @@ impl Follower {
     #[inline(always)]
     pub fn setting(&self) -> &Setting
         ensures setting { result.now ≡ self.now.setting }
-        ensures built { IsBuilt self.now.setting }
         ensures well_formed { IsWellFormed self.now.setting }
     {
         &self.setting
@@ -103,7 +101,7 @@ impl Follower {
         ensures count { result ≡ length self.now.journal }
         ensures admissible { IsAdmissibleIn self.now.setting self.now.journal }
         ensures limits { KeepsJournalLimits self.now.journal }
-        ensures built { AllByRecursion IsBuiltEntry self.now.journal }
+        ensures entries { AllByRecursion IsRunEntry self.now.journal }
         ensures completes { CompletesInTime self.now.setting self.now.journal }
         ensures laws { KeepsTakes self.now.setting self.now.journal
             × KeepsRegions self.now.setting self.now.journal }

@@ -1,7 +1,7 @@
 //! The verdict on one more entry.
 ghost use Rattle.std.specs.Prelude.{◌≡◌, IfOk};
 ghost use Rattle.std.specs.Option.{option_copied};
-ghost use Rattle.pssm_semantics.specs.Built.{IsBuilt};
+ghost use Rattle.pssm_semantics.specs.Proper.{IsWellFormed};
 ghost use Rattle.pssm_system.specs.inner.Deferring.{if_numbered as numbered_so};
 
 use crate::entries::{class_of, object_of};
@@ -18,7 +18,7 @@ impl Situation {
     /// The first rule that the entry breaks, if it breaks one. What it names is known (A1).
     #[inline(always)]
     pub fn judge(&self, setting: &Setting, entry: &Entry) -> Result<Option<Rule>, NoMemory>
-        requires built { IsBuilt setting.now }
+        requires well_formed { IsWellFormed setting.now }
         requires stands { Stands setting.now self.now }
         requires known { IsKnown setting.now entry.now }
         ensures { IfOk result (Judges setting.now self.now entry.now) }
@@ -34,7 +34,7 @@ impl Situation {
     // The signal that a take may take: the first that is not deferred, if it has the number that the take names.
     #[inline(always)]
     fn signal_for(&self, setting: &Setting, entry: &Entry) -> Option<&Waiting>
-        requires built { IsBuilt setting.now }
+        requires well_formed { IsWellFormed setting.now }
         requires stands { Stands setting.now self.now }
         requires known { IsKnown setting.now entry.now }
         ensures { ComesWith setting.now self.now entry.now (option_copied result) }
@@ -56,7 +56,7 @@ impl Situation {
         entry: &Entry,
         signal: Option<&Waiting>,
     ) -> Result<Option<Rule>, NoMemory>
-        requires built { IsBuilt setting.now }
+        requires well_formed { IsWellFormed setting.now }
         requires stands { Stands setting.now self.now }
         requires known { IsKnown setting.now entry.now }
         ensures { IfOk result (ItsObjectSays setting.now self.now (option_copied signal.entry) entry.now) }

@@ -1,6 +1,6 @@
 //! What is kept of a journal beside its entries.
 ghost use Rattle.std.specs.Prelude.{◌≡◌, [], length, IfOk};
-ghost use Rattle.pssm_semantics.specs.Built.{IsBuilt};
+ghost use Rattle.pssm_semantics.specs.Proper.{IsWellFormed};
 ghost use Rattle.pssm_pool.specs.Waits.{held_in};
 ghost use Rattle.pssm_system.specs.inner.Keeping.{AreObjects, ArePools};
 
@@ -26,7 +26,7 @@ impl Situation {
 
     /// What is kept of the journal without entries.
     pub fn new(alloc: Global, setting: &Setting) -> Result<Situation, NoMemory>
-        requires { IsBuilt setting.now }
+        requires { IsWellFormed setting.now }
         ensures { IfOk result (StandsSo setting.now []) }
     {
         Ok(Situation {
@@ -39,7 +39,7 @@ impl Situation {
 
 // The objects of the setting before their starts.
 fn new_objects(alloc: Global, setting: &Setting) -> Result<Vec<Object>, NoMemory>
-    requires { IsBuilt setting.now }
+    requires { IsWellFormed setting.now }
     ensures { IfOk result (λ objects. AreObjects setting.now [] objects.items) }
 {
     let count = setting.objects.as_slice().len() as u8;
@@ -53,7 +53,7 @@ fn new_objects(alloc: Global, setting: &Setting) -> Result<Vec<Object>, NoMemory
 
 // The pools of the objects of the setting, in which nothing waits.
 fn new_pools(alloc: Global, setting: &Setting) -> Result<Pools, NoMemory>
-    requires { IsBuilt setting.now }
+    requires { IsWellFormed setting.now }
     ensures pools { IfOk result (λ pools. ArePools setting.now [] pools.waiting) }
     ensures held { IfOk result (λ pools. held_in pools.waiting ≡ 0) }
 {

@@ -2,7 +2,7 @@
 ghost use Rattle.std.specs.Prelude.{◌≡◌, ◌≤◌, ◌<◌, ◌+◌, [], length, OnOk, OnErr};
 ghost use Rattle.std.specs.Option.{option_copied};
 ghost use Rattle.pssm_semantics.specs.Pool.{signals_of_entry};
-ghost use Rattle.pssm_semantics.specs.Built.{IsBuilt};
+ghost use Rattle.pssm_semantics.specs.Proper.{IsWellFormed};
 ghost use Rattle.pssm_pool.specs.Waits.{held_in};
 ghost use Rattle.pssm_system.specs.inner.Stepping.{CanStep, HaveStepped};
 
@@ -24,7 +24,7 @@ impl Situation {
     /// On want of memory nothing has changed but room.
     #[inline(always)]
     pub fn apply(&mut self, alloc: Global, setting: &Setting, entry: &Entry) -> Result<(), NoMemory>
-        requires built { IsBuilt setting.now }
+        requires well_formed { IsWellFormed setting.now }
         requires can { CanCome setting.now self.old entry.now }
         ensures ok { OnOk result (Brings setting.now self.old entry.now self.new) }
         ensures err { OnErr result (IsUnchanged self.old self.new) }
@@ -69,7 +69,7 @@ impl Situation {
     // Goes on by an entry that posts and sends nothing.
     #[inline(always)]
     fn go_on(&mut self, setting: &Setting, entry: &Entry) -> Result<(), NoMemory>
-        requires built { IsBuilt setting.now }
+        requires well_formed { IsWellFormed setting.now }
         requires can { CanCome setting.now self.old entry.now }
         requires silent { signals_of_entry entry.now ≡ [] }
         ensures ok { OnOk result (Brings setting.now self.old entry.now self.new) }
@@ -85,7 +85,7 @@ impl Situation {
     // Goes on by any entry.
     #[inline(never)]
     fn send(&mut self, alloc: Global, setting: &Setting, entry: &Entry) -> Result<(), NoMemory>
-        requires built { IsBuilt setting.now }
+        requires well_formed { IsWellFormed setting.now }
         requires can { CanCome setting.now self.old entry.now }
         ensures ok { OnOk result (Brings setting.now self.old entry.now self.new) }
         ensures err { OnErr result (IsUnchanged self.old self.new) }
@@ -110,7 +110,7 @@ fn step(
     entry: &Entry,
     signal: Option<&Waiting>,
 ) -> Result<(), NoMemory>
-    requires built { IsBuilt setting.now }
+    requires well_formed { IsWellFormed setting.now }
     requires can { CanStep setting.now objects.old (option_copied signal) entry.now }
     ensures ok { OnOk result (HaveStepped setting.now objects.old (option_copied signal.entry) entry.now objects.new) }
     ensures err { OnErr result (objects.new ≡ objects.old) }

@@ -1,7 +1,6 @@
 //! `System`: a setting and the journal of an admissible run of it.
 ghost use Rattle.std.specs.Prelude.{◌≡◌, ◌<◌, ◌↔◌, ◌++◌, ◌∷◌, [], length, slice_get, IsTrue, IfOk, IfNone, IfSome, OnOk, OnErr, Some};
 ghost use Rattle.std.specs.List.{AllByRecursion};
-ghost use Rattle.pssm_semantics.specs.Built.{IsBuilt};
 
 use crate::follower::Follower;
 use pssm_semantics::{Args, Entry, ObjectId, Rule, Setting, Task};
@@ -49,14 +48,14 @@ impl System {
     ghost use Rattle.pssm_semantics.specs.declared.entry.Rule.TheVariants.{A1};
     ghost use Rattle.pssm_semantics.specs.declared.setting.Class.{Class};
     ghost use Rattle.pssm_object.specs.Following.{IsMove};
-    ghost use Rattle.pssm_semantics.specs.Built.{IsBuiltEntry};
+    ghost use Rattle.pssm_semantics.specs.Forms.{IsRunEntry};
     ghost use Rattle.pssm_system.specs.Tasks.{AreReady, HasNoMove};
 
     /// A system with no entry yet.
     ///
     /// `NoMemory`: memory ran out; the setting is dropped.
     pub fn new(alloc: Global, setting: Setting) -> Result<System, NoMemory>
-        requires { IsBuilt setting }
+        requires { IsWellFormed setting }
         ensures setting { IfOk result (λ system. system.setting ≡ setting) }
         ensures start { IfOk result (λ system. system.journal ≡ []) }
     {
@@ -69,7 +68,6 @@ impl System {
     /// The setting, which is proper and whose machines break no rule of models.
     pub fn setting(&self) -> &Setting
         ensures setting { result.now ≡ self.now.setting }
-        ensures built { IsBuilt self.now.setting }
         ensures well_formed { IsWellFormed self.now.setting }
     {
         self.follower.setting()
@@ -84,7 +82,7 @@ impl System {
         ensures journal { result.now ≡ self.now.journal }
         ensures admissible { IsAdmissibleIn self.now.setting self.now.journal }
         ensures limits { KeepsJournalLimits self.now.journal }
-        ensures built { AllByRecursion IsBuiltEntry self.now.journal }
+        ensures entries { AllByRecursion IsRunEntry self.now.journal }
         ensures completes { CompletesInTime self.now.setting self.now.journal }
         ensures laws { KeepsTakes self.now.setting self.now.journal
             × KeepsRegions self.now.setting self.now.journal }

@@ -1,6 +1,6 @@
 //! The ready tasks of all objects.
 ghost use Rattle.std.specs.Prelude.{◌≡◌, ◌<◌, length, slice_get, Some};
-ghost use Rattle.pssm_semantics.specs.Built.{IsBuilt};
+ghost use Rattle.pssm_semantics.specs.Proper.{IsWellFormed};
 ghost use Rattle.pssm_system.specs.inner.Keeping.{tasks_of};
 
 use crate::entries::class_of;
@@ -12,7 +12,7 @@ impl Situation {
 
     /// How many tasks are ready.
     pub fn task_count(&self, setting: &Setting) -> u32
-        requires built { IsBuilt setting.now }
+        requires well_formed { IsWellFormed setting.now }
         requires stands { Stands setting.now self.now }
         ensures { result ≡ length (tasks_of setting.now self.now.objects.items) }
     {
@@ -26,7 +26,7 @@ impl Situation {
 
     /// The ready task with a number, in the order of the objects, with the object that it is of.
     pub fn task_at(&self, setting: &Setting, i: u32) -> (ObjectId, Task)
-        requires built { IsBuilt setting.now }
+        requires well_formed { IsWellFormed setting.now }
         requires stands { Stands setting.now self.now }
         requires there { i < length (tasks_of setting.now self.now.objects.items) }
         ensures { slice_get (tasks_of setting.now self.now.objects.items) i ≡ Some result }

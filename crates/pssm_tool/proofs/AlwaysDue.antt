@@ -11,13 +11,12 @@ use Rattle.pssm_load.specs.declared.fault.ClassFault.{ClassFault}
 use Rattle.pssm_load.specs.declared.fault.LoadFault.{LoadFault}
 use Rattle.pssm_load.specs.declared.fault.LoadFault.TheVariants as faults
 use Rattle.pssm_load.specs.Loads.{ReadsSetting, IsLoadFault, rules}
-use Rattle.pssm_load.proofs.FirstNotBuilt.{built_or_first}
 use Rattle.pssm_tool.specs.declared.words.Options.{Options}
 use Rattle.pssm_tool.specs.declared.answer.Answer.{Answer}
 use Rattle.pssm_tool.specs.declared.answer.Answer.TheVariants.{WellFormed, Usage, TooLarge, Flat, BadModel}
 use Rattle.pssm_tool.specs.Words.{Meaning, Judges, Runs, Checks, Prints, Means}
 use Rattle.pssm_tool.specs.Stimuli.{AreStimuli}
-use Rattle.pssm_tool.specs.Due.{most_bytes, model_of, HasModel, HasBuiltModel, answer_to, large_journal, judged, unfit, IsOwed, usage, large_model, bad_model, unbuilt, on_model, IsTold}
+use Rattle.pssm_tool.specs.Due.{most_bytes, model_of, HasModel, answer_to, large_journal, judged, unfit, IsOwed, usage, large_model, bad_model, on_model, IsTold}
 use Rattle.pssm_tool.proofs.DueLaws.{model_named, journal_named}
 use Rattle.pssm_tool.proofs.DueOnce.{told_bytes}
 
@@ -34,26 +33,21 @@ large_or_read contents path told not_large not_read =
     ]
 
 module _ (words : List (List ℕ)) (contents : Contents) (told : IsTold words contents) (no_answer : (answer : Answer) → IsOwed words contents answer → ⊥)
-    (no_run : (options : Options) (model : List ℕ) (names : List (List ℕ)) (setting : Setting) (stimuli : List Stimulus) → Means words (Runs options model names) → HasBuiltModel contents model setting → AreStimuli setting names stimuli → ⊥) where
-  -- A journal and a model that the code runs.
-  never_judged : (model journal : List ℕ) (setting : Setting) → Means words (Judges model journal) → HasBuiltModel contents model setting → ⊥
+    (no_run : (options : Options) (model : List ℕ) (names : List (List ℕ)) (setting : Setting) (stimuli : List Stimulus) → Means words (Runs options model names) → HasModel contents model setting → AreStimuli setting names stimuli → ⊥) where
+  -- A journal and a model that keeps the rules.
+  never_judged : (model journal : List ℕ) (setting : Setting) → Means words (Judges model journal) → HasModel contents model setting → ⊥
   never_judged model journal setting is has =
       large_or_read contents journal (told_bytes (contents journal) (told journal (journal_named words model journal is)))
-      (λ large. no_answer TooLarge (on_model (Judges model journal) setting is has.0 (has.1, large_journal large refl)))
-      (λ bytes reads. something_said setting bytes (λ said is_said. no_answer (answer_to said) (on_model (Judges model journal) setting is has.0 (has.1, judged bytes said reads is_said refl))))
+      (λ large. no_answer TooLarge (on_model (Judges model journal) setting is has (large_journal large refl)))
+      (λ bytes reads. something_said setting bytes (λ said is_said. no_answer (answer_to said) (on_model (Judges model journal) setting is has (judged bytes said reads is_said refl))))
 
   -- A model that keeps the rules.
   never_loaded : (meaning : Meaning) → Means words meaning → (setting : Setting) → HasModel contents (model_of meaning) setting → ⊥
   never_loaded (Checks model) is setting has = no_answer WellFormed (on_model (Checks model) setting is has refl)
   never_loaded (Prints model) is setting has = no_answer (Flat (flat_text setting)) (on_model (Prints model) setting is has refl)
-  never_loaded (Judges model journal) is setting has =
-      built_or_first setting.classes
-      (λ built. never_judged model journal setting is (has, built))
-      (λ name e first. no_answer (BadModel (faults.NotBuilt name e)) (unbuilt (Judges model journal) setting name e is tt has first refl))
+  never_loaded (Judges model journal) is setting has = never_judged model journal setting is has
   never_loaded (Runs options model names) is setting has =
-      built_or_first setting.classes
-      (λ built. no_answer Usage (on_model (Runs options model names) setting is has (built, unfit (λ stimuli are. no_run options model names setting stimuli is (has, built) are) refl)))
-      (λ name e first. no_answer (BadModel (faults.NotBuilt name e)) (unbuilt (Runs options model names) setting name e is tt has first refl))
+      no_answer Usage (on_model (Runs options model names) setting is has (unfit (λ stimuli are. no_run options model names setting stimuli is has are) refl))
 
   -- A model that was read, with the rules that its machines break.
   never_read : (meaning : Meaning) → Means words meaning → (bytes : List ℕ) → ReadsWhole contents (model_of meaning) most_bytes bytes → (setting : Setting) (list : List ClassFault) → ReadsSetting bytes setting list → ⊥
@@ -69,5 +63,5 @@ module _ (words : List (List ℕ)) (contents : Contents) (told : IsTold words co
 
 -- Where it is told what the files hold, an answer or a run is owed.
 pub always_due : SettingOrFault → (words : List (List ℕ)) (contents : Contents) → IsTold words contents → ((answer : Answer) → IsOwed words contents answer → ⊥)
-    → ((options : Options) (model : List ℕ) (names : List (List ℕ)) (setting : Setting) (stimuli : List Stimulus) → Means words (Runs options model names) → HasBuiltModel contents model setting → AreStimuli setting names stimuli → ⊥) → ⊥
+    → ((options : Options) (model : List ℕ) (names : List (List ℕ)) (setting : Setting) (stimuli : List Stimulus) → Means words (Runs options model names) → HasModel contents model setting → AreStimuli setting names stimuli → ⊥) → ⊥
 always_due some_load words contents told no_answer no_run = no_answer Usage (usage (never_meant words contents told no_answer no_run some_load) refl)

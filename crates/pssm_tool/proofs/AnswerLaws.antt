@@ -16,7 +16,7 @@ use Rattle.pssm_tool.specs.declared.run.Ended.TheVariants as ends
 use Rattle.pssm_tool.specs.Words.{Meaning, Judges, Runs, Means}
 use Rattle.pssm_tool.specs.Stimuli.{AreStimuli}
 use Rattle.pssm_tool.specs.Answers.{code_of, text_of, IsFailure}
-use Rattle.pssm_tool.specs.Due.{model_of, HasModel, HasBuiltModel, answer_to, IsDueForJournal, large_journal, judged, IsDueForRun, unfit, ran, IsDueForModel, IsOwed, usage, large_model, bad_model, unbuilt, on_model, IsTold, Gives}
+use Rattle.pssm_tool.specs.Due.{model_of, HasModel, answer_to, IsDueForJournal, large_journal, judged, IsDueForRun, unfit, ran, IsDueForModel, IsOwed, usage, large_model, bad_model, on_model, IsTold, Gives}
 use Rattle.pssm_tool.specs.Headline.{IsContinued, IsAcceptedText}
 use Rattle.pssm_tool.specs.inner.Failures.{GoesOn}
 use Rattle.pssm_tool.proofs.WordLaws.{one_meaning}
@@ -150,10 +150,8 @@ run_accepted words contents before after a options model names (large_model m al
     no_end a TooLarge code e (λ ended. elim ended [ inl zero ↦ omega arith | inr eight ↦ omega arith ])
 run_accepted words contents before after a options model names (bad_model m bytes fault also reads wrong e) written is code =
     no_end a (BadModel fault) code e (λ ended. elim ended [ inl zero ↦ omega arith | inr eight ↦ omega arith ])
-run_accepted words contents before after a options model names (unbuilt m s name x also about has first e) written is code =
-    no_end a _ code e (λ ended. elim ended [ inl zero ↦ omega arith | inr eight ↦ omega arith ])
 run_accepted words contents before after a options model names (on_model m s also has due) written is code =
-    by_run (moved words contents (Runs options model names) is (λ x. IsDueForModel contents s x a) m also due).1 where
+    by_run (moved words contents (Runs options model names) is (λ x. IsDueForModel contents s x a) m also due) where
       model_is : HasModel contents model s
       model_is = moved words contents (Runs options model names) is (λ x. HasModel contents (model_of x) s) m also has
 
@@ -172,9 +170,8 @@ judgement_accepts : (words : List (List ℕ)) (contents : Contents) (a : Answer)
 judgement_accepts words contents a model journal (usage none e) zero is = absurd (none (Judges model journal) is)
 judgement_accepts words contents a model journal (large_model m also large e) zero is = let c : code_of a ≡ 9 = ap code_of e in absurd (omega (arith, c, zero))
 judgement_accepts words contents a model journal (bad_model m bytes fault also reads wrong e) zero is = let c : code_of a ≡ 3 = ap code_of e in absurd (omega (arith, c, zero))
-judgement_accepts words contents a model journal (unbuilt m s name x also about has first e) zero is = let c : code_of a ≡ 3 = ap code_of e in absurd (omega (arith, c, zero))
 judgement_accepts words contents a model journal (on_model m s also has due) zero is =
-    by_journal (moved words contents (Judges model journal) is (λ x. IsDueForModel contents s x a) m also due).1 where
+    by_journal (moved words contents (Judges model journal) is (λ x. IsDueForModel contents s x a) m also due) where
       by_said : (said : Judged) → a ≡ answer_to said → (n : ℕ) × (a ≡ Accept n)
       by_said (Accepted n) e = (n, e)
       by_said (Refused n rule) e = let c : code_of a ≡ 1 = ap code_of e in absurd (omega (arith, c, zero))
@@ -226,7 +223,7 @@ journal_code a (text, ends.Limit, e) = inr (ap code_of e)
 -- A run that is owed is what comes, with one of its ends.
 pub runs_owed : {P : Type 0} (law : HasOneLoad) (words : List (List ℕ)) (contents : Contents) (code : ℕ) (came : Answer) (options : Options) (model : List ℕ) (names : List (List ℕ)) (setting : Setting) (stimuli : List Stimulus)
     → IsTold words contents → IsOwed words contents came → (code ≢ 6 → code ≢ 7 → (code ≡ code_of came) × P)
-    → Means words (Runs options model names) → HasBuiltModel contents model setting → AreStimuli setting names stimuli → (code ≡ 0) ⊎ (code ≡ 8) ⊎ IsFailure code
+    → Means words (Runs options model names) → HasModel contents model setting → AreStimuli setting names stimuli → (code ≡ 0) ⊎ (code ≡ 8) ⊎ IsFailure code
 runs_owed law words contents code came options model names setting stimuli known owed told is has are = elim (answer_or_failure code (code_of came) told) [
   | inl same ↦ elim (journal_code came (run_answered law words contents known came options model names setting stimuli owed is has are)) [
     | inl zero ↦ inl (same ∙ zero)

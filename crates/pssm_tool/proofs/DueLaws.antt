@@ -14,10 +14,10 @@ use Rattle.pssm_tool.specs.declared.answer.Answer.{Answer}
 use Rattle.pssm_tool.specs.declared.failure.Failure.{Failure}
 use Rattle.pssm_tool.specs.declared.failure.Failure.TheVariants.{ReadFault, NoMemory}
 use Rattle.pssm_tool.specs.Words.{Meaning, Judges, Means}
-use Rattle.pssm_tool.specs.Due.{model_of, NamePath, IsAboutRuns, HasBuiltModel, large_journal, judged, IsOwed, large_model, bad_model, unbuilt, on_model}
+use Rattle.pssm_tool.specs.Due.{model_of, NamePath, HasModel, large_journal, judged, IsOwed, large_model, bad_model, on_model}
 use Rattle.pssm_tool.specs.Headline.{IsContinued}
 use Rattle.pssm_tool.specs.inner.Verdicts.{said}
-use Rattle.pssm_tool.specs.inner.Failures.{LacksModel, holds_more, has_fault, LacksBuiltModel, no_model, not_built, FailedAt, FailedFor, GoesOn}
+use Rattle.pssm_tool.specs.inner.Failures.{LacksModel, holds_more, has_fault, FailedAt, FailedFor, GoesOn}
 
 -- ---- the model
 
@@ -36,12 +36,6 @@ pub lacks_owed : (words : List (List ℕ)) (meaning : Meaning) (contents : Conte
 lacks_owed words meaning contents answer means (holds_more more is) = subst (λ (a : Answer). IsGiven words contents a) (sym is) (large_model meaning means more refl, tt)
 lacks_owed words meaning contents answer means (has_fault bytes fault reads wrong is) =
     subst (λ (a : Answer). IsGiven words contents a) (sym is) (bad_model meaning bytes fault means reads wrong refl, tt)
-
-pub lacks_built_owed : (words : List (List ℕ)) (meaning : Meaning) (contents : Contents) (answer : Answer) → Means words meaning → IsAboutRuns meaning → LacksBuiltModel contents (model_of meaning) answer
-    → IsGiven words contents answer
-lacks_built_owed words meaning contents answer means about (no_model wrong) = lacks_owed words meaning contents answer means wrong
-lacks_built_owed words meaning contents answer means about (not_built setting class element has first is) =
-    subst (λ (a : Answer). IsGiven words contents a) (sym is) (unbuilt meaning setting class element means about has first refl, tt)
 
 -- Reading the model failed.
 pub failed_at_model : (words : List (List ℕ)) (meaning : Meaning) (before after : List ℕ → ℕ) (failure : Failure) → Means words meaning
@@ -64,15 +58,15 @@ rose_after : (a b c : ℕ) → a ≤ b → Rose b c → Rose a c
 rose_after a b c fell rose below = let up : b < c = rose below in omega arith
 
 -- the model that was read, and what the judge said of the journal
-module _ (contents then : Contents) (before mid after : List ℕ → ℕ) (model journal : List ℕ) (setting : Setting) (has : HasBuiltModel contents model setting) (same : SameContent contents then) (fell : NoneFell before mid) where
+module _ (contents then : Contents) (before mid after : List ℕ → ℕ) (model journal : List ℕ) (setting : Setting) (has : HasModel contents model setting) (same : SameContent contents then) (fell : NoneFell before mid) where
   -- The answer is owed.
   owed_said : (r : Result Verdict JudgeFault) → IfOk r (IsVerdictFor setting then journal) → IfErr r (IsFaultFor setting then (mid journal) (after journal) journal)
       → IfOk (said r) (λ answer. (words : List (List ℕ)) → Means words (Judges model journal) → IsOwed words contents answer)
-  owed_said (Ok (verdicts.Accept n)) v f = λ words is. on_model (Judges model journal) setting is has.0 (has.1, judged v.bytes (Accepted n) (same_bytes contents then journal v.bytes same v.reads) v.says.0 refl)
-  owed_said (Ok (verdicts.Refuse n rule)) v f = λ words is. on_model (Judges model journal) setting is has.0 (has.1, judged v.bytes (Refused n rule) (same_bytes contents then journal v.bytes same v.reads) v.says refl)
-  owed_said (Err (faults.Text bad)) v f = λ words is. on_model (Judges model journal) setting is has.0 (has.1, judged f.0 (BadText bad) (same_bytes contents then journal f.0 same f.1) f.2 refl)
-  owed_said (Err (faults.Limit n)) v f = λ words is. on_model (Judges model journal) setting is has.0 (has.1, judged f.0 (Limited n) (same_bytes contents then journal f.0 same f.1) f.2 refl)
-  owed_said (Err faults.TooLarge) v f = λ words is. on_model (Judges model journal) setting is has.0 (has.1, large_journal (same_size contents then journal same f) refl)
+  owed_said (Ok (verdicts.Accept n)) v f = λ words is. on_model (Judges model journal) setting is has (judged v.bytes (Accepted n) (same_bytes contents then journal v.bytes same v.reads) v.says.0 refl)
+  owed_said (Ok (verdicts.Refuse n rule)) v f = λ words is. on_model (Judges model journal) setting is has (judged v.bytes (Refused n rule) (same_bytes contents then journal v.bytes same v.reads) v.says refl)
+  owed_said (Err (faults.Text bad)) v f = λ words is. on_model (Judges model journal) setting is has (judged f.0 (BadText bad) (same_bytes contents then journal f.0 same f.1) f.2 refl)
+  owed_said (Err (faults.Limit n)) v f = λ words is. on_model (Judges model journal) setting is has (judged f.0 (Limited n) (same_bytes contents then journal f.0 same f.1) f.2 refl)
+  owed_said (Err faults.TooLarge) v f = λ words is. on_model (Judges model journal) setting is has (large_journal (same_size contents then journal same f) refl)
   owed_said (Err faults.ReadFault) v f = tt
   owed_said (Err faults.NoMemory) v f = tt
 
@@ -86,7 +80,7 @@ module _ (contents then : Contents) (before mid after : List ℕ → ℕ) (model
       subst (λ (t : List ℕ). IsContinued contents t j) models (subst (λ (t : List ℕ). IsContinued contents model t) journals (record {
         setting = setting;
         entries = p.journal;
-        model_is = has.0;
+        model_is = has;
         holds = record {
           bytes = v.bytes;
           lines = p.lines;

@@ -2,16 +2,13 @@
 use Rattle.std.proofs.Common.{◌≡◌, ◌⊎◌, ◌<◌, ℕ, List, [], length, refl, sym, ap, subst, ◌∙◌, inl, inr, arith}
 use Rattle.std.specs.Prelude.{Option, Some, None, IsSome, IfSome}
 use Rattle.pssm_base.specs.Reading.{Contents, ReadsWhole, HoldsMore}
-use Rattle.pssm_model.specs.declared.elements.Element.{Element}
 use Rattle.pssm_semantics.specs.declared.setting.Setting.{Setting}
 use Rattle.pssm_semantics.specs.declared.stimulus.Stimulus.{Stimulus}
 use Rattle.pssm_flat.specs.Text.{flat_text}
 use Rattle.pssm_journal.specs.Judged.{IsJudged}
 use Rattle.pssm_journal.proofs.Judgements.{judged_once}
 use Rattle.pssm_load.specs.declared.fault.LoadFault.{LoadFault}
-use Rattle.pssm_load.specs.declared.fault.LoadFault.TheVariants as wrongs
-use Rattle.pssm_load.specs.Loads.{Reads, ReadsSetting, IsLoadFault, AreBuilt, IsFirstUnbuilt}
-use Rattle.pssm_load.proofs.LoadFaults.{none_of_built}
+use Rattle.pssm_load.specs.Loads.{Reads, ReadsSetting, IsLoadFault}
 use Rattle.pssm_tool.specs.declared.words.Options.{Options}
 use Rattle.pssm_tool.specs.declared.answer.Answer.{Answer}
 use Rattle.pssm_tool.specs.declared.answer.Answer.TheVariants.{WellFormed, Usage, TooLarge, Journal, Flat, BadModel}
@@ -19,7 +16,7 @@ use Rattle.pssm_tool.specs.declared.run.Ended.{Ended}
 use Rattle.pssm_tool.specs.Words.{Meaning, Judges, Runs, Checks, Prints, Means}
 use Rattle.pssm_tool.specs.Stimuli.{AreStimuli}
 use Rattle.pssm_tool.specs.Answers.{code_of}
-use Rattle.pssm_tool.specs.Due.{model_of, IsAboutRuns, HasModel, HasBuiltModel, answer_to, IsDueForJournal, large_journal, judged, IsDueForRun, unfit, ran, IsDueForModel, IsOwed, usage, large_model, bad_model, unbuilt, on_model, IsTold}
+use Rattle.pssm_tool.specs.Due.{model_of, HasModel, answer_to, IsDueForJournal, large_journal, judged, IsDueForRun, unfit, ran, IsDueForModel, IsOwed, usage, large_model, bad_model, on_model, IsTold}
 use Rattle.pssm_tool.proofs.WordLaws.{one_meaning}
 use Rattle.pssm_tool.proofs.DueLaws.{model_named, journal_named}
 
@@ -73,10 +70,6 @@ module _ (law : HasOneLoad) (contents : Contents) (model held : List ℕ) (told 
       let same : has.bytes ≡ bytes = same_read contents model held bytes has.bytes told reads has.reads in
       law.apart bytes s fault (subst (λ (read : List ℕ). ReadsSetting read s []) same has.loads) wrong
 
-  -- A model that is built whole has no element that is not.
-  unbuilt_or_built : (name : List ℕ) (e : Element) (s t : Setting) → HasModel contents model s → HasModel contents model t → IsFirstUnbuilt s.classes name e → AreBuilt t.classes → ⊥
-  unbuilt_or_built name e s t p q first built = none_of_built s.classes name e first (subst (λ (x : Setting). AreBuilt x.classes) (model_once t s q p) built)
-
 -- ---- two answers
 
 abbrev pub IsJournal : Answer → Type 0
@@ -109,18 +102,11 @@ module _ (law : HasOneLoad) (words : List (List ℕ)) (contents : Contents) (tol
   model_answer_once : (m : Meaning) (s : Setting) (a b : Answer) → Means words m → IsDueForModel contents s m a → IsDueForModel contents s m b → AreAlike a b
   model_answer_once (Judges m j) s a b means p d =
       let journal = told_bytes (contents j) (told j (journal_named words m j means)) in
-      let same = journal_once contents s j journal.0 a b journal.1 p.1 d.1 in
+      let same = journal_once contents s j journal.0 a b journal.1 p d in
       inl (ap code_of same)
-  model_answer_once (Runs o m names) s a b means p d = run_once s o names a b p.1 d.1
+  model_answer_once (Runs o m names) s a b means p d = run_once s o names a b p d
   model_answer_once (Checks m) s a b means p d = same_code a b WellFormed WellFormed refl p d
   model_answer_once (Prints m) s a b means p d = same_code a b (Flat (flat_text s)) (Flat (flat_text s)) refl p d
-
-  -- What is owed on a model that is about runs rests on all of it being built.
-  due_built : (m : Meaning) (s : Setting) (a : Answer) → IsAboutRuns m → IsDueForModel contents s m a → AreBuilt s.classes
-  due_built (Judges m j) s a about p = p.0
-  due_built (Runs o m names) s a about p = p.0
-  due_built (Checks m) s a about p = absurd about
-  due_built (Prints m) s a about p = absurd about
 
   size_or_fault : (a b : Meaning) (bytes : List ℕ) → Means words a → Means words b → HoldsMore contents (model_of a) 16777216 → ReadsWhole contents (model_of b) 16777216 bytes → ⊥
   size_or_fault a b bytes p q more reads =
@@ -136,13 +122,6 @@ module _ (law : HasOneLoad) (words : List (List ℕ)) (contents : Contents) (tol
       let model = model_told a p in
       fault_or_loads law contents (model_of a) model.0 model.1 bytes fault s reads wrong (moved (λ m. HasModel contents (model_of m) s) a b p q has)
 
-  forms_or_due : (a b : Meaning) (name : List ℕ) (e : Element) (s t : Setting) (q : Answer) → Means words a → Means words b → IsAboutRuns a → HasModel contents (model_of a) s → IsFirstUnbuilt s.classes name e
-      → HasModel contents (model_of b) t → IsDueForModel contents t b q → ⊥
-  forms_or_due a b name e s t q p o about has first also due =
-      let model = model_told a p in
-      unbuilt_or_built law contents (model_of a) model.0 model.1 name e s t has (moved (λ m. HasModel contents (model_of m) t) a b p o also) first
-      (due_built a t q about (moved (λ m. IsDueForModel contents t m q) a b p o due))
-
   model_or_model : (a b : Meaning) (s t : Setting) (r q : Answer) → Means words a → Means words b → HasModel contents (model_of a) s → HasModel contents (model_of b) t
       → IsDueForModel contents s a r → IsDueForModel contents t b q → AreAlike r q
   model_or_model a b s t r q p o has also due done =
@@ -156,42 +135,30 @@ module _ (law : HasOneLoad) (words : List (List ℕ)) (contents : Contents) (tol
   owed_once r q (usage p e) (usage o f) = same_code r q Usage Usage refl e f
   owed_once r q (usage p e) (large_model b o more f) = absurd (p b o)
   owed_once r q (usage p e) (bad_model b bytes fault o reads wrong f) = absurd (p b o)
-  owed_once r q (usage p e) (unbuilt b t name x o about has first f) = absurd (p b o)
   owed_once r q (usage p e) (on_model b t o has due) = absurd (p b o)
   owed_once r q (large_model a p more e) (usage o f) = absurd (o a p)
   owed_once r q (large_model a p more e) (large_model b o also f) = same_code r q TooLarge TooLarge refl e f
   owed_once r q (large_model a p more e) (bad_model b bytes fault o reads wrong f) = absurd (size_or_fault a b bytes p o more reads)
-  owed_once r q (large_model a p more e) (unbuilt b t name x o about has first f) = absurd (size_or_loads a b t p o more has)
   owed_once r q (large_model a p more e) (on_model b t o has due) = absurd (size_or_loads a b t p o more has)
   owed_once r q (bad_model a bytes fault p reads wrong e) (usage o f) = absurd (o a p)
   owed_once r q (bad_model a bytes fault p reads wrong e) (large_model b o more f) = absurd (size_or_fault b a bytes o p more reads)
   owed_once r q (bad_model a bytes fault p reads wrong e) (bad_model b others also o read so f) = same_code r q (BadModel fault) (BadModel also) refl e f
-  owed_once r q (bad_model a bytes fault p reads wrong e) (unbuilt b t name x o about has first f) = same_code r q (BadModel fault) (BadModel (wrongs.NotBuilt name x)) refl e f
   owed_once r q (bad_model a bytes fault p reads wrong e) (on_model b t o has due) = absurd (faults_or_loads a b bytes fault t p o reads wrong has)
-  owed_once r q (unbuilt a s name x p about has first e) (usage o f) = absurd (o a p)
-  owed_once r q (unbuilt a s name x p about has first e) (large_model b o more f) = absurd (size_or_loads b a s o p more has)
-  owed_once r q (unbuilt a s name x p about has first e) (bad_model b bytes fault o reads wrong f) = same_code r q (BadModel (wrongs.NotBuilt name x)) (BadModel fault) refl e f
-  owed_once r q (unbuilt a s name x p about has first e) (unbuilt b t also y o so has_also first_also f) = same_code r q (BadModel (wrongs.NotBuilt name x)) (BadModel (wrongs.NotBuilt also y)) refl e f
-  owed_once r q (unbuilt a s name x p about has first e) (on_model b t o also due) = absurd (forms_or_due a b name x s t q p o about has first also due)
   owed_once r q (on_model a s p has due) (usage o f) = absurd (o a p)
   owed_once r q (on_model a s p has due) (large_model b o more f) = absurd (size_or_loads b a s o p more has)
   owed_once r q (on_model a s p has due) (bad_model b bytes fault o reads wrong f) = absurd (faults_or_loads b a bytes fault s o p reads wrong has)
-  owed_once r q (on_model a s p has due) (unbuilt b t name x o about also first f) = absurd (forms_or_due b a name x t s r o p about also first has due)
   owed_once r q (on_model a s p has due) (on_model b t o also done) = model_or_model a b s t r q p o has also due done
 
   -- Where a run is owed, a journal comes.
   pub run_answered : (a : Answer) (options : Options) (model : List ℕ) (names : List (List ℕ)) (s : Setting) (stimuli : List Stimulus) → IsOwed words contents a → Means words (Runs options model names)
-      → HasBuiltModel contents model s → AreStimuli s names stimuli → IsJournal a
+      → HasModel contents model s → AreStimuli s names stimuli → IsJournal a
   run_answered a options model names s stimuli (usage none e) is has are = absurd (none (Runs options model names) is)
-  run_answered a options model names s stimuli (large_model b o more e) is has are = absurd (size_or_loads b (Runs options model names) s o is more has.0)
-  run_answered a options model names s stimuli (bad_model b bytes fault o reads wrong e) is has are = absurd (faults_or_loads b (Runs options model names) bytes fault s o is reads wrong has.0)
-  run_answered a options model names s stimuli (unbuilt b t name x o about also first e) is has are =
-      let model_is = model_told (Runs options model names) is in
-      absurd (unbuilt_or_built law contents model model_is.0 model_is.1 name x t s (moved (λ m. HasModel contents (model_of m) t) (Runs options model names) b is o also) has.0 first has.1)
+  run_answered a options model names s stimuli (large_model b o more e) is has are = absurd (size_or_loads b (Runs options model names) s o is more has)
+  run_answered a options model names s stimuli (bad_model b bytes fault o reads wrong e) is has are = absurd (faults_or_loads b (Runs options model names) bytes fault s o is reads wrong has)
   run_answered a options model names s stimuli (on_model b t o also due) is has are =
       let model_is = model_told (Runs options model names) is in
-      let same = model_once law contents model model_is.0 model_is.1 t s (moved (λ m. HasModel contents (model_of m) t) (Runs options model names) b is o also) has.0 in
-      by_run (subst (λ (x : Setting). IsDueForModel contents x (Runs options model names) a) same (moved (λ m. IsDueForModel contents t m a) (Runs options model names) b is o due)).1 where
+      let same = model_once law contents model model_is.0 model_is.1 t s (moved (λ m. HasModel contents (model_of m) t) (Runs options model names) b is o also) has in
+      by_run (subst (λ (x : Setting). IsDueForModel contents x (Runs options model names) a) same (moved (λ m. IsDueForModel contents t m a) (Runs options model names) b is o due)) where
         by_run : IsDueForRun s options names a → IsJournal a
         by_run (unfit none e) = absurd (none stimuli are)
         by_run (ran others text ended they so e) = (text, ended, e)

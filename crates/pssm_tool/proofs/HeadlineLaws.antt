@@ -11,7 +11,7 @@ use Rattle.pssm_tool.specs.declared.answer.Answer.{Answer}
 use Rattle.pssm_tool.specs.declared.answer.Answer.TheVariants.{Accept}
 use Rattle.pssm_tool.specs.Words.{Judges, Means}
 use Rattle.pssm_tool.specs.Answers.{code_of, IsFailure}
-use Rattle.pssm_tool.specs.Due.{HasBuiltModel, judged, IsOwed, on_model, IsTold}
+use Rattle.pssm_tool.specs.Due.{HasModel, judged, IsOwed, on_model, IsTold}
 use Rattle.pssm_tool.specs.Headline.{HoldsPrefix, AcceptsPrefixes, IsContinued}
 use Rattle.pssm_tool.proofs.DueLaws.{model_named}
 use Rattle.pssm_tool.proofs.DueOnce.{IsJournal, told_bytes, HasOneLoad, model_once}
@@ -22,12 +22,12 @@ pub prefix_admissible : (setting : Setting) (J : List Entry) → IsPrefixOfRun s
 prefix_admissible setting J (more, run) = IsAdmissible-front (Holds setting) J more run.admissible
 
 module _ (law : HasOneLoad) (words : List (List ℕ)) (contents : Contents) (known : IsTold words contents) (model journal : List ℕ) (setting : Setting)
-    (is : Means words (Judges model journal)) (has : HasBuiltModel contents model setting) where
+    (is : Means words (Judges model journal)) (has : HasModel contents model setting) where
   -- An accepted journal is a prefix of a complete run.
   continued_is_prefix : IsContinued contents model journal → HoldsPrefix contents journal setting
   continued_is_prefix h =
       let held = told_bytes (contents model) (known model (model_named words (Judges model journal) is)) in
-      let same : h.setting ≡ setting = model_once law contents model held.0 held.1 h.setting setting h.model_is has.0 in
+      let same : h.setting ≡ setting = model_once law contents model held.0 held.1 h.setting setting h.model_is has in
       subst (λ s. HoldsPrefix contents journal s) same (h.entries, h.holds, (h.completes.2.more, h.completes.2.run))
 
   -- A prefix of a complete run is owed its acceptance.
@@ -45,7 +45,7 @@ module _ (law : HasOneLoad) (words : List (List ℕ)) (contents : Contents) (kno
         };
         entries_are = refl;
       } in
-      on_model (Judges model journal) setting is has.0 (has.1, judged h.1.bytes (Accepted (length h.0)) h.1.reads accepted refl)
+      on_model (Judges model journal) setting is has (judged h.1.bytes (Accepted (length h.0)) h.1.reads accepted refl)
 
 -- An acceptance is no journal of a run.
 no_journal : (n code : ℕ) → (code ≡ 0) ⊎ IsFailure code ⊎ IsJournal (Accept n) → (code ≡ 0) ⊎ IsFailure code

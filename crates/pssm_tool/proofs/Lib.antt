@@ -5,7 +5,6 @@ pub mod CallLaws
 pub mod PostLaws
 pub mod RunLaws
 pub mod TextLaws
-pub mod BuiltLaws
 pub mod LoadLaws
 pub mod DueLaws
 pub mod DueOnce

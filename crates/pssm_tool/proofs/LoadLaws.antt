@@ -3,15 +3,14 @@ use Rattle.std.proofs.Common.{◌≡◌, ◌≢◌, ◌⊎◌, ℕ, List, [], Re
 use Rattle.pssm_base.specs.Reading.{Contents, ReadsWhole}
 use Rattle.pssm_semantics.specs.declared.setting.Setting.{Setting}
 use Rattle.pssm_load.specs.declared.fault.LoadFault.{LoadFault}
-use Rattle.pssm_load.specs.declared.fault.LoadFault.TheVariants.{Flat, Xmi, Redef, Act, Shape, Faults, NotBuilt, NoMemory}
-use Rattle.pssm_load.specs.Loads.{ReadsSetting, AreBuilt, IsLoadFault}
-use Rattle.pssm_load.specs.inner.Loading.{NamesUnbuilt}
+use Rattle.pssm_load.specs.declared.fault.LoadFault.TheVariants.{NoMemory}
+use Rattle.pssm_load.specs.Loads.{ReadsSetting, IsLoadFault}
 use Rattle.pssm_tool.specs.declared.answer.Answer.{Answer}
 use Rattle.pssm_tool.specs.declared.answer.Answer.TheVariants.{BadModel}
 use Rattle.pssm_tool.specs.declared.failure.Failure.{Failure}
 use Rattle.pssm_tool.specs.declared.failure.Failure.TheVariants as failures
-use Rattle.pssm_tool.specs.Due.{HasModel, HasBuiltModel}
-use Rattle.pssm_tool.specs.inner.Failures.{LacksModel, has_fault, LacksBuiltModel, not_built, FailedAt, IsFound}
+use Rattle.pssm_tool.specs.Due.{HasModel}
+use Rattle.pssm_tool.specs.inner.Failures.{LacksModel, has_fault, FailedAt, IsFound}
 
 -- What is wrong with bytes.
 abbrev pub IsWrong : List ℕ → LoadFault → Type 0
@@ -23,19 +22,6 @@ IsWrong bytes fault = (fault ≡ NoMemory) ⊎ IsLoadFault bytes fault
 pub lacks_by_fault : (contents : Contents) (path bytes : List ℕ) (fault : LoadFault) → ReadsWhole contents path 16777216 bytes → IsWrong bytes fault → fault ≢ NoMemory → LacksModel contents path (BadModel fault)
 lacks_by_fault contents path bytes fault reads (inl none) other = absurd (other none)
 lacks_by_fault contents path bytes fault reads (inr wrong) other = has_fault bytes fault reads wrong refl
-
--- An element of the path's model is not built.
-pub lacks_by_form : (contents : Contents) (path : List ℕ) (s : Setting) (fault : LoadFault) → HasModel contents path s → (fault ≡ NoMemory) ⊎ NamesUnbuilt s.classes fault → fault ≢ NoMemory
-    → LacksBuiltModel contents path (BadModel fault)
-lacks_by_form contents path s fault has (inl none) other = absurd (other none)
-lacks_by_form contents path s (Flat text) has (inr names) other = absurd names
-lacks_by_form contents path s (Xmi fault) has (inr names) other = absurd names
-lacks_by_form contents path s (Redef fault) has (inr names) other = absurd names
-lacks_by_form contents path s (Act id fault) has (inr names) other = absurd names
-lacks_by_form contents path s (Shape class shape) has (inr names) other = absurd names
-lacks_by_form contents path s (Faults list) has (inr names) other = absurd names
-lacks_by_form contents path s (NotBuilt class e) has (inr names) other = not_built s class e has names refl
-lacks_by_form contents path s NoMemory has (inr names) other = absurd names
 
 -- what comes of a setting that was loaded, of want of memory, and of any other fault
 by_found : (P : Result (Result Setting Answer) Failure → Type 0) (loaded : Result Setting LoadFault) (told : Result (Result Setting Answer) Failure) → IfOk loaded (λ s. P (Ok (Ok s)))
@@ -82,16 +68,3 @@ path_loads contents path bytes loaded reads loads = if_ok loaded (λ s p. let ha
 pub path_lacks : (contents : Contents) (path bytes : List ℕ) (loaded : Result Setting LoadFault) → ReadsWhole contents path 16777216 bytes → IfErr loaded (IsWrong bytes)
     → IfErr loaded (λ fault. fault ≢ NoMemory → LacksModel contents path (BadModel fault))
 path_lacks contents path bytes loaded reads wrong = if_err loaded (λ fault w. lacks_by_fault contents path bytes fault reads w) wrong
-
-pub path_built : (contents : Contents) (path : List ℕ) (s : Setting) (kept : Result Setting LoadFault) → HasModel contents path s → IfOk kept (λ x. x ≡ s) → IfOk kept (λ _. AreBuilt s.classes) → IfOk kept (HasBuiltModel contents path)
-path_built contents path s (Ok x) has same built = subst (λ (y : Setting). HasBuiltModel contents path y) (sym same) (has, built)
-path_built contents path s (Err fault) has same built = tt
-
-pub path_unbuilt : (contents : Contents) (path : List ℕ) (s : Setting) (kept : Result Setting LoadFault) → HasModel contents path s → IfErr kept (λ fault. (fault ≡ NoMemory) ⊎ NamesUnbuilt s.classes fault)
-    → IfErr kept (λ fault. fault ≢ NoMemory → LacksBuiltModel contents path (BadModel fault))
-path_unbuilt contents path s kept has wrong = if_err kept (λ fault w. lacks_by_form contents path s fault has w) wrong
-
--- What holds of the setting holds of the one that was kept as it was.
-pub kept_with : (P : Setting → Type 0) (s : Setting) (kept : Result Setting LoadFault) → P s → IfOk kept (λ x. x ≡ s) → IfOk kept P
-kept_with P s (Ok x) holds same = subst P (sym same) holds
-kept_with P s (Err fault) holds same = tt

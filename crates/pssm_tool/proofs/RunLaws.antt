@@ -12,11 +12,11 @@ use Rattle.pssm_semantics.specs.declared.entry.Entry.TheVariants.{Post, Start, T
 use Rattle.pssm_semantics.specs.declared.entry.Rule.TheVariants.{A1, A12}
 use Rattle.pssm_semantics.specs.declared.setting.Setting.{Setting}
 use Rattle.pssm_semantics.specs.declared.stimulus.Stimulus.{Stimulus}
-use Rattle.pssm_semantics.specs.Built.{IsBuilt}
+use Rattle.pssm_semantics.specs.Proper.{IsWellFormed}
 use Rattle.pssm_semantics.specs.Journal.{object_of}
 use Rattle.pssm_semantics.specs.Pool.{told_by, posts_of_entry, outs_of, posts_of, output_count}
 use Rattle.pssm_semantics.specs.Admissible.{MayFollow, IsQuiet, IsFull, KeepsJournalLimits, FitsStimuli}
-use Rattle.pssm_semantics.proofs.BuiltSettings.{built_class}
+use Rattle.pssm_semantics.proofs.SettingClasses.{class_of_object}
 use Rattle.pssm_semantics.proofs.Outcomes.{few_outs}
 use Rattle.pssm_system.specs.History.{History}
 use Rattle.pssm_tool.specs.declared.run.Ended.TheVariants.{Quiet, Limit}
@@ -24,11 +24,11 @@ use Rattle.pssm_tool.specs.RunTexts.{EndsRun}
 use Rattle.pssm_tool.specs.inner.Running.{IsKnown, IsFullAt, PostsNext, IsNext, IsOver, IsRunning}
 
 -- An entry that may follow has at most 64 sends and marks.
-few_made : (setting : Setting) (J : List Entry) (e : Entry) → IsBuilt setting → MayFollow setting J e → length (outs_of e) ≤ 64
-few_made setting J e built may =
+few_made : (setting : Setting) (J : List Entry) (e : Entry) → IsWellFormed setting → MayFollow setting J e → length (outs_of e) ≤ 64
+few_made setting J e formed may =
     let there = may A1 in
-    let runs = (built_class setting built (object_of e) there.0 there.1).0 in
-    few_outs there.0 runs.well_formed.proper (told_by J) J e (may A12 there.0 there.1)
+    let runs = (class_of_object setting formed (object_of e) there.0 there.1).0 in
+    few_outs there.0 runs.proper (told_by J) J e (may A12 there.0 there.1)
 
 -- An entry that has so few has no more outputs: a post sends and marks nothing.
 few_outputs : (e : Entry) → length (outs_of e) ≤ 64 → length (posts_of_entry e) + length (outs_of e) ≤ 64
@@ -168,9 +168,9 @@ module _ (setting : Setting) (stimuli : List Stimulus) (limit : ℕ) (run : Hist
         }
 
     -- The journal stays within its limits.
-    pub limits_more : IsBuilt setting → limit ≤ 1000000 → KeepsJournalLimits (run.journal ++ e ∷ [])
-    limits_more built low =
-        let few = few_outputs e (few_made run.setting run.journal e (subst (λ (s : Setting). IsBuilt s) (sym running.setting_is) built) next.follows) in
+    pub limits_more : IsWellFormed setting → limit ≤ 1000000 → KeepsJournalLimits (run.journal ++ e ∷ [])
+    limits_more formed low =
+        let few = few_outputs e (few_made run.setting run.journal e (subst (λ (s : Setting). IsWellFormed s) (sym running.setting_is) formed) next.follows) in
         record {
           entries = omega (arith, length-append run.journal (e ∷ []), shorter, low);
           outputs = omega (arith, outputs_more run.journal e, few, running.outputs_are, roomy);

@@ -7,7 +7,7 @@ use Rattle.pssm_semantics.specs.declared.entry.Entry.{Entry}
 use Rattle.pssm_semantics.specs.declared.entry.Rule.TheVariants.{A1}
 use Rattle.pssm_semantics.specs.declared.line.Line.{Line}
 use Rattle.pssm_semantics.specs.declared.setting.Setting.{Setting}
-use Rattle.pssm_semantics.specs.Built.{IsBuiltEntry}
+use Rattle.pssm_semantics.specs.Forms.{IsRunEntry}
 use Rattle.pssm_semantics.specs.Admissible.{IsAdmissibleIn, KeepsJournalLimits}
 use Rattle.pssm_semantics.proofs.Appending.{every_push}
 use Rattle.pssm_lines.specs.LineText.{line_text, header_line, text_of, journal_text}
@@ -16,8 +16,8 @@ use Rattle.pssm_lines.specs.Faults.{IsJournalLine}
 use Rattle.pssm_journal.specs.Entries.{IsEntryOf, KeepsNames, AreEntries}
 use Rattle.pssm_journal.specs.Naming.{IsSpelledEntry}
 use Rattle.pssm_semantics.specs.Names.{HasSpelledNames}
-use Rattle.pssm_journal.proofs.BuiltNames.{built_is_spelled}
-use Rattle.pssm_journal.proofs.LineLengths.{built_line}
+use Rattle.pssm_journal.proofs.RunNames.{run_is_spelled}
+use Rattle.pssm_journal.proofs.LineLengths.{run_line}
 use Rattle.pssm_semantics.specs.declared.stimulus.Stimulus.{Stimulus}
 use Rattle.pssm_tool.specs.declared.run.Ended.{Ended}
 use Rattle.pssm_tool.specs.RunTexts.{EndsRun, IsRunText}
@@ -55,11 +55,11 @@ pub names_kept : (setting : Setting) (J : List Entry) (i : ℕ) (e : Entry) → 
 names_kept setting J i e admissible within is = λ K. admissible (take i J) (drop (suc i) J) e (split_there J i e within is) A1
 
 -- Its line is one that a journal may have.
-pub is_line : (setting : Setting) (J : List Entry) (i : ℕ) (e : Entry) (line : Line) → HasSpelledNames setting → AllByRecursion IsBuiltEntry J → i < length J → e ≡ get_or J i e
+pub is_line : (setting : Setting) (J : List Entry) (i : ℕ) (e : Entry) (line : Line) → HasSpelledNames setting → AllByRecursion IsRunEntry J → i < length J → e ≡ get_or J i e
     → IsEntryOf setting line e → (HasSpelledNames setting → IsSpelledEntry e → IsLine line) → IsJournalLine line
-is_line setting J i e line names built within is writes spelled_line =
-    let here : IsBuiltEntry e = holds_at IsBuiltEntry J i e built within is in
-    built_line setting e line here writes (spelled_line names (built_is_spelled e here))
+is_line setting J i e line names entries within is writes spelled_line =
+    let here : IsRunEntry e = holds_at IsRunEntry J i e entries within is in
+    run_line setting e line here writes (spelled_line names (run_is_spelled e here))
 
 -- ---- the text
 

@@ -3,7 +3,6 @@ use Rattle.std.specs.Prelude.{◌≡◌, ◌⊎◌, ℕ, List, [], Option, IsSom
 use Rattle.std.specs.Io.KnownBytes.{Appends}
 use Rattle.pssm_base.specs.Faults.{Rose}
 use Rattle.pssm_base.specs.Reading.{Contents, ReadsWhole, HoldsMore}
-use Rattle.pssm_model.specs.declared.elements.Element.{Element}
 use Rattle.pssm_semantics.specs.declared.setting.Setting.{Setting}
 use Rattle.pssm_semantics.specs.declared.stimulus.Stimulus.{Stimulus}
 use Rattle.pssm_flat.specs.Text.{flat_text}
@@ -11,8 +10,7 @@ use Rattle.pssm_lines.specs.declared.fault.LineFault.{LineFault}
 use Rattle.pssm_lines.specs.declared.fault.LineFault.TheVariants as faults
 use Rattle.pssm_journal.specs.Judged.{Judged, Accepted, Refused, Limited, BadText, IsJudged}
 use Rattle.pssm_load.specs.declared.fault.LoadFault.{LoadFault}
-use Rattle.pssm_load.specs.declared.fault.LoadFault.TheVariants.{NotBuilt}
-use Rattle.pssm_load.specs.Loads.{ReadsSetting, IsLoadFault, AreBuilt, IsFirstUnbuilt}
+use Rattle.pssm_load.specs.Loads.{ReadsSetting, IsLoadFault}
 use Rattle.pssm_tool.specs.declared.words.Options.{Options}
 use Rattle.pssm_tool.specs.declared.answer.Answer.{Answer}
 use Rattle.pssm_tool.specs.declared.answer.Answer.TheVariants.{Accept, Refuse, Limit, WellFormed, Usage, BadLine, NoEnd, TooLarge, Journal, Flat, BadModel}
@@ -55,16 +53,6 @@ pub record HasModel (contents : Contents) (path : List ℕ) (setting : Setting) 
   pub reads : ReadsWhole contents path most_bytes bytes
   pub loads : ReadsSetting bytes setting []
 
--- It has such a setting, and the code runs every element of it.
-abbrev pub HasBuiltModel : Contents → List ℕ → Setting → Type 0
-HasBuiltModel contents path setting = HasModel contents path setting × AreBuilt setting.classes
-
--- The command is about runs of the model, so the code has to know its forms.
-abbrev pub IsAboutRuns : Meaning → Type 0
-IsAboutRuns (Checks model) = ⊥
-IsAboutRuns (Prints model) = ⊥
-IsAboutRuns _ = Unit {0}
-
 -- ---- the answer
 
 -- what is wrong with the text of a journal, as an answer: a line that is too long counts as a file that is too large
@@ -94,8 +82,8 @@ pub data IsDueForRun (setting : Setting) (options : Options) (names : List (List
 
 -- The answer is owed for a command on a model that breaks no rule.
 abbrev pub IsDueForModel : Contents → Setting → Meaning → Answer → Type 0
-IsDueForModel contents setting (Judges model journal) answer = AreBuilt setting.classes × IsDueForJournal contents setting journal answer
-IsDueForModel contents setting (Runs options model names) answer = AreBuilt setting.classes × IsDueForRun setting options names answer
+IsDueForModel contents setting (Judges model journal) answer = IsDueForJournal contents setting journal answer
+IsDueForModel contents setting (Runs options model names) answer = IsDueForRun setting options names answer
 IsDueForModel contents setting (Checks model) answer = answer ≡ WellFormed
 IsDueForModel contents setting (Prints model) answer = answer ≡ Flat (flat_text setting)
 
@@ -105,8 +93,6 @@ pub data IsOwed (words : List (List ℕ)) (contents : Contents) (answer : Answer
   large_model : (meaning : Meaning) → Means words meaning → HoldsMore contents (model_of meaning) most_bytes → answer ≡ TooLarge → IsOwed words contents answer
   bad_model : (meaning : Meaning) (bytes : List ℕ) (fault : LoadFault) → Means words meaning → ReadsWhole contents (model_of meaning) most_bytes bytes
       → IsLoadFault bytes fault → answer ≡ BadModel fault → IsOwed words contents answer
-  unbuilt : (meaning : Meaning) (setting : Setting) (class : List ℕ) (element : Element) → Means words meaning → IsAboutRuns meaning
-      → HasModel contents (model_of meaning) setting → IsFirstUnbuilt setting.classes class element → answer ≡ BadModel (NotBuilt class element) → IsOwed words contents answer
   on_model : (meaning : Meaning) (setting : Setting) → Means words meaning → HasModel contents (model_of meaning) setting → IsDueForModel contents setting meaning answer
       → IsOwed words contents answer
 

@@ -10,7 +10,7 @@ use Rattle.pssm_flat.specs.declared.fault.FlatFault.TheVariants as texts
 use Rattle.pssm_flat.specs.Text.{line}
 use Rattle.pssm_load.specs.declared.fault.ClassFault.{ClassFault}
 use Rattle.pssm_load.specs.declared.fault.LoadFault.{LoadFault}
-use Rattle.pssm_load.specs.declared.fault.LoadFault.TheVariants.{Flat, Xmi, Redef, Act, Shape, Faults, NotBuilt, NoMemory}
+use Rattle.pssm_load.specs.declared.fault.LoadFault.TheVariants.{Flat, Xmi, Redef, Act, Shape, Faults, NoMemory}
 use Rattle.pssm_tool.specs.FaultWords.{shape_word, act_word, act_place}
 use Rattle.pssm_tool.specs.FileRefusals.{xmi_text, redefine_text, act_text, shape_text}
 
@@ -34,7 +34,7 @@ abbrev pub fault_line : ClassFault → List ℕ
 fault_line f = line (rule_text f.fault.rule ++ codes " " ++ f.class ++ codes " " ++ place_text f.fault.element)
 
 -- `flat line L bad line`, `flat line L shape S`, `flat line L act F byte B`; the line on a model file, on a redefinition, on the text of a behaviour or on
--- the shape of a machine; a line for each rule that is broken; or `not built CLASS E`. Want of memory has no line.
+-- the shape of a machine; or a line for each rule that is broken. Want of memory has no line.
 abbrev pub load_fault_text : LoadFault → List ℕ
 load_fault_text (Flat (texts.BadLine l)) = line (codes "flat line " ++ decimal l ++ codes " bad line")
 load_fault_text (Flat (texts.Shape l shape)) = line (codes "flat line " ++ decimal l ++ codes " shape " ++ shape_word shape)
@@ -46,5 +46,4 @@ load_fault_text (Redef fault) = redefine_text fault
 load_fault_text (Act id fault) = act_text id fault
 load_fault_text (Shape class shape) = shape_text class shape
 load_fault_text (Faults list) = flat_map fault_line list
-load_fault_text (NotBuilt class e) = line (codes "not built " ++ class ++ codes " " ++ element_text e)
 load_fault_text NoMemory = []

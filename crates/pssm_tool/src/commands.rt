@@ -7,7 +7,7 @@ ghost use Rattle.pssm_tool.specs.inner.Failures.{FailedFor, GoesOn};
 
 use crate::answer::Answer;
 use crate::failure::Failure;
-use crate::model::{built_model, model};
+use crate::model::model;
 use crate::run::run;
 use crate::stimuli::stimuli_of;
 use crate::text::text_of;
@@ -32,7 +32,7 @@ pub fn judge_journal<I: Inputs>(
     ensures failed { IfErr result (λ failure. (words : List (List ℕ)) → Means words (Judges path.now journal.now)
         → FailedFor words (I.faults inputs.old) (I.faults inputs.new) failure) }
 {
-    let setting = match built_model(alloc, inputs, path) {
+    let setting = match model(alloc, inputs, path) {
         Ok(Ok(setting)) => setting,
         Ok(Err(answer)) => return Ok(answer),
         Err(failure) => return Err(failure),
@@ -82,7 +82,7 @@ pub fn run_model<I: Inputs>(
     ensures failed { IfErr result (λ failure. (words : List (List ℕ)) → Means words (Runs options path.now (texts stimuli.now))
         → FailedFor words (I.faults inputs.old) (I.faults inputs.new) failure) }
 {
-    let setting = match built_model(alloc, inputs, path) {
+    let setting = match model(alloc, inputs, path) {
         Ok(Ok(setting)) => setting,
         Ok(Err(answer)) => return Ok(answer),
         Err(failure) => return Err(failure),

@@ -7,7 +7,7 @@ ghost use Rattle.pssm_tool.specs.declared.answer.Answer.{Answer};
 ghost use Rattle.pssm_tool.specs.declared.words.Options.{Options};
 ghost use Rattle.pssm_tool.specs.Words.{Means, Runs};
 ghost use Rattle.pssm_tool.specs.Stimuli.{AreStimuli};
-ghost use Rattle.pssm_tool.specs.Due.{HasBuiltModel, IsOwed, IsTold};
+ghost use Rattle.pssm_tool.specs.Due.{HasModel, IsOwed, IsTold};
 
 use pssm_load::some_load;
 
@@ -17,7 +17,7 @@ pub fn always_due()
     ensures { (words : List (List ℕ)) (contents : Contents) → IsTold words contents
         → ((answer : Answer) → IsOwed words contents answer → ⊥)
         → ((options : Options) (model : List ℕ) (names : List (List ℕ)) (setting : Setting) (stimuli : List Stimulus)
-        → Means words (Runs options model names) → HasBuiltModel contents model setting
+        → Means words (Runs options model names) → HasModel contents model setting
         → AreStimuli setting names stimuli → ⊥) → ⊥ }
 {
     some_load();

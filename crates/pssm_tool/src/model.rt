@@ -4,13 +4,13 @@ ghost use Rattle.pssm_base.specs.Faults.{NoneFell};
 ghost use Rattle.pssm_base.specs.Reading.{SameContent};
 ghost use Rattle.pssm_semantics.specs.Names.{HasSpelledNames};
 ghost use Rattle.pssm_semantics.specs.Proper.{IsWellFormed};
-ghost use Rattle.pssm_tool.specs.Due.{HasModel, HasBuiltModel};
-ghost use Rattle.pssm_tool.specs.inner.Failures.{LacksModel, LacksBuiltModel, FailedAt, IsFound, TellsFault};
+ghost use Rattle.pssm_tool.specs.Due.{HasModel};
+ghost use Rattle.pssm_tool.specs.inner.Failures.{LacksModel, FailedAt, IsFound, TellsFault};
 
 use crate::answer::Answer;
 use crate::failure::Failure;
 use pssm_base::{Inputs, WholeFault, read_whole};
-use pssm_load::{LoadFault, built, load};
+use pssm_load::{LoadFault, load};
 use pssm_semantics::Setting;
 use std::alloc::Global;
 
@@ -40,28 +40,6 @@ pub fn model<I: Inputs>(
     let loaded = load(alloc, bytes.as_slice());
     drop(bytes);
     found(loaded)
-}
-
-/// The setting of a model's file that the code runs whole; or the answer that there is none.
-pub fn built_model<I: Inputs>(
-    alloc: Global,
-    inputs: &mut I,
-    path: &str,
-) -> Result<Result<Setting, Answer>, Failure>
-    ensures built { IfOk result (λ found. IfOk found (HasBuiltModel (I.content inputs.old) path.now)) }
-    ensures well_formed { IfOk result (λ found. IfOk found IsWellFormed) }
-    ensures spelled { IfOk result (λ found. IfOk found HasSpelledNames) }
-    ensures lacks { IfOk result (λ found. IfErr found (LacksBuiltModel (I.content inputs.old) path.now)) }
-    ensures failed { IfErr result (FailedAt (I.faults inputs.old path.now) (I.faults inputs.new path.now)) }
-    ensures counts { NoneFell (I.faults inputs.old) (I.faults inputs.new) }
-    ensures same { SameContent (I.content inputs.old) (I.content inputs.new) }
-{
-    let setting = match model(alloc, inputs, path) {
-        Ok(Ok(setting)) => setting,
-        Ok(Err(answer)) => return Ok(Err(answer)),
-        Err(failure) => return Err(failure),
-    };
-    found(built(alloc, setting))
 }
 
 // The setting, or what comes of the fault.

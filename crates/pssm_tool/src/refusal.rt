@@ -25,7 +25,6 @@ pub fn fault_text(alloc: Global, fault: &LoadFault) -> Result<Text, NoMemory>
         LoadFault::Act { id, fault } => act_text(alloc, id.as_slice(), *fault),
         LoadFault::Shape { class, shape } => shape_text(alloc, class.as_slice(), *shape),
         LoadFault::Faults { list } => list_text(alloc, list.as_slice()),
-        LoadFault::NotBuilt { class, element } => not_built(alloc, class.as_slice(), *element),
         LoadFault::NoMemory => Err(NoMemory),
     }
 }
@@ -137,16 +136,4 @@ fn put_element(alloc: Global, text: &mut Vec<u8>, element: Element) -> Result<()
             put_number(alloc, text, u64::from(transition.0))
         }
     }
-}
-
-// The line on an element that the code does not run yet.
-fn not_built(alloc: Global, class: &[u8], element: Element) -> Result<Text, NoMemory>
-    ensures { IfOk result (λ text. text ≡ load_fault_text (LoadFault.NotBuilt class.now element)) }
-{
-    let mut text = b"not built ".to_vec(alloc)?;
-    text.extend_from_slice(class)?;
-    text.push(b' ')?;
-    put_element(alloc, &mut text, element)?;
-    text.push(b'\n')?;
-    Ok(Text::from_vec(text))
 }

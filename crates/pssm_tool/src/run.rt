@@ -2,7 +2,7 @@
 ghost use Rattle.std.specs.Prelude.{◌≡◌, ◌≤◌, ◌↔◌, ◌⊎◌, length, Some, IsTrue, IfOk, IfSome, IfNone};
 ghost use Rattle.std.specs.List.{AllByRecursion};
 ghost use Rattle.std.specs.Option.{option_copied};
-ghost use Rattle.pssm_semantics.specs.Built.{IsBuilt};
+ghost use Rattle.pssm_semantics.specs.Proper.{IsWellFormed};
 ghost use Rattle.pssm_semantics.specs.Pool.{posts_of_entry, outs_of};
 ghost use Rattle.pssm_tool.specs.RunTexts.{EndsRun};
 ghost use Rattle.pssm_tool.specs.Stimuli.{post_of};
@@ -35,7 +35,7 @@ pub fn run(
     seed: u64,
     limit: u32,
 ) -> Result<(System, Ended), NoMemory>
-    requires built { IsBuilt setting }
+    requires well_formed { IsWellFormed setting }
     requires known { AllByRecursion (IsKnown setting) stimuli.now }
     requires limit { limit ≤ 1000000 }
     ensures setting { IfOk result (λ run. run.0.setting ≡ setting) }

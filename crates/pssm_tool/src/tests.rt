@@ -1,7 +1,7 @@
 //! What no file of cases can say.
 ghost use Rattle.std.specs.Prelude.{◌≢◌};
 
-use crate::model::built_model;
+use crate::model::model;
 use crate::{Status, pssm};
 use pssm_base::{Gate, Inputs, SureInputs, SureSink};
 use pssm_judge::{JudgeFault, LineFault, Rule, Verdict, judge};
@@ -50,7 +50,7 @@ fn judged_from<I: Inputs>(
     path: &str,
     journal: &str,
 ) -> Result<Result<Verdict, JudgeFault>, Fail> {
-    let Ok(Ok(setting)) = built_model(alloc, inputs, path) else {
+    let Ok(Ok(setting)) = model(alloc, inputs, path) else {
         return Err("the model is refused".into());
     };
     Ok(judge(alloc, setting, inputs, journal))

@@ -13,7 +13,7 @@ ghost use Rattle.pssm_base.specs.Putting.{TookPart};
 ghost use Rattle.pssm_tool.specs.Words.{texts, Means, Judges, Runs};
 ghost use Rattle.pssm_tool.specs.Stimuli.{AreStimuli};
 ghost use Rattle.pssm_tool.specs.Answers.{text_of, code_of, IsFailure};
-ghost use Rattle.pssm_tool.specs.Due.{HasBuiltModel, IsOwed, IsTold, Gives, ReadFailed};
+ghost use Rattle.pssm_tool.specs.Due.{HasModel, IsOwed, IsTold, Gives, ReadFailed};
 ghost use Rattle.pssm_tool.specs.Headline.{AcceptsPrefixes, IsContinued, IsAcceptedText};
 ghost use Rattle.pssm_tool.specs.inner.Failures.{FailedFor, GoesOn};
 
@@ -82,8 +82,7 @@ pub fn pssm<R, I: Inputs, S: Sink, G: Gate + Sync>(
         (S.taken out.old) (S.taken out.new) Answer.Usage }
 
     // 3: the model's bytes are no flat text and no model file that is read, or a class cannot be flattened, a body has
-    // a fault, a machine has no shape, or rules of models are broken, or `judge` or `run` does not know one of its
-    // forms yet; the lines say which and where.
+    // a fault, a machine has no shape, or rules of models are broken; the lines say which and where.
     ensures bad_model { result.code ≡ 3 → (fault : LoadFault) × Gives (texts words.now) (I.content inputs.old)
         (S.taken out.old) (S.taken out.new) (Answer.BadModel fault) }
 
@@ -118,7 +117,7 @@ pub fn pssm<R, I: Inputs, S: Sink, G: Gate + Sync>(
     // Where a run is owed, its journal comes with one of its two ends.
     ensures runs { (options : Options) (model : List ℕ) (names : List (List ℕ)) (setting : Setting) (stimuli : List Stimulus)
         → IsTold (texts words.now) (I.content inputs.old) → Means (texts words.now) (Runs options model names)
-        → HasBuiltModel (I.content inputs.old) model setting → AreStimuli setting names stimuli
+        → HasModel (I.content inputs.old) model setting → AreStimuli setting names stimuli
         → (result.code ≡ 0) ⊎ (result.code ≡ 8) ⊎ IsFailure result.code }
 
     // ---- What a failure leaves, and that there is no other status.

@@ -4,7 +4,7 @@ import subprocess
 
 HERE = os.path.dirname(os.path.abspath(__file__))
 NAME = 'Qt SCXML'
-FORMS = ['nested', 'orthogonal', 'internal', 'guards', 'completion', 'immediate']
+FORMS = ['nested', 'orthogonal', 'internal', 'guards', 'completion', 'immediate', 'history']
 
 
 def build(folder):

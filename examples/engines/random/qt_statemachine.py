@@ -6,7 +6,7 @@ from machines import History, State
 
 HERE = os.path.dirname(os.path.abspath(__file__))
 NAME = 'QStateMachine'
-FORMS = ['nested', 'orthogonal', 'internal', 'guards', 'completion', 'immediate']
+FORMS = ['nested', 'orthogonal', 'internal', 'guards', 'completion', 'immediate', 'history']
 
 
 def build(folder):

@@ -29,6 +29,8 @@ def edits(machine, signals):
             yield lambda m, number=number, place=place: drop_state(m, number, place), signals
         if region.final:
             yield lambda m, number=number: drop_final(m, number), signals
+        if region.history:
+            yield lambda m, number=number: drop_history(m, number), signals
         if number:
             yield lambda m, number=number: drop_region(m, number), signals
             yield lambda m, number=number: lift(m, number), signals
@@ -58,6 +60,13 @@ def drop_final(machine, number):
     return not any(t.signal is None and region in t.source.regions for t in machine.transitions)
 
 
+def drop_history(machine, number):
+    region = machine.regions[number]
+    without(machine, [region.history])
+    region.history = None
+    return True
+
+
 def drop_region(machine, number):
     region = machine.regions[number]
     without(machine, [inner for vertex in region.vertices() for inner in inside(vertex)])
@@ -74,7 +83,7 @@ def lift(machine, number):
     home = machine.home[owner]
     if len(owner.regions) > 1 or region.final:
         return False
-    without(machine, [owner])
+    without(machine, [owner, region.history])
     place = home.states.index(owner)
     home.states[place:place + 1] = region.states
     return True

@@ -8,8 +8,6 @@ COUNT (100), and writes into FOLDER, for each journal that is refused, the model
 --small it then makes each of these machines smaller for as long as it is refused in the same way, as FORM-SEED-small.flat and
 FORM-SEED-small.journal, and lists the small ones, equal ones once. It takes many runs for each.
 
-The form history is none of an engine's own list: FORM may name it, and the machines have history vertices.
-
 Run it at the top of the repository, once the program is built; the variable JUDGE may name another program that is called in its place.
 """
 import collections

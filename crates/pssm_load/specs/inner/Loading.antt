@@ -4,8 +4,8 @@ use Rattle.std.specs.List.{AllByRecursion}
 use Rattle.pssm_model.specs.WellFormed.{KeepsModelRules}
 use Rattle.pssm_semantics.specs.declared.setting.Class.{Class}
 use Rattle.pssm_load.specs.declared.fault.LoadFault.{LoadFault}
-use Rattle.pssm_load.specs.declared.fault.LoadFault.TheVariants.{Faults, NotBuilt, NoMemory}
-use Rattle.pssm_load.specs.Loads.{AreClassFaults, IsFirstUnbuilt}
+use Rattle.pssm_load.specs.declared.fault.LoadFault.TheVariants.{Faults, NoMemory}
+use Rattle.pssm_load.specs.Loads.{AreClassFaults}
 
 -- Each machine keeps the rules of models.
 abbrev pub KeepRules : List Class → Type 0
@@ -16,8 +16,3 @@ abbrev pub BreakRules : List Class → LoadFault → Type 0
 BreakRules classes (Faults list) = AreClassFaults classes list × (list ≢ [])
 BreakRules classes NoMemory = Unit {0}
 BreakRules classes _ = ⊥
-
--- The fault names the first element of these classes' machines that the code does not run yet.
-abbrev pub NamesUnbuilt : List Class → LoadFault → Type 0
-NamesUnbuilt classes (NotBuilt class element) = IsFirstUnbuilt classes class element
-NamesUnbuilt classes _ = ⊥

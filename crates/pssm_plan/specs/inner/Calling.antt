@@ -12,6 +12,7 @@ use Rattle.pssm_model.specs.declared.steps.Item.TheVariants.{Exit, Effect, Enter
 use Rattle.pssm_model.specs.Configuration.{Configuration}
 use Rattle.pssm_model.specs.Forest.{owner_of}
 use Rattle.pssm_model.specs.Items.{restored_mode}
+use Rattle.pssm_legs.specs.declared.legs.Leg.{Leg}
 use Rattle.pssm_plan.specs.declared.ways.Way.{Way}
 use Rattle.pssm_plan.specs.declared.roster.Call.{Call}
 use Rattle.pssm_plan.specs.declared.progress.Restored.{Restored}
@@ -31,6 +32,18 @@ IsExitBy m now way x = (s : VertexId) × (x ≡ Exit s) × now.Active s × calls
 abbrev pub IsEffectBy : DraftMachine → Way → Item → Type 0
 IsEffectBy m way x = (t : TransId) × (x ≡ Effect t) × calls_by m way x
 
+-- the effect of one of the transitions
+abbrev pub IsEffectAmong : List TransId → Item → Type 0
+IsEffectAmong ts x = (t : TransId) × Contains ts t × (x ≡ Effect t)
+
+-- the effect of a transition of the leg
+abbrev pub IsEffectOf : Leg → Item → Type 0
+IsEffectOf leg x = (x ≡ Effect leg.named) ⊎ IsEffectAmong leg.further.items x
+
+-- the effect of a transition of one of the legs
+abbrev pub IsEffectOfSome : List Leg → Item → Type 0
+IsEffectOfSome legs x = (leg : Leg) × Contains legs leg × IsEffectOf leg x
+
 -- an entry that it calls
 abbrev pub IsEntryBy : DraftMachine → Way → Item → Type 0
 IsEntryBy m way x = (s : VertexId) × (x ≡ Enter s) × calls_by m way x
@@ -42,6 +55,14 @@ IsOpeningBy m way mode x = (r : RegionId) × (x ≡ Opened r mode) × calls_by m
 -- a pick that it calls
 abbrev pub IsPickBy : DraftMachine → Way → Item → Type 0
 IsPickBy m way x = (c : VertexId) × (x ≡ Pick c) × calls_by m way x
+
+-- the pick of the vertex on which the leg ends, where the way calls it
+abbrev pub IsPickAt : DraftMachine → Way → Leg → Item → Type 0
+IsPickAt m way leg x = (x ≡ Pick leg.last) × calls_by m way (Pick leg.last)
+
+-- one of these of some of the legs
+abbrev pub IsPickAtSome : DraftMachine → Way → List Leg → Item → Type 0
+IsPickAtSome m way legs x = (leg : Leg) × Contains legs leg × IsPickAt m way leg x
 
 -- an item other than an exit
 abbrev pub IsNoExit : Item → Type 0

@@ -9,7 +9,7 @@ use Rattle.pssm_model.specs.declared.steps.How.TheVariants.{By, Restore, Nothing
 use Rattle.pssm_model.specs.declared.steps.Mode.{Mode}
 use Rattle.pssm_model.specs.declared.steps.Item.{Item}
 use Rattle.pssm_model.specs.declared.steps.Item.TheVariants.{Opened}
-use Rattle.pssm_model.specs.Routes.{IsRoute}
+use Rattle.pssm_model.specs.RouteWords.{IsStepRoute}
 use Rattle.pssm_plan.specs.declared.ways.Way.{Way}
 use Rattle.pssm_plan.specs.declared.roster.Call.{Call}
 use Rattle.pssm_plan.specs.declared.progress.Progress.{Progress}
@@ -30,9 +30,9 @@ pub record AreFired (m : DraftMachine) (routes : List Route) (ways : List Way) :
   pub taken : (p : Route) → IsWayTaken ways p ↔ Contains routes p
   pub fired : (p : Route) → IsWayFired ways p ↔ Contains routes p
 
--- The item may run in this way: by a route of the machine, or an opening by restoring a State that is there, or without a way.
+-- The item may run in this way: by a route by which steps go, or an opening by restoring a State that is there, or without a way.
 abbrev pub CanRunSo : DraftMachine → Item → How → Type 0
-CanRunSo m item (By p) = IsRoute m p
+CanRunSo m item (By p) = IsStepRoute m p
 CanRunSo m item (Restore s) = (s.0 < length m.vertices) × ((r : RegionId) × (mode : Mode) × (item ≡ Opened r mode))
 CanRunSo m item Nothing = Unit {0}
 

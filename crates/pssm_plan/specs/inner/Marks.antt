@@ -2,6 +2,7 @@
 use Rattle.std.specs.Prelude.{◌≡◌, ◌⊎◌, ◌↔◌, ◌<◌, ◌≤◌, ◌++◌, ℕ, List, IsTrue, Contains, length, slice_index_or}
 use Rattle.pssm_model.specs.declared.steps.Item.{Item}
 use Rattle.pssm_plan.specs.declared.roster.Call.{Call}
+use Rattle.pssm_plan.specs.declared.waiting.Wait.{Wait}
 use Rattle.pssm_plan.specs.Waiting.{HoldsUp, IsExact}
 
 -- The item is listed.
@@ -44,20 +45,25 @@ pub record HasSeen (Comes : Item → Item → Type 0) (calls : List Call) (call 
   pub passed : (k : ℕ) (d : Call) → k < call.seen → k < length calls → HoldsUp Comes (slice_index_or calls k d) call.item → ⊥
   pub there : IsTrue call.blocked → (d : Call) → call.seen < length calls → Comes (slice_index_or calls call.seen d).item call.item
 
--- The call at the place that this one has seen has not run.
-pub record IsHeld (calls : List Call) (call : Call) : Type 0 where
-  pub inside : call.seen < length calls
-  pub waiting : (d : Call) → IsTrue (slice_index_or calls call.seen d).ran → ⊥
+-- The call at the place has not run.
+pub record IsHeldAt (calls : List Call) (place : ℕ) : Type 0 where
+  pub inside : place < length calls
+  pub waiting : (d : Call) → IsTrue (slice_index_or calls place d).ran → ⊥
 
 -- The call is blocked and the one at the place that it has seen has not run, or it is not and has seen them all.
 abbrev pub IsUpToDate : List Call → Call → Type 0
-IsUpToDate calls call = (IsTrue call.blocked × IsHeld calls call) ⊎ ((IsTrue call.blocked → ⊥) × (length calls ≤ call.seen))
+IsUpToDate calls call = (IsTrue call.blocked × IsHeldAt calls call.seen) ⊎ ((IsTrue call.blocked → ⊥) × (length calls ≤ call.seen))
 
 -- The second call is of the same item, has run where the first has, and says exactly for which of the calls it waits.
 pub record IsSettled (Comes : Item → Item → Type 0) (calls : List Call) (old new : Call) : Type 0 where
   pub item_is : new.item ≡ old.item
   pub ran : new.ran ≡ old.ran
   pub exact : IsExact Comes calls new
+
+-- Such a call is the one that waits so.
+abbrev pub IsSettledSo : (Item → Item → Type 0) → List Call → Call → Wait → Type 0
+IsSettledSo Comes calls call wait =
+    IsSettled Comes calls call (record { item = call.item; ran = call.ran; blocked = wait.blocked; seen = wait.seen })
 
 -- The lists are equally long, and each call of the second is so to that of the first.
 abbrev pub ArePairwise : (Call → Call → Type 0) → List Call → List Call → Type 0

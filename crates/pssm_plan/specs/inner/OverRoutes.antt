@@ -1,64 +1,26 @@
--- What a step calls that goes by routes of one leg each, over junctions, and in which order, in plain words.
-use Rattle.std.specs.Prelude.{◌≡◌, ◌⊎◌, [], ◌∷◌, Some}
+-- What a step calls that goes by routes, in plain words: of each route as a whole, whichever of its legs calls it.
+use Rattle.std.specs.Prelude.{◌≡◌, ◌⊎◌, Some}
 use Rattle.pssm_model.specs.declared.ids.VertexId.{VertexId}
 use Rattle.pssm_model.specs.declared.ids.RegionId.{RegionId}
-use Rattle.pssm_model.specs.declared.ids.TransId.{TransId}
 use Rattle.pssm_model.specs.declared.elements.DraftMachine.{DraftMachine}
 use Rattle.pssm_model.specs.declared.elements.Owner.TheVariants.{Region, State}
-use Rattle.pssm_model.specs.declared.elements.TransKind.{TransKind}
-use Rattle.pssm_model.specs.declared.elements.TransKind.TheVariants.{External, Local, Internal}
+use Rattle.pssm_model.specs.declared.elements.TransKind.TheVariants.{Local}
 use Rattle.pssm_model.specs.declared.elements.VertexKind.TheVariants as kinds
 use Rattle.pssm_model.specs.declared.steps.Route.{Route}
 use Rattle.pssm_model.specs.declared.steps.Mode.{Mode}
 use Rattle.pssm_model.specs.declared.steps.Mode.TheVariants.{Plain, Shallow, Deep}
 use Rattle.pssm_model.specs.declared.steps.Item.{Item}
 use Rattle.pssm_model.specs.declared.steps.Item.TheVariants as items
-use Rattle.pssm_model.specs.Forest.{HasKind, IsStateOrFinal, owner_of, IsScope, LiesInRegion, LiesInState}
-use Rattle.pssm_model.specs.Legs.{Leaves, Enters, Goes, On, Scope, LiesInScope}
-use Rattle.pssm_model.specs.Legs.Scope.{Nowhere, Inside, Within}
+use Rattle.pssm_model.specs.Forest.{HasKind, owner_of}
+use Rattle.pssm_model.specs.Legs.{On, Scope, LiesInScope}
 use Rattle.pssm_model.specs.Course.{Course, FiresBy, HasGoneBy, HasRun, HasRestored}
-use Rattle.pssm_model.specs.Items.{StartOpens, PathBefore, OpensByRestoring}
-use Rattle.pssm_model.specs.Routes.{IsRoute, IsSource}
+use Rattle.pssm_model.specs.Items.{StartOpens, OpensByRestoring}
+use Rattle.pssm_model.specs.Routes.{IsSource}
+use Rattle.pssm_model.specs.RouteWords.{IsStepRoute, GoesAs, IsAreaOf, EndsOn, EndsIn, IsEnteredBy}
 
--- The route starts with one transition, and goes as that does: externally, locally or internally.
-abbrev pub GoesAs : DraftMachine → Route → TransKind → Type 0
-GoesAs m p kind = (t : TransId) × (p.starts ≡ t ∷ []) × Goes m t kind
-
--- a vertex at which a transition of the route begins or ends
-abbrev pub IsEndOf : DraftMachine → Route → VertexId → Type 0
-IsEndOf m p v = (t : TransId) × On p t × (Leaves m t v ⊎ Enters m t v)
-
--- the innermost region in which all these lie
-abbrev pub IsSpan : DraftMachine → Route → RegionId → Type 0
-IsSpan m p r = IsScope m (IsEndOf m p) r
-
--- where the route exits and enters: nowhere where it is internal, in the State that it leaves where it is local, and else in its span
-abbrev pub IsArea : DraftMachine → Route → Scope → Type 0
-IsArea m p Nowhere = GoesAs m p Internal
-IsArea m p (Inside s) = GoesAs m p Local × IsSource m p s
-IsArea m p (Within r) = GoesAs m p External × IsSpan m p r
-
--- The vertex lies there.
+-- The vertex lies where the route exits and enters.
 abbrev pub LiesInArea : DraftMachine → Route → VertexId → Type 0
-LiesInArea m p s = (area : Scope) × IsArea m p area × LiesInScope m s area
-
--- The route ends on the vertex: a transition of it does, and no other goes on from there, as it is no junction.
-abbrev pub EndsOn : DraftMachine → Route → VertexId → Type 0
-EndsOn m p v = (t : TransId) × On p t × Enters m t v × (HasKind m v kinds.Junction → ⊥)
-
--- The route leads to the State or final state: it ends on it, or on a vertex in it that is no terminate vertex, and it lies in the area of the route.
-abbrev pub IsPassedBy : DraftMachine → Route → VertexId → Type 0
-IsPassedBy m p s =
-    (v : VertexId) × EndsOn m p v
-    × (((v ≡ s) × IsStateOrFinal m v) ⊎ (LiesInArea m p s × LiesInState m v s × (HasKind m v kinds.Terminate → ⊥)))
-
--- The route enters the State: it leads to it, and is not internal.
-abbrev pub IsEnteredBy : DraftMachine → Route → VertexId → Type 0
-IsEnteredBy m p s = (GoesAs m p Internal → ⊥) × IsPassedBy m p s
-
--- The route ends in the region.
-abbrev pub EndsIn : DraftMachine → Route → RegionId → Type 0
-EndsIn m p r = (v : VertexId) × EndsOn m p v × LiesInRegion m v r
+LiesInArea m p s = (area : Scope) × IsAreaOf m p area × LiesInScope m s area
 
 -- The route leaves the State that owns the region.
 abbrev pub LeavesOwner : DraftMachine → Route → RegionId → Type 0
@@ -82,19 +44,25 @@ IsHistoryFor m v Deep = HasKind m v kinds.DeepHistory
 abbrev pub EndsOnHistory : DraftMachine → Route → RegionId → Mode → Type 0
 EndsOnHistory m p r mode = (v : VertexId) × EndsOn m p v × IsHistoryFor m v mode × (owner_of m (State v) ≡ Some (Region r))
 
--- The route calls the item at its end: the pick of the choice or the opening of the region of the history on which it ends.
+-- The route calls the item at an end: the pick of a choice or the opening of the region of a history on which it ends.
 abbrev pub CallsAtEnd : DraftMachine → Route → Item → Type 0
 CallsAtEnd m p (items.Pick c) = EndsOnChoice m p c
 CallsAtEnd m p (items.Opened r mode) = EndsOnHistory m p r mode
 CallsAtEnd m p _ = ⊥
 
+-- The item is that by which a step goes on from the vertex: the pick of the choice, or the opening of the region of the history.
+abbrev pub IsItemAt : DraftMachine → VertexId → Item → Type 0
+IsItemAt m v (items.Pick c) = (v ≡ c) × HasKind m c kinds.Choice
+IsItemAt m v (items.Opened r mode) = IsHistoryFor m v mode × (owner_of m (State v) ≡ Some (Region r))
+IsItemAt m v _ = ⊥
+
 -- The step goes by the route.
 abbrev pub GoesBy : Course → Route → Type 0
 GoesBy course p = FiresBy course.head p ⊎ HasGoneBy course p
 
--- A step that goes by routes, and restores States.
+-- A step that goes by routes out of States or from where a step goes on within itself, and restores States.
 pub record GoesByRoutes (m : DraftMachine) (course : Course) : Type 0 where
-  pub routes : (p : Route) → GoesBy course p → IsRoute m p
+  pub routes : (p : Route) → GoesBy course p → IsStepRoute m p
   pub restored : (mode : Mode) (s : VertexId) → HasRestored course mode s → HasKind m s kinds.State
 
 -- The route fires at the head and exits the State.
@@ -109,7 +77,7 @@ IsEnteredOver m course p s = GoesBy course p × IsEnteredBy m p s
 abbrev pub IsRestoredOver : Course → VertexId → Type 0
 IsRestoredOver course s = (mode : Mode) × HasRestored course mode s
 
--- A route enters the State and ends outside of the region, which opens by default; or the State is restored, and the region opens as that says.
+-- A route enters the State and does not end in the region, which opens by default; or the State is restored, and the region opens as that says.
 abbrev pub OpensFor : DraftMachine → Course → VertexId → RegionId → Mode → Type 0
 OpensFor m course s r mode =
     ((p : Route) × IsEnteredOver m course p s × (EndsIn m p r → ⊥) × (mode ≡ Plain)) ⊎ OpensByRestoring course s mode
@@ -145,17 +113,3 @@ IsCalledOver m course (items.Effect t) = (p : Route) × GoesBy course p × On p 
 IsCalledOver m course (items.Enter s) = ((p : Route) × IsEnteredOver m course p s) ⊎ IsRestoredOver course s
 IsCalledOver m course (items.Opened r mode) = IsOpenedFor m course r mode ⊎ ((p : Route) × IsOpenedAtEnd m course p r mode)
 IsCalledOver m course (items.Pick c) = (p : Route) × IsPickedOver m course p c
-
--- and which of them come before which
-abbrev pub IsOrderedOver : DraftMachine → Course → Item → Item → Type 0
-IsOrderedOver m course (items.Exit s) (items.Exit q) = LiesInState m s q
-IsOrderedOver m course (items.Exit s) (items.Effect t) = (p : Route) × IsExitedOver m course p s × On p t
-IsOrderedOver m course (items.Effect t) (items.Effect u) = (p : Route) × GoesBy course p × PathBefore m p t u
-IsOrderedOver m course (items.Effect t) (items.Enter s) = (p : Route) × IsEnteredOver m course p s × On p t
-IsOrderedOver m course (items.Effect t) (items.Opened r mode) =
-    (p : Route) × (IsOpenedOver m course p r mode ⊎ IsOpenedAtEnd m course p r mode) × On p t
-IsOrderedOver m course (items.Effect t) (items.Pick c) = (p : Route) × IsPickedOver m course p c × On p t
-IsOrderedOver m course (items.Enter s) (items.Enter q) = LiesInState m q s
-IsOrderedOver m course (items.Enter s) (items.Opened r mode) = (p : Route) × IsOpenedAtEnd m course p r mode × IsEnteredBy m p s
-IsOrderedOver m course (items.Enter s) (items.Pick c) = (p : Route) × IsPickedOver m course p c × IsEnteredBy m p s
-IsOrderedOver m course _ _ = ⊥

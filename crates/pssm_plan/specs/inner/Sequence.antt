@@ -1,5 +1,5 @@
 -- Which of the items that a step calls come before which, in a step that goes by these ways; and the lists of its items.
-use Rattle.std.specs.Prelude.{◌⊎◌, ◌↔◌, ◌≢◌, List, Contains, AllPairs}
+use Rattle.std.specs.Prelude.{◌⊎◌, ◌↔◌, ◌<◌, ◌≢◌, ℕ, List, Contains, AllPairs, length}
 use Rattle.pssm_model.specs.declared.ids.VertexId.{VertexId}
 use Rattle.pssm_model.specs.declared.ids.RegionId.{RegionId}
 use Rattle.pssm_model.specs.declared.elements.DraftMachine.{DraftMachine}
@@ -26,14 +26,32 @@ IsNestedPair m (Exit s) (Exit q) = LiesInState m s q
 IsNestedPair m (Enter s) (Enter q) = LiesInState m q s
 IsNestedPair m _ _ = ⊥
 
--- Items of these kinds may be ordered by a way: exits, effects, entries, and what is called at the end.
+-- A leg that is one transition may put items of these kinds in this order: an exit before effects, effects before entries, and both before what is
+-- called at the end.
 abbrev pub MayOrder : Item → Item → Type 0
 MayOrder (Exit s) (Effect t) = Unit {0}
-MayOrder (Effect t) (Exit s) = ⊥
-MayOrder (Effect t) y = Unit {0}
+MayOrder (Effect t) (Enter s) = Unit {0}
+MayOrder (Effect t) (Opened r mode) = Unit {0}
+MayOrder (Effect t) (Pick c) = Unit {0}
 MayOrder (Enter s) (Opened r mode) = Unit {0}
 MayOrder (Enter s) (Pick c) = Unit {0}
 MayOrder _ _ = ⊥
+
+-- The way has more than one leg, or its first leg more than one transition.
+abbrev pub IsLong : Way → Type 0
+IsLong way = 0 < length way.legs.more.items ⊎ 0 < length way.legs.first.further.items
+
+-- One of the ways is long.
+abbrev pub IsSomeLong : List Way → Type 0
+IsSomeLong ways = (way : Way) × Contains ways way × IsLong way
+
+-- the number of the kind of an item: exits, effects, entries, openings and picks
+abbrev pub kind_number : Item → ℕ
+kind_number (Exit s) = 0
+kind_number (Effect t) = 1
+kind_number (Enter s) = 2
+kind_number (Opened r mode) = 3
+kind_number (Pick c) = 4
 
 -- The first of two called items comes before the second.
 abbrev pub IsSequence : DraftMachine → List Way → Item → Item → Type 0

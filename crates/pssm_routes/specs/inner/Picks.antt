@@ -6,10 +6,10 @@ use Rattle.pssm_model.specs.declared.elements.DraftMachine.{DraftMachine}
 use Rattle.pssm_model.specs.declared.steps.Route.{Route}
 use Rattle.pssm_model.specs.declared.steps.Event.{Event}
 use Rattle.pssm_model.specs.Configuration.{Configuration}
-use Rattle.pssm_model.specs.Routes.{Truth, IsEnabled}
+use Rattle.pssm_model.specs.Legs.{Leaves}
+use Rattle.pssm_model.specs.Routes.{Truth, IsEnabled, IsSource}
 use Rattle.pssm_routes.specs.declared.areas.Footprint.{Footprint}
 use Rattle.pssm_routes.specs.inner.Footprints.{IsFootprintOf, AreFootprints, IsFootprintIn, ClashesWithSome}
-use Rattle.pssm_routes.specs.inner.Starts.{IsStarted}
 use Rattle.pssm_routes.specs.inner.Sets.{IsSettled, HasJoiner}
 
 -- the number of the first start
@@ -21,19 +21,21 @@ first_number (t ∷ starts) = t.0
 abbrev pub StartApart : List Route → Type 0
 StartApart routes = AllPairs (λ (p q : Route). first_number p.starts ≢ first_number q.starts) routes
 
--- an enabled route with this start that clashes with none of the footprints
-pub record IsFreeRoute (m : DraftMachine) (now : Configuration) (truth : Truth) (event : Event) (footprints : List Footprint) (t : TransId) (q : Route) : Type 0 where
+-- an enabled route with this start, whose sources are among the States, that clashes with none of the footprints
+pub record IsFreeRoute (m : DraftMachine) (now : Configuration) (truth : Truth) (event : Event) (states : List VertexId) (footprints : List Footprint)
+    (t : TransId) (q : Route) : Type 0 where
   pub enabled : IsEnabled m now truth event q
-  pub starts : q.starts ≡ t ∷ []
+  pub starts : Contains q.starts t
+  pub among : (s : VertexId) → IsSource m q s → Contains states s
   pub free : (footprint : Footprint) → IsFootprintOf m q footprint → ClashesWithSome m footprints footprint → ⊥
 
 -- an enabled route from this State that clashes with none of the footprints
-abbrev pub IsFreeFrom : DraftMachine → Configuration → Truth → Event → List Footprint → VertexId → Route → Type 0
-IsFreeFrom m now truth event footprints s q = (t : TransId) × IsStarted m now event t s × IsFreeRoute m now truth event footprints t q
+abbrev pub IsFreeFrom : DraftMachine → Configuration → Truth → Event → List VertexId → List Footprint → VertexId → Route → Type 0
+IsFreeFrom m now truth event states footprints s q = (t : TransId) × Leaves m t s × IsFreeRoute m now truth event states footprints t q
 
 -- No route that starts at the State could join.
-abbrev pub IsSpent : DraftMachine → Configuration → Truth → Event → List Footprint → VertexId → Type 0
-IsSpent m now truth event footprints s = (t : TransId) → IsStarted m now event t s → HasJoiner m now truth event footprints t → ⊥
+abbrev pub IsSpent : DraftMachine → Configuration → Truth → Event → List VertexId → List Footprint → VertexId → Type 0
+IsSpent m now truth event states footprints s = (t : TransId) → Leaves m t s → HasJoiner m now truth event states footprints t → ⊥
 
 -- routes that were chosen, with their footprints
 pub record IsChosen (m : DraftMachine) (now : Configuration) (truth : Truth) (event : Event) (routes : List Route) (footprints : List Footprint) : Type 0 where
@@ -50,8 +52,8 @@ pub record IsAdded (m : DraftMachine) (q : Route) (routes : List Route) (footpri
   pub footprints_are : wider ≡ footprints ++ footprint ∷ []
 
 -- routes chosen beside others, so that none from these States could join
-pub record IsGrown (m : DraftMachine) (now : Configuration) (truth : Truth) (event : Event) (These : VertexId → Type 0) (footprints : List Footprint)
-    (more : List Route) (wider : List Footprint) : Type 0 where
+pub record IsGrown (m : DraftMachine) (now : Configuration) (truth : Truth) (event : Event) (states : List VertexId) (These : VertexId → Type 0)
+    (footprints : List Footprint) (more : List Route) (wider : List Footprint) : Type 0 where
   pub chosen : IsChosen m now truth event more wider
-  pub spent : (s : VertexId) → These s → IsSpent m now truth event wider s
+  pub spent : (s : VertexId) → These s → IsSpent m now truth event states wider s
   pub kept : (g : Footprint) → Contains footprints g → Contains wider g

@@ -1,12 +1,13 @@
 -- Where a route may go that clashes with none of the routes that fire.
-use Rattle.std.specs.Prelude.{◌≡◌, ◌⊎◌, ◌<◌, List, [], ◌∷◌, length, Option, IfSome}
+use Rattle.std.specs.Prelude.{◌⊎◌, ◌<◌, List, length, Option, IfSome, Contains}
 use Rattle.pssm_model.specs.declared.ids.VertexId.{VertexId}
 use Rattle.pssm_model.specs.declared.ids.RegionId.{RegionId}
 use Rattle.pssm_model.specs.declared.ids.TransId.{TransId}
 use Rattle.pssm_model.specs.declared.elements.DraftMachine.{DraftMachine}
+use Rattle.pssm_model.specs.declared.elements.VertexKind.TheVariants as kinds
 use Rattle.pssm_model.specs.declared.elements.Owner.TheVariants.{Region}
 use Rattle.pssm_model.specs.declared.steps.Route.{Route}
-use Rattle.pssm_model.specs.Forest.{LiesUnder, IsOrLiesIn, IsWithin}
+use Rattle.pssm_model.specs.Forest.{HasKind, LiesUnder, IsOrLiesIn, IsWithin}
 use Rattle.pssm_model.specs.Legs.{Enters, On, LiesInScope}
 use Rattle.pssm_model.specs.Routes.{IsStateRoute}
 use Rattle.pssm_routes.specs.declared.areas.Footprint.{Footprint}
@@ -28,18 +29,19 @@ pub record IsNextOut (m : DraftMachine) (r next : RegionId) : Type 0 where
 -- Each route with this start clashes with one of the footprints.
 abbrev pub IsShut : DraftMachine → List Footprint → TransId → Type 0
 IsShut m footprints t =
-    (q : Route) (b : Footprint) → IsStateRoute m q → q.starts ≡ t ∷ [] → IsFootprintOf m q b → (ClashesWithSome m footprints b → ⊥) → ⊥
+    (q : Route) (b : Footprint) → IsStateRoute m q → Contains q.starts t → IsFootprintOf m q b → (ClashesWithSome m footprints b → ⊥) → ⊥
 
 -- All transitions of the route end where they may.
 abbrev pub EndsWithin : DraftMachine → Option RegionId → Route → Type 0
 EndsWithin m within q = (u : TransId) (v : VertexId) → On q u → Enters m u v → IsAllowed m within v
 
--- The routes with this start that clash with none of the footprints are those that end in the region, if one is named.
+-- The routes with this start that clash with none of the footprints are those that end in the region, if one is named; a join of theirs lies there.
 pub record IsOpenRoom (m : DraftMachine) (footprints : List Footprint) (t : TransId) (within : Option RegionId) : Type 0 where
-  pub ends : (q : Route) (b : Footprint) → IsStateRoute m q → q.starts ≡ t ∷ [] → IsFootprintOf m q b → (ClashesWithSome m footprints b → ⊥)
+  pub ends : (q : Route) (b : Footprint) → IsStateRoute m q → Contains q.starts t → IsFootprintOf m q b → (ClashesWithSome m footprints b → ⊥)
       → EndsWithin m within q
-  pub clear : (q : Route) (b : Footprint) → IsStateRoute m q → q.starts ≡ t ∷ [] → IsFootprintOf m q b → EndsWithin m within q
+  pub clear : (q : Route) (b : Footprint) → IsStateRoute m q → Contains q.starts t → IsFootprintOf m q b → EndsWithin m within q
       → ClashesWithSome m footprints b → ⊥
+  pub joins : (j : VertexId) → Enters m t j → HasKind m j kinds.Join → IsAllowed m within j
 
 -- where a route with this start may go
 abbrev pub IsRoomFor : DraftMachine → List Footprint → TransId → Room → Type 0

@@ -1,15 +1,14 @@
--- What a search keeps true while it goes on from one junction after another.
+-- What a search keeps true while it goes on from one junction or exit point after another.
 use Rattle.std.specs.Prelude.{◌≡◌, ◌⊎◌, ◌↔◌, ◌<◌, ◌≤◌, ℕ, List, [], ◌∷◌, ◌++◌, length, take, Bool, true, false, Option, Some, slice_get, Contains}
 use Rattle.pssm_model.specs.declared.ids.VertexId.{VertexId}
 use Rattle.pssm_model.specs.declared.ids.RegionId.{RegionId}
 use Rattle.pssm_model.specs.declared.ids.TransId.{TransId}
 use Rattle.pssm_model.specs.declared.elements.DraftMachine.{DraftMachine}
-use Rattle.pssm_model.specs.declared.elements.VertexKind.TheVariants as kinds
-use Rattle.pssm_model.specs.Forest.{HasKind}
 use Rattle.pssm_model.specs.Legs.{Leaves, Enters}
 use Rattle.pssm_model.specs.Routes.{Truth}
 use Rattle.pssm_routes.specs.declared.seeking.Step.{Step}
 use Rattle.pssm_routes.specs.declared.seeking.Search.{Search}
+use Rattle.pssm_routes.specs.inner.Passing.{IsPassedOver}
 use Rattle.pssm_routes.specs.inner.Ways.{IsOpen, IsWay}
 use Rattle.pssm_routes.specs.inner.Steps.{IsTrail, IsSeen}
 
@@ -17,12 +16,12 @@ use Rattle.pssm_routes.specs.inner.Steps.{IsTrail, IsSeen}
 abbrev pub kept : Search → List Step
 kept search = take search.count search.steps
 
--- What coming to the target of the step's transition makes of a search, and whether the target is no junction. One that was
+-- What coming to the target of the step's transition makes of a search, and whether the target is no junction or exit point. One that was
 -- not seen before is marked, and the step is kept.
 pub data ComesTo (m : DraftMachine) (old : Search) (step : Step) (new : Search) : Bool → Type 0 where
-  out : ((v : VertexId) → Enters m step.by v → HasKind m v kinds.Junction → ⊥) → new ≡ old → ComesTo m old step new true
-  again : {v : VertexId} → Enters m step.by v → HasKind m v kinds.Junction → IsSeen old v → new ≡ old → ComesTo m old step new false
-  first : {v : VertexId} → Enters m step.by v → HasKind m v kinds.Junction → (IsSeen old v → ⊥)
+  out : ((v : VertexId) → Enters m step.by v → IsPassedOver m v → ⊥) → new ≡ old → ComesTo m old step new true
+  again : {v : VertexId} → Enters m step.by v → IsPassedOver m v → IsSeen old v → new ≡ old → ComesTo m old step new false
+  first : {v : VertexId} → Enters m step.by v → IsPassedOver m v → (IsSeen old v → ⊥)
       → ((w : VertexId) → IsSeen new w ↔ (IsSeen old w ⊎ (w ≡ v))) → kept new ≡ kept old ++ step ∷ [] → ComesTo m old step new false
 
 -- What trying the step makes of a search: nothing where its transition is not open.
@@ -30,31 +29,31 @@ pub data Tries (m : DraftMachine) (truth : Truth) (within : Option RegionId) (ol
   closed : (IsOpen m truth within step.by → ⊥) → new ≡ old → Tries m truth within old step new false
   comes : {ends : Bool} → IsOpen m truth within step.by → ComesTo m old step new ends → Tries m truth within old step new ends
 
--- Each kept step came to a junction, and no two of them to the same.
+-- Each kept step came to a junction or exit point, and no two of them to the same.
 pub record ComesOnce (m : DraftMachine) (search : Search) : Type 0 where
   pub comes : (k : ℕ) (step : Step) → slice_get (kept search) k ≡ Some step
-      → (v : VertexId) × Enters m step.by v × HasKind m v kinds.Junction × IsSeen search v
+      → (v : VertexId) × Enters m step.by v × IsPassedOver m v × IsSeen search v
   pub once : (i k : ℕ) (a b : Step) (v : VertexId) → i < k → slice_get (kept search) i ≡ Some a → slice_get (kept search) k ≡ Some b
       → Enters m a.by v → Enters m b.by v → ⊥
   pub room : search.count ≤ 4096
 
--- The kept steps tell a way from the start to the step's transition, over junctions that were seen.
+-- The kept steps tell a way from the start to the step's transition, over vertices that were seen.
 pub record IsLed (m : DraftMachine) (truth : Truth) (within : Option RegionId) (start : TransId) (search : Search) (step : Step) : Type 0 where
-  pub junctions : List VertexId
+  pub passed : List VertexId
   pub path : List TransId
   pub trail : IsTrail (kept search) step path
-  pub way : IsWay m truth within start step.by junctions path
-  pub seen : (v : VertexId) → Contains junctions v → IsSeen search v
+  pub way : IsWay m truth within start step.by passed path
+  pub seen : (v : VertexId) → Contains passed v → IsSeen search v
 
 -- The way to the step's target has not passed it before.
 pub record IsLedOn (m : DraftMachine) (truth : Truth) (within : Option RegionId) (start : TransId) (search : Search) (step : Step) : Type 0 where
   pub led : IsLed m truth within start search step
-  pub fresh : (v : VertexId) → Enters m step.by v → Contains led.junctions v → ⊥
+  pub fresh : (v : VertexId) → Enters m step.by v → Contains led.passed v → ⊥
 
--- Where the transition is open, it ends on a junction that was seen.
+-- Where the transition is open, it ends on a junction or exit point that was seen.
 abbrev pub IsTried : DraftMachine → Truth → Option RegionId → Search → TransId → Type 0
 IsTried m truth within search u =
-    (w : VertexId) → IsOpen m truth within u → Enters m u w → HasKind m w kinds.Junction × IsSeen search w
+    (w : VertexId) → IsOpen m truth within u → Enters m u w → IsPassedOver m w × IsSeen search w
 
 -- Each transition out of the step's target was tried.
 abbrev pub IsGoneOnFrom : DraftMachine → Truth → Option RegionId → Search → Step → Type 0

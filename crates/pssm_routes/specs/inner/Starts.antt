@@ -1,5 +1,5 @@
 -- Which transitions an event starts, and the States that react to it.
-use Rattle.std.specs.Prelude.{◌≡◌, ◌↔◌, ◌<◌, ◌≤◌, ℕ, List, [], ◌∷◌, length, Contains}
+use Rattle.std.specs.Prelude.{◌≡◌, ◌≢◌, ◌⊎◌, ◌↔◌, ◌<◌, ◌≤◌, ℕ, List, [], ◌∷◌, length, Contains}
 use Rattle.pssm_model.specs.declared.ids.VertexId.{VertexId}
 use Rattle.pssm_model.specs.declared.ids.TransId.{TransId}
 use Rattle.pssm_model.specs.declared.elements.DraftMachine.{DraftMachine}
@@ -8,11 +8,11 @@ use Rattle.pssm_model.specs.declared.steps.Route.{Route}
 use Rattle.pssm_model.specs.declared.steps.Event.{Event}
 use Rattle.pssm_model.specs.declared.steps.Event.TheVariants.{Signal, Completion}
 use Rattle.pssm_model.specs.Forest.{HasKind, LiesInState}
-use Rattle.pssm_model.specs.Configuration.{Configuration}
-use Rattle.pssm_model.specs.Legs.{Leaves}
-use Rattle.pssm_model.specs.Routes.{Truth, IsSource, IsEnabled, Lists, HasNoTrigger}
+use Rattle.pssm_model.specs.Configuration.{Configuration, IsComplete}
+use Rattle.pssm_model.specs.Legs.{Leaves, Enters}
+use Rattle.pssm_model.specs.Routes.{Truth, IsSource, IsEnabled, Lists, HasNoTrigger, IsAscending}
 use Rattle.pssm_routes.specs.declared.seeking.Search.{Search}
-use Rattle.pssm_routes.specs.inner.Ways.{EndsOnJunction}
+use Rattle.pssm_routes.specs.inner.Ways.{EndsInside}
 
 -- The signal triggers the transition, or it is the completion of the transition's source, which has no trigger.
 abbrev pub IsCausedBy : DraftMachine → Event → TransId → VertexId → Type 0
@@ -26,9 +26,59 @@ pub record IsStarted (m : DraftMachine) (now : Configuration) (event : Event) (t
   pub active : now.Active s
   pub caused : IsCausedBy m event t s
 
--- A route that the event enables starts with the transition.
+-- One of the transitions leaves the vertex.
+abbrev pub IsLeftBy : DraftMachine → List TransId → VertexId → Type 0
+IsLeftBy m starts s = (t : TransId) × Contains starts t × Leaves m t s
+
+-- The signal triggers the one transition, or it is the completion of one of the sources of transitions without triggers whose other sources are
+-- complete.
+abbrev pub AreCausedBy : DraftMachine → Configuration → Event → List TransId → Type 0
+AreCausedBy m now (Signal signal) starts = (t : TransId) × (starts ≡ t ∷ []) × Lists m t signal
+AreCausedBy m now (Completion s) starts =
+    IsLeftBy m starts s
+    × ((t : TransId) → Contains starts t → HasNoTrigger m t)
+    × ((q : VertexId) → IsLeftBy m starts q → q ≢ s → IsComplete m now q)
+
+-- The event starts the transitions together: they leave active States and are caused by it.
+pub record AreStarted (m : DraftMachine) (now : Configuration) (event : Event) (starts : List TransId) : Type 0 where
+  pub states : (s : VertexId) → IsLeftBy m starts s → HasKind m s kinds.State
+  pub active : (s : VertexId) → IsLeftBy m starts s → now.Active s
+  pub caused : AreCausedBy m now event starts
+
+-- an active State that is this one or complete
+abbrev pub IsReady : DraftMachine → Configuration → VertexId → VertexId → Type 0
+IsReady m now s q = HasKind m q kinds.State × now.Active q × ((q ≡ s) ⊎ IsComplete m now q)
+
+-- The transition leaves an active State and has no trigger, and that State is this one or complete.
+pub record JoinsIn (m : DraftMachine) (now : Configuration) (s : VertexId) (t : TransId) : Type 0 where
+  pub state : (q : VertexId) → Leaves m t q → HasKind m q kinds.State
+  pub active : (q : VertexId) → Leaves m t q → now.Active q
+  pub untriggered : HasNoTrigger m t
+  pub complete : (q : VertexId) → Leaves m t q → q ≢ s → IsComplete m now q
+
+-- the starts of a route among which is the transition: it alone, where it ends on no join, and else all transitions into its join
+abbrev pub AreStartsWith : DraftMachine → TransId → List TransId → Type 0
+AreStartsWith m t starts =
+    ((starts ≡ t ∷ []) × ((v : VertexId) → Enters m t v → HasKind m v kinds.Join → ⊥))
+    ⊎ ((v : VertexId) × Enters m t v × HasKind m v kinds.Join × ((u : TransId) → Contains starts u ↔ Enters m u v) × IsAscending starts)
+
+-- The event starts the transition, alone or with the others into its join.
+abbrev pub IsStartedWith : DraftMachine → Configuration → Event → TransId → Type 0
+IsStartedWith m now event t = (starts : List TransId) × AreStartsWith m t starts × AreStarted m now event starts
+
+-- the transition by which a route with this start goes on: itself, or the one out of the join on which it ends
+abbrev pub GoesOnBy : DraftMachine → TransId → TransId → Type 0
+GoesOnBy m t u =
+    ((u ≡ t) × ((v : VertexId) → Enters m t v → HasKind m v kinds.Join → ⊥))
+    ⊎ ((v : VertexId) × Enters m t v × HasKind m v kinds.Join × Leaves m u v)
+
+-- The sources of the starts among which is the transition are among the States.
+abbrev pub StartsAmong : DraftMachine → List VertexId → TransId → Type 0
+StartsAmong m states t = (starts : List TransId) (s : VertexId) → AreStartsWith m t starts → IsLeftBy m starts s → Contains states s
+
+-- A route that the event enables has the transition as a start.
 abbrev pub HasRouteBy : DraftMachine → Configuration → Truth → Event → TransId → Type 0
-HasRouteBy m now truth event t = (p : Route) × IsEnabled m now truth event p × (p.starts ≡ t ∷ [])
+HasRouteBy m now truth event t = (p : Route) × IsEnabled m now truth event p × Contains p.starts t
 
 -- A route that the event enables starts at the State.
 abbrev pub Reacts : DraftMachine → Configuration → Truth → Event → VertexId → Type 0
@@ -55,6 +105,6 @@ NoneReactsFrom m now truth event from = (q : VertexId) → from ≤ q.0 → Reac
 abbrev pub ReactsAlone : DraftMachine → Configuration → Truth → Event → VertexId → Type 0
 ReactsAlone m now truth event s = (q : VertexId) → Contains (s ∷ []) q ↔ Reacts m now truth event q
 
--- There is a search, where the event starts a transition that ends on a junction.
+-- There is a search, where the event starts a transition and the route goes on to a junction or an exit point.
 abbrev pub HasSearch : DraftMachine → Configuration → Event → List Search → Type 0
-HasSearch m now event search = (t : TransId) (s : VertexId) → IsStarted m now event t s → EndsOnJunction m t → 0 < length search
+HasSearch m now event search = (t u : TransId) → IsStartedWith m now event t → GoesOnBy m t u → EndsInside m u → 0 < length search

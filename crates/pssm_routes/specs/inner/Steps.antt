@@ -1,17 +1,18 @@
--- What a search keeps: by which transition it came to each junction, and from which step.
-use Rattle.std.specs.Prelude.{◌≡◌, ◌≢◌, ◌↔◌, ℕ, List, [], ◌∷◌, ◌++◌, true, false, Option, Some, None, slice_get, slice_index_or, Contains}
+-- What a search keeps: by which transition it came to each junction and exit point, and from which step.
+use Rattle.std.specs.Prelude.{◌≡◌, ℕ, List, [], ◌∷◌, ◌++◌, true, false, Option, Some, None, slice_get, slice_index_or}
 use Rattle.pssm_model.specs.declared.ids.VertexId.{VertexId}
 use Rattle.pssm_model.specs.declared.ids.RegionId.{RegionId}
 use Rattle.pssm_model.specs.declared.ids.TransId.{TransId}
 use Rattle.pssm_model.specs.declared.elements.DraftMachine.{DraftMachine}
 use Rattle.pssm_model.specs.Legs.{Leaves, On}
 use Rattle.pssm_model.specs.declared.steps.Route.{Route}
-use Rattle.pssm_model.specs.Routes.{Truth, IsAscending, IsStateRoute, IsTrueAt}
+use Rattle.pssm_model.specs.Routes.{Truth, IsStateRoute, IsTrueAt}
 use Rattle.pssm_routes.specs.declared.seeking.Step.{Step}
 use Rattle.pssm_routes.specs.declared.seeking.Search.{Search}
 use Rattle.pssm_routes.specs.declared.areas.Footprint.{Footprint}
 use Rattle.pssm_routes.specs.inner.Ways.{LeadsOut, IsWayOut}
 use Rattle.pssm_routes.specs.inner.Footprints.{IsFootprintOf, ClashesWithSome}
+use Rattle.pssm_routes.specs.inner.Behind.{IsRouteBehind, LeadsFurther}
 
 -- The steps before say that this path leads to the step.
 pub data IsTrail (steps : List Step) : Step → List TransId → Type 0 where
@@ -19,11 +20,11 @@ pub data IsTrail (steps : List Step) : Step → List TransId → Type 0 where
   further : {k : ℕ} {step : Step} {path : List TransId} (u : TransId) → slice_get steps k ≡ Some step → IsTrail steps step path
       → IsTrail steps (record { by = u; before = Some k }) (path ++ u ∷ [])
 
--- The junction was seen by the search.
+-- The junction or exit point was seen by the search.
 abbrev pub IsSeen : Search → VertexId → Type 0
 IsSeen search v = slice_index_or search.seen v.0 false ≡ true
 
--- No way out leads over a junction that the search has seen.
+-- No way out leads over a junction or exit point that the search has seen.
 abbrev pub SeesDeadEnds : DraftMachine → Truth → Option RegionId → Search → Type 0
 SeesDeadEnds m truth within search = (v : VertexId) (u : TransId) → IsSeen search v → Leaves m u v → LeadsOut m truth within u → ⊥
 
@@ -42,15 +43,10 @@ abbrev pub IsFound : DraftMachine → Truth → Option RegionId → List Step �
 IsFound m truth within steps start last =
     (path : List TransId) × IsTrail steps last path × IsWayOut m truth within start last.by path
 
--- the route with this start that takes the other transitions of the path, in ascending number
-pub record IsRouteOver (start : TransId) (path : List TransId) (q : Route) : Type 0 where
-  pub starts : q.starts ≡ start ∷ []
-  pub rest : (u : TransId) → Contains q.rest u ↔ (Contains path u × (u ≢ start))
-  pub ascending : IsAscending q.rest
-
--- Each route over the path that the steps tell is one of States with true guards and clashes with none of the footprints.
+-- A way leads on from the end of the path that the steps tell, and each route over the path and what goes on behind it is one of States with true
+-- guards and clashes with none of the footprints.
 abbrev pub IsJoiningStep : DraftMachine → Truth → List Footprint → List Step → TransId → Step → Type 0
 IsJoiningStep m truth footprints steps t last =
-    (path : List TransId) × IsTrail steps last path
-    × ((q : Route) → IsRouteOver t path q
+    (path : List TransId) × IsTrail steps last path × LeadsFurther m truth last.by
+    × ((q : Route) → IsRouteBehind m truth t last.by path q
     → IsStateRoute m q × ((u : TransId) → On q u → IsTrueAt m truth u) × ((b : Footprint) → IsFootprintOf m q b → ClashesWithSome m footprints b → ⊥))

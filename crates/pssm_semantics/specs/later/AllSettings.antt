@@ -1,5 +1,5 @@
--- The laws of the journals of all well-formed settings. No contract rests on these yet: they wait for the code that runs every form; what is proved
--- of them for the settings that run today stands in `Laws`.
+-- The laws of the journals of all well-formed settings. No contract rests on these yet: the contracts say what holds of the journals that a run and a
+-- judge keep, by `Laws`, and these wait for a proof that each admissible journal is one that a judge keeps.
 use Rattle.std.specs.Prelude.{List}
 use Rattle.pssm_semantics.specs.declared.entry.Entry.{Entry}
 use Rattle.pssm_semantics.specs.declared.setting.Setting.{Setting}

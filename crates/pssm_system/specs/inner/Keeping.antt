@@ -9,14 +9,14 @@ use Rattle.pssm_semantics.specs.declared.setting.Setting.{Setting}
 use Rattle.pssm_semantics.specs.declared.stimulus.Task.{Task}
 use Rattle.pssm_semantics.specs.Settings.{class_of}
 use Rattle.pssm_semantics.specs.Pool.{signals_of_entry, signals_of, pool_of}
-use Rattle.pssm_semantics.specs.Built.{IsBuilt}
+use Rattle.pssm_semantics.specs.Proper.{IsWellFormed}
 use Rattle.pssm_semantics.specs.Admissible.{MayFollow, IsAdmissibleIn, KeepsJournalLimits}
 use Rattle.pssm_pool.specs.declared.pools.Waiting.{Waiting}
 use Rattle.pssm_pool.specs.Waits.{held_in}
 use Rattle.pssm_object.specs.Standing.{Standing, StandsAfter}
 use Rattle.pssm_object.specs.Tasks.{ready_tasks}
 use Rattle.pssm_system.specs.declared.situation.Situation.{Situation}
-use Rattle.pssm_semantics.specs.Built.{IsBuiltEntry}
+use Rattle.pssm_semantics.specs.Forms.{IsRunEntry}
 use Rattle.pssm_system.specs.inner.Pooling.{numbered_for}
 
 -- The object of the class is this one, and stands so after these entries.
@@ -67,10 +67,10 @@ tasks_for setting x = option_map_or (λ class. ready_tasks class.machine x) (cla
 abbrev pub tasks_of : Setting → List Standing → List (ObjectId × Task)
 tasks_of setting objects = flat_map (λ x. map (λ task. (x.own, task)) (tasks_for setting x)) objects
 
--- a setting that the code runs, a journal of an admissible run of it within the limits, and what is kept of the journal
+-- a well-formed setting, a journal of an admissible run of it within the limits, and what is kept of the journal
 pub record KeepsRun (setting : Setting) (J : List Entry) (s : Situation) : Type 0 where
-  pub built : IsBuilt setting
+  pub well_formed : IsWellFormed setting
   pub admissible : IsAdmissibleIn setting J
   pub limits : KeepsJournalLimits J
-  pub entries : AllByRecursion IsBuiltEntry J
+  pub entries : AllByRecursion IsRunEntry J
   pub stands : StandsSo setting J s

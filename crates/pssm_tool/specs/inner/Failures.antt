@@ -2,17 +2,16 @@
 use Rattle.std.specs.Prelude.{◌≡◌, ◌≢◌, ◌⊎◌, ℕ, List, Result, Ok, Err}
 use Rattle.pssm_base.specs.Faults.{Rose}
 use Rattle.pssm_base.specs.Reading.{Contents, ReadsWhole, HoldsMore}
-use Rattle.pssm_model.specs.declared.elements.Element.{Element}
 use Rattle.pssm_semantics.specs.declared.setting.Setting.{Setting}
 use Rattle.pssm_load.specs.declared.fault.LoadFault.{LoadFault}
 use Rattle.pssm_load.specs.declared.fault.LoadFault.TheVariants as faults
-use Rattle.pssm_load.specs.Loads.{IsLoadFault, IsFirstUnbuilt}
+use Rattle.pssm_load.specs.Loads.{IsLoadFault}
 use Rattle.pssm_tool.specs.declared.answer.Answer.{Answer}
 use Rattle.pssm_tool.specs.declared.answer.Answer.TheVariants.{Accept, TooLarge, BadModel}
 use Rattle.pssm_tool.specs.declared.failure.Failure.{Failure}
 use Rattle.pssm_tool.specs.declared.failure.Failure.TheVariants.{ReadFault, NoMemory}
 use Rattle.pssm_tool.specs.Words.{Judges, Means}
-use Rattle.pssm_tool.specs.Due.{most_bytes, HasModel, ReadFailed}
+use Rattle.pssm_tool.specs.Due.{most_bytes, ReadFailed}
 use Rattle.pssm_tool.specs.Headline.{IsContinued}
 
 -- what is answered where there is no model: the path holds too much, or this is wrong with it
@@ -20,12 +19,6 @@ pub data LacksModel (contents : Contents) (path : List ℕ) (answer : Answer) : 
   holds_more : HoldsMore contents path most_bytes → answer ≡ TooLarge → LacksModel contents path answer
   has_fault : (bytes : List ℕ) (fault : LoadFault) → ReadsWhole contents path most_bytes bytes → IsLoadFault bytes fault → answer ≡ BadModel fault
       → LacksModel contents path answer
-
--- what is answered where there is no model that the code runs
-pub data LacksBuiltModel (contents : Contents) (path : List ℕ) (answer : Answer) : Type 0 where
-  no_model : LacksModel contents path answer → LacksBuiltModel contents path answer
-  not_built : (setting : Setting) (class : List ℕ) (element : Element) → HasModel contents path setting → IsFirstUnbuilt setting.classes class element
-      → answer ≡ BadModel (faults.NotBuilt class element) → LacksBuiltModel contents path answer
 
 -- Reading a path failed: its count rose; or there was no memory.
 abbrev pub FailedAt : ℕ → ℕ → Failure → Type 0

@@ -3,7 +3,7 @@ use Rattle.pssm_model.specs.Forest.{IsScope}
 use Rattle.pssm_model.proofs.CommonRegions.{IsMet}
 use Rattle.pssm_legs.proofs.areas.common_region.Given as goal
 
--- the innermost region of the source and the targets so far
+-- the innermost region of the ends of the first and the targets so far
 abbrev pub invariant-loop-t : goal.invariant-loop-t
 invariant-loop-t l =
-    IsScope l.fn.machine (IsMet l.fn.machine l.fn.start l.fn.route.rest l.t-index) l.common × (l.common.0 < length l.fn.machine.regions)
+    IsScope l.fn.machine (IsMet l.fn.machine l.fn.first l.fn.further l.t-index) l.common × (l.common.0 < length l.fn.machine.regions)

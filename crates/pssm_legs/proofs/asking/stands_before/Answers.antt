@@ -1,11 +1,9 @@
 -- each turn looks at one transition more
-use Rattle.std.proofs.Common.{◌≡◌, ◌<◌, ◌≤◌, Bool, false, IsTrue, ◌↔◌, length, refl, arith}
+use Rattle.std.proofs.Common.{◌<◌, ◌≤◌, length, refl, arith}
 use Rattle.std.proofs.lemmas.Option.{slice_get-get_or}
+use Rattle.pssm_legs.proofs.NoneSoFar.{refuted}
 use Rattle.pssm_legs.proofs.SeenBefore.{second_found, one_more_seen, none_stands}
 use Rattle.pssm_legs.proofs.asking.stands_before.Goals as goal
-
-refuted : {P : Type 0} (b : Bool) → b ≡ false → (IsTrue b ↔ P) → P → ⊥
-refuted b fails decides h = let holds : IsTrue b = decides.1 h in cc (fails, holds)
 
 pub loop-w-preserved : goal.loop-w-preserved
 loop-w-preserved c =

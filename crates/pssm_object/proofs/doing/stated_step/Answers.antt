@@ -1,4 +1,4 @@
--- The behaviours of a class that the code runs may be run.
+-- The behaviours of a well-formed class may be run.
 use Rattle.pssm_object.proofs.DoingBehaviours.{step_fits}
 use Rattle.pssm_object.proofs.doing.stated_step.Goals as goal
 

@@ -3,7 +3,7 @@ use Rattle.std.proofs.Common.{◌≡◌, refl, ap, subst, sym, ◌∙◌, ⊎_el
 use Rattle.std.proofs.lemmas.Bool.{false≢true, cases_lt}
 use Rattle.pssm_model.specs.declared.ids.VertexId.{VertexId}
 use Rattle.pssm_object.specs.inner.Firing.{StateDefers}
-use Rattle.pssm_object.proofs.BuiltMachines.{active_there}
+use Rattle.pssm_object.proofs.DoingLists.{active_there}
 use Rattle.pssm_object.proofs.firing.is_deferred.Goals as goal
 
 pub returns-then-state_defers : goal.returns-then-state_defers
@@ -24,7 +24,7 @@ pub returns : goal.returns
 returns c = (
   λ no. absurd (false≢true no),
   λ is. absurd (c.loop-number.invariant is.0
-      (let there = active_there c.requires.built c.args.config.now c.requires.fits is.0 is.1.0 in
+      (let there = active_there c.args.class.now.machine c.args.config.now c.requires.fits is.0 is.1.0 in
       let count = c.vertices-number-end.ensures in
       let past = c.loop-number-test.false in
       omega (arith, there, count, past)) is.1),

@@ -6,4 +6,4 @@ pub returns-clause-consistent : goal.returns-clause-consistent
 returns-clause-consistent c = λ class J x b s. consistent_after class b s
 
 pub returns-clause-one_completes : goal.returns-clause-one_completes
-returns-clause-one_completes c = λ m before e o s q b first second. one_becomes m before e o s q first second
+returns-clause-one_completes c = λ m before e o s q first second. one_becomes m before e o s q first second

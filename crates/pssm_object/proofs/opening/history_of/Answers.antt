@@ -8,5 +8,5 @@ pub returns-in-len1-up-clause-none : goal.returns-in-len1-up-clause-none
 returns-in-len1-up-clause-none c =
     let some = c.in-len1-up.len_at_least in
     let d : VertexId = record { 0 = 0 } in
-    first_lacks c.requires.built c.args.r c.args.kind c.requires.kind c.histories_of.result.now d (omega (arith, some)) c.histories_of.ensures.items
+    first_lacks c.requires.rules c.args.r c.args.kind c.requires.kind c.histories_of.result.now d (omega (arith, some)) c.histories_of.ensures.items
     c.if_left.result c.if_left.ensures.none

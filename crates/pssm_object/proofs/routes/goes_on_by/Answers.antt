@@ -1,11 +1,7 @@
--- each route of such a machine is one leg, and what is told of a guard is its value
+-- what is told of a guard is its value
 use Rattle.std.proofs.Common.{of_calls}
 use Rattle.pssm_semantics.specs.Behaviours.{guards_under}
-use Rattle.pssm_object.proofs.BuiltMachines.{single_legs}
 use Rattle.pssm_object.proofs.routes.goes_on_by.Goals as goal
-
-pub check_late-requires-clause-legs : goal.check_late-requires-clause-legs
-check_late-requires-clause-legs c = single_legs c.requires.built
 
 pub returns : goal.returns
 returns c = c.check_late.ensures (guards_under c.args.class.now c.args.store.now c.args.params.now) (search (of_calls))

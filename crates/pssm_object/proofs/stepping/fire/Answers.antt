@@ -1,11 +1,6 @@
 -- the routes fire in the plan that there is, or in a new one
-use Rattle.pssm_model.proofs.OverJunctions.{single_legs}
-use Rattle.pssm_object.proofs.BuiltMachines.{nested}
 use Rattle.pssm_object.proofs.Going.{has_fired}
 use Rattle.pssm_object.proofs.stepping.fire.Goals as goal
-
-pub fire-requires-clause-single : goal.fire-requires-clause-single
-fire-requires-clause-single c = single_legs (nested c.requires.built)
 
 pub returns-in-Some-clause-ok : goal.returns-in-Some-clause-ok
 returns-in-Some-clause-ok c =

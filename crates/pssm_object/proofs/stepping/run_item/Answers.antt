@@ -1,11 +1,6 @@
 -- the item runs in the plan
-use Rattle.pssm_model.proofs.OverJunctions.{single_legs}
-use Rattle.pssm_object.proofs.BuiltMachines.{nested}
 use Rattle.pssm_object.proofs.Going.{has_run_on}
 use Rattle.pssm_object.proofs.stepping.run_item.Goals as goal
-
-pub run-requires-clause-single : goal.run-requires-clause-single
-run-requires-clause-single c = single_legs (nested c.requires.built)
 
 pub returns-clause-ok : goal.returns-clause-ok
 returns-clause-ok c =

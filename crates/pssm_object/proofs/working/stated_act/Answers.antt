@@ -1,4 +1,4 @@
--- the behaviours of a class that the code runs may be run
+-- the behaviours of a well-formed class may be run
 use Rattle.pssm_object.proofs.Behaving.{acts_fit}
 use Rattle.pssm_object.proofs.working.stated_act.Goals as goal
 

@@ -9,12 +9,12 @@ pub returns-then-holds_up : goal.returns-then-holds_up
 returns-then-holds_up c =
     let d : Call = record { item = Exit (record { 0 = 0 }); ran = false; blocked = false; seen = 0 } in
     let lt : c.loop-place.place < length c.args.calls.now = (let few = c.requires.few in let less = c.loop-place-test.true in omega (arith, few, less)) in
-    held_here (IsSequence c.args.machine.now c.args.ways.now) c.args.calls.now c.args.call c.loop-place.place d lt c.loop-place.invariant
+    held_here (IsSequence c.args.machine.now c.args.ways.now) c.args.calls.now c.args.call.now c.loop-place.place d lt c.loop-place.invariant
     (c.holds_up.ensures.0 c.if-holds_up.true)
 
 pub loop-place-preserved : goal.loop-place-preserved
 loop-place-preserved c =
     let d : Call = record { item = Exit (record { 0 = 0 }); ran = false; blocked = false; seen = 0 } in
     let lt : c.loop-place.place < length c.args.calls.now = (let few = c.requires.few in let less = c.loop-place-test.true in omega (arith, few, less)) in
-    passed_more (IsSequence c.args.machine.now c.args.ways.now) c.args.calls.now c.args.call c.loop-place.place d lt c.loop-place.invariant
+    passed_more (IsSequence c.args.machine.now c.args.ways.now) c.args.calls.now c.args.call.now c.loop-place.place d lt c.loop-place.invariant
     (λ h. absurd (let yes : c.holds_up.result ≡ true = c.holds_up.ensures.1 h in let no = c.if-holds_up.false in cc))

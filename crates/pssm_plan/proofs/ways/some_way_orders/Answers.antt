@@ -23,7 +23,7 @@ returns-then-way_orders c = (
 pub loop-way-preserved : goal.loop-way-preserved
 loop-way-preserved c =
     none_more c.args.ways.now c.loop-way.way-index c.way-item.result c.loop-way-test.true c.way-item.is
-    (λ (way : Way). orders_by c.args.machine.now way c.args.first c.args.second)
+    (λ (way : Way). orders_by c.args.machine.now way c.args.first.now c.args.second.now)
     (λ h. absurd (let yes : c.way_orders.result ≡ true = c.way_orders.ensures.1 h in let no = c.if-way_orders.false in cc))
     c.loop-way.invariant
 
@@ -31,5 +31,5 @@ pub returns : goal.returns
 returns c =
     let whole = take_all c.loop-way.way-index c.args.ways.now (omega (arith, c.loop-way-test.false)) in (
       λ f. absurd (let e : false ≡ true = f in cc),
-      λ h. absurd (c.loop-way.invariant (subst (λ (zs : List Way). IsOrderedBySome c.args.machine.now zs c.args.first c.args.second) (sym whole) h)),
+      λ h. absurd (c.loop-way.invariant (subst (λ (zs : List Way). IsOrderedBySome c.args.machine.now zs c.args.first.now c.args.second.now) (sym whole) h)),
     )

@@ -11,4 +11,4 @@ returns g c values tells =
     let footprints = c.args.footprints.now in
     found_decides (IsJoiningStep m values footprints (steps_of c.find_joiner.new.search) c.args.t) (HasFreeRoute m values footprints c.args.t)
     c.find_joiner.result c.is_some.result c.is_some.ensures (c.find_joiner.ensures.some values tells) (c.find_joiner.ensures.none values tells)
-    (λ last. found_free c.requires.legs c.regions-shaped.ensures.shaped values footprints c.args.t (steps_of c.find_joiner.new.search) last)
+    (λ last. found_free c.requires.rules c.regions-shaped.ensures.shaped values footprints c.args.t c.requires.there (steps_of c.find_joiner.new.search) last)

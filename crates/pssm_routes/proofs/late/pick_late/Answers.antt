@@ -14,11 +14,11 @@ returns-in-Some g c =
     record {
       late = λ values tells.
           let are = subst (AreTrueFrom m values origin) (sym c.as_slice.ensures.value) (c.in_ok-starts.ensures.true_ones values tells) in
-          picked_late c.requires.legs values origin c.requires.origin c.requires.out starts are c.args.word c.len.result c.place_of.result counted
+          picked_late c.requires.rules values origin c.requires.origin c.requires.out starts are c.args.word c.len.result c.place_of.result counted
           c.place_of.ensures.remainder c.in-Some.start.now at.1 c.late_route_by.result (c.late_route_by.ensures values tells);
       settled = λ values tells.
           let are = subst (AreTrueFrom m values origin) (sym c.as_slice.ensures.value) (c.in_ok-starts.ensures.true_ones values tells) in
-          picked_settled c.requires.legs values origin c.requires.origin c.requires.out starts are c.args.word c.len.result c.place_of.result counted
+          picked_settled c.requires.rules values origin c.requires.origin c.requires.out starts are c.args.word c.len.result c.place_of.result counted
           c.place_of.ensures.remainder c.in-Some.start.now at.1 c.late_route_by.result (c.late_route_by.ensures values tells);
     }
 
@@ -28,7 +28,7 @@ returns-clause-late g c values tells =
     let starts = c.as_slice.result.now in
     let counted : c.len.result ≡ length starts = cc (c.len.ensures, c.as_slice.ensures.value) in
     let are = subst (AreTrueFrom c.args.machine.now values origin) (sym c.as_slice.ensures.value) (c.in_ok-starts.ensures.true_ones values tells) in
-    absurd (not_past c.requires.legs values origin c.requires.origin c.requires.out starts are c.args.word c.len.result c.place_of.result counted
+    absurd (not_past c.requires.rules values origin c.requires.origin c.requires.out starts are c.args.word c.len.result c.place_of.result counted
     c.place_of.ensures.remainder c.in-None.ensures.lookup.3)
 
 pub returns-clause-settled : goal.returns-clause-settled
@@ -37,5 +37,5 @@ returns-clause-settled g c values tells =
     let starts = c.as_slice.result.now in
     let counted : c.len.result ≡ length starts = cc (c.len.ensures, c.as_slice.ensures.value) in
     let are = subst (AreTrueFrom c.args.machine.now values origin) (sym c.as_slice.ensures.value) (c.in_ok-starts.ensures.true_ones values tells) in
-    absurd (not_past c.requires.legs values origin c.requires.origin c.requires.out starts are c.args.word c.len.result c.place_of.result counted
+    absurd (not_past c.requires.rules values origin c.requires.origin c.requires.out starts are c.args.word c.len.result c.place_of.result counted
     c.place_of.ensures.remainder c.in-None.ensures.lookup.3)

@@ -8,7 +8,7 @@ use Rattle.pssm_routes.proofs.reacting.candidates.Goals as goal
 
 pub returns-then-len-lt2-clause-states : goal.returns-then-len-lt2-clause-states
 returns-then-len-lt2-clause-states g c values tells =
-    lone_candidates c.requires.legs c.requires.fits.shape (configuration_of c.args.config.now) values c.args.event c.in_ok-reacting.reacting.items
+    lone_candidates c.requires.fits.shape (configuration_of c.args.config.now) values c.args.event c.in_ok-reacting.reacting.items
     (let few = c.if-len-lt2.true in let is = c.len.ensures in omega (arith, few, is)) (c.in_ok-reacting.ensures.states values tells)
 
 pub returns-clause-there : goal.returns-clause-there

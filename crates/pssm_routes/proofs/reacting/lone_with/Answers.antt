@@ -5,8 +5,8 @@ use Rattle.pssm_routes.proofs.LoneReacting.{alone_is}
 use Rattle.pssm_routes.proofs.reacting.lone_with.Goals as goal
 
 pub reacting_from-requires-2-clause-room : goal.reacting_from-requires-2-clause-room
-reacting_from-requires-2-clause-room g c t s started ends =
-    subst (λ n. 0 < n) (sym c.reacting_from.ensures.same) (c.requires.room t s started ends)
+reacting_from-requires-2-clause-room g c t u started on ends =
+    subst (λ n. 0 < n) (sym c.reacting_from.ensures.same) (c.requires.room t u started on ends)
 
 pub returns-in-None-clause-alone : goal.returns-in-None-clause-alone
 returns-in-None-clause-alone g c values tells =

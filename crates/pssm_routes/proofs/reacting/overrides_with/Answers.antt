@@ -15,8 +15,8 @@ loop-number-init g c = (
 )
 
 pub reacts_within-requires-clause-room : goal.reacts_within-requires-clause-room
-reacts_within-requires-clause-room g c t s started ends =
-    subst (λ n. 0 < n) (sym c.loop-number.invariant.0) (c.requires.room t s started ends)
+reacts_within-requires-clause-room g c t u started on ends =
+    subst (λ n. 0 < n) (sym c.loop-number.invariant.0) (c.requires.room t u started on ends)
 
 pub loop-number-preserved : goal.loop-number-preserved
 loop-number-preserved g c = (

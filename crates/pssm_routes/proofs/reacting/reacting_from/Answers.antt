@@ -13,8 +13,8 @@ loop-number-init g c = (
 )
 
 pub reacts_afresh-requires-clause-room : goal.reacts_afresh-requires-clause-room
-reacts_afresh-requires-clause-room g c t s started ends =
-    subst (λ n. 0 < n) (sym c.loop-number.invariant.0) (c.requires.room t s started ends)
+reacts_afresh-requires-clause-room g c t u started on ends =
+    subst (λ n. 0 < n) (sym c.loop-number.invariant.0) (c.requires.room t u started on ends)
 
 pub loop-number-preserved : goal.loop-number-preserved
 loop-number-preserved g c = (

@@ -16,8 +16,8 @@ pub loop-number-init : goal.loop-number-init
 loop-number-init g c =
     let There : VertexId → Type 0 = λ s. s.0 < length c.args.machine.now.vertices in (
       subst (All There) (sym c.new-found.ensures.items) (All-nil There),
-      λ t s started ends. subst (λ (search : List Search). 0 < length search) (sym c.as_mut_slice-search.ensures.value)
-          (where_wanted c.starts_over_junction.result (0 < length c.in_ok-made.made.items) (λ never. c.starts_over_junction.ensures never t s started ends)
+      λ t u started on ends. subst (λ (search : List Search). 0 < length search) (sym c.as_mut_slice-search.ensures.value)
+          (where_wanted c.some_start_search.result (0 < length c.in_ok-made.made.items) (λ never. c.some_start_search.ensures never t u started on ends)
           c.in_ok-made.ensures.room),
       λ values tells. reacting_start c.args.machine.now (configuration_of c.args.config.now) values c.args.event c.new-found.result.items
           c.as_mut_slice-search.result.now c.new-found.ensures.items
@@ -33,7 +33,7 @@ loop-number-preserved g c =
     let There : VertexId → Type 0 = λ s. s.0 < length m.vertices in
     let before = c.loop-number.invariant in
     let kept : HasSearch m now c.args.event c.reacts_afresh.new.search =
-    λ t s started ends. subst (λ n. 0 < n) (sym c.reacts_afresh.ensures.same) (before.1 t s started ends) in
+    λ t u started on ends. subst (λ n. 0 < n) (sym c.reacts_afresh.ensures.same) (before.1 t u started on ends) in
     let inside : There at = let test = c.loop-number-test.true in let e = c.vertices-number-end.ensures in omega (arith, test, e) in
     elim c.if-reacts_afresh.branch [
       | then-reacts_afresh+in_ok-push w ↦

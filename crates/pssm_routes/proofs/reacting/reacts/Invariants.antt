@@ -11,4 +11,4 @@ abbrev pub invariant-loop-t : goal.invariant-loop-t
 invariant-loop-t g l =
     (length l.search ≡ length l.fn.search)
     × ((values : Truth) → Tells l.machine (goal.T-post g l.truth) values → KnowsDeadEnds l.machine values None l.fn.search
-    → IsFruitless l.machine (configuration_of l.config) values l.event l.fn.source (take l.t-index l.t-items) l.search)
+    → IsFruitless l.machine (configuration_of l.config) values l.event (take l.t-index l.t-items) l.search)

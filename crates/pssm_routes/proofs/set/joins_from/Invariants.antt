@@ -2,7 +2,6 @@ use Rattle.pssm_model.specs.declared.ids.TransId.{TransId}
 use Rattle.pssm_model.specs.Routes.{Truth}
 use Rattle.pssm_config.specs.Tables.{configuration_of}
 use Rattle.pssm_routes.specs.Telling.{Tells}
-use Rattle.pssm_routes.specs.inner.Starts.{IsStarted}
 use Rattle.pssm_routes.specs.inner.Sets.{HasJoiner}
 use Rattle.pssm_routes.proofs.Scanning.{HoldsOfFirst}
 use Rattle.pssm_routes.proofs.set.joins_from.Given as goal
@@ -11,6 +10,4 @@ use Rattle.pssm_routes.proofs.set.joins_from.Given as goal
 abbrev pub invariant-loop-t : goal.invariant-loop-t
 invariant-loop-t g l =
     (values : Truth) → Tells l.machine (goal.T-post g l.truth) values
-    → HoldsOfFirst
-    (λ (t : TransId). IsStarted l.machine (configuration_of l.config) l.event t l.fn.source
-    → HasJoiner l.machine (configuration_of l.config) values l.event l.footprints t → ⊥) l.t-items l.t-index
+    → HoldsOfFirst (λ (t : TransId). HasJoiner l.machine (configuration_of l.config) values l.event l.states l.footprints t → ⊥) l.t-items l.t-index

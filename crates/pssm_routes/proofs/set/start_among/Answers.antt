@@ -1,34 +1,38 @@
--- each turn looks at one footprint more
-use Rattle.std.proofs.Common.{◌<◌, ◌≤◌, length, refl, arith, Contains}
-use Rattle.pssm_legs.specs.declared.areas.Area.TheVariants.{Nowhere}
-use Rattle.pssm_routes.specs.declared.areas.Footprint.{Footprint}
-use Rattle.pssm_routes.proofs.Members.{all_of_members}
-use Rattle.pssm_routes.proofs.Scanning.{holds_of_more, holds_of_all, refuted}
+-- each turn looks at one route more
+use Rattle.std.proofs.Common.{◌<◌, ◌≤◌, length, Contains, refl, sym, subst, arith}
+use Rattle.pssm_model.specs.declared.ids.VertexId.{VertexId}
+use Rattle.pssm_model.specs.declared.steps.Route.{Route}
+use Rattle.pssm_model.specs.Routes.{IsSource, IsStateRoute}
+use Rattle.pssm_routes.proofs.Scanning.{holds_of_item, holds_of_all, refuted}
 use Rattle.pssm_routes.proofs.set.start_among.Goals as goal
 
-pub returns-then-not-is_among : goal.returns-then-not-is_among
-returns-then-not-is_among c =
-    let d : Footprint = record { source = record { 0 = 0 }; area = Nowhere } in
-    let more : c.loop-footprint.footprint-index < length c.args.footprints.now =
-    let less = c.loop-footprint-test.true in let upto = c.loop-footprint.auto.footprint-index-end in omega (arith, less, upto) in (
+pub starts_among-requires : goal.starts_among-requires
+starts_among-requires c =
+    let more : c.loop-route.route-index < length c.args.routes.now =
+    let less = c.loop-route-test.true in let upto = c.loop-route.auto.route-index-end in omega (arith, less, upto) in
+    record { route = subst (IsStateRoute c.args.machine.now) (sym c.route-item.is) (c.requires.routes c.loop-route.route-index c.route-item.result more) }
+
+pub returns-then-not-starts_among : goal.returns-then-not-starts_among
+returns-then-not-starts_among c =
+    let more : c.loop-route.route-index < length c.args.routes.now =
+    let less = c.loop-route-test.true in let upto = c.loop-route.auto.route-index-end in omega (arith, less, upto) in (
       λ f. absurd (cc),
-      λ all. absurd (refuted c.is_among.result c.if-not-is_among.true c.is_among.ensures (all c.loop-footprint.footprint-index d more)),
+      λ all. absurd (refuted c.starts_among.result c.if-not-starts_among.true c.starts_among.ensures
+          (λ s source. all c.route-item.result s (c.loop-route.route-index, more, sym c.route-item.is) source)),
     )
 
-pub loop-footprint-preserved : goal.loop-footprint-preserved
-loop-footprint-preserved c =
-    let more : c.loop-footprint.footprint-index < length c.args.footprints.now =
-    let less = c.loop-footprint-test.true in let upto = c.loop-footprint.auto.footprint-index-end in omega (arith, less, upto) in
-    holds_of_more (λ (g : Footprint). Contains c.args.states.now g.source) c.args.footprints.now c.loop-footprint.footprint-index
-    (record { source = record { 0 = 0 }; area = Nowhere }) more
-    (c.is_among.ensures.0 c.if-not-is_among.false) c.loop-footprint.invariant
+pub loop-route-preserved : goal.loop-route-preserved
+loop-route-preserved c =
+    let more : c.loop-route.route-index < length c.args.routes.now =
+    let less = c.loop-route-test.true in let upto = c.loop-route.auto.route-index-end in omega (arith, less, upto) in
+    holds_of_item (λ (p : Route). (s : VertexId) → IsSource c.args.machine.now p s → Contains c.args.states.now s) c.args.routes.now
+    c.loop-route.route-index c.route-item.result more c.route-item.is (c.starts_among.ensures.0 c.if-not-starts_among.false) c.loop-route.invariant
 
 pub returns : goal.returns
 returns c =
-    let all : length c.args.footprints.now ≤ c.loop-footprint.footprint-index =
-    let last = c.loop-footprint-test.false in let upto = c.loop-footprint.auto.footprint-index-end in omega (arith, last, upto) in
-    let Among = λ (g : Footprint). Contains c.args.states.now g.source in (
-      λ t. all_of_members Among c.args.footprints.now
-          (holds_of_all Among c.args.footprints.now c.loop-footprint.footprint-index all c.loop-footprint.invariant),
+    let all : length c.args.routes.now ≤ c.loop-route.route-index =
+    let last = c.loop-route-test.false in let upto = c.loop-route.auto.route-index-end in omega (arith, last, upto) in (
+      λ t p s there source. holds_of_all (λ (q : Route). (x : VertexId) → IsSource c.args.machine.now q x → Contains c.args.states.now x)
+          c.args.routes.now c.loop-route.route-index all c.loop-route.invariant p there s source,
       λ h. refl,
     )

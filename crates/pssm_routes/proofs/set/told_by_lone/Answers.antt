@@ -1,5 +1,5 @@
 -- the one route is what fires where its footprint is complete
-use Rattle.std.proofs.Common.{◌≡◌, ◌∙◌, ◌<◌, [], ◌∷◌, length, All, ap, sym, subst, arith}
+use Rattle.std.proofs.Common.{◌≡◌, ◌∙◌, ◌<◌, List, [], ◌∷◌, length, All, ap, sym, subst, arith}
 use Rattle.std.proofs.lemmas.List.Elements.{All-nil, All-cons}
 use Rattle.pssm_model.specs.declared.ids.VertexId.{VertexId}
 use Rattle.pssm_model.specs.declared.steps.Route.{Route}
@@ -7,8 +7,9 @@ use Rattle.pssm_model.specs.Routes.{IsStateRoute, IsEnabled}
 use Rattle.pssm_model.specs.FiringSets.{IsFiring}
 use Rattle.pssm_config.specs.Tables.{configuration_of}
 use Rattle.pssm_routes.specs.inner.Footprints.{IsFootprintIn}
+use Rattle.pssm_routes.specs.inner.Sets.{AreComplete}
 use Rattle.pssm_routes.proofs.LoneReacting.{lone_fires}
-use Rattle.pssm_routes.proofs.MadeEnabled.{one_of_length}
+use Rattle.pssm_routes.proofs.Started.{one_of_length}
 use Rattle.pssm_routes.proofs.set.told_by_lone.Goals as goal
 
 pub footprint_of-footprint-requires-clause-route : goal.footprint_of-footprint-requires-clause-route
@@ -33,10 +34,11 @@ returns-in_ok-state-in-len1 g c values tells enabled =
     let p = c.route-item.result in
     let long : length c.args.routes.now ≡ 1 = let least = c.in-len1.len_at_least in let most = c.in-len1.len_below in omega (arith, least, most) in
     let one = one_of_length c.args.routes.now p long ∙ ap (λ (q : Route). q ∷ []) (sym c.route-item.is) in
-    let fires = lone_fires m now values c.args.event c.requires.legs c.requires.fits.shape p c.footprint_of-footprint.result c.in_ok-state-in-len1.state
+    let fires = lone_fires m now values c.args.event c.requires.rules c.requires.fits.shape p c.footprint_of-footprint.result c.in_ok-state-in-len1.state
     c.footprint_of-footprint.ensures.footprint (c.in_ok-state-in-len1.ensures.alone values tells)
     (subst (All (IsEnabled m now values c.args.event)) one enabled) in
-    let complete = c.are_complete.ensures values tells in (
-      λ t. subst (IsFiring m now values c.args.event) (sym one) (fires.1 (complete.0 t)),
-      λ h. complete.1 (fires.0 (subst (IsFiring m now values c.args.event) one h)),
+    let complete = c.are_complete.ensures values tells in
+    let Complete : List Route → Type 0 = λ ps. AreComplete m now values c.args.event (c.in_ok-state-in-len1.state ∷ []) ps (c.footprint_of-footprint.result ∷ []) in (
+      λ t. subst (IsFiring m now values c.args.event) (sym one) (fires.1 (subst Complete one (complete.0 t))),
+      λ h. complete.1 (subst Complete (sym one) (fires.0 (subst (IsFiring m now values c.args.event) one h))),
     )

@@ -8,20 +8,20 @@ use Rattle.pssm_system.proofs.stepping.step.Goals as goal
 
 pub apply-requires-clause-class : goal.apply-requires-clause-class
 apply-requires-clause-class c =
-    (member c.requires.built c.requires.can.are c.object_of-own.result c.class_of.result.now c.index-objects-from.result c.from.result c.class_of.ensures
-    c.from.ensures c.index-objects-from.is).built
+    (member c.requires.well_formed c.requires.can.are c.object_of-own.result c.class_of.result.now c.index-objects-from.result c.from.result c.class_of.ensures
+    c.from.ensures c.index-objects-from.is).well_formed
 
 pub apply-requires-clause-can : goal.apply-requires-clause-can
 apply-requires-clause-can c =
     let x = get_or c.args.objects.now c.from.result c.index-objects-from.result in
-    let m = member_at c.requires.built c.requires.can.are (object_of c.args.entry.now) c.class_of.result.now c.from.result c.index-objects-from.result
+    let m = member_at c.requires.well_formed c.requires.can.are (object_of c.args.entry.now) c.class_of.result.now c.from.result c.index-objects-from.result
     (rw c.object_of-own.ensures at c.class_of.ensures) (c.from.ensures ∙ ap (λ (o : ObjectId). o.0) c.object_of-own.ensures) in
-    can_come c.requires.built c.requires.can c.class_of.result.now x x m
+    can_come c.requires.well_formed c.requires.can c.class_of.result.now x x m
 
 pub returns-clause-ok : goal.returns-clause-ok
 returns-clause-ok c =
     let x = get_or c.args.objects.now c.from.result c.index-objects-from.result in
     let at = c.from.ensures ∙ ap (λ (o : ObjectId). o.0) c.object_of-own.ensures in
-    let m = member_at c.requires.built c.requires.can.are (object_of c.args.entry.now) c.class_of.result.now c.from.result c.index-objects-from.result
+    let m = member_at c.requires.well_formed c.requires.can.are (object_of c.args.entry.now) c.class_of.result.now c.from.result c.index-objects-from.result
     (rw c.object_of-own.ensures at c.class_of.ensures) at in
-    stepped c.requires.built c.requires.can c.class_of.result.now x c.apply.new.self m c.from.result at c.apply.result c.apply.ensures.own c.apply.ensures.ok
+    stepped c.requires.well_formed c.requires.can c.class_of.result.now x c.apply.new.self m c.from.result at c.apply.result c.apply.ensures.own c.apply.ensures.ok

@@ -5,37 +5,35 @@ use Rattle.pssm_semantics.specs.declared.stimulus.Stimulus.{Stimulus}
 use Rattle.pssm_semantics.specs.Names.{HasSpelledNames}
 use Rattle.pssm_semantics.specs.Proper.{IsWellFormed}
 use Rattle.pssm_tool.specs.Words.{texts, Runs}
-use Rattle.pssm_tool.specs.Due.{HasBuiltModel, unfit, ran, on_model}
+use Rattle.pssm_tool.specs.Due.{HasModel, unfit, ran, on_model}
 use Rattle.pssm_tool.specs.inner.Running.{IsKnown}
-use Rattle.pssm_tool.specs.inner.Failures.{LacksBuiltModel}
+use Rattle.pssm_tool.specs.inner.Failures.{LacksModel}
 use Rattle.pssm_tool.proofs.CallLaws.{all_known}
-use Rattle.pssm_tool.proofs.DueLaws.{lacks_built_owed, failed_at_model}
-use Rattle.pssm_tool.proofs.BuiltLaws.{is_built}
+use Rattle.pssm_tool.proofs.DueLaws.{lacks_owed, failed_at_model}
 use Rattle.pssm_tool.proofs.TextLaws.{run_text}
 use Rattle.pssm_tool.proofs.commands.run_model.Goals as goal
 
 -- There is no model.
 pub returns-in-Ok-Err-clause-owed : goal.returns-in-Ok-Err-clause-owed
 returns-in-Ok-Err-clause-owed g c = λ words is.
-    let lacks : LacksBuiltModel (g.I.Inputs.content c.args.inputs.now) c.args.path.now c.in-Ok-Err.answer = (rw c.in-Ok-Err.field-0-is at c.in-Ok-Err.ensures.lacks) in
-    (lacks_built_owed words (Runs c.args.options c.args.path.now (texts c.args.stimuli.now)) (g.I.Inputs.content c.args.inputs.now) c.in-Ok-Err.answer is tt lacks).0
+    let lacks : LacksModel (g.I.Inputs.content c.args.inputs.now) c.args.path.now c.in-Ok-Err.answer = (rw c.in-Ok-Err.field-0-is at c.in-Ok-Err.ensures.lacks) in
+    (lacks_owed words (Runs c.args.options c.args.path.now (texts c.args.stimuli.now)) (g.I.Inputs.content c.args.inputs.now) c.in-Ok-Err.answer is lacks).0
 
 -- Reading the model failed.
 pub returns-in-Err-clause-failed : goal.returns-in-Err-clause-failed
 returns-in-Err-clause-failed g c = λ words is.
-    failed_at_model words (Runs c.args.options c.args.path.now (texts c.args.stimuli.now)) (g.I.Inputs.faults c.args.inputs.now) (g.I.Inputs.faults c.built_model.new.inputs) c.in-Err.failure is c.in-Err.ensures.failed
+    failed_at_model words (Runs c.args.options c.args.path.now (texts c.args.stimuli.now)) (g.I.Inputs.faults c.args.inputs.now) (g.I.Inputs.faults c.model.new.inputs) c.in-Err.failure is c.in-Err.ensures.failed
 
 -- A stimulus does not fit the model.
 pub returns-in_default-clause-owed : goal.returns-in_default-clause-owed
 returns-in_default-clause-owed g c = λ words is.
-    let has : HasBuiltModel (g.I.Inputs.content c.args.inputs.now) c.args.path.now c.in-Ok-Ok.setting = (rw c.in-Ok-Ok.field-0-is at c.in-Ok-Ok.ensures.built) in
-    on_model (Runs c.args.options c.args.path.now (texts c.args.stimuli.now)) c.in-Ok-Ok.setting is has.0 (has.1, unfit (rw c.in_default.is at c.in_ok-stimuli.ensures.none) refl)
+    let has : HasModel (g.I.Inputs.content c.args.inputs.now) c.args.path.now c.in-Ok-Ok.setting = (rw c.in-Ok-Ok.field-0-is at c.in-Ok-Ok.ensures.loads) in
+    on_model (Runs c.args.options c.args.path.now (texts c.args.stimuli.now)) c.in-Ok-Ok.setting is has (unfit (rw c.in_default.is at c.in_ok-stimuli.ensures.none) refl)
 
-pub run-requires-clause-built : goal.run-requires-clause-built
-run-requires-clause-built g c =
-    let has : HasBuiltModel (g.I.Inputs.content c.args.inputs.now) c.args.path.now c.in-Ok-Ok.setting = (rw c.in-Ok-Ok.field-0-is at c.in-Ok-Ok.ensures.built) in
+pub run-requires-clause-well_formed : goal.run-requires-clause-well_formed
+run-requires-clause-well_formed g c =
     let well : IsWellFormed c.in-Ok-Ok.setting = (rw c.in-Ok-Ok.field-0-is at c.in-Ok-Ok.ensures.well_formed) in
-    is_built c.in-Ok-Ok.setting well has.1
+    well
 
 pub run-requires-clause-known : goal.run-requires-clause-known
 run-requires-clause-known g c =
@@ -50,9 +48,9 @@ text_of-text-requires g c =
 
 pub returns-clause-owed : goal.returns-clause-owed
 returns-clause-owed g c = λ words is.
-    let has : HasBuiltModel (g.I.Inputs.content c.args.inputs.now) c.args.path.now c.in-Ok-Ok.setting = (rw c.in-Ok-Ok.field-0-is at c.in-Ok-Ok.ensures.built) in
+    let has : HasModel (g.I.Inputs.content c.args.inputs.now) c.args.path.now c.in-Ok-Ok.setting = (rw c.in-Ok-Ok.field-0-is at c.in-Ok-Ok.ensures.loads) in
     let named = rw c.in-Some.is at c.in_ok-stimuli.ensures.name in
     let text = run_text c.in-Ok-Ok.setting c.in_ok-system.system.setting c.in-Some.stimuli.items c.as_slice.result.now c.args.options.limit c.in_ok-system.system.journal c.in_ok-text.field-0 c.in_ok-system.ended
     c.in_ok-system.ensures.setting c.as_slice.ensures.value (c.in_ok-text.ensures {u = tt}) c.in_ok-system.ensures.ends in
-    on_model (Runs c.args.options c.args.path.now (texts c.args.stimuli.now)) c.in-Ok-Ok.setting is has.0
-    (has.1, ran c.in-Some.stimuli.items c.in_ok-text.field-0 c.in_ok-system.ended named text refl)
+    on_model (Runs c.args.options c.args.path.now (texts c.args.stimuli.now)) c.in-Ok-Ok.setting is has
+    (ran c.in-Some.stimuli.items c.in_ok-text.field-0 c.in_ok-system.ended named text refl)

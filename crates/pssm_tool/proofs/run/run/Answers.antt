@@ -28,7 +28,7 @@ apply-requires-clause-limits c =
     let room : IsFullAt c.args.limit (length c.loop-alloc.system.journal) c.loop-alloc.outputs → ⊥ =
     λ full. true_and_false c.is_full.result (c.is_full.ensures.1 (subst (λ (J : List Entry). IsFullAt c.args.limit (length J) c.loop-alloc.outputs) (sym c.entries.ensures.journal) full)) c.loop-alloc-test.true in
     limits_more c.args.setting c.args.stimuli.now c.args.limit c.loop-alloc.system c.loop-alloc.posted c.loop-alloc.outputs c.loop-alloc.invariant room c.in-Some.entry
-    (subst (λ (o : Option Stimulus). IsNext c.loop-alloc.system o c.in-Some.entry) is next) c.requires.built c.requires.limit
+    (subst (λ (o : Option Stimulus). IsNext c.loop-alloc.system o c.in-Some.entry) is next) c.requires.well_formed c.requires.limit
 
 pub loop-alloc-preserved : goal.loop-alloc-preserved
 loop-alloc-preserved c =

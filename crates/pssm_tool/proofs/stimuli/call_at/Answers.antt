@@ -1,4 +1,4 @@
-use Rattle.std.proofs.Common.{true, inl, inr, refl, sym, subst}
+use Rattle.std.proofs.Common.{true, inl, inr, sym, subst}
 use Rattle.std.proofs.lemmas.Bool.{false≢true}
 use Rattle.pssm_lines.specs.declared.front.Front.{Front}
 use Rattle.pssm_lines.specs.Reading.{IsFront}

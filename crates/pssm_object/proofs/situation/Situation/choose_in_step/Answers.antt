@@ -17,7 +17,8 @@ go_some_way-requires-clause-item c = (c.in-Some.ensures.ready c.args.class.now.m
 
 pub go_some_way-requires-clause-there : goal.go_some_way-requires-clause-there
 go_some_way-requires-clause-there c =
-    choice_item_there c.requires.class.machine c.args.plan.now c.in-Some.item c.requires.plan (c.in-Some.ensures.ready c.args.class.now.machine c.requires.plan)
+    choice_item_there c.requires.fits.shape c.requires.class.rules c.args.plan.now c.in-Some.item c.requires.plan
+    (c.in-Some.ensures.ready c.args.class.now.machine c.requires.plan)
 
 pub returns-in_ok-go_some_way-in-Some : goal.returns-in_ok-go_some_way-in-Some
 returns-in_ok-go_some_way-in-Some c =

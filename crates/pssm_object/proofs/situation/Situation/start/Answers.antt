@@ -2,13 +2,8 @@
 use Rattle.std.proofs.Common.{Some, refl}
 use Rattle.pssm_object.specs.Standing.{Standing}
 use Rattle.pssm_object.specs.inner.Situations.{standing_of}
-use Rattle.pssm_model.proofs.OverJunctions.{single_legs}
-use Rattle.pssm_object.proofs.BuiltMachines.{nested}
 use Rattle.pssm_object.proofs.Going.{begins}
 use Rattle.pssm_object.proofs.situation.Situation.start.Goals as goal
-
-pub of_start-requires : goal.of_start-requires
-of_start-requires c = record { single = single_legs (nested c.requires.built) }
 
 pub returns-clause-ok : goal.returns-clause-ok
 returns-clause-ok c =

@@ -1,9 +1,10 @@
 -- the plan is the one that the spare progress makes
+use Rattle.std.proofs.Common.{inl}
 use Rattle.pssm_plan.proofs.Settled.{firing_plan}
 use Rattle.pssm_plan.proofs.plan.Plan.fire.Goals as goal
 
 pub renew-requires-clause-routes : goal.renew-requires-clause-routes
-renew-requires-clause-routes c = λ route inside. (c.requires.routes route (rw c.as_slice.ensures at inside)).0
+renew-requires-clause-routes c = λ route inside. inl (c.requires.routes route (rw c.as_slice.ensures at inside))
 
 pub returns-clause-plan : goal.returns-clause-plan
 returns-clause-plan c =

@@ -1,8 +1,9 @@
+use Rattle.std.proofs.Common.{inl}
 use Rattle.pssm_plan.proofs.Settled.{firing_plan}
 use Rattle.pssm_plan.proofs.plan.Plan.of_firing.Goals as goal
 
 pub of_routes-requires-clause-routes : goal.of_routes-requires-clause-routes
-of_routes-requires-clause-routes c = λ route inside. (c.requires.routes route (rw c.as_slice.ensures at inside)).0
+of_routes-requires-clause-routes c = λ route inside. inl (c.requires.routes route (rw c.as_slice.ensures at inside))
 
 pub returns-clause-plan : goal.returns-clause-plan
 returns-clause-plan c =

@@ -1,25 +1,27 @@
-use Rattle.std.proofs.Common.{◌≤◌, ℕ, length, arith}
-use Rattle.pssm_plan.specs.Ways.{calls_by}
-use Rattle.pssm_plan.specs.inner.Calling.{IsEffectBy}
-use Rattle.pssm_plan.proofs.Extending.{extended_same}
-use Rattle.pssm_plan.proofs.Growing.{grown_by_next}
-use Rattle.pssm_plan.proofs.AddedCalls.{CalledBelow, effect_of, effects_all}
+-- the effects of its legs are those that the way calls
+use Rattle.std.proofs.Common.{◌⊎◌}
+use Rattle.std.proofs.lemmas.Result.{on_ok_weaker}
+use Rattle.pssm_model.specs.declared.steps.Item.{Item}
+use Rattle.pssm_plan.specs.inner.Calling.{IsEffectBy, IsEffectOf, IsEffectOfSome}
+use Rattle.pssm_plan.proofs.Extending.{extended_same, extended_further}
+use Rattle.pssm_plan.proofs.NearItems.{first_in, more_in, effects_are}
 use Rattle.pssm_plan.proofs.roster.Roster.list_effects.Goals as goal
 
-pub loop-number-preserved : goal.loop-number-preserved
-loop-number-preserved c =
-    let m = c.args.machine.now in
-    let way = c.args.way.now in
-    let Holds : ℕ → Type 0 = (λ k. calls_by m way (effect_of k)) in
-    grown_by_next m c.args.self.now.calls.items effect_of Holds c.loop-number.number _ _ _
-    c.way_calls-wanted.ensures c.loop-number.invariant c.add.ensures.calls c.in_ok-add.ensures.added
+pub list_leg-requires-clause-leg : goal.list_leg-requires-clause-leg
+list_leg-requires-clause-leg c = first_in c.args.way.now c.requires.way
+
+pub list_legs-requires-clause-legs : goal.list_legs-requires-clause-legs
+list_legs-requires-clause-legs c = λ leg inside. more_in c.args.way.now c.requires.way leg (rw c.as_slice.ensures.value at inside)
 
 pub returns-clause-added : goal.returns-clause-added
 returns-clause-added c =
     let m = c.args.machine.now in
     let way = c.args.way.now in
-    let all : length m.transitions ≤ c.loop-number.number = let past = c.loop-number-test.false in omega (arith, past) in
-    extended_same m _ _ (CalledBelow m way effect_of c.loop-number.number)
-    (IsEffectBy m way)
-    (λ x. effects_all m way c.loop-number.number x c.requires.way all)
-    c.loop-number.invariant.extended
+    let old = c.args.self.now.calls.items in
+    let mid = c.list_leg.new.self.calls.items in
+    on_ok_weaker c.list_legs.result
+    (λ added. extended_same m old _ (λ (x : Item). IsEffectOf way.legs.first x ⊎ IsEffectOfSome way.legs.more.items x) (IsEffectBy m way)
+    (effects_are way c.requires.way)
+    (extended_further m old mid _ (IsEffectOf way.legs.first) (IsEffectOfSome way.legs.more.items)
+    c.in_ok-list_leg.ensures.added (rw c.as_slice.ensures.value at added)))
+    c.list_legs.ensures.added

@@ -21,5 +21,5 @@ returns-clause-added c =
     let all : length m.vertices ≤ c.loop-number.number = let past = c.loop-number-test.false in omega (arith, past) in
     extended_same m _ _ (CalledBelow m way entry_of c.loop-number.number)
     (IsEntryBy m way)
-    (λ x. entries_all m way c.loop-number.number x c.requires.single all)
+    (λ x. entries_all m way c.loop-number.number x c.regions-shaped.ensures.shaped all)
     c.loop-number.invariant.extended

@@ -15,5 +15,5 @@ invariant-loop-s g l =
     × ((values : Truth) → Tells l.machine (goal.T-post g l.truth) values
     → ((s : VertexId) → Contains l.states s → IsOutranked l.machine (configuration_of l.config) values l.event s → ⊥)
     → IsChosen l.machine (configuration_of l.config) values l.event l.fn.self.routes.items l.fn.self.footprints.items
-    → IsGrown l.machine (configuration_of l.config) values l.event (Contains (take l.s-index l.states)) l.fn.self.footprints.items l.self.routes.items
+    → IsGrown l.machine (configuration_of l.config) values l.event l.states (Contains (take l.s-index l.some)) l.fn.self.footprints.items l.self.routes.items
     l.self.footprints.items)

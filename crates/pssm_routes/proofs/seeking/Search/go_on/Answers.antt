@@ -6,8 +6,8 @@ use Rattle.pssm_routes.specs.inner.Seeking.{Tries}
 use Rattle.pssm_routes.proofs.Sought.{kept_at, entered_at, goes_more, goes_out, goes_on_at_end}
 use Rattle.pssm_routes.proofs.seeking.Search.go_on.Goals as goal
 
-pub target-junction-requires : goal.target-junction-requires
-target-junction-requires g c =
+pub target-passed-requires : goal.target-passed-requires
+target-passed-requires g c =
     let long : length c.args.self.now.steps ≡ 4096 = search rules in
     entered_at c.args.place _ c.requires.once c.requires.place long
 
@@ -15,7 +15,7 @@ pub returns-then-try_step-clause-found : goal.returns-then-try_step-clause-found
 returns-then-try_step-clause-found g c =
     let long : length c.args.self.now.steps ≡ 4096 = search rules in
     λ values start before told under.
-    goes_out (kept_at c.args.self.now c.args.place _ c.requires.place c.requires.once.room long) c.target-junction.ensures.enters c.loop-t.invariant
+    goes_out (kept_at c.args.self.now c.args.place _ c.requires.place c.requires.once.room long) c.target-passed.ensures.enters c.loop-t.invariant
     ((c.outgoing-t-items.ensures.items _).0 (Contains-get_or c.outgoing-t-items.result.now c.loop-t.t-index _ c.loop-t-test.true))
     values start before told under
     (subst (Tries c.args.machine.now values c.args.within c.loop-t.self _ c.try_step.new.self) c.if-try_step.true
@@ -24,7 +24,7 @@ returns-then-try_step-clause-found g c =
 pub loop-t-preserved : goal.loop-t-preserved
 loop-t-preserved g c =
     let long : length c.args.self.now.steps ≡ 4096 = search rules in
-    goes_more (kept_at c.args.self.now c.args.place _ c.requires.place c.requires.once.room long) c.target-junction.ensures.enters c.loop-t.invariant
+    goes_more (kept_at c.args.self.now c.args.place _ c.requires.place c.requires.once.room long) c.target-passed.ensures.enters c.loop-t.invariant
     ((c.outgoing-t-items.ensures.items _).0 (Contains-get_or c.outgoing-t-items.result.now c.loop-t.t-index _ c.loop-t-test.true))
     (slice_get-get_or c.outgoing-t-items.result.now c.loop-t.t-index _ c.loop-t-test.true) c.try_step.ensures.once
     (λ values told. subst (Tries c.args.machine.now values c.args.within c.loop-t.self _ c.try_step.new.self) c.if-try_step.false
@@ -33,5 +33,5 @@ loop-t-preserved g c =
 pub returns-clause-none : goal.returns-clause-none
 returns-clause-none g c =
     let long : length c.args.self.now.steps ≡ 4096 = search rules in
-    goes_on_at_end (kept_at c.args.self.now c.args.place _ c.requires.place c.requires.once.room long) c.target-junction.ensures.enters c.loop-t.invariant
+    goes_on_at_end (kept_at c.args.self.now c.args.place _ c.requires.place c.requires.once.room long) c.target-passed.ensures.enters c.loop-t.invariant
     c.loop-t-test.false (λ u leaves. (c.outgoing-t-items.ensures.items u).1 leaves)

@@ -1,4 +1,4 @@
--- so many of the transitions out of the junction are tried
+-- so many of the transitions out of the vertex are tried
 use Rattle.pssm_routes.specs.Telling.{Tells}
 use Rattle.pssm_routes.specs.inner.Seeking.{GoesOn}
 use Rattle.pssm_routes.proofs.seeking.Search.go_on.Given as goal

@@ -9,10 +9,10 @@ use Rattle.pssm_system.proofs.situation.Situation.apply.Goals as goal
 
 pub post-requires-clause-pool : goal.post-requires-clause-pool
 post-requires-clause-pool c =
-    (subst (λ e. HavePools (signals_of_entry e) (length c.args.self.now.pools.waiting)) c.in-Post.is (pools_there c.requires.built c.requires.can)).0
+    (subst (λ e. HavePools (signals_of_entry e) (length c.args.self.now.pools.waiting)) c.in-Post.is (pools_there c.requires.well_formed c.requires.can)).0
 
 pub returns-in-Post-clause-ok : goal.returns-in-Post-clause-ok
 returns-in-Post-clause-ok c =
     on_ok_weaker c.post.result
-    (brings-posted c.requires.built c.args.self.now c.post.new.self c.args.entry.now (posted c.in-Post.object c.in-Post.signal c.in-Post.args) c.in-Post.is)
+    (brings-posted c.requires.well_formed c.args.self.now c.post.new.self c.args.entry.now (posted c.in-Post.object c.in-Post.signal c.in-Post.args) c.in-Post.is)
     c.post.ensures.ok

@@ -6,18 +6,18 @@ use Rattle.pssm_system.proofs.situation.Situation.choose_of.Goals as goal
 
 pub next_of-requires-clause-class : goal.next_of-requires-clause-class
 next_of-requires-clause-class c =
-    (member c.requires.built c.requires.stands.1.objects c.args.own c.class_of-class.result.now c.index-object.result.now c.from.result
-    c.class_of-class.ensures c.from.ensures c.index-object.ensures).built
+    (member c.requires.well_formed c.requires.stands.1.objects c.args.own c.class_of-class.result.now c.index-object.result.now c.from.result
+    c.class_of-class.ensures c.from.ensures c.index-object.ensures).well_formed
 
 pub next_of-requires-clause-stands : goal.next_of-requires-clause-stands
 next_of-requires-clause-stands c =
-    stands_somewhere (member c.requires.built c.requires.stands.1.objects c.args.own c.class_of-class.result.now c.index-object.result.now c.from.result
+    stands_somewhere (member c.requires.well_formed c.requires.stands.1.objects c.args.own c.class_of-class.result.now c.index-object.result.now c.from.result
     c.class_of-class.ensures c.from.ensures c.index-object.ensures)
 
 pub returns : goal.returns
 returns c =
     let stands = c.requires.stands.1 in
-    let m = member c.requires.built stands.objects c.args.own c.class_of-class.result.now c.index-object.result.now c.from.result c.class_of-class.ensures
+    let m = member c.requires.well_formed stands.objects c.args.own c.class_of-class.result.now c.index-object.result.now c.from.result c.class_of-class.ensures
     c.from.ensures c.index-object.ensures in
-    found_of c.requires.built c.args.self.now m (option_copied c.first_for-signal.result) c.first_for-signal.ensures c.args.wanted c.next_of.result
+    found_of c.requires.well_formed c.args.self.now m (option_copied c.first_for-signal.result) c.first_for-signal.ensures c.args.wanted c.next_of.result
     c.next_of.ensures

@@ -19,7 +19,7 @@ leave_slot-requires c = slot_there c.args.self.now.pools.waiting c.args.entry.no
 pub step-requires-clause-can : goal.step-requires-clause-can
 step-requires-clause-can c =
     subst (λ xs. CanStep c.args.setting.now xs (option_copied c.signal_at-taken.result) c.args.entry.now) (sym c.as_mut_slice.ensures.value)
-    (can_step_now c.requires.built c.requires.can c.args.self.now.pools.waiting refl (option_copied c.signal_at-taken.result)
+    (can_step_now c.requires.well_formed c.requires.can c.args.self.now.pools.waiting refl (option_copied c.signal_at-taken.result)
     (c.signal_at-taken.ensures c.args.entry.now c.taken_slot-slot.ensures))
 
 pub returns-clause-ok : goal.returns-clause-ok
@@ -33,7 +33,7 @@ returns-clause-ok c = λ J stands may.
     subst (λ g. HaveStepped c.args.setting.now c.args.self.now.objects.items g e c.step.new.objects) (c.signal_at-taken.ensures c.args.entry.now c.taken_slot-slot.ensures)
     (subst (λ xs. HaveStepped c.args.setting.now xs (option_copied c.signal_at-taken.result) e c.step.new.objects) c.as_mut_slice.ensures.value step.ok) in
     let none : length (signals_of_entry e) ≡ 0 = ap (λ (xs : List Stimulus). length xs) c.requires.silent in
-    stands_after c.requires.built stands e may _
+    stands_after c.requires.well_formed stands e may _
     (subst (HaveStepped c.args.setting.now c.args.self.now.objects.items (signal_taken pools e) e) (sym objects) stepped)
     (c.leave_slot.ensures.waiting c.args.entry.now c.taken_slot-slot.ensures ∙ sym (ap (λ xs. delivered (told + 1) xs (left_by e pools)) c.requires.silent))
     (omega arith)

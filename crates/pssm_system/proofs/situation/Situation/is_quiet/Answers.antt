@@ -11,17 +11,17 @@ use Rattle.pssm_system.proofs.situation.Situation.is_quiet.Goals as goal
 
 pub quiet-requires : goal.quiet-requires
 quiet-requires c =
-    let m = member c.requires.built c.requires.stands.1.objects (record { 0 = c.loop-k.k }) c.class_of.result.now c.index-object.result.now c.from.result
+    let m = member c.requires.well_formed c.requires.stands.1.objects (record { 0 = c.loop-k.k }) c.class_of.result.now c.index-object.result.now c.from.result
     c.class_of.ensures c.from.ensures c.index-object.ensures in
-    record { class = m.built; stands = stands_somewhere m }
+    record { class = m.well_formed; stands = stands_somewhere m }
 
 pub returns-then-not-quiet : goal.returns-then-not-quiet
 returns-then-not-quiet c =
     let stands = c.requires.stands.1 in
     let o : ObjectId = record { 0 = c.loop-k.k } in
-    let m = member c.requires.built stands.objects o c.class_of.result.now c.index-object.result.now c.from.result c.class_of.ensures c.from.ensures
+    let m = member c.requires.well_formed stands.objects o c.class_of.result.now c.index-object.result.now c.from.result c.class_of.ensures c.from.ensures
     c.index-object.ensures in
-    busy_here c.requires.built c.args.self.now m (option_copied c.first_for.result) c.first_for.ensures c.is_some-waiting.result
+    busy_here c.requires.well_formed c.args.self.now m (option_copied c.first_for.result) c.first_for.ensures c.is_some-waiting.result
     (c.is_some-waiting.ensures ∙ copied_some c.first_for.result)
     (λ J signal s handed.
     subst (λ q. MatchBool q (objects.IsQuiet c.class_of.result.now c.index-object.result.now signal J)
@@ -31,10 +31,10 @@ pub loop-k-preserved : goal.loop-k-preserved
 loop-k-preserved c =
     let stands = c.requires.stands.1 in
     let o : ObjectId = record { 0 = c.loop-k.k } in
-    let m = member c.requires.built stands.objects o c.class_of.result.now c.index-object.result.now c.from.result c.class_of.ensures c.from.ensures
+    let m = member c.requires.well_formed stands.objects o c.class_of.result.now c.index-object.result.now c.from.result c.class_of.ensures c.from.ensures
     c.index-object.ensures in
     none-both c.args.setting.now c.args.self.now AnyEntry 0 c.loop-k.k (c.loop-k.k + 1) c.loop-k.invariant
-    (quiet_here c.requires.built c.args.self.now m (option_copied c.first_for.result) c.first_for.ensures c.is_some-waiting.result
+    (quiet_here c.requires.well_formed c.args.self.now m (option_copied c.first_for.result) c.first_for.ensures c.is_some-waiting.result
     (c.is_some-waiting.ensures ∙ copied_some c.first_for.result)
     (λ J signal s handed.
     subst (λ q. MatchBool q (objects.IsQuiet c.class_of.result.now c.index-object.result.now signal J)

@@ -10,16 +10,16 @@ use Rattle.pssm_system.proofs.situation.Situation.judge.Goals as goal
 pub returns-in-Take-None : goal.returns-in-Take-None
 returns-in-Take-None c = λ J stands.
     subst (IsFirstBroken (Holds c.args.setting.now) J c.args.entry.now) (sym c.unwrap_or.ensures)
-    (judged_alone c.requires.built stands c.args.entry.now c.requires.known c.in_ok-answer.answer (option_copied c.signal_for-signal.result)
+    (judged_alone c.requires.well_formed stands c.args.entry.now c.requires.known c.in_ok-answer.answer (option_copied c.signal_for-signal.result)
     c.signal_for-signal.ensures c.in_ok-answer.ensures c.in-Take-None.object-0 c.in-Take-None.number-0 c.in-Take-None.firing-0 c.in-Take-None.is-0
     (ap option_copied c.in-Take-None.is-1))
 
 pub returns-in_default : goal.returns-in_default
 returns-in_default c = λ J stands.
-    judged c.requires.built stands c.args.entry.now c.requires.known c.in_ok-answer.answer (option_copied c.signal_for-signal.result)
+    judged c.requires.well_formed stands c.args.entry.now c.requires.known c.in_ok-answer.answer (option_copied c.signal_for-signal.result)
     c.signal_for-signal.ensures c.in_ok-answer.ensures (inr (c.in_default.field-0-1.now, ap option_copied c.in_default.is-1))
 
 pub returns-in_default-2 : goal.returns-in_default-2
 returns-in_default-2 c = λ J stands.
-    judged c.requires.built stands c.args.entry.now c.requires.known c.in_ok-answer.answer (option_copied c.signal_for-signal.result)
+    judged c.requires.well_formed stands c.args.entry.now c.requires.known c.in_ok-answer.answer (option_copied c.signal_for-signal.result)
     c.signal_for-signal.ensures c.in_ok-answer.ensures (inl (not_take c.args.entry.now c.in_default.not-Take-0))

@@ -21,7 +21,7 @@ pub step-requires-clause-can : goal.step-requires-clause-can
 step-requires-clause-can c =
     let room = c.in_ok-reserve.ensures in
     subst (λ xs. CanStep c.args.setting.now xs (option_copied c.taken_signal-taken.result) c.args.entry.now) (sym c.as_mut_slice.ensures.value)
-    (can_step_now c.requires.built c.requires.can c.reserve.new.self.waiting room.waiting (option_copied c.taken_signal-taken.result)
+    (can_step_now c.requires.well_formed c.requires.can c.reserve.new.self.waiting room.waiting (option_copied c.taken_signal-taken.result)
     c.taken_signal-taken.ensures)
 
 pub deliver-requires-clause-there : goal.deliver-requires-clause-there
@@ -31,7 +31,7 @@ deliver-requires-clause-there c =
     let count = ap (λ (ws : List (List Waiting)). length ws) c.leave.ensures.waiting ∙ length-left e c.reserve.new.self.waiting
     ∙ ap (λ (ws : List (List Waiting)). length ws) room.waiting in
     subst (λ xs. HavePools xs (length c.leave.new.pools.waiting)) (sym c.in_ok-signals.ensures)
-    (subst (HavePools (signals_of_entry e)) (sym count) (pools_there c.requires.built c.requires.can))
+    (subst (HavePools (signals_of_entry e)) (sym count) (pools_there c.requires.well_formed c.requires.can))
 
 pub deliver-requires-clause-spare : goal.deliver-requires-clause-spare
 deliver-requires-clause-spare c =
@@ -52,7 +52,7 @@ returns-clause-ok c = λ J stands may.
     let stepped : HaveStepped c.args.setting.now c.args.self.now.objects.items (signal_taken pools e) e c.step.new.objects =
     subst (λ g. HaveStepped c.args.setting.now c.args.self.now.objects.items g e c.step.new.objects) taken
     (subst (λ xs. HaveStepped c.args.setting.now xs (option_copied c.taken_signal-taken.result) e c.step.new.objects) c.as_mut_slice.ensures.value step.ok) in
-    stands_after c.requires.built stands e may _
+    stands_after c.requires.well_formed stands e may _
     (subst (HaveStepped c.args.setting.now c.args.self.now.objects.items (signal_taken pools e) e) (sym objects) stepped)
     (c.deliver.ensures
     ∙ ap (λ xs. delivered (c.args.self.now.told + 1) xs c.leave.new.pools.waiting) c.in_ok-signals.ensures

@@ -1,0 +1,6 @@
+-- the legs of a way are of the machine
+use Rattle.pssm_plan.proofs.NearItems.{first_in}
+use Rattle.pssm_plan.proofs.near.comes_near.Goals as goal
+
+pub ends_near-requires-clause-leg : goal.ends_near-requires-clause-leg
+ends_near-requires-clause-leg c = first_in c.args.way.now c.requires.way

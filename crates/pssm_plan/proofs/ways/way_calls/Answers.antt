@@ -1,0 +1,5 @@
+-- the legs are those of the way's route
+use Rattle.pssm_plan.proofs.ways.way_calls.Goals as goal
+
+pub returns : goal.returns
+returns c = c.calls.ensures c.args.way.now.route.value c.requires.way

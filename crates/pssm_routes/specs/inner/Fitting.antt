@@ -1,0 +1,106 @@
+-- How the transitions of a route fit together, by each of them and by each vertex on which one of them ends.
+use Rattle.std.specs.Prelude.{◌≡◌, ◌⊎◌, ◌↔◌, ◌<◌, ℕ, List, [], ◌∷◌, length, Bool, true, false, All, Contains, IsTrue, slice_index_or, slice_set}
+use Rattle.pssm_model.specs.declared.ids.VertexId.{VertexId}
+use Rattle.pssm_model.specs.declared.ids.TransId.{TransId}
+use Rattle.pssm_model.specs.declared.elements.DraftMachine.{DraftMachine}
+use Rattle.pssm_model.specs.declared.elements.VertexKind.TheVariants as kinds
+use Rattle.pssm_model.specs.declared.steps.Route.{Route}
+use Rattle.pssm_model.specs.Forest.{HasKind}
+use Rattle.pssm_model.specs.Legs.{Leaves, Enters, On, IsCut}
+use Rattle.pssm_model.specs.Routes.{IsAscending}
+use Rattle.pssm_model.specs.FiringSets.{IsLateOrigin}
+use Rattle.pssm_model.specs.RouteWords.{IsThrough}
+
+-- the route of these starts and other transitions
+abbrev pub route_with : List TransId → List TransId → Route
+route_with starts rest = record { starts = starts; rest = rest }
+
+-- The place of the list is marked.
+abbrev pub IsMarked : List Bool → ℕ → Type 0
+IsMarked marks n = slice_index_or marks n false ≡ true
+
+-- The transition of the number is marked.
+abbrev pub IsMarkedTransition : List Bool → TransId → Type 0
+IsMarkedTransition marks t = IsMarked marks t.0
+
+-- Exactly one of these transitions leaves the vertex.
+abbrev pub HasOneBy : DraftMachine → (TransId → Type 0) → VertexId → Type 0
+HasOneBy m These v = (t : TransId) × These t × Leaves m t v × ((u : TransId) → These u → Leaves m u v → u ≡ t)
+
+-- All transitions out of the vertex are among these.
+abbrev pub HasEveryBy : DraftMachine → (TransId → Type 0) → VertexId → Type 0
+HasEveryBy m These v = (t : TransId) → Leaves m t v → These t
+
+-- One of these transitions goes on from a junction, and all that there are from a fork, join, entry or exit point.
+pub record PassesBy (m : DraftMachine) (These : TransId → Type 0) (v : VertexId) : Type 0 where
+  pub one : HasKind m v kinds.Junction → HasOneBy m These v
+  pub every : IsCut m v → HasEveryBy m These v
+
+-- The transitions after the starts leave vertices through which a route goes on and on which one of the route ends, and the route goes on from each
+-- vertex on which one ends.
+pub record FitsTogether (m : DraftMachine) (p : Route) : Type 0 where
+  pub leave : (t : TransId) (v : VertexId) → Contains p.rest t → Leaves m t v → IsThrough m v × ((u : TransId) × On p u × Enters m u v)
+  pub passes : (t : TransId) (v : VertexId) → On p t → Enters m t v → PassesBy m (On p) v
+
+-- No start leaves a vertex through which a route goes on.
+abbrev pub StartsOutside : DraftMachine → List TransId → Type 0
+StartsOutside m starts = (t : TransId) (v : VertexId) → Contains starts t → Leaves m t v → IsThrough m v → ⊥
+
+-- The transitions are of the machine, each once, in ascending number.
+abbrev pub AreInOrder : DraftMachine → List TransId → Type 0
+AreInOrder m ts = IsAscending ts × All (λ t. t.0 < length m.transitions) ts
+
+-- They are all transitions into one join.
+abbrev pub AreInto : DraftMachine → List TransId → Type 0
+AreInto m starts =
+    (v : VertexId) × HasKind m v kinds.Join × ((t : TransId) → Contains starts t → Enters m t v) × ((t : TransId) → Enters m t v → Contains starts t)
+
+-- The starts are one transition that ends on no join, or all transitions into one join.
+abbrev pub CanStart : DraftMachine → List TransId → Type 0
+CanStart m starts = ((t : TransId) × (starts ≡ t ∷ []) × ((v : VertexId) → Enters m t v → HasKind m v kinds.Join → ⊥)) ⊎ AreInto m starts
+
+-- A route that comes to the end of the transition ends there.
+abbrev pub EndsAlone : DraftMachine → TransId → Type 0
+EndsAlone m t = (v : VertexId) → Enters m t v → PassesBy m (λ u. ⊥) v
+
+-- The transition is this one or not marked.
+abbrev pub IsOrUnmarked : List Bool → TransId → TransId → Type 0
+IsOrUnmarked on t u = (u ≡ t) ⊎ (IsMarkedTransition on u → ⊥)
+
+-- The place is marked as well.
+abbrev pub IsSet : List Bool → List Bool → ℕ → Type 0
+IsSet before after n = (n < length before) × (after ≡ slice_set before n true)
+
+-- The transitions are marked as well.
+abbrev pub AreSet : List Bool → List Bool → List TransId → Type 0
+AreSet before after ts = (t : TransId) → IsMarkedTransition after t ↔ (IsMarkedTransition before t ⊎ Contains ts t)
+
+-- What coming to the end of the transition makes of the marks of vertices, and whether the route goes on from there if it had no mark.
+pub data ComesTo (m : DraftMachine) (on before after : List Bool) (t : TransId) : Bool → Type 0 where
+  again : {v : VertexId} → Enters m t v → IsMarked before v.0 → after ≡ before → ComesTo m on before after t true
+  first : {v : VertexId} {passes : Bool} → Enters m t v → IsSet before after v.0 → (IsTrue passes ↔ PassesBy m (IsMarkedTransition on) v)
+      → ComesTo m on before after t passes
+
+-- The vertices on which one of the transitions ends are marked as well, and the route goes on from each that was not marked.
+pub record AreComeTo (m : DraftMachine) (on before after : List Bool) (ts : List TransId) : Type 0 where
+  pub marks : (v : VertexId) → IsMarked after v.0 ↔ (IsMarked before v.0 ⊎ ((t : TransId) × Contains ts t × Enters m t v))
+  pub passes : (v : VertexId) → IsMarked after v.0 → IsMarked before v.0 ⊎ PassesBy m (IsMarkedTransition on) v
+
+-- The transitions of the route are marked, and the vertices on which its starts end, from which the route goes on.
+pub record IsBegun (m : DraftMachine) (on seen : List Bool) (starts rest : List TransId) : Type 0 where
+  pub marked : (t : TransId) → IsMarkedTransition on t ↔ On (route_with starts rest) t
+  pub none : List Bool
+  pub unseen : (n : ℕ) → IsMarked none n → ⊥
+  pub come : AreComeTo m on none seen starts
+
+-- One of the transitions ends on a vertex from which the route does not go on.
+abbrev pub HasDeadEnd : DraftMachine → List Bool → List TransId → Type 0
+HasDeadEnd m on ts = (t : TransId) × (v : VertexId) × Contains ts t × Enters m t v × (PassesBy m (IsMarkedTransition on) v → ⊥)
+
+-- The transition leaves a marked vertex through which a route goes on.
+abbrev pub LeavesMarked : DraftMachine → List Bool → TransId → Type 0
+LeavesMarked m seen t = (v : VertexId) → Leaves m t v → IsThrough m v × IsMarked seen v.0
+
+-- They are one transition, which leaves a vertex from which a step goes on within itself.
+abbrev pub StartsLate : DraftMachine → VertexId → List TransId → Type 0
+StartsLate m origin starts = IsLateOrigin m origin × ((t : TransId) × (starts ≡ t ∷ []) × Leaves m t origin)
