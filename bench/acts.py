@@ -2,7 +2,7 @@
 """How fast behaviours are read and run, and how much memory that takes.
 
 Run it at the top of the repository: python3 bench/acts.py
-No model that the program reads has behaviours yet, so this builds a program of its own over pssm_acts and the crates below it (bench/acts has its text
+No command reads or runs a behaviour by itself, so this builds a program of its own over pssm_acts and the crates below it (bench/acts has its text
 and its proof; they end in .txt since no crate of this repository holds them): in a temporary folder, with what an earlier proof of these crates left in
 their out/ folders (where there is nothing, they are proved first, which takes some ten minutes). Each text has 4,096 bytes: a behaviour of 64
 assignments, each a sum of 29 ones and a variable; a behaviour of 64 marks with different names; and the guard `true` behind 4,092 `!`. It prints a

@@ -17,7 +17,8 @@ use std::alloc::Global;
 // The most bytes that a journal may have.
 const LIMIT: u64 = 16_777_216;
 
-/// Judges the journal that stands under `path`, as one of a run of the setting.
+/// Judges the journal that stands under `path`, as one of a run of the setting (the list of rules,
+/// the limits and the form of a journal are this profile's choice).
 ///
 /// The lines are decided in order, and the first that stops the judging decides: a line that is none of the journal
 /// form is [`JudgeFault::Text`], with the byte at which it goes wrong; the entry by which the entries pass 1,000,000, or

@@ -1,9 +1,10 @@
 //! What the bytes of a journal deserve under a setting.
 //!
-//! [`judge`] reads a journal whole and decides its lines in order. Of each line it asks first whether it is one of the
-//! journal form, then whether the journal passes its limits with it, then whether its names are the setting's, and
-//! then whether its entry breaks a rule. The lines come from `pssm_journal`, and the verdict on an entry from
-//! `pssm_system`: this crate knows no rule and no spelling.
+//! [`judge`] reads a journal whole and decides its lines in order. Of each line it asks first
+//! whether it is one of the journal form, then whether the journal passes its limits with it, then
+//! whether its names are the setting's (A1), and then whether its entry breaks a further rule.
+//! Lines and names come from `pssm_journal`, and the verdict on an entry from `pssm_system`: this
+//! crate knows no spelling, and of the rules only that A1 is that of names.
 #![tactic(auto)]
 
 mod judging;

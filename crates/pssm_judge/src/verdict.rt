@@ -6,7 +6,8 @@ use pssm_journal::LineFault;
 use pssm_semantics::Rule;
 use std::alloc::AllocError;
 
-/// The verdict on a journal that was read up to the entry that decides.
+/// The verdict on a journal that was read up to the entry that decides (the list of rules is this
+/// profile's choice).
 #[derive(Clone, Copy, PartialEq, Eq, Debug)]
 pub enum Verdict {
     /// The whole journal was read. It has so many entries, none breaks a rule, and they are the beginning of a
@@ -16,7 +17,7 @@ pub enum Verdict {
     Refuse { entry: u32, rule: Rule },
 }
 
-/// Why there is no verdict.
+/// Why there is no verdict (this profile's choice).
 #[derive(Clone, Copy, PartialEq, Eq, Debug)]
 pub enum JudgeFault {
     /// The bytes are no text of a journal: this is their first fault, and no entry before it breaks a rule or passes

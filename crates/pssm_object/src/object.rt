@@ -16,7 +16,8 @@ use pssm_semantics::{Args, Class, Entry, ObjectId, Rule, Task, VarDecl};
 use std::alloc::{AllocError as NoMemory, Global};
 use std::marker::Model;
 
-/// One object of a run, of a class that is handed in at each call.
+/// One object of a run, of a class that is handed in at each call (UML 2.5.1, 14.2.3.9, run to
+/// completion).
 ///
 /// A clause sees where the object stands: which one it is, its configuration, the plan of its last step, the
 /// values of its variables, the parameters of its step, its completion queue and whether it has ended. It keeps no
@@ -42,7 +43,8 @@ impl Object {
     ghost use Rattle.pssm_object.specs.Following.{NamesPlaces, IsCandidate, IsMove, IsQuiet, HasNext, IsHandedIn, CanCome, MayCome, BreaksFirst, HasNoMove, Brings, Defers, TellsEnd, TellsCompletion};
     ghost use Rattle.pssm_object.specs.Tasks.{ready_tasks, AreReadyTasks, Does};
 
-    /// An object of the class before its start, with the first values of the class's variables.
+    /// An object of the class before its start, with the first values of the class's variables (UML
+    /// 2.5.1, 9.5.3, default values).
     ///
     /// `NoMemory`: memory ran out.
     pub fn new(alloc: Global, own: ObjectId, class: &Class) -> Result<Object, NoMemory>
@@ -69,7 +71,8 @@ impl Object {
         })
     }
 
-    /// The first rule that a further entry of the object breaks, if it breaks one.
+    /// The first rule that a further entry of the object breaks, if it breaks one (the list of
+    /// rules is this profile's choice).
     ///
     /// The rules are those that the object itself shows: the names of the entry (A1) and the choice of a signal (A6)
     /// are the caller's. With a take the waiting signal with its number is handed in; without it what the signal
@@ -91,7 +94,8 @@ impl Object {
         self.situation.judge(self.alloc, class, entry, signal)
     }
 
-    /// Goes on by an entry of the object that may come next; with a take its signal is handed in.
+    /// Goes on by an entry of the object that may come next; with a take its signal is handed in
+    /// (UML 2.5.1, 14.2.3.9, run to completion).
     ///
     /// `NoMemory`: memory ran out; nothing has changed.
     #[inline(always)]
@@ -135,14 +139,15 @@ impl Object {
         self.situation.queue.first()
     }
 
-    /// The values of its variables, as they are now.
+    /// The values of its variables, as they are now (UML 2.5.1, 9.5.3, properties).
     pub fn store(&self) -> &[i64]
         ensures { result.now ≡ self.now.store }
     {
         self.situation.store.as_slice()
     }
 
-    /// The parameters of its step, eight numbers, as they are now.
+    /// The parameters of its step, eight numbers, as they are now (UML 2.5.1, 13.3.3, the data of a
+    /// signal event).
     pub fn params(&self) -> &Args
         ensures { result.now ≡ self.now.params }
     {
@@ -160,8 +165,8 @@ impl Object {
         self.situation.count_tasks(&class.machine)
     }
 
-    /// The ready task with a number: the exits, effects and entries in the order of the plan's list, and then the do
-    /// steps.
+    /// The ready task with a number: the exits, effects and entries in the order of the plan's
+    /// list, and then the do steps (this order is this profile's choice).
     pub fn task_at(&self, class: &Class, i: u32) -> Task
         requires stands { Stands class.now self.now }
         requires there { i < length (ready_tasks class.now.machine self.now) }
@@ -170,8 +175,8 @@ impl Object {
         self.situation.nth_task(&class.machine, i)
     }
 
-    /// A start, a dispatch of a completion, a take of this signal, an opening or a pick that may come next; none exactly
-    /// where there is none.
+    /// A start, a dispatch of a completion, a take of this signal, an opening or a pick that may
+    /// come next; none exactly where there is none (UML 2.5.1, 14.2.3.9, run to completion).
     ///
     /// `signal` is the first signal of the pool that is not deferred, where there is one. Of several openings and picks
     /// and their ways, and of several sets of routes that may fire, the word settles one; which one is not promised.
@@ -193,7 +198,8 @@ impl Object {
         self.situation.choose_move(self.alloc, class, signal, word)
     }
 
-    /// Whether no entry of the object but a post may come next. `waiting`: whether a signal that is not deferred waits.
+    /// Whether no entry of the object but a post may come next (UML 2.5.1, 14.2.3.9, run to
+    /// completion). `waiting`: whether a signal that is not deferred waits.
     pub fn quiet(&self, class: &Class, waiting: bool) -> bool
         requires class { IsWellFormedClass class.now }
         requires stands { Stands class.now self.now }
@@ -215,7 +221,8 @@ impl Object {
         self.situation.defers(class, waiting)
     }
 
-    /// The entry of a ready task, with the outputs of its behaviour.
+    /// The entry of a ready task, with the outputs of its behaviour (UML 2.5.1, 13.2.3, behaviours;
+    /// the entries are this profile's choice).
     ///
     /// `NoMemory`: memory ran out.
     pub fn run_task(&self, alloc: Global, class: &Class, task: Task) -> Result<Entry, NoMemory>

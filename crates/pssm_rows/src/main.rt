@@ -11,7 +11,8 @@
 //! - `case WORDS`: a case, and what it shows.
 //! - `each N from F`: the case is tried N times; in the words of its runs `\#` stands for F, F+1, and so on.
 //! - `failing reads N ..` and `failing writes N ..`: the calls that fail of a run of the case, counted from 0.
-//! - `pieces R W`: how many bytes a read and a write pass on at most; 65,536 if not said.
+//! - `pieces R W`: how many bytes a read and a write pass on at most, and `pieces N` the same for
+//!   both; 65,536 if not said.
 //! - `run WORDS ..`: a run with these words, each behind one blank. A blank in a word is spelled `\x20`, and `\{0}x`
 //!   is a word without a byte.
 //! - `status N`: what the runs are owed that stand above it, up to the next status: this status, and exactly the text

@@ -15,11 +15,14 @@ struct Told {
     entry: Snapshot<Entry>,
 }
 
-/// A setting and the journal of an admissible run of it, whose entries are not kept.
+/// A setting and the journal of an admissible run of it, whose entries are not kept (UML 2.5.1,
+/// 14.2.3.9, run to completion).
 ///
-/// A clause sees these two, and the ready tasks in the order in which they are listed. What is kept is where each object
-/// stands and which signals wait for it, so that judging an entry and going on by one take the same time however long
-/// the journal is and however many other objects there are. Who wants the entries themselves takes a [`System`].
+/// A clause sees these two, and the ready tasks in the order in which they are listed. What is kept
+/// is where each object stands and which signals wait for it. So judging an entry and going on by
+/// one take the same time however long the journal is and however many other objects there are, but
+/// for a take, which asks each deferred signal in front of the one that it takes. Who wants the
+/// entries themselves takes a [`System`].
 ///
 /// [`System`]: crate::System
 #[derive(Drop)]
@@ -93,9 +96,10 @@ impl Follower {
 
     /// How many entries the journal has: they are those of an admissible run.
     ///
-    /// There are at most 1,000,000 of them, with at most 2,000,000 posts, sends and marks. The open steps
-    /// can be finished by further entries: for each of these objects at most two for each vertex of its
-    /// machine, one for each region and one for each transition.
+    /// There are at most 1,000,000 of them, with at most 2,000,000 posts, sends and marks. The open
+    /// steps can be finished by further entries: for each of these objects at most two for each
+    /// vertex of its machine, one for each region and one for each transition (UML 2.5.1, 14.2.3.9,
+    /// run to completion; the limits and the bound are this profile's choice).
     #[inline(always)]
     pub fn len(&self) -> usize
         ensures count { result ≡ length self.now.journal }
@@ -109,7 +113,8 @@ impl Follower {
         self.told.len()
     }
 
-    /// The first rule that the entry breaks after the journal, if it breaks one.
+    /// The first rule that the entry breaks after the journal, if it breaks one (the list of rules
+    /// is this profile's choice).
     ///
     /// What the entry names is known (A1). `NoMemory`: memory ran out.
     #[inline(always)]
@@ -122,7 +127,8 @@ impl Follower {
         self.situation.judge(&self.setting, entry)
     }
 
-    /// Goes on by an entry that breaks no rule after the journal, and keeps it within the limits.
+    /// Goes on by an entry that breaks no rule after the journal, and keeps it within the limits
+    /// (the rules and the limits are this profile's choice).
     ///
     /// `NoMemory`: memory ran out; the follower is as before.
     #[inline(always)]
@@ -141,14 +147,15 @@ impl Follower {
         Ok(())
     }
 
-    /// Whether no entry but a post may follow.
+    /// Whether no entry but a post may follow (UML 2.5.1, 14.2.3.9, run to completion).
     pub fn quiet(&self) -> bool
         ensures { IsTrue result ↔ IsQuiet self.now.setting self.now.journal }
     {
         self.situation.is_quiet(&self.setting)
     }
 
-    /// An entry other than a post that breaks no rule after the journal, or none where there is none.
+    /// An entry other than a post that breaks no rule after the journal, or none where there is
+    /// none (UML 2.5.1, 14.2.3.9, run to completion).
     ///
     /// Of the objects, of the ready tasks, openings and picks of an object with their ways, and of several
     /// sets of routes that may fire, the word picks one; which one is not promised. `NoMemory`: memory ran out.
@@ -161,8 +168,8 @@ impl Follower {
             .choose(self.alloc, &self.setting, Wanted::AnyEntry, word)
     }
 
-    /// A start, take, dispatch of a completion, opening or pick that breaks no rule after the journal, or
-    /// none where there is none.
+    /// A start, take, dispatch of a completion, opening or pick that breaks no rule after the
+    /// journal, or none where there is none (UML 2.5.1, 14.2.3.9, run to completion).
     ///
     /// Of several the word picks one; which one is not promised. `NoMemory`: memory ran out.
     pub fn choose_move(&self, word: u64) -> Result<Option<Entry>, NoMemory>
@@ -183,7 +190,8 @@ impl Follower {
         self.situation.task_count(&self.setting)
     }
 
-    /// The ready task with a number, in the order of the objects, with the object that it is of.
+    /// The ready task with a number, in the order of the objects, with the object that it is of
+    /// (this order is this profile's choice).
     pub fn task_at(&self, i: u32) -> (ObjectId, Task)
         requires { i < length self.now.tasks }
         ensures { slice_get self.now.tasks i ≡ Some result }
@@ -191,7 +199,7 @@ impl Follower {
         self.situation.task_at(&self.setting, i)
     }
 
-    /// The values of the object's variables, as they are now.
+    /// The values of the object's variables, as they are now (UML 2.5.1, 9.5.3, properties).
     pub fn store(&self, object: ObjectId) -> &[i64]
         requires { object.0 < length self.now.setting.objects }
         ensures { (class : Class) → class_of self.now.setting object ≡ Some class
@@ -200,7 +208,8 @@ impl Follower {
         self.situation.objects[usize::from(object.0)].store()
     }
 
-    /// The parameters of the object's step, eight numbers, as they are now.
+    /// The parameters of the object's step, eight numbers, as they are now (UML 2.5.1, 13.3.3, the
+    /// data of a signal event).
     pub fn params(&self, object: ObjectId) -> &Args
         requires { object.0 < length self.now.setting.objects }
         ensures { result.now ≡ params_of (told_by self.now.journal) self.now.journal object }

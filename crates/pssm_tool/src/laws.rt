@@ -11,8 +11,9 @@ ghost use Rattle.pssm_tool.specs.Due.{HasModel, IsOwed, IsTold};
 
 use pssm_load::some_load;
 
-/// Where it is told what the files hold that words name, something is owed: an answer, or a run. So one of the clauses
-/// `exactly` and `runs` of [`crate::pssm`] speaks of each such call.
+/// Where it is told what the files hold that words name, something is owed: an answer, or a run
+/// (what is owed is this profile's choice). So one of the clauses `exactly` and `runs` of
+/// [`crate::pssm`] speaks of each such call.
 pub fn always_due()
     ensures { (words : List (List ℕ)) (contents : Contents) → IsTold words contents
         → ((answer : Answer) → IsOwed words contents answer → ⊥)

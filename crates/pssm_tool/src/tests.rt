@@ -1,4 +1,4 @@
-//! What no file of cases can say.
+//! A call over inputs and a sink that cannot fail, and what the judge answers of journals.
 ghost use Rattle.std.specs.Prelude.{◌≢◌};
 
 use crate::model::model;
@@ -67,7 +67,7 @@ fn judged(alloc: Global, more: &[u8]) -> Result<Result<Verdict, JudgeFault>, Fai
     judged_from(alloc, &mut inputs, "model", "journal")
 }
 
-// No answer of the program says on which line of a journal a fault stands.
+// What the judge answers of journals: how many entries, which entry and rule, and which line.
 #[test]
 fn judges_journals(rt: HostRuntime) -> Result<(), Fail> {
     let got = judged(rt.alloc(), b"post a.Go()\n")?;

@@ -26,14 +26,15 @@ use pssm_base::{Gate, Inputs, Sink, put_all};
 use pssm_load::one_load;
 use std::alloc::Global;
 
-/// Does what the words say, and answers how the program ends. `words` are those after the program's name.
+/// Does what the words say, and answers how the program ends (UML 2.5.1, 14.2.3; the words, the
+/// texts and the statuses are this profile's choice). `words` are those after the program's name.
 ///
 /// `judge MODEL JOURNAL` judges a journal of a run of the model, and writes one line.
 /// `run [--seed N] [--workers W] [--limit L] MODEL STIMULUS*` runs the model and writes the journal. `check MODEL` says
 /// whether the model is well formed, and `flat MODEL` writes its flat text. A model is in the flat form, where its
 /// bytes begin with `pssm-flat`, and otherwise a model file as an editor writes it. What is written goes to `out` at
-/// once, after all else is done; before that nothing is written. `rt` and `gate` are for commands that start workers,
-/// of which there is none yet.
+/// once, after all else is done; before that nothing is written. `rt` and `gate` are for commands
+/// that start workers, of which there is none.
 pub fn pssm<R, I: Inputs, S: Sink, G: Gate + Sync>(
     _rt: &R,
     alloc: Global,

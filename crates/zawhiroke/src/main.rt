@@ -1,5 +1,6 @@
-//! The program: it hands its words, the system's files and standard output to `pssm`, and ends with the status that
-//! `pssm` answers. What the words do, and what is promised of it, stands at `pssm`.
+//! The program: it hands its words, the system's files and standard output to `pssm`, and ends with
+//! the status that `pssm` answers, or with 7 where there is no memory for the words. What the words
+//! do, and what is promised of it, stands at `pssm`.
 #![tactic(auto)]
 
 use pssm_base::{FileInputs, Gate, StdoutSink};
@@ -10,7 +11,7 @@ use std::io::ErrorKind;
 use std::process::ExitCode;
 use std::rt::Env;
 
-// No command waits at a gate yet.
+// No command waits at a gate.
 struct OpenGate;
 
 impl Gate for OpenGate {

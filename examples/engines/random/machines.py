@@ -1,7 +1,8 @@
 """Small random hierarchical machines, written once, and their models in the flat form.
 
-A machine has States with any number of regions, a final state in some regions, and transitions. One variable `x` is 0 or 1: a transition
-may toggle it, which it marks as `now`, and may ask for its value. The first State of a region is the one that it opens with.
+A machine has States with any number of regions, a final state in some regions, a history vertex in
+some, and transitions. One variable `x` is 0 or 1: a transition may toggle it, which it marks as
+`now`, and may ask for its value. The first State of a region is the one that it opens with.
 """
 import random
 
@@ -59,7 +60,8 @@ class Machine:
         self.number()
 
     def number(self):
-        """Numbers everything: regions outside in, of each its initial vertex, States and final state; first the transitions of initial vertices."""
+        """Numbers everything: regions outside in, of each its initial vertex, States, final state
+        and history vertex; first the transitions of initial vertices."""
         self.regions, self.owner = [], {}
         self.v, self.home, self.initial = {}, {}, {}
         count = 0

@@ -1,4 +1,4 @@
-//! Rules of models at guards and behaviours, and of a machine without regions: what no text says.
+//! Rules of models at guards, at a final state that behaves, and of a machine without regions.
 ghost use Rattle.pssm_model.specs.Shapes.{HasShape};
 
 use crate::tests::{draft_of, draft_of_a_state, vertex};
