@@ -34,19 +34,27 @@ pub struct SlotId {
 /// The pools of all objects: for each, the signals that wait for it in the order in which they came.
 ///
 /// A clause sees the signals that wait, a list for each object, and `spare`: how many more can come before memory has
-/// to be taken. No call but `new` and `reserve` takes memory.
+/// to be taken. No call but `new` and `reserve` takes memory. Room is made in all pools at once and for many signals, so
+/// that an arrival costs the same however many objects there are.
 #[derive(Drop)]
 pub struct Pools {
     pools: Vec<Pool>,
+    spare: u32,
 }
 
+// For how many more signals room is made at a time: as many as there can be objects.
+const ROOM: u32 = 64;
+
 impl Model for Pools {
+    ghost use Rattle.std.specs.Prelude.{◌≤◌};
     ghost use Rattle.pssm_pool.specs.Waits.{Waits};
     ghost use Rattle.pssm_pool.specs.inner.Rooms.{waiting_in, spare_in};
 
     ghost Value = { Waits };
 
-    ghost view = { λ p. record { waiting = waiting_in p.pools.items; spare = spare_in p.pools.items } };
+    ghost view = { λ p. record { waiting = waiting_in p.pools.items; spare = p.spare } };
+
+    ghost invariant = { λ p. p.spare ≤ spare_in p.pools.items };
 }
 
 impl Pools {
@@ -60,7 +68,7 @@ impl Pools {
         for _ in 0..objects {
             pools.push(Pool::new(alloc))?;
         }
-        Ok(Pools { pools })
+        Ok(Pools { pools, spare: 0 })
     }
 
     /// Makes room for so many more signals, whichever objects they come to.
@@ -71,7 +79,14 @@ impl Pools {
         ensures waiting { self.new.waiting ≡ self.old.waiting }
         ensures ok { OnOk result (n ≤ self.new.spare) }
     {
-        make_room(self.pools.as_mut_slice(), n)
+        if n <= self.spare {
+            return Ok(());
+        }
+        self.spare = 0;
+        let room = n.max(ROOM);
+        make_room(self.pools.as_mut_slice(), room)?;
+        self.spare = room;
+        Ok(())
     }
 
     /// A signal comes to the pool of the object: it waits there as the last.
@@ -84,6 +99,7 @@ impl Pools {
         ensures spare { self.old.spare ≤ self.new.spare + 1 }
     {
         arrive_at(self.pools.as_mut_slice(), object, waiting);
+        self.spare -= 1;
     }
 
     /// The slot of the first signal of the object for which `held` answers false, if there is one.
