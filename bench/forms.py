@@ -2,8 +2,8 @@
 """How long steps of several legs take: over the longest route, over forks and joins of many regions, and by deep history over many levels.
 
 Run it at the top of the repository after the program is built: python3 bench/forms.py
-First (`route`) come machines with one State and a chain of 4, 64, 512 and 4,094 junctions on the way from it back to it: the last has as many vertices as a
-machine may have, and its take names a route of 4,095 transitions, each with an effect of its own. Then (`fork`) machines in which a fork leads into 2, 8 and 32
+First (`route`) come machines with one State and a chain of 4, 64 and 512 junctions on the way from it back to it, and one with 4,094: it has as many vertices as a
+machine may have, and its take names a route of 4,095 transitions, each with an effect of its own. It goes round once, and each of the two calls takes minutes. Then (`fork`) machines in which a fork leads into 2, 8 and 32
 regions, whose States are joined: a signal leads to the fork, and the completion that is served first leads from the join back. Then (`points`) machines with 2, 8
 and 31 nested States, out of which a chain of exit points leads, and into which one of entry points leads: routes with a leg more for each level. Last
 (`history`) machines with 2, 8 and 32 levels of States: one signal leaves them all, and one brings them back by deep history. For each machine `run` writes a
@@ -14,7 +14,8 @@ import tempfile
 
 from measure import measure, need_program, report
 
-JUNCTIONS = (4, 64, 512, 4_094)
+JUNCTIONS = (4, 64, 512)
+MOST_JUNCTIONS = 4_094
 REGIONS = (2, 8, 32)
 NESTED = (2, 8, 31)
 LEVELS = (2, 8, 32)
@@ -136,10 +137,10 @@ def history(levels):
     return machine
 
 
-def measure_on(name, machine, folder):
-    """A run of at most so many entries, and the judgement of its journal."""
+def measure_on(name, machine, folder, rounds=None):
+    """A run of at most so many entries, or of so many rounds, and the judgement of its journal."""
     model, journal = os.path.join(folder, 'bench.flat'), os.path.join(folder, 'bench.journal')
-    rounds = (SIZE - machine.start) // machine.step
+    rounds = rounds or (SIZE - machine.start) // machine.step
     entries = machine.start + rounds * machine.step
     with open(model, 'w') as file:
         file.write(machine.text())
@@ -159,6 +160,7 @@ def main():
         for name, sizes, make in (('route', JUNCTIONS, route), ('fork', REGIONS, fork), ('points', NESTED, points), ('history', LEVELS, history)):
             for size in sizes:
                 measure_on('%s %d' % (name, size), make(size), folder)
+        measure_on('route %d' % MOST_JUNCTIONS, route(MOST_JUNCTIONS), folder, 1)
 
 
 if __name__ == '__main__':
