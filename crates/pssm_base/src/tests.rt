@@ -61,8 +61,8 @@ const READS: [(&str, u32, usize, u64, Result<usize, WholeFault>); 9] = [
     ("answer", 0, 100, 9, Err(WholeFault::TooLarge)),
     ("empty", 0, 100, 9, Ok(0)),
     ("missing", 8, 100, 9, Err(WholeFault::ReadFault)),
-    ("long", 70000, 100000, 9, Ok(70000)),
-    ("long", 69999, 100000, 9, Err(WholeFault::TooLarge)),
+    ("long", 70000, 100000, 99, Ok(70000)),
+    ("long", 69999, 100000, 99, Err(WholeFault::TooLarge)),
 ];
 
 #[test]
