@@ -10,8 +10,8 @@ use Rattle.pssm_semantics.specs.declared.setting.Setting.{Setting}
 use Rattle.pssm_semantics.specs.Rules.{Holds}
 use Rattle.pssm_semantics.specs.Verdict.{IsFirstBroken, number_of}
 use Rattle.pssm_semantics.specs.Admissible.{MayFollow}
-use Rattle.pssm_semantics.proofs.Admissible.{IsAdmissible-nil}
-use Rattle.pssm_semantics.proofs.Appending.{admissible_push, every_push}
+use Rattle.pssm_semantics_laws.proofs.Admissible.{IsAdmissible-nil}
+use Rattle.pssm_semantics_laws.proofs.Appending.{admissible_push, every_push}
 use Rattle.pssm_lines.specs.LineText.{line_text, header_line, journal_text}
 use Rattle.pssm_lines.specs.Faults.{IsJournalLine, in_header, in_line}
 use Rattle.pssm_journal.specs.Entries.{entry_named, IsEntryOf}

@@ -8,8 +8,8 @@ use Rattle.pssm_semantics.specs.declared.setting.Setting.{Setting}
 use Rattle.pssm_semantics.specs.Rules.{Holds}
 use Rattle.pssm_semantics.specs.Laws.{CompletesInTime}
 use Rattle.pssm_semantics.specs.Admissible.{IsAdmissibleIn, KeepsJournalLimits}
-use Rattle.pssm_semantics.proofs.Admissible.{IsAdmissible-nil}
-use Rattle.pssm_semantics.proofs.Appending.{every_push}
+use Rattle.pssm_semantics_laws.proofs.Admissible.{IsAdmissible-nil}
+use Rattle.pssm_semantics_laws.proofs.Appending.{every_push}
 use Rattle.pssm_lines.specs.declared.fault.LineFault.{LineFault}
 use Rattle.pssm_lines.specs.LineText.{line_text, header_line, journal_text}
 use Rattle.pssm_lines.specs.Faults.{IsJournalLine, IsFaultOf, in_header, in_line}

@@ -7,7 +7,7 @@ use Rattle.pssm_semantics.specs.declared.line.Line.{Line}
 use Rattle.pssm_semantics.specs.declared.setting.Setting.{Setting}
 use Rattle.pssm_semantics.specs.Pool.{output_count}
 use Rattle.pssm_semantics.specs.Admissible.{MayFollow, IsAdmissibleIn, KeepsJournalLimits}
-use Rattle.pssm_semantics.proofs.Appending.{admissible_push}
+use Rattle.pssm_semantics_laws.proofs.Appending.{admissible_push}
 use Rattle.pssm_journal.specs.Entries.{IsEntryOf, KeepsNames, BreaksNames}
 use Rattle.pssm_journal.specs.Judged.{line_output_count, PassesLimits}
 use Rattle.pssm_journal.proofs.OutputCounts.{entry_output_count, line_outputs}

@@ -20,16 +20,16 @@ use Rattle.pssm_model.specs.Routes.{IsRoute}
 use Rattle.pssm_model.specs.RouteWords.{IsStepRoute}
 use Rattle.pssm_model.specs.WellFormed.{KeepsModelRules}
 use Rattle.pssm_model.proofs.ElementLaws.{leaves_one, enters_one}
-use Rattle.pssm_model.proofs.Known.{sure}
-use Rattle.pssm_model.proofs.KnownPlaces.{known_in_region}
+use Rattle.pssm_model_laws.proofs.Known.{sure}
+use Rattle.pssm_model_laws.proofs.KnownPlaces.{known_in_region}
 use Rattle.pssm_model.proofs.OwnerChains.{under_further, circle_is_endless}
 use Rattle.pssm_model.proofs.Nesting.{region_cases, shallower, lies_within}
-use Rattle.pssm_model.proofs.RegionChains.{counted}
-use Rattle.pssm_model.proofs.CommonRegions.{scope_same}
-use Rattle.pssm_model.proofs.Through.{kinds_clash, end_not_through, source_there, target_there, join_from_state, fork_to_end, fork_beside}
-use Rattle.pssm_model.proofs.RouteOrder.{ComesTo, route_of, source_of, through_is_rest, stays_behind}
-use Rattle.pssm_model.proofs.RouteOrder.ComesTo.{here}
-use Rattle.pssm_model.proofs.LegShapes.{IsJoinStar, IsForkStar, last_step}
+use Rattle.pssm_model_laws.proofs.RegionChains.{counted}
+use Rattle.pssm_model_laws.proofs.CommonRegions.{scope_same}
+use Rattle.pssm_model_laws.proofs.Through.{kinds_clash, end_not_through, source_there, target_there, join_from_state, fork_to_end, fork_beside}
+use Rattle.pssm_model_laws.proofs.RouteOrder.{ComesTo, route_of, source_of, through_is_rest, stays_behind}
+use Rattle.pssm_model_laws.proofs.RouteOrder.ComesTo.{here}
+use Rattle.pssm_model_laws.proofs.LegShapes.{IsJoinStar, IsForkStar, last_step}
 use Rattle.pssm_legs.specs.inner.Chained.{BeginsChain, IsChainOf, IsMet, IsRegionAt, IsRegionOfPath}
 use Rattle.pssm_legs.proofs.Places.{contains_at}
 use Rattle.pssm_legs.proofs.Chains.{path_comes}

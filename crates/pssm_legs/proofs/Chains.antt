@@ -27,11 +27,11 @@ use Rattle.pssm_model.specs.WellFormed.{KeepsModelRules}
 use Rattle.pssm_model.specs.RouteWords.{IsStepRoute}
 use Rattle.pssm_model.proofs.ElementLaws.{only_element, same_transition, enters_one}
 use Rattle.pssm_model.proofs.RouteLaws.{in_one, is_one}
-use Rattle.pssm_model.proofs.Through.{path_push}
-use Rattle.pssm_model.proofs.RouteOrder.{Follows, ComesTo, route_of, on_there, comes_further, no_way_back, through_is_rest}
-use Rattle.pssm_model.proofs.RouteOrder.ComesTo.{here, onward}
-use Rattle.pssm_model.proofs.LegShapes.{InLeg, in_leg, leg_on, last_step}
-use Rattle.pssm_model.proofs.LegShapes.InLeg.{one_and_same, path_to, path_from, in_join, in_fork}
+use Rattle.pssm_model_laws.proofs.Through.{path_push}
+use Rattle.pssm_model_laws.proofs.RouteOrder.{Follows, ComesTo, route_of, on_there, comes_further, no_way_back, through_is_rest}
+use Rattle.pssm_model_laws.proofs.RouteOrder.ComesTo.{here, onward}
+use Rattle.pssm_model_laws.proofs.LegShapes.{InLeg, in_leg, leg_on, last_step}
+use Rattle.pssm_model_laws.proofs.LegShapes.InLeg.{one_and_same, path_to, path_from, in_join, in_fork}
 use Rattle.pssm_legs.specs.LegsOf.{StandsBefore}
 use Rattle.pssm_legs.specs.inner.Chained.{BeginsChain, IsChainOf}
 use Rattle.pssm_legs.proofs.Places.{at_contains, contains_at, at_push_cases}

@@ -15,9 +15,9 @@ use Rattle.pssm_model.specs.Routes.{IsRoute}
 use Rattle.pssm_model.specs.RouteWords.{IsStepRoute}
 use Rattle.pssm_model.specs.WellFormed.{KeepsModelRules}
 use Rattle.pssm_model.proofs.ElementLaws.{enters_one}
-use Rattle.pssm_model.proofs.Through.{kinds_clash, end_not_through, fork_to_end}
-use Rattle.pssm_model.proofs.RouteOrder.{route_of}
-use Rattle.pssm_model.proofs.LegShapes.{ends_on, join_star, fork_star, join_pathless, fork_pathless}
+use Rattle.pssm_model_laws.proofs.Through.{kinds_clash, end_not_through, fork_to_end}
+use Rattle.pssm_model_laws.proofs.RouteOrder.{route_of}
+use Rattle.pssm_model_laws.proofs.LegShapes.{ends_on, join_star, fork_star, join_pathless, fork_pathless}
 use Rattle.pssm_legs.specs.declared.areas.Area.TheVariants.{Within}
 use Rattle.pssm_legs.specs.declared.legs.Leg.{Leg}
 use Rattle.pssm_legs.specs.Areas.{scope_of, IsAreaIn}

@@ -20,11 +20,11 @@ use Rattle.pssm_model.specs.RouteWords.{IsStepRoute}
 use Rattle.pssm_model.specs.WellFormed.{KeepsModelRules}
 use Rattle.pssm_model.proofs.ElementLaws.{leaves_one, enters_one, only_element, same_transition}
 use Rattle.pssm_model.proofs.RouteLaws.{reached_is_on}
-use Rattle.pssm_model.proofs.Through.{end_not_through, fork_to_end}
-use Rattle.pssm_model.proofs.RouteOrder.{route_of, passes_through, start_not_through}
-use Rattle.pssm_model.proofs.RouteTree.{one_before}
-use Rattle.pssm_model.proofs.LegShapes.{InLeg, in_leg, ends_on, leg_on, leg_turned, next_to, later_on, first_step, last_step, cut_no_junction, join_from_no_through, start_legs}
-use Rattle.pssm_model.proofs.LegShapes.InLeg.{one_and_same, path_to, path_from, in_join, in_fork}
+use Rattle.pssm_model_laws.proofs.Through.{end_not_through, fork_to_end}
+use Rattle.pssm_model_laws.proofs.RouteOrder.{route_of, passes_through, start_not_through}
+use Rattle.pssm_model_laws.proofs.RouteTree.{one_before}
+use Rattle.pssm_model_laws.proofs.LegShapes.{InLeg, in_leg, ends_on, leg_on, leg_turned, next_to, later_on, first_step, last_step, cut_no_junction, join_from_no_through, start_legs}
+use Rattle.pssm_model_laws.proofs.LegShapes.InLeg.{one_and_same, path_to, path_from, in_join, in_fork}
 use Rattle.pssm_legs.specs.declared.legs.Leg.{Leg}
 use Rattle.pssm_legs.specs.declared.legs.Legs.{Legs}
 use Rattle.pssm_legs.specs.LegsOf.{leg_list, IsAt, StandsLater, IsLegIn, IsLegOf, AreLegsOf}

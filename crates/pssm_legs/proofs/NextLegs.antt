@@ -18,9 +18,9 @@ use Rattle.pssm_model.specs.RouteWords.{IsStepRoute}
 use Rattle.pssm_model.specs.WellFormed.{KeepsModelRules}
 use Rattle.pssm_model.specs.WellFormed.Breaks.{E05}
 use Rattle.pssm_model.proofs.ElementLaws.{leaves_one, enters_one, nothing_in_nil}
-use Rattle.pssm_model.proofs.Through.{kinds_clash, target_there}
-use Rattle.pssm_model.proofs.RouteOrder.{route_of, of_start, all_into_join, start_not_through}
-use Rattle.pssm_model.proofs.LegShapes.{ends_on, leg_on, cut_no_junction, join_from_no_through, join_is_starts, join_star, fork_star}
+use Rattle.pssm_model_laws.proofs.Through.{kinds_clash, target_there}
+use Rattle.pssm_model_laws.proofs.RouteOrder.{route_of, of_start, all_into_join, start_not_through}
+use Rattle.pssm_model_laws.proofs.LegShapes.{ends_on, leg_on, cut_no_junction, join_from_no_through, join_is_starts, join_star, fork_star}
 use Rattle.pssm_legs.specs.declared.legs.Leg.{Leg}
 use Rattle.pssm_legs.specs.declared.legs.Legs.{Legs}
 use Rattle.pssm_legs.specs.inner.Chained.{BeginsChain, BeginsChains, BeginsRoute, IsStarAt, IsMade, AreDone, EndsLeg, IsAmongFirst, ArePut, NothingPut}

@@ -28,10 +28,10 @@ use Rattle.pssm_model.specs.WellFormed.{KeepsModelRules, ShareRegion}
 use Rattle.pssm_model.specs.WellFormed.Breaks.{E21}
 use Rattle.pssm_model.proofs.ElementLaws.{mapped_some, leaves_one, nothing_in_nil}
 use Rattle.pssm_model.proofs.RouteLaws.{in_one, is_one}
-use Rattle.pssm_model.proofs.Known.{sure, known_either}
-use Rattle.pssm_model.proofs.KnownPlaces.{known_vertex_kind, known_in_region, known_in_state}
-use Rattle.pssm_model.proofs.RegionChains.{IsTopmost, topmost, shares_topmost, topmost_of_other, lies_or_not, vertex_there, counted, some_region}
-use Rattle.pssm_model.proofs.Through.{kinds_clash, source_there, target_there, point_owner, one_region, no_cycle, exit_keeps, step_leads}
+use Rattle.pssm_model_laws.proofs.Known.{sure, known_either}
+use Rattle.pssm_model_laws.proofs.KnownPlaces.{known_vertex_kind, known_in_region, known_in_state}
+use Rattle.pssm_model_laws.proofs.RegionChains.{IsTopmost, topmost, shares_topmost, topmost_of_other, lies_or_not, vertex_there, counted, some_region}
+use Rattle.pssm_model_laws.proofs.Through.{kinds_clash, source_there, target_there, point_owner, one_region, no_cycle, exit_keeps, step_leads}
 
 -- the first of a list is in it, and so are the others
 pub in_head : {X : Type 0} (x : X) (xs : List X) → Contains (x ∷ xs) x

@@ -8,7 +8,7 @@ use Rattle.pssm_model.specs.Forest.{owner_of, IsHome, IsWithin, HasRegionsAbove,
 use Rattle.pssm_model.specs.Forest.LiesUnder.{further}
 use Rattle.pssm_model.proofs.OwnerChains.{top_lies_nowhere, under_further}
 use Rattle.pssm_model.proofs.Nesting.{under_cases, shallower}
-use Rattle.pssm_model.proofs.RegionChains.{under_state}
+use Rattle.pssm_model_laws.proofs.RegionChains.{under_state}
 
 -- The vertex lies in the region, which is or lies in the one of the State in which the vertex lies; fewer than so many regions stand above it.
 pub record IsRising (m : DraftMachine) (state v : VertexId) (region : RegionId) (height : ℕ) : Type 0 where

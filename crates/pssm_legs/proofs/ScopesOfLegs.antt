@@ -25,17 +25,17 @@ use Rattle.pssm_model.specs.RouteWords.{IsStepRoute}
 use Rattle.pssm_model.specs.WellFormed.{KeepsModelRules, LieApartBeside}
 use Rattle.pssm_model.specs.WellFormed.Breaks.{E07, E13, E14}
 use Rattle.pssm_model.proofs.ElementLaws.{leaves_one, enters_one}
-use Rattle.pssm_model.proofs.Known.{sure}
-use Rattle.pssm_model.proofs.KnownPlaces.{known_vertex_kind, known_in_state}
-use Rattle.pssm_model.proofs.KnownClosures.{known_enters}
+use Rattle.pssm_model_laws.proofs.Known.{sure}
+use Rattle.pssm_model_laws.proofs.KnownPlaces.{known_vertex_kind, known_in_state}
+use Rattle.pssm_model_laws.proofs.KnownClosures.{known_enters}
 use Rattle.pssm_model.proofs.OwnerChains.{under_further}
 use Rattle.pssm_model.proofs.Nesting.{under_cases}
-use Rattle.pssm_model.proofs.RegionChains.{on_one_chain, under_state}
-use Rattle.pssm_model.proofs.CommonRegions.{scope_same}
-use Rattle.pssm_model.proofs.Through.{kinds_clash, end_not_through, not_in_itself, one_region, no_cycle, step_leads, fork_to_end, exit_keeps, entry_to_no_exit}
-use Rattle.pssm_model.proofs.RouteOrder.{route_of, source_of, target_of}
-use Rattle.pssm_model.proofs.LegShapes.{InLeg, in_leg, ends_on, leg_on, leg_turned, first_step, last_step, join_from_no_through, one_beginning}
-use Rattle.pssm_model.proofs.LegShapes.InLeg.{one_and_same, path_to, path_from, in_join, in_fork}
+use Rattle.pssm_model_laws.proofs.RegionChains.{on_one_chain, under_state}
+use Rattle.pssm_model_laws.proofs.CommonRegions.{scope_same}
+use Rattle.pssm_model_laws.proofs.Through.{kinds_clash, end_not_through, not_in_itself, one_region, no_cycle, step_leads, fork_to_end, exit_keeps, entry_to_no_exit}
+use Rattle.pssm_model_laws.proofs.RouteOrder.{route_of, source_of, target_of}
+use Rattle.pssm_model_laws.proofs.LegShapes.{InLeg, in_leg, ends_on, leg_on, leg_turned, first_step, last_step, join_from_no_through, one_beginning}
+use Rattle.pssm_model_laws.proofs.LegShapes.InLeg.{one_and_same, path_to, path_from, in_join, in_fork}
 use Rattle.pssm_legs.proofs.PathRegions.{in_head, path_join}
 
 -- the ends of an internal transition are one State

@@ -20,9 +20,9 @@ use Rattle.pssm_model.specs.Legs.LegScope.{internal, local, point, other}
 use Rattle.pssm_model.specs.Items.{IsAimedAt, LegEnds, LegOpens}
 use Rattle.pssm_model.specs.Routes.{IsRoute}
 use Rattle.pssm_model.specs.WellFormed.{KeepsModelRules}
-use Rattle.pssm_model.proofs.Through.{kinds_clash}
-use Rattle.pssm_model.proofs.RouteOrder.{route_of}
-use Rattle.pssm_model.proofs.LegShapes.{ends_on, later_begins_on, later_ends_on, leg_on, leg_turned, later_from, later_to}
+use Rattle.pssm_model_laws.proofs.Through.{kinds_clash}
+use Rattle.pssm_model_laws.proofs.RouteOrder.{route_of}
+use Rattle.pssm_model_laws.proofs.LegShapes.{ends_on, later_begins_on, later_ends_on, leg_on, leg_turned, later_from, later_to}
 use Rattle.pssm_legs.specs.declared.areas.Area.{Area}
 use Rattle.pssm_legs.specs.declared.areas.Area.TheVariants.{Nowhere, Inside, Within}
 use Rattle.pssm_legs.specs.declared.legs.Leg.{Leg}

@@ -22,11 +22,11 @@ use Rattle.pssm_model.specs.Course.{Head, FiresBy}
 use Rattle.pssm_model.specs.Course.Head.{Starts, Fires}
 use Rattle.pssm_model.specs.Routes.{Truth, IsStateRoute}
 use Rattle.pssm_model.specs.Order.{IsWayNow}
-use Rattle.pssm_model.proofs.Agreeing.{Agree-symm, Agree-trans, Agree-did_step}
+use Rattle.pssm_object.proofs.Agreeing.{Agree-symm, Agree-trans, Agree-did_step}
 use Rattle.pssm_config.specs.Tables.{Fits, configuration_of}
 use Rattle.pssm_plan.specs.Agenda.{Agenda, course_of}
 use Rattle.pssm_plan.specs.Steadiness.{BeginsWell, IsConsistent, changed_by_item, changed_along}
-use Rattle.pssm_plan.proofs.Known.{Known, known_as, known_number}
+use Rattle.pssm_model_laws.proofs.Known.{Known, known_as, known_number}
 use Rattle.pssm_plan.proofs.KnownItems.{known_true}
 use Rattle.pssm_plan.proofs.Steadiness.{stays_consistent}
 use Rattle.pssm_semantics.specs.declared.entry.ObjectId.{ObjectId}
@@ -45,11 +45,11 @@ use Rattle.pssm_semantics.specs.Pool.{told_by}
 use Rattle.pssm_semantics.specs.Behaviours.{last_head, store_of, params_of, params_of_head, outcome_at, guards_under}
 use Rattle.pssm_semantics.specs.Classes.{IsWellFormedClass}
 use Rattle.pssm_semantics.proofs.Appended.{AllByRecursion-front, AllByRecursion-back, from_the_end}
-use Rattle.pssm_semantics.proofs.Appending.{every_push}
-use Rattle.pssm_semantics.proofs.LastStep.{last_head-goes_on}
-use Rattle.pssm_semantics.proofs.Objects.{same_object}
-use Rattle.pssm_semantics.proofs.Configurations.{configuration-changed, configuration-other}
-use Rattle.pssm_semantics.proofs.Stores.{head_own, told_by-more, store_of-own, store_of-other, params_of-begins, params_of-goes_on}
+use Rattle.pssm_semantics_laws.proofs.Appending.{every_push}
+use Rattle.pssm_semantics_laws.proofs.LastStep.{last_head-goes_on}
+use Rattle.pssm_semantics_laws.proofs.Objects.{same_object}
+use Rattle.pssm_object.proofs.Configurations.{configuration-changed, configuration-other}
+use Rattle.pssm_semantics_laws.proofs.Stores.{head_own, told_by-more, store_of-own, store_of-other, params_of-begins, params_of-goes_on}
 use Rattle.pssm_pool.specs.declared.pools.Waiting.{Waiting}
 use Rattle.pssm_object.specs.Queue.{CompletionQueue, IsQueueOf}
 use Rattle.pssm_object.specs.Standing.{Standing, IsUnderWay, IsStepOf, StandsAfter}

@@ -15,7 +15,7 @@ use Rattle.pssm_model.specs.Items.{CanExit, LegCalls, IsCalledInLeg, IsItemOfLeg
 use Rattle.pssm_model.specs.Items.Called.{start, run, ends, opens, restored, entered}
 use Rattle.pssm_model.specs.Items.Before.{inner_exit, outer_enter, exit_effect, path, effect_enter, effect_end, enter_end, later}
 use Rattle.pssm_model.specs.Order.{course_by, IsReady}
-use Rattle.pssm_model.proofs.Agreeing.{Agree-symm}
+use Rattle.pssm_object.proofs.Agreeing.{Agree-symm}
 
 -- a leg exits the same where the same is active
 leg_exits_same : (m : DraftMachine) (A B : VertexId → Type 0) → ((s : VertexId) → A s ↔ B s) → (route : Route) (t : TransId) (s : VertexId)

@@ -2,8 +2,8 @@
 use Rattle.std.proofs.Common.{◌↔◌, List, sym, subst}
 use Rattle.pssm_model.specs.declared.ids.VertexId.{VertexId}
 use Rattle.pssm_model.specs.FiringSets.{Overrides}
-use Rattle.pssm_model.proofs.Agreeing.{Agree-symm}
-use Rattle.pssm_model.proofs.AgreeingRoutes.{overrides_agrees}
+use Rattle.pssm_object.proofs.Agreeing.{Agree-symm}
+use Rattle.pssm_object.proofs.AgreeingRoutes.{overrides_agrees}
 use Rattle.pssm_config.specs.Tables.{configuration_of}
 use Rattle.pssm_semantics.specs.declared.entry.Entry.{Entry}
 use Rattle.pssm_semantics.specs.declared.setting.Class.{Class}

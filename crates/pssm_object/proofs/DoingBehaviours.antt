@@ -9,7 +9,7 @@ use Rattle.pssm_semantics.specs.declared.setting.Class.{Class}
 use Rattle.pssm_semantics.specs.Arguments.{ActArgsFit}
 use Rattle.pssm_semantics.specs.Behaviours.{act_at}
 use Rattle.pssm_semantics.specs.Classes.{IsWellFormedClass}
-use Rattle.pssm_semantics.proofs.SettingClasses.{acts_run}
+use Rattle.pssm_semantics_laws.proofs.SettingClasses.{acts_run}
 use Rattle.pssm_object.specs.inner.Doing.{step_act}
 
 then_some : {X Y : Type 0} (f : X → Option Y) (o : Option X) (y : Y) → Some y ≡ option_and_then f o → (x : X) × (Some y ≡ f x)

@@ -19,7 +19,7 @@ use Rattle.pssm_model.proofs.ElementLaws.{mapped_some, and_some}
 use Rattle.pssm_config.specs.Tables.{Tables, Fits, configuration_of}
 use Rattle.pssm_semantics.specs.declared.setting.Class.{Class}
 use Rattle.pssm_semantics.specs.Classes.{IsWellFormedClass}
-use Rattle.pssm_semantics.proofs.SettingClasses.{all_there}
+use Rattle.pssm_semantics_laws.proofs.SettingClasses.{all_there}
 use Rattle.pssm_object.specs.Doing.{next_do_step}
 
 -- numbers with the same numbers below them are one

@@ -23,19 +23,19 @@ use Rattle.pssm_model.specs.Changes.{Agree, entered, exited}
 use Rattle.pssm_model.specs.Course.{Head}
 use Rattle.pssm_model.specs.Items.{HasRunOut}
 use Rattle.pssm_model.specs.Order.{course_by}
-use Rattle.pssm_model.proofs.Agreeing.{Agree-symm}
+use Rattle.pssm_object.proofs.Agreeing.{Agree-symm}
 use Rattle.pssm_model.proofs.ElementLaws.{mapped_some, kind_at, nothing_in_nil}
 use Rattle.pssm_plan.specs.Steadiness.{changed_by_item}
-use Rattle.pssm_plan.proofs.Known.{Known, known_as, known_both}
-use Rattle.pssm_plan.proofs.KnownPlaces.{known_owner}
+use Rattle.pssm_model_laws.proofs.Known.{Known, known_as, known_both}
+use Rattle.pssm_model_laws.proofs.KnownPlaces.{known_owner}
 use Rattle.pssm_semantics.specs.declared.entry.ObjectId.{ObjectId}
 use Rattle.pssm_semantics.specs.declared.entry.Entry.{Entry}
 use Rattle.pssm_semantics.specs.declared.entry.Entry.TheVariants.{Post, Start, Take, Done, Exit, Effect, Enter, Opened, Pick, DoStep}
 use Rattle.pssm_semantics.specs.Journal.{EntersAt, ExitsAt, IsActive, IsPost, object_of, configuration_after}
 use Rattle.pssm_semantics.specs.Steps.{item_of, item_by}
 use Rattle.pssm_semantics.specs.Completion.{EffectsAt, HasTerminated, HasEnded, IsStepFinished}
-use Rattle.pssm_semantics.proofs.Active.{IsActive-nil, IsActive-stays, IsActive-was}
-use Rattle.pssm_semantics.proofs.Courses.{runs_own, runs_is}
+use Rattle.pssm_semantics_laws.proofs.Active.{IsActive-nil, IsActive-stays, IsActive-was}
+use Rattle.pssm_semantics_laws.proofs.Courses.{runs_own, runs_is}
 use Rattle.pssm_object.specs.Standing.{IsUnderWay}
 use Rattle.pssm_object.specs.inner.Ending.{Terminates, IsTopFinal, Ends}
 use Rattle.pssm_object.proofs.UnderWay.{after_item, step_finished, finished_step}

@@ -14,7 +14,7 @@ use Rattle.pssm_semantics.specs.Values.{eight_of, no_params}
 use Rattle.pssm_semantics.specs.Behaviours.{guards_under}
 use Rattle.pssm_semantics.specs.Classes.{IsWellFormedClass}
 use Rattle.pssm_semantics.specs.Forms.{IsShortFiring, HasForm}
-use Rattle.pssm_semantics.proofs.Outcomes.{few_outs}
+use Rattle.pssm_semantics_laws.proofs.Outcomes.{few_outs}
 use Rattle.pssm_pool.specs.declared.pools.Waiting.{Waiting}
 use Rattle.pssm_object.specs.Standing.{Standing, StandsAfter}
 use Rattle.pssm_object.specs.Following.{NamesSignal, KeepsRules}

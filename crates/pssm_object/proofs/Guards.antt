@@ -6,7 +6,7 @@ use Rattle.pssm_semantics.specs.declared.tree.Cond.{Cond}
 use Rattle.pssm_semantics.specs.declared.setting.Class.{Class}
 use Rattle.pssm_semantics.specs.Values.{Store, Params, eight_of, truth_of}
 use Rattle.pssm_semantics.specs.Behaviours.{guards_under}
-use Rattle.pssm_semantics.proofs.EightParameters.{truth_eight}
+use Rattle.pssm_object.proofs.EightParameters.{truth_eight}
 
 module _ (class : Class) (store : Store) (params : Params) (guard : GuardId) where
   by_cond : Option Cond → Bool

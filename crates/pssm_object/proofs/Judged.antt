@@ -20,8 +20,8 @@ use Rattle.pssm_model.specs.Routes.{Truth}
 use Rattle.pssm_model.specs.FiringSets.{IsFiring, IsLateRoute}
 use Rattle.pssm_model.specs.Ways.{Memory, CanOpen}
 use Rattle.pssm_model.specs.Items.{IsWaiting, IsCleared}
-use Rattle.pssm_model.proofs.Agreeing.{Agree-symm}
-use Rattle.pssm_model.proofs.AgreeingRoutes.{firing_agrees}
+use Rattle.pssm_object.proofs.Agreeing.{Agree-symm}
+use Rattle.pssm_object.proofs.AgreeingRoutes.{firing_agrees}
 use Rattle.pssm_config.specs.Tables.{configuration_of}
 use Rattle.pssm_plan.specs.Agenda.{Agenda, course_of}
 use Rattle.pssm_semantics.specs.declared.entry.ObjectId.{ObjectId}

@@ -11,8 +11,8 @@ use Rattle.pssm_model.specs.inner.Listed.{region_number}
 use Rattle.pssm_model.specs.Forest.{owner_of}
 use Rattle.pssm_model.specs.Configuration.{Configuration, IsFinished, IsComplete, do_steps_of}
 use Rattle.pssm_config.specs.Tables.{Tables, configuration_of}
-use Rattle.pssm_plan.proofs.Known.{Known, known_as, known_both, known_either, known_not, known_below}
-use Rattle.pssm_plan.proofs.KnownPlaces.{known_owner, known_vertex_kind}
+use Rattle.pssm_model_laws.proofs.Known.{Known, known_as, known_both, known_either, known_not, known_below}
+use Rattle.pssm_model_laws.proofs.KnownPlaces.{known_owner, known_vertex_kind}
 use Rattle.pssm_plan.proofs.KnownItems.{known_true}
 use Rattle.pssm_object.proofs.KnownEnds.{known_final}
 

@@ -19,8 +19,8 @@ use Rattle.pssm_model.specs.Legs.{Enters}
 use Rattle.pssm_model.specs.Configuration.{Configuration, HasActiveFinal, AllTopsAreFinal}
 use Rattle.pssm_model.specs.Course.{Head}
 use Rattle.pssm_plan.specs.Steadiness.{changed_by_item, changed_along}
-use Rattle.pssm_plan.proofs.Known.{Known, known_as, known_both, known_either, known_not, known_below, known_vertex}
-use Rattle.pssm_plan.proofs.KnownPlaces.{known_owner, known_vertex_kind}
+use Rattle.pssm_model_laws.proofs.Known.{Known, known_as, known_both, known_either, known_not, known_below, known_vertex}
+use Rattle.pssm_model_laws.proofs.KnownPlaces.{known_owner, known_vertex_kind}
 use Rattle.pssm_semantics.specs.declared.entry.ObjectId.{ObjectId}
 use Rattle.pssm_semantics.specs.declared.entry.Entry.{Entry}
 use Rattle.pssm_semantics.specs.Journal.{object_of, configuration_after}

@@ -21,11 +21,11 @@ use Rattle.pssm_model.specs.Configuration.{Configuration, IsComplete}
 use Rattle.pssm_model.specs.Routes.{Truth, IsStateRoute}
 use Rattle.pssm_model.specs.WellFormed.{KeepsModelRules}
 use Rattle.pssm_model.proofs.ElementLaws.{some_at, mapped_some, leaves_one, external_split}
-use Rattle.pssm_model.proofs.InnerPaths.{home_owner}
+use Rattle.pssm_model_laws.proofs.InnerPaths.{home_owner}
 use Rattle.pssm_model.proofs.OwnerChains.{top_lies_nowhere}
 use Rattle.pssm_model.proofs.Nesting.{under_cases, home_of_vertex}
-use Rattle.pssm_model.proofs.StateRoutes.{leaves_some}
-use Rattle.pssm_model.proofs.Through.{kinds_clash, target_there}
+use Rattle.pssm_model_laws.proofs.StateRoutes.{leaves_some}
+use Rattle.pssm_model_laws.proofs.Through.{kinds_clash, target_there}
 use Rattle.pssm_routes.specs.declared.areas.Footprint.{Footprint}
 use Rattle.pssm_legs.specs.Areas.{scope_of}
 use Rattle.pssm_routes.specs.inner.Behind.{IsRouteBehind}
@@ -44,8 +44,8 @@ use Rattle.pssm_routes.proofs.Spans.{some_beside}
 use Rattle.pssm_routes.proofs.StartLaws.{is_among_starts, some_starts, some_onward, starts_alone}
 use Rattle.pssm_routes.proofs.Trees.{target_some}
 use Rattle.pssm_routes.proofs.WayEnds.{out_leads_further, out_no_join}
-use Rattle.pssm_plan.proofs.Known.{Known, known_as, known_both, known_either, known_among, known_vertex}
-use Rattle.pssm_plan.proofs.KnownPlaces.{known_vertex_kind, known_in_region, known_in_state}
+use Rattle.pssm_model_laws.proofs.Known.{Known, known_as, known_both, known_either, known_among, known_vertex}
+use Rattle.pssm_model_laws.proofs.KnownPlaces.{known_vertex_kind, known_in_region, known_in_state}
 use Rattle.pssm_object.proofs.MachineLaws.{leaving_there}
 use Rattle.pssm_object.proofs.KnownWays.{onward_target, known_leads, some_way}
 use Rattle.pssm_object.proofs.KnownStarts.{known_sources_among, known_started}

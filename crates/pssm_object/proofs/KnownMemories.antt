@@ -12,10 +12,10 @@ use Rattle.pssm_model.specs.declared.steps.Item.TheVariants as items
 use Rattle.pssm_model.specs.Configuration.{Configuration, IsDirect}
 use Rattle.pssm_model.specs.Course.{Head, ExitsFrom, HasExitedLast, RemembersSoFar}
 use Rattle.pssm_model.specs.Order.{course_by}
-use Rattle.pssm_plan.proofs.Known.{Known, known_as, known_both, known_either, known_not, known_vertex}
-use Rattle.pssm_plan.proofs.KnownPlaces.{known_owner, known_vertex_kind}
+use Rattle.pssm_model_laws.proofs.Known.{Known, known_as, known_both, known_either, known_not, known_vertex}
+use Rattle.pssm_model_laws.proofs.KnownPlaces.{known_owner, known_vertex_kind}
 use Rattle.pssm_semantics.proofs.Appended.{LastOf, LastOf-nil}
-use Rattle.pssm_semantics.proofs.Latest.{LastOf-cons, LastOf-later, LastOf-first}
+use Rattle.pssm_object.proofs.Latest.{LastOf-cons, LastOf-later, LastOf-first}
 
 -- whether a table names this vertex
 pub known_named : (named : Option VertexId) (s : VertexId) → Known (named ≡ Some s)

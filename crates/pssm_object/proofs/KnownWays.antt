@@ -11,8 +11,8 @@ use Rattle.pssm_model.specs.Routes.{Truth}
 use Rattle.pssm_model.specs.RouteWords.{IsThrough}
 use Rattle.pssm_model.specs.WellFormed.{KeepsModelRules}
 use Rattle.pssm_model.proofs.ElementLaws.{enters_one}
-use Rattle.pssm_model.proofs.Through.{no_cycle, known_through, target_there}
-use Rattle.pssm_model.proofs.StateRoutes.{leaves_some}
+use Rattle.pssm_model_laws.proofs.Through.{no_cycle, known_through, target_there}
+use Rattle.pssm_model_laws.proofs.StateRoutes.{leaves_some}
 use Rattle.pssm_routes.specs.inner.Starts.{GoesOnBy}
 use Rattle.pssm_routes.specs.inner.Passing.{IsPassedOver}
 use Rattle.pssm_routes.specs.inner.Ways.{IsAllowed, IsOpen, LeadsOut, IsWay, IsWayOut}
@@ -24,8 +24,8 @@ use Rattle.pssm_routes.proofs.LeadingOn.{passed_through, known_passed, opens}
 use Rattle.pssm_routes.proofs.StartLaws.{entering_is_there}
 use Rattle.pssm_routes.proofs.Trees.{target_some, known_way}
 use Rattle.pssm_routes.proofs.WayPaths.{way_led}
-use Rattle.pssm_plan.proofs.Known.{Known, known_as, known_both}
-use Rattle.pssm_plan.proofs.KnownPlaces.{known_in_region, known_vertex_kind}
+use Rattle.pssm_model_laws.proofs.Known.{Known, known_as, known_both}
+use Rattle.pssm_model_laws.proofs.KnownPlaces.{known_in_region, known_vertex_kind}
 use Rattle.pssm_object.proofs.MachineLaws.{leaving_there, known_leaves}
 
 -- whether one follows from another is known where both are

@@ -49,3 +49,9 @@ pub mod KnownCompletions
 pub mod TaskCounts
 pub mod ChoiceLists
 pub mod TaskSums
+pub mod Agreeing
+pub mod AgreeingRoutes
+pub mod Configurations
+pub mod EightParameters
+pub mod Latest
+pub mod Memories

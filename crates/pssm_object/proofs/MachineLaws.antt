@@ -21,8 +21,8 @@ use Rattle.pssm_model.specs.WellFormed.{OwnsTwoOfAKind, KeepsModelRules}
 use Rattle.pssm_model.specs.WellFormed.Breaks.{E02, E03, E09}
 use Rattle.pssm_model.specs.inner.Listed.{vertex_number, transition_number}
 use Rattle.pssm_model.proofs.ElementLaws.{mapped_some}
-use Rattle.pssm_plan.proofs.Known.{Known, known_as, known_both, known_below, known_vertex}
-use Rattle.pssm_plan.proofs.KnownPlaces.{known_owner, known_vertex_kind}
+use Rattle.pssm_model_laws.proofs.Known.{Known, known_as, known_both, known_below, known_vertex}
+use Rattle.pssm_model_laws.proofs.KnownPlaces.{known_owner, known_vertex_kind}
 use Rattle.pssm_object.specs.inner.Firing.{IsHistoryKind}
 
 -- a mapped option is known to hold a value where that is known of each value

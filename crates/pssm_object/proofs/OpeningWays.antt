@@ -20,7 +20,7 @@ use Rattle.pssm_model.proofs.ElementLaws.{nothing_in_nil}
 use Rattle.pssm_config.specs.Tables.{Tables, Fits, configuration_of}
 use Rattle.pssm_semantics.specs.declared.setting.Class.{Class}
 use Rattle.pssm_semantics.specs.Values.{Store, Params}
-use Rattle.pssm_semantics.proofs.Members.{first_in}
+use Rattle.pssm_semantics_laws.proofs.Members.{first_in}
 use Rattle.pssm_object.specs.inner.Firing.{GoesFrom, IsDefaultWay, IsHistoryKind, IsFreshWay, IsHistoryWay}
 use Rattle.pssm_object.proofs.MachineLaws.{kind_there, one_history}
 

@@ -11,14 +11,14 @@ use Rattle.pssm_model.specs.declared.steps.Item.TheVariants as items
 use Rattle.pssm_model.specs.Forest.{owner_of, HasKind}
 use Rattle.pssm_model.specs.Configuration.{Configuration, IsFinished, IsComplete}
 use Rattle.pssm_model.specs.Changes.{Agree, entered, exited, opened_none, opened_way, did_step}
-use Rattle.pssm_model.proofs.Agreeing.{complete_too}
+use Rattle.pssm_object.proofs.Agreeing.{complete_too}
 use Rattle.pssm_model.proofs.ElementLaws.{same_vertex}
 use Rattle.pssm_semantics.specs.declared.entry.ObjectId.{ObjectId}
 use Rattle.pssm_semantics.specs.declared.entry.Entry.{Entry}
 use Rattle.pssm_semantics.specs.declared.entry.Entry.TheVariants.{Post, Start, Take, Done, Exit, Effect, Enter, Opened, Pick, DoStep}
 use Rattle.pssm_semantics.specs.Journal.{EntersAt, ExitsAt, object_of, configuration_after}
 use Rattle.pssm_semantics.specs.Completion.{DonesAt, BecomesComplete}
-use Rattle.pssm_semantics.proofs.Configurations.{changed_by, configuration-changed}
+use Rattle.pssm_object.proofs.Configurations.{changed_by, configuration-changed}
 use Rattle.pssm_object.specs.inner.Queueing.{state_of, owner_above, completing_by_kind, completing}
 
 -- the State that an entry may make complete, and the one that it takes out of the queue

@@ -11,7 +11,7 @@ use Rattle.pssm_model.specs.declared.steps.Item.TheVariants as items
 use Rattle.pssm_model.specs.declared.steps.Firing.{Firing}
 use Rattle.pssm_model.specs.Configuration.{Configuration}
 use Rattle.pssm_model.specs.Changes.{Agree}
-use Rattle.pssm_model.proofs.Agreeing.{Agree-refl}
+use Rattle.pssm_object.proofs.Agreeing.{Agree-refl}
 use Rattle.pssm_semantics.specs.declared.entry.ObjectId.{ObjectId}
 use Rattle.pssm_semantics.specs.declared.entry.Out.{Out}
 use Rattle.pssm_semantics.specs.declared.entry.Entry.{Entry}
@@ -19,7 +19,7 @@ use Rattle.pssm_semantics.specs.declared.entry.Entry.TheVariants.{Post, Start, T
 use Rattle.pssm_semantics.specs.Journal.{IsPost, object_of, configuration_after}
 use Rattle.pssm_semantics.specs.Steps.{item_of}
 use Rattle.pssm_semantics.proofs.Appended.{AllByRecursion-front, AllByRecursion-back, never_ends, from_the_end}
-use Rattle.pssm_semantics.proofs.Configurations.{configuration-other}
+use Rattle.pssm_object.proofs.Configurations.{configuration-other}
 use Rattle.pssm_object.specs.Queue.{IsQueueOf}
 use Rattle.pssm_object.specs.inner.Queueing.{completing, leaving, without, QueueGoesOn}
 use Rattle.pssm_object.proofs.QueueLists.{nothing_in}

@@ -7,14 +7,14 @@ use Rattle.pssm_model.specs.declared.ids.VertexId.{VertexId}
 use Rattle.pssm_model.specs.declared.elements.DraftMachine.{DraftMachine}
 use Rattle.pssm_model.specs.Configuration.{Configuration}
 use Rattle.pssm_model.specs.Changes.{Agree}
-use Rattle.pssm_model.proofs.Agreeing.{Agree-symm, complete_too}
+use Rattle.pssm_object.proofs.Agreeing.{Agree-symm, complete_too}
 use Rattle.pssm_semantics.specs.declared.entry.ObjectId.{ObjectId}
 use Rattle.pssm_semantics.specs.declared.entry.Entry.{Entry}
 use Rattle.pssm_semantics.specs.declared.entry.Entry.TheVariants.{Post, Start, Take, Done, Exit, Effect, Enter, Opened, Pick, DoStep}
 use Rattle.pssm_semantics.specs.Journal.{IsActive, EntersAt, ExitsAt, object_of, configuration_after}
 use Rattle.pssm_semantics.specs.Completion.{DonesAt, BecomesComplete, HasCompletionTransition, IsQueuedAt}
-use Rattle.pssm_semantics.proofs.Active.{IsActive-stays, IsActive-was}
-use Rattle.pssm_semantics.proofs.Appending.{EndsAt, IsWithin, split_push, splits_more, every_push, every_init}
+use Rattle.pssm_semantics_laws.proofs.Active.{IsActive-stays, IsActive-was}
+use Rattle.pssm_semantics_laws.proofs.Appending.{EndsAt, IsWithin, split_push, splits_more, every_push, every_init}
 use Rattle.pssm_object.specs.Queue.{WaitsSince, WaitsBefore, IsQueueOf}
 use Rattle.pssm_object.specs.inner.Queueing.{without, ComesToWait, QueueGoesOn}
 use Rattle.pssm_object.proofs.QueueLists.{in_order_too, stays_in, was_in, ordered_without}

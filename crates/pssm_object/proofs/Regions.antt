@@ -12,7 +12,7 @@ use Rattle.pssm_semantics.specs.declared.setting.Class.{Class}
 use Rattle.pssm_semantics.specs.Journal.{EntersAt, object_of, configuration_after}
 use Rattle.pssm_semantics.specs.Completion.{BecomesComplete}
 use Rattle.pssm_semantics.specs.Classes.{IsWellFormedClass}
-use Rattle.pssm_semantics.proofs.Configurations.{configuration-other}
+use Rattle.pssm_object.proofs.Configurations.{configuration-other}
 use Rattle.pssm_object.specs.Standing.{Standing, StandsAfter}
 use Rattle.pssm_object.proofs.Advancing.{known_object}
 use Rattle.pssm_object.proofs.QueueChanges.{becomes_by, none_becomes}

@@ -10,12 +10,12 @@ use Rattle.pssm_model.specs.Course.{Head, RemembersSoFar}
 use Rattle.pssm_model.specs.Order.{course_by, IsWayNow}
 use Rattle.pssm_model.specs.Routes.{Truth}
 use Rattle.pssm_model.specs.Ways.{Memory, IsWay}
-use Rattle.pssm_plan.proofs.Known.{Known, known_as}
+use Rattle.pssm_model_laws.proofs.Known.{Known, known_as}
 use Rattle.pssm_semantics.specs.declared.entry.ObjectId.{ObjectId}
 use Rattle.pssm_semantics.specs.declared.entry.Entry.{Entry}
 use Rattle.pssm_semantics.specs.Journal.{IsMemory, configuration_after}
 use Rattle.pssm_semantics.specs.Steps.{course_of}
-use Rattle.pssm_semantics.proofs.Memories.{memory_remembered, remembered_memory, way_same, way_now}
+use Rattle.pssm_object.proofs.Memories.{memory_remembered, remembered_memory, way_same, way_now}
 use Rattle.pssm_object.specs.Standing.{IsUnderWay}
 use Rattle.pssm_object.proofs.KnownMemories.{known_so_far}
 

@@ -23,8 +23,8 @@ use Rattle.pssm_semantics.specs.Journal.{Heads, IsPost, IsStart, object_of}
 use Rattle.pssm_semantics.specs.Steps.{StepAt, IsLastStep}
 use Rattle.pssm_semantics.specs.Completion.{IsStepFinished}
 use Rattle.pssm_semantics.specs.Rules.{KeepsStart}
-use Rattle.pssm_semantics.proofs.Members.{first_in}
-use Rattle.pssm_semantics.proofs.Stores.{head_own}
+use Rattle.pssm_semantics_laws.proofs.Members.{first_in}
+use Rattle.pssm_semantics_laws.proofs.Stores.{head_own}
 use Rattle.pssm_object.specs.Standing.{IsUnderWay}
 use Rattle.pssm_object.specs.inner.Choosing.{IsItemThere}
 

@@ -10,8 +10,8 @@ use Rattle.pssm_semantics.specs.declared.stimulus.Stimulus.{Stimulus}
 use Rattle.pssm_semantics.specs.Journal.{object_of}
 use Rattle.pssm_semantics.specs.Pool.{told_by}
 use Rattle.pssm_semantics.specs.Rules.{taken_by}
-use Rattle.pssm_semantics.proofs.Members.{first_in, later_in}
-use Rattle.pssm_semantics.proofs.Stores.{SameTakes, told_by-more}
+use Rattle.pssm_semantics_laws.proofs.Members.{first_in, later_in}
+use Rattle.pssm_semantics_laws.proofs.Stores.{SameTakes, told_by-more}
 use Rattle.pssm_object.specs.Standing.{HasSignalsTaken}
 
 -- a fact about each element that is there is one about all

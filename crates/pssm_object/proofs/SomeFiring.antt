@@ -16,9 +16,9 @@ use Rattle.pssm_model.specs.FiringSets.{StartsBefore, IsListed, IsFiring}
 use Rattle.pssm_model.specs.WellFormed.{KeepsModelRules}
 use Rattle.pssm_model.specs.inner.Listed.{vertex_number, transition_number}
 use Rattle.pssm_model.proofs.ElementLaws.{same_vertex, same_transition, nothing_in_nil}
-use Rattle.pssm_model.proofs.RouteKinds.{some_start}
+use Rattle.pssm_model_laws.proofs.RouteKinds.{some_start}
 use Rattle.pssm_model.proofs.RouteLaws.{none_in_order}
-use Rattle.pssm_model.proofs.StateRoutes.{leaves_some}
+use Rattle.pssm_model_laws.proofs.StateRoutes.{leaves_some}
 use Rattle.pssm_routes.specs.declared.areas.Footprint.{Footprint}
 use Rattle.pssm_routes.specs.inner.Footprints.{IsFootprintOf, ClashesWithSome}
 use Rattle.pssm_routes.specs.inner.Starts.{IsCandidate}
@@ -31,7 +31,7 @@ use Rattle.pssm_routes.proofs.Members.{in_front, in_rest, front_or_rest}
 use Rattle.pssm_routes.proofs.Picking.{chosen_none, grown_by}
 use Rattle.pssm_routes.proofs.Settling.{fires_settled}
 use Rattle.pssm_routes.proofs.StartLaws.{start_there}
-use Rattle.pssm_plan.proofs.Known.{Known, known_both, known_not}
+use Rattle.pssm_model_laws.proofs.Known.{Known, known_both, known_not}
 use Rattle.pssm_object.proofs.KnownStarts.{known_reacts, known_outranked}
 use Rattle.pssm_object.proofs.KnownJoiners.{known_joiner}
 

@@ -16,8 +16,8 @@ use Rattle.pssm_model.specs.FiringSets.{IsLateRoute}
 use Rattle.pssm_model.specs.Ways.{Memory, IsRemembered, IsHistoryOf, OpensByDefault, OpensByHistory, CanOpen}
 use Rattle.pssm_model.specs.Shapes.{HasShape}
 use Rattle.pssm_model.specs.WellFormed.{KeepsModelRules}
-use Rattle.pssm_plan.proofs.Known.{Known, known_as, known_both, known_below}
-use Rattle.pssm_plan.proofs.KnownPlaces.{known_vertex_kind}
+use Rattle.pssm_model_laws.proofs.Known.{Known, known_as, known_both, known_below}
+use Rattle.pssm_model_laws.proofs.KnownPlaces.{known_vertex_kind}
 use Rattle.pssm_semantics.specs.Known.{IsWayOf}
 use Rattle.pssm_semantics.specs.Forms.{IsShortWay}
 use Rattle.pssm_object.specs.inner.Firing.{IsHistoryKind}

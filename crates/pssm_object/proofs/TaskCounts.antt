@@ -19,7 +19,7 @@ use Rattle.pssm_semantics.specs.declared.stimulus.Task.{Task}
 use Rattle.pssm_semantics.specs.declared.stimulus.Task.TheVariants.{Exit, Effect, Enter, DoStep}
 use Rattle.pssm_semantics.specs.declared.setting.Class.{Class}
 use Rattle.pssm_semantics.specs.Classes.{IsWellFormedClass}
-use Rattle.pssm_semantics.proofs.Members.{first_in, later_in, in_cases}
+use Rattle.pssm_semantics_laws.proofs.Members.{first_in, later_in, in_cases}
 use Rattle.pssm_object.specs.Doing.{do_task_of, do_tasks_below, do_tasks}
 use Rattle.pssm_object.specs.Standing.{Standing, StandsAfter}
 use Rattle.pssm_object.specs.Tasks.{task_of, tasks_of_plan, ready_tasks}

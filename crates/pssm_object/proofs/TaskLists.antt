@@ -24,7 +24,7 @@ use Rattle.pssm_semantics.specs.declared.setting.Class.{Class}
 use Rattle.pssm_semantics.specs.Journal.{object_of, configuration_after}
 use Rattle.pssm_semantics.specs.Tasks.{IsReadyItem, IsReadyWork}
 use Rattle.pssm_semantics.specs.Classes.{IsWellFormedClass}
-use Rattle.pssm_semantics.proofs.Members.{Contains-read, Contains-of_read, first_in, later_in}
+use Rattle.pssm_semantics_laws.proofs.Members.{Contains-read, Contains-of_read, first_in, later_in}
 use Rattle.pssm_object.specs.Doing.{do_tasks}
 use Rattle.pssm_object.specs.Standing.{Standing, StandsAfter}
 use Rattle.pssm_object.specs.Following.{NamesPlaces}
@@ -41,7 +41,7 @@ use Rattle.pssm_object.proofs.DoingNext.{next_alike}
 use Rattle.pssm_object.proofs.DoingLists.{active_there, in_do_tasks, do_task_listed, do_tasks_once}
 use Rattle.pssm_object.proofs.Standings.{plan_or_none, not_begun, only_posts, plan_of, plan_fits, step_of}
 use Rattle.pssm_object.proofs.UnderWay.{ready_item_is, item_ready}
-use Rattle.pssm_model.proofs.Agreeing.{Agree-symm}
+use Rattle.pssm_object.proofs.Agreeing.{Agree-symm}
 use Rattle.pssm_model.proofs.ElementLaws.{nothing_in_nil}
 use Rattle.pssm_config.specs.Tables.{Fits, configuration_of}
 use Rattle.pssm_model.proofs.RouteLaws.{none_in_order}

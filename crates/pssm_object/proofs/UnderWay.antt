@@ -17,7 +17,7 @@ use Rattle.pssm_model.specs.Course.{FiresBy}
 use Rattle.pssm_model.specs.Items.{IsWaiting, IsCleared, HasRunOut}
 use Rattle.pssm_model.specs.Order.{course_by, IsReady, IsWayNow}
 use Rattle.pssm_model.specs.Order.HasGone.{begun, more as gone_more}
-use Rattle.pssm_model.proofs.Agreeing.{Agree-refl, Agree-symm, Agree-trans, Agree-entered, Agree-exited, Agree-opened_none, Agree-opened_way}
+use Rattle.pssm_object.proofs.Agreeing.{Agree-refl, Agree-symm, Agree-trans, Agree-entered, Agree-exited, Agree-opened_none, Agree-opened_way}
 use Rattle.pssm_plan.specs.Steadiness.{BeginsWell, changed_by_item, changed_along}
 use Rattle.pssm_plan.proofs.SteadyChanges.{changed_along-push}
 use Rattle.pssm_semantics.specs.declared.entry.ObjectId.{ObjectId}
@@ -28,9 +28,9 @@ use Rattle.pssm_semantics.specs.Steps.{head_of, item_of, item_by, course_of}
 use Rattle.pssm_semantics.specs.Completion.{HasEnded, IsStepFinished}
 use Rattle.pssm_semantics.specs.Rules.{IsCalledItem, IsClearedItem}
 use Rattle.pssm_semantics.specs.Tasks.{IsReadyItem}
-use Rattle.pssm_semantics.proofs.Appending.{more, one_last_step, goes_on, begins}
-use Rattle.pssm_semantics.proofs.Courses.{runs_own, ran_more, ran_same}
-use Rattle.pssm_semantics.proofs.Configurations.{changed_by, configuration-changed}
+use Rattle.pssm_semantics_laws.proofs.Appending.{more, one_last_step, goes_on, begins}
+use Rattle.pssm_semantics_laws.proofs.Courses.{runs_own, ran_more, ran_same}
+use Rattle.pssm_object.proofs.Configurations.{changed_by, configuration-changed}
 use Rattle.pssm_object.specs.Standing.{AreActiveAlike, IsUnderWay}
 use Rattle.pssm_object.proofs.CourseLaws.{waiting_same, cleared_same, run_out_same, ready_same}
 

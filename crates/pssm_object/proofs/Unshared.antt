@@ -24,15 +24,15 @@ use Rattle.pssm_model.specs.RouteWords.{IsStepRoute, IsAreaOf, GoesAs}
 use Rattle.pssm_model.specs.FiringSets.{StartsBefore, IsListed, IsFiring}
 use Rattle.pssm_model.proofs.ElementLaws.{nothing_in_nil, same_transition}
 use Rattle.pssm_model.proofs.RouteLaws.{conflict_from_source}
-use Rattle.pssm_model.proofs.RouteOrder.{route_of, of_start, of_rest, start_or_rest, source_of, target_of}
-use Rattle.pssm_model.proofs.RouteKinds.{state_start, some_start, internal_alone}
-use Rattle.pssm_model.proofs.LegScopes.{shared_touch}
-use Rattle.pssm_model.proofs.RouteAreas.{has_area}
-use Rattle.pssm_model.proofs.Anchors.{anchor_around, conflict_is}
-use Rattle.pssm_model.proofs.SomeAnchor.{some_anchor}
+use Rattle.pssm_model_laws.proofs.RouteOrder.{route_of, of_start, of_rest, start_or_rest, source_of, target_of}
+use Rattle.pssm_model_laws.proofs.RouteKinds.{state_start, some_start, internal_alone}
+use Rattle.pssm_model_laws.proofs.LegScopes.{shared_touch}
+use Rattle.pssm_model_laws.proofs.RouteAreas.{has_area}
+use Rattle.pssm_model_laws.proofs.Anchors.{anchor_around, conflict_is}
+use Rattle.pssm_model_laws.proofs.SomeAnchor.{some_anchor}
 use Rattle.pssm_plan.proofs.RoutePlaces.{target_in_area}
 use Rattle.pssm_semantics.specs.Forms.{IsRunRoute, IsShortRoute, IsShortFiring}
-use Rattle.pssm_semantics.proofs.Members.{first_in, later_in, in_cases}
+use Rattle.pssm_semantics_laws.proofs.Members.{first_in, later_in, in_cases}
 use Rattle.pssm_object.proofs.Fired.{active_source}
 
 -- ---- transitions that are listed once

@@ -8,7 +8,7 @@ use Rattle.pssm_model.specs.declared.elements.Owner.TheVariants.{Top, Region}
 use Rattle.pssm_model.specs.Forest.{owner_of}
 use Rattle.pssm_plan.specs.Plans.{IsPlanOf}
 use Rattle.pssm_model.specs.Changes.{Agree, nothing_yet}
-use Rattle.pssm_model.proofs.Agreeing.{Agree-symm, Agree-trans}
+use Rattle.pssm_object.proofs.Agreeing.{Agree-symm, Agree-trans}
 use Rattle.pssm_model.proofs.ElementLaws.{nothing_in_nil}
 use Rattle.pssm_config.specs.Tables.{Tables, Fits, configuration_of}
 use Rattle.pssm_semantics.specs.declared.entry.ObjectId.{ObjectId}
@@ -23,8 +23,8 @@ use Rattle.pssm_semantics.specs.Values.{Store, Params, no_params}
 use Rattle.pssm_semantics.specs.Behaviours.{first_store}
 use Rattle.pssm_semantics.specs.Verdict.{IsFirstBroken}
 use Rattle.pssm_semantics.specs.Classes.{IsWellFormedClass}
-use Rattle.pssm_semantics.proofs.Configurations.{configuration-nil}
-use Rattle.pssm_semantics.proofs.Members.{first_in}
+use Rattle.pssm_object.proofs.Configurations.{configuration-nil}
+use Rattle.pssm_semantics_laws.proofs.Members.{first_in}
 use Rattle.pssm_pool.specs.declared.pools.Waiting.{Waiting}
 use Rattle.pssm_object.specs.declared.situation.Situation.{Situation}
 use Rattle.pssm_object.specs.Queue.{CompletionQueue, IsQueueOf}

@@ -33,13 +33,13 @@ use Rattle.pssm_plan.specs.Steps.{IsStep}
 use Rattle.pssm_plan.specs.inner.Sequence.{IsNestedPair}
 use Rattle.pssm_plan.specs.inner.OverRoutes.{GoesByRoutes, LiesInArea, GoesBy, EndsOnChoice, IsRestoredOver, IsCalledOver}
 use Rattle.pssm_model.proofs.ElementLaws.{mapped_some}
-use Rattle.pssm_model.proofs.LegShapes.{later_ends_on}
-use Rattle.pssm_model.proofs.KnownClosures.{known_same_leg, known_later_leg, known_path}
-use Rattle.pssm_plan.proofs.Depths.{owner_under}
+use Rattle.pssm_model_laws.proofs.LegShapes.{later_ends_on}
+use Rattle.pssm_model_laws.proofs.KnownClosures.{known_same_leg, known_later_leg, known_path}
+use Rattle.pssm_model_laws.proofs.Known.{Known, known_as, known_both, known_either, known_not, known_below, known_among, known_inside, known_vertex, known_transition}
+use Rattle.pssm_model_laws.proofs.KnownPlaces.{owner_under, known_in_state}
+use Rattle.pssm_plan.proofs.KnownRuns.{run_known}
 use Rattle.pssm_plan.proofs.RouteItems.{leg_at, called_is, called_of}
 use Rattle.pssm_plan.proofs.RouteCourses.{called_there as names_there}
-use Rattle.pssm_plan.proofs.Known.{Known, known_as, known_both, known_either, known_not, known_below, known_among, known_inside, known_vertex, known_transition, run_known}
-use Rattle.pssm_plan.proofs.KnownPlaces.{known_in_state}
 use Rattle.pssm_plan.proofs.KnownRoutes.{known_in_area, known_entered, known_choice, known_leg_exits, known_leg_enters, known_leg_ends, known_leg_opens}
 use Rattle.pssm_plan.proofs.RouteSteps.{gone_by_routes}
 use Rattle.pssm_plan.proofs.SteadyApart.{known_route}

@@ -21,15 +21,16 @@ use Rattle.pssm_model.specs.RouteWords.{IsStepRoute, GoesAs, EndsOn, EndsIn, IsE
 use Rattle.pssm_model.specs.Shapes.{HasShape}
 use Rattle.pssm_model.specs.WellFormed.{KeepsModelRules}
 use Rattle.pssm_plan.specs.inner.OverRoutes.{LiesInArea, LeavesOwner, OpensBeside, EndsOnChoice, IsHistoryFor, EndsOnHistory}
-use Rattle.pssm_model.proofs.LegRoots.{leg_begins}
-use Rattle.pssm_model.proofs.LegShapes.{later_begins_on}
-use Rattle.pssm_model.proofs.Widening.{known_in_scope}
-use Rattle.pssm_model.proofs.RouteAreas.{has_area}
-use Rattle.pssm_model.proofs.Stations.{route_enters}
-use Rattle.pssm_model.proofs.OneLegScope.{one_area, leg_has_scope}
-use Rattle.pssm_model.proofs.KnownClosures.{known_same_leg, known_in_leg, known_later_leg, known_last_vertex, known_internal, known_ends_at}
-use Rattle.pssm_plan.proofs.Known.{Known, known_as, known_both, known_either, known_not, known_among, known_all, known_vertex}
-use Rattle.pssm_plan.proofs.KnownPlaces.{known_owner, known_vertex_kind, known_goes, known_source_some, known_target_some, known_in_region, known_in_state, known_state_or_final, known_history_kind}
+use Rattle.pssm_model_laws.proofs.LegRoots.{leg_begins}
+use Rattle.pssm_model_laws.proofs.LegShapes.{later_begins_on}
+use Rattle.pssm_model_laws.proofs.Widening.{known_in_scope}
+use Rattle.pssm_model_laws.proofs.RouteAreas.{has_area}
+use Rattle.pssm_plan.proofs.Stations.{route_enters}
+use Rattle.pssm_model_laws.proofs.OneLegScope.{one_area, leg_has_scope}
+use Rattle.pssm_model_laws.proofs.KnownClosures.{known_same_leg, known_in_leg, known_later_leg, known_last_vertex, known_internal, known_ends_at}
+use Rattle.pssm_model_laws.proofs.Known.{Known, known_as, known_both, known_either, known_not, known_among, known_all, known_vertex}
+use Rattle.pssm_model_laws.proofs.KnownPlaces.{known_owner, known_vertex_kind, known_goes, known_source_some, known_target_some, known_in_region, known_in_state}
+use Rattle.pssm_plan.proofs.KnownHistories.{known_state_or_final, known_history_kind}
 
 -- for what something is entered, and what stands at an end
 known_entered_for : (m : DraftMachine) (v : VertexId) → Known (IsEnteredFor m v)

@@ -26,8 +26,8 @@ pub mod RouteRanks
 pub mod RouteReady
 pub mod OneCaller
 pub mod RouteCourses
-pub mod Known
-pub mod KnownPlaces
+pub mod KnownRuns
+pub mod KnownHistories
 pub mod KnownRoutes
 pub mod KnownItems
 pub mod StepLengths
@@ -46,3 +46,6 @@ pub mod CalledNext
 pub mod Settled
 pub mod CalledPlaces
 pub mod AddedCalls
+pub mod LegEntries
+pub mod OnceCalled
+pub mod Stations

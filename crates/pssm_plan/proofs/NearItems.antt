@@ -19,8 +19,8 @@ use Rattle.pssm_plan.specs.inner.Calling.{IsEffectBy, IsEffectOf, IsEffectOfSome
 use Rattle.pssm_plan.specs.inner.Near.{IsNear, EndsNear, ComesNear}
 use Rattle.pssm_model.proofs.ElementLaws.{kind_unique}
 use Rattle.pssm_model.proofs.RouteLaws.{in_one, is_one}
-use Rattle.pssm_model.proofs.InnerPaths.{not_state_or_final}
-use Rattle.pssm_model.proofs.LegRoots.{leg_ends, legs_meet}
+use Rattle.pssm_model_laws.proofs.InnerPaths.{not_state_or_final}
+use Rattle.pssm_model_laws.proofs.LegRoots.{leg_ends, legs_meet}
 use Rattle.pssm_legs.proofs.Places.{at_contains, contains_at}
 use Rattle.pssm_legs.proofs.LaterPlaces.{at_more, of_more, first_or_more}
 

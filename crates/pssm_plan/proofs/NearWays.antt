@@ -9,7 +9,7 @@ use Rattle.pssm_model.specs.Legs.SameLeg.{itself}
 use Rattle.pssm_model.specs.Legs.LaterLeg.{next as next_leg, after as after_leg}
 use Rattle.pssm_model.specs.Items.{PathBefore}
 use Rattle.pssm_model.specs.Items.PathBefore.{next as next_step, after as after_step}
-use Rattle.pssm_model.proofs.LegShapes.{ends_on}
+use Rattle.pssm_model_laws.proofs.LegShapes.{ends_on}
 use Rattle.pssm_legs.specs.Calls.{IsOrderedInLeg, IsCalledBy}
 use Rattle.pssm_legs.specs.Calls.IsOrderedInLeg.{exit_effect, path, effect_enter, effect_end, enter_end, later}
 use Rattle.pssm_plan.specs.declared.ways.Way.{Way}

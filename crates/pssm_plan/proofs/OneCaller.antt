@@ -34,16 +34,16 @@ use Rattle.pssm_model.proofs.ElementLaws.{leaves_one, nothing_in_nil}
 use Rattle.pssm_model.proofs.RouteLaws.{is_one}
 use Rattle.pssm_model.proofs.OwnerChains.{top_lies_nowhere}
 use Rattle.pssm_model.proofs.Nesting.{under_cases, lies_within}
-use Rattle.pssm_model.proofs.RegionChains.{on_one_chain}
-use Rattle.pssm_model.proofs.InnerPaths.{late_is_kind}
-use Rattle.pssm_model.proofs.Branches.{Along as LeadsAlong, along_ends}
-use Rattle.pssm_model.proofs.EndsApart.{step_is_route, one_way_in}
-use Rattle.pssm_model.proofs.LateStays.{meets_stays}
-use Rattle.pssm_model.proofs.LegRoots.{leg_ends, along_leg}
-use Rattle.pssm_model.proofs.UpAndDown.{source_of, target_of, some_end}
-use Rattle.pssm_model.proofs.RouteKinds.{state_start, inner_source, internal_alone}
-use Rattle.pssm_model.proofs.RouteAreas.{has_area}
-use Rattle.pssm_model.proofs.OnceCalled.{once}
+use Rattle.pssm_model_laws.proofs.RegionChains.{on_one_chain}
+use Rattle.pssm_model_laws.proofs.InnerPaths.{late_is_kind}
+use Rattle.pssm_model_laws.proofs.Branches.{Along as LeadsAlong, along_ends}
+use Rattle.pssm_model_laws.proofs.EndsApart.{step_is_route, one_way_in}
+use Rattle.pssm_model_laws.proofs.LateStays.{meets_stays}
+use Rattle.pssm_model_laws.proofs.LegRoots.{leg_ends, along_leg}
+use Rattle.pssm_model_laws.proofs.UpAndDown.{source_of, target_of, some_end}
+use Rattle.pssm_model_laws.proofs.RouteKinds.{state_start, inner_source, internal_alone}
+use Rattle.pssm_model_laws.proofs.RouteAreas.{has_area}
+use Rattle.pssm_plan.proofs.OnceCalled.{once}
 use Rattle.pssm_plan.proofs.RouteItems.{exit_is, enter_is, called_of}
 use Rattle.pssm_plan.proofs.RouteMore.{goes_kept}
 use Rattle.pssm_plan.proofs.RouteSteps.{gone_by_routes}

@@ -10,7 +10,7 @@ use Rattle.pssm_model.specs.declared.elements.DraftMachine.{DraftMachine}
 use Rattle.pssm_model.specs.declared.steps.Item.{Item}
 use Rattle.pssm_model.specs.Items.{Before}
 use Rattle.pssm_model.specs.Order.{IsReady}
-use Rattle.pssm_plan.proofs.Known.{run_known}
+use Rattle.pssm_plan.proofs.KnownRuns.{run_known}
 use Rattle.pssm_plan.specs.declared.roster.Call.{Call}
 use Rattle.pssm_plan.specs.Agenda.{Agenda, course_of}
 use Rattle.pssm_plan.specs.Plans.{IsOfCall, IsPlanOf}

@@ -21,11 +21,11 @@ use Rattle.pssm_model.specs.WellFormed.{KeepsModelRules}
 use Rattle.pssm_model.specs.RouteWords.{EndsIn, IsEnteredBy}
 use Rattle.pssm_plan.specs.Steadiness.{BeginsWell}
 use Rattle.pssm_plan.specs.inner.OverRoutes.{GoesByRoutes, OpensBeside, EndsOnHistory, OpensFor, OpensAfterEntry, IsOpenedOver, IsOpenedFor, IsCalledOver}
-use Rattle.pssm_plan.proofs.Known.{Known, known_as, known_both, known_either, known_not, known_below}
-use Rattle.pssm_plan.proofs.KnownPlaces.{known_owner}
+use Rattle.pssm_model_laws.proofs.Known.{Known, known_as, known_both, known_either, known_not, known_below}
+use Rattle.pssm_model_laws.proofs.KnownPlaces.{known_owner}
+use Rattle.pssm_plan.proofs.KnownRuns.{run_known}
 use Rattle.pssm_plan.proofs.KnownRoutes.{known_entered, known_ends, known_end_history, known_beside}
 use Rattle.pssm_plan.proofs.KnownItems.{known_mode, known_some_mode, known_restored_as, known_by_some, known_over, known_exit, known_enter, known_pick, owning_there, some_ready}
-use Rattle.pssm_plan.proofs.Known.{run_known}
 use Rattle.pssm_plan.proofs.RouteItems.{called_is, called_of}
 use Rattle.pssm_plan.proofs.RouteSteps.{gone_by_routes}
 use Rattle.pssm_plan.proofs.StepLengths.{IsThere, called_there}

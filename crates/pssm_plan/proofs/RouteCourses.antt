@@ -28,8 +28,9 @@ use Rattle.pssm_plan.specs.inner.OverRoutes.{LiesInArea, EndsOnChoice, GoesByRou
 use Rattle.pssm_legs.specs.Calls.{IsItemIn}
 use Rattle.pssm_model.proofs.ElementLaws.{mapped_some}
 use Rattle.pssm_model.proofs.OwnerChains.{owned_is_place}
-use Rattle.pssm_model.proofs.EndsApart.{step_is_route}
-use Rattle.pssm_plan.proofs.Depths.{scope_there, region_there}
+use Rattle.pssm_model_laws.proofs.EndsApart.{step_is_route}
+use Rattle.pssm_model_laws.proofs.KnownPlaces.{region_there}
+use Rattle.pssm_plan.proofs.Depths.{scope_there}
 use Rattle.pssm_plan.proofs.RoutePlaces.{entered_in_area}
 
 module _ (m : DraftMachine) where
@@ -63,7 +64,7 @@ module _ {m : DraftMachine} (shape : HasShape m) (rules : KeepsModelRules m) (co
       (⊎_elim
       (λ after. owned_is_place m (Region r) (State after.0) after.1.1)
       (λ beside. (let owner = beside.1.1.1 in owned_is_place m (Region r) (State owner.0) owner.2))))
-      (λ over. (let ends = over.1.1 in region_there m shape ends.0 r (owned ends.3)))
+      (λ over. (let ends = over.1.1 in region_there shape ends.0 r (owned ends.3)))
       h
 
   -- what it calls

@@ -21,8 +21,8 @@ use Rattle.pssm_model.specs.Items.{CanExit, LegEnds, LegOpens, IsCalledInLeg, Op
 use Rattle.pssm_model.specs.Items.Called.{start, run, ends, opens, restored, entered}
 use Rattle.pssm_model.specs.RouteWords.{IsEnteredBy}
 use Rattle.pssm_plan.specs.inner.OverRoutes.{GoesBy, GoesByRoutes, CallsAtEnd, IsExitedOver, OpensFor, OpensAfterEntry, IsOpenedOver, IsCalledOver}
-use Rattle.pssm_model.proofs.LegRoots.{leg_ends}
-use Rattle.pssm_model.proofs.Stations.{aims}
+use Rattle.pssm_model_laws.proofs.LegRoots.{leg_ends}
+use Rattle.pssm_plan.proofs.Stations.{aims}
 use Rattle.pssm_plan.proofs.RouteLegs.{leg_exits_is, leg_exits_of, leg_enters_is, leg_enters_of, leg_end_is, leg_end_of, leg_opening_is, leg_opening_of}
 
 -- the leg of a route by the name of one of its transitions

@@ -20,12 +20,12 @@ use Rattle.pssm_model.specs.Routes.{IsRoute, IsSource}
 use Rattle.pssm_model.specs.RouteWords.{IsStepRoute, GoesAs, EndsOn, IsEnteredBy}
 use Rattle.pssm_plan.specs.inner.OverRoutes.{LiesInArea, CallsAtEnd, OpensBeside}
 use Rattle.pssm_model.proofs.ElementLaws.{kind_unique}
-use Rattle.pssm_model.proofs.Branches.{of_starts}
-use Rattle.pssm_model.proofs.EndsApart.{step_is_route}
-use Rattle.pssm_model.proofs.LegRoots.{leg_begins, leg_ends}
-use Rattle.pssm_model.proofs.RouteKinds.{state_start, one_start, inner_source}
-use Rattle.pssm_model.proofs.RouteAreas.{has_area, scope_on, route_exits}
-use Rattle.pssm_model.proofs.Stations.{route_enters, aims}
+use Rattle.pssm_model_laws.proofs.Branches.{of_starts}
+use Rattle.pssm_model_laws.proofs.EndsApart.{step_is_route}
+use Rattle.pssm_model_laws.proofs.LegRoots.{leg_begins, leg_ends}
+use Rattle.pssm_model_laws.proofs.RouteKinds.{state_start, one_start, inner_source}
+use Rattle.pssm_model_laws.proofs.RouteAreas.{has_area, scope_on, route_exits}
+use Rattle.pssm_plan.proofs.Stations.{route_enters, aims}
 
 module _ {m : DraftMachine} (rules : KeepsModelRules m) (shape : HasShape m) (p : Route) (step : IsStepRoute m p) where
   the_route : IsRoute m p

@@ -27,21 +27,21 @@ use Rattle.pssm_plan.specs.inner.OverRoutes.{LiesInArea, OpensBeside}
 use Rattle.pssm_model.proofs.ElementLaws.{leaves_one, enters_one}
 use Rattle.pssm_model.proofs.OwnerChains.{one_owner, under_further}
 use Rattle.pssm_model.proofs.Nesting.{under_cases, lies_within}
-use Rattle.pssm_model.proofs.RegionChains.{on_one_chain, under_state as state_under}
-use Rattle.pssm_model.proofs.KnownBelow.{sure, known_lies}
-use Rattle.pssm_model.proofs.InnerPaths.{point_owner, entry_after, regions_apart}
-use Rattle.pssm_model.proofs.Branches.{GoesNext, of_rest, of_starts, along_ends, along_cases, through_not_ends, goes_through, route_comes, stand}
-use Rattle.pssm_model.proofs.EndsApart.{step_is_route, ends_apart}
-use Rattle.pssm_model.proofs.LateStays.{late_stays, late_area as area_of_late}
-use Rattle.pssm_model.proofs.LegRoots.{leg_ends, leg_turned, legs_meet, later_to, later_from, begin_leg, along_leg, through_in_rest}
-use Rattle.pssm_model.proofs.UpAndDown.{GoesUp, GoesDown, up_or_down_kind, up_through, IsUp, up_before, up_along, up_no_down, height, along_in_rest, source_of, target_of, some_end}
-use Rattle.pssm_model.proofs.RouteKinds.{state_start, one_start, inner_source, internal_alone}
-use Rattle.pssm_model.proofs.DownLegs.{down_target, local_target}
-use Rattle.pssm_model.proofs.UpScopes.{scope_in_area}
-use Rattle.pssm_model.proofs.RouteAreas.{has_area, scope_on, below_exits_nothing}
-use Rattle.pssm_model.proofs.LegEntries.{not_up}
-use Rattle.pssm_model.proofs.OneLegScope.{one_area}
-use Rattle.pssm_plan.proofs.Known.{known_vertex}
+use Rattle.pssm_model_laws.proofs.RegionChains.{on_one_chain, under_state as state_under}
+use Rattle.pssm_model_laws.proofs.Known.{sure, known_vertex}
+use Rattle.pssm_model_laws.proofs.KnownPlaces.{known_lies}
+use Rattle.pssm_model_laws.proofs.InnerPaths.{point_owner, entry_after, regions_apart}
+use Rattle.pssm_model_laws.proofs.Branches.{GoesNext, of_rest, of_starts, along_ends, along_cases, through_not_ends, goes_through, route_comes, stand}
+use Rattle.pssm_model_laws.proofs.EndsApart.{step_is_route, ends_apart}
+use Rattle.pssm_model_laws.proofs.LateStays.{late_stays, late_area as area_of_late}
+use Rattle.pssm_model_laws.proofs.LegRoots.{leg_ends, leg_turned, legs_meet, later_to, later_from, begin_leg, along_leg, through_in_rest}
+use Rattle.pssm_model_laws.proofs.UpAndDown.{GoesUp, GoesDown, up_or_down_kind, up_through, IsUp, up_before, up_along, up_no_down, height, along_in_rest, source_of, target_of, some_end}
+use Rattle.pssm_model_laws.proofs.RouteKinds.{state_start, one_start, inner_source, internal_alone}
+use Rattle.pssm_model_laws.proofs.DownLegs.{down_target, local_target}
+use Rattle.pssm_model_laws.proofs.UpScopes.{scope_in_area}
+use Rattle.pssm_model_laws.proofs.RouteAreas.{has_area, scope_on, below_exits_nothing}
+use Rattle.pssm_plan.proofs.LegEntries.{not_up}
+use Rattle.pssm_model_laws.proofs.OneLegScope.{one_area}
 use Rattle.pssm_plan.proofs.SteadyPlaces.{IsRegionIn, IsRegionUnder, IsEdge, IsAtOrUnder, IsGoOn, go_on_is_no, same_state, same_region_place, no_circle, one_reached, home_in_scope, at_end_in_scope, under_or_at, in_region_at}
 
 -- The route ends in the region, which lies where the route exits and enters.

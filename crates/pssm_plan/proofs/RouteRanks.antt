@@ -43,14 +43,15 @@ use Rattle.pssm_model.proofs.ElementLaws.{mapped_some, same_vertex, same_transit
 use Rattle.pssm_model.proofs.RouteLaws.{is_one}
 use Rattle.pssm_model.proofs.OwnerChains.{one_count}
 use Rattle.pssm_model.proofs.Nesting.{shallower}
-use Rattle.pssm_model.proofs.Through.{step_leads, then_leads}
-use Rattle.pssm_model.proofs.RouteTree.{not_after_itself}
-use Rattle.pssm_model.proofs.EndsApart.{step_is_route}
-use Rattle.pssm_model.proofs.LegRoots.{leg_turned, legs_meet, later_to, later_further}
-use Rattle.pssm_model.proofs.LegShapes.{later_begins_on, later_ends_on}
-use Rattle.pssm_model.proofs.RouteAreas.{nested_exits}
-use Rattle.pssm_model.proofs.Stations.{nested_entries}
-use Rattle.pssm_plan.proofs.Depths.{state_down_region, depth_under, depth_in_scope}
+use Rattle.pssm_model_laws.proofs.Through.{step_leads, then_leads}
+use Rattle.pssm_model_laws.proofs.RouteTree.{not_after_itself}
+use Rattle.pssm_model_laws.proofs.EndsApart.{step_is_route}
+use Rattle.pssm_model_laws.proofs.LegRoots.{leg_turned, legs_meet, later_to, later_further}
+use Rattle.pssm_model_laws.proofs.LegShapes.{later_begins_on, later_ends_on}
+use Rattle.pssm_model_laws.proofs.RouteAreas.{nested_exits}
+use Rattle.pssm_plan.proofs.Stations.{nested_entries}
+use Rattle.pssm_model_laws.proofs.KnownPlaces.{depth_under}
+use Rattle.pssm_plan.proofs.Depths.{state_down_region, depth_in_scope}
 use Rattle.pssm_plan.proofs.RouteItems.{leg_at, exit_is, exit_of, enter_is, enter_of, called_is}
 use Rattle.pssm_plan.proofs.RouteSteps.{gone_by_routes}
 use Rattle.pssm_plan.proofs.SteadyPlaces.{no_circle, around_in_scope}

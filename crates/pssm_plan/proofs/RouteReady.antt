@@ -11,7 +11,7 @@ use Rattle.pssm_model.specs.Items.{Before, IsWaiting, IsCleared, HasRunOut}
 use Rattle.pssm_model.specs.Order.{HasGone, IsReady, IsAtOrBefore, course_by}
 use Rattle.pssm_model.specs.Order.IsAtOrBefore.{at as here, before as further_on}
 use Rattle.pssm_plan.specs.Steadiness.{BeginsWell}
-use Rattle.pssm_plan.proofs.Known.{run_known}
+use Rattle.pssm_plan.proofs.KnownRuns.{run_known}
 use Rattle.pssm_plan.proofs.RouteRanks.{HasRank, strong_before, rank_of_earlier, placed}
 
 module _ {m : DraftMachine} (shape : HasShape m) (rules : KeepsModelRules m) (head : Head) (now : Configuration)

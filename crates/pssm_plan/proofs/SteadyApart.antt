@@ -20,12 +20,12 @@ use Rattle.pssm_plan.specs.inner.OverRoutes.{LiesInArea}
 use Rattle.pssm_model.proofs.RouteLaws.{same_route, conflict_from_source}
 use Rattle.pssm_model.proofs.OwnerChains.{one_owner, under_further}
 use Rattle.pssm_model.proofs.Nesting.{under_cases, lies_within}
-use Rattle.pssm_model.proofs.LegScopes.{shared_touch}
-use Rattle.pssm_model.proofs.RouteAreas.{route_exits}
-use Rattle.pssm_model.proofs.OneLegScope.{one_area}
-use Rattle.pssm_model.proofs.Anchors.{Meet, anchor_source, anchor_around, conflict_is}
-use Rattle.pssm_model.proofs.SomeAnchor.{some_anchor}
-use Rattle.pssm_plan.proofs.Known.{Known, known_both, known_as, known_transition}
+use Rattle.pssm_model_laws.proofs.LegScopes.{shared_touch}
+use Rattle.pssm_model_laws.proofs.RouteAreas.{route_exits}
+use Rattle.pssm_model_laws.proofs.OneLegScope.{one_area}
+use Rattle.pssm_model_laws.proofs.Anchors.{Meet, anchor_source, anchor_around, conflict_is}
+use Rattle.pssm_model_laws.proofs.SomeAnchor.{some_anchor}
+use Rattle.pssm_model_laws.proofs.Known.{Known, known_both, known_as, known_transition}
 use Rattle.pssm_plan.proofs.SteadyPlaces.{IsRegionIn, IsEdge, IsPlaceIn, same_state, edge_owner_outside, edge_not_around, region_in_scope, around_in_scope, place_apart, under_state}
 use Rattle.pssm_plan.proofs.RoutePlaces.{source_is_end}
 

@@ -21,8 +21,8 @@ use Rattle.pssm_plan.specs.Steadiness.{BeginsWell}
 use Rattle.pssm_plan.specs.inner.OverRoutes.{GoesBy, IsItemAt}
 use Rattle.pssm_model.proofs.OwnerChains.{under_further}
 use Rattle.pssm_model.proofs.Nesting.{under_cases, region_cases, lies_within}
-use Rattle.pssm_model.proofs.RegionChains.{on_one_chain, under_state as state_under}
-use Rattle.pssm_model.proofs.EndsApart.{alone_at_home}
+use Rattle.pssm_model_laws.proofs.RegionChains.{on_one_chain, under_state as state_under}
+use Rattle.pssm_model_laws.proofs.EndsApart.{alone_at_home}
 use Rattle.pssm_plan.proofs.SteadyPlaces.{IsRegionIn, IsGoOn, go_on_is_no, no_circle, within_further, within_in, home_in_scope, in_region_at}
 use Rattle.pssm_plan.proofs.RoutePlaces.{late_end_in_area}
 use Rattle.pssm_plan.proofs.Arrivals.{Arrival, Arrives, EntersBy, StandsOn, StandsIn, IsPlace, IsProper, IsComingIn, along_same, entered_stand, entered_is_state, comes_area, comes_stands, comes_enters}

@@ -17,8 +17,9 @@ use Rattle.pssm_model.specs.Shapes.{HasShape, OwnsVertex}
 use Rattle.pssm_model.proofs.ElementLaws.{kind_unique, mapped_some, mapped_at}
 use Rattle.pssm_model.proofs.Nesting.{under_cases, region_cases, outer_of_region, lies_within}
 use Rattle.pssm_model.proofs.OwnerChains.{one_owner, under_further, circle_is_endless, top_lies_nowhere, region_down}
-use Rattle.pssm_model.proofs.RegionChains.{on_one_chain, under_state as state_under}
-use Rattle.pssm_plan.proofs.Depths.{owner_under, depth_under, state_down_region}
+use Rattle.pssm_model_laws.proofs.RegionChains.{on_one_chain, under_state as state_under}
+use Rattle.pssm_model_laws.proofs.KnownPlaces.{owner_under, depth_under}
+use Rattle.pssm_plan.proofs.Depths.{state_down_region}
 
 -- The region is all of the place, or lies in it.
 abbrev pub IsRegionIn : DraftMachine → RegionId → Scope → Type 0

@@ -34,11 +34,11 @@ use Rattle.pssm_plan.specs.inner.OverRoutes.{LiesInArea, GoesBy, IsHistoryFor, I
 use Rattle.pssm_model.proofs.ElementLaws.{leaves_one, nothing_in_nil, kind_unique}
 use Rattle.pssm_model.proofs.RouteLaws.{is_one}
 use Rattle.pssm_model.proofs.OwnerChains.{one_owner}
-use Rattle.pssm_model.proofs.InnerPaths.{late_is_kind}
-use Rattle.pssm_model.proofs.LegRoots.{leg_begins, leg_turned}
-use Rattle.pssm_model.proofs.LegShapes.{later_begins_on}
-use Rattle.pssm_model.proofs.LegEntries.{enters_turned}
-use Rattle.pssm_model.proofs.Stations.{entries_around}
+use Rattle.pssm_model_laws.proofs.InnerPaths.{late_is_kind}
+use Rattle.pssm_model_laws.proofs.LegRoots.{leg_begins, leg_turned}
+use Rattle.pssm_model_laws.proofs.LegShapes.{later_begins_on}
+use Rattle.pssm_plan.proofs.LegEntries.{enters_turned}
+use Rattle.pssm_plan.proofs.Stations.{entries_around}
 use Rattle.pssm_plan.proofs.RouteLegs.{last_of_end}
 use Rattle.pssm_plan.proofs.RouteItems.{leg_at, called_is, called_in}
 use Rattle.pssm_plan.proofs.RouteMore.{over_more, goes_kept, opened_kept, called_kept}

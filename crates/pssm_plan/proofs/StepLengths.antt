@@ -40,8 +40,8 @@ use Rattle.pssm_model.proofs.RouteLaws.{in_one, is_one}
 use Rattle.pssm_plan.proofs.RouteItems.{called_is}
 use Rattle.pssm_plan.proofs.RouteSteps.{gone_by_routes}
 use Rattle.pssm_plan.proofs.RouteCourses.{called_there as names_there}
-use Rattle.pssm_plan.proofs.Known.{Known}
-use Rattle.pssm_plan.proofs.KnownPlaces.{known_history}
+use Rattle.pssm_model_laws.proofs.Known.{Known}
+use Rattle.pssm_plan.proofs.KnownHistories.{known_history}
 use Rattle.pssm_plan.proofs.SteadyPlaces.{other_kind, go_on_is_no, same_region_place}
 use Rattle.pssm_plan.proofs.RoutePlaces.{entered_is_state}
 use Rattle.pssm_plan.proofs.SteadyStems.{history_modes, history_is_no_choice, go_on_history, ran_was_called}

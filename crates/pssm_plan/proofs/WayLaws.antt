@@ -43,8 +43,8 @@ use Rattle.pssm_plan.specs.inner.Sequence.{IsNestedPair, IsSequence, IsOpenedByS
 use Rattle.pssm_plan.specs.inner.Calling.{MayRun, IsOfWays, IsDefaultOf, IsRestoredOf, IsOpenedByEntry}
 use Rattle.pssm_model.proofs.ElementLaws.{mapped_some, nothing_in_nil}
 use Rattle.pssm_model.proofs.OwnerChains.{owned_is_place}
-use Rattle.pssm_model.proofs.LegRoots.{leg_ends}
-use Rattle.pssm_model.proofs.EndsApart.{step_is_route}
+use Rattle.pssm_model_laws.proofs.LegRoots.{leg_ends}
+use Rattle.pssm_model_laws.proofs.EndsApart.{step_is_route}
 use Rattle.pssm_plan.proofs.Depths.{scope_there}
 use Rattle.pssm_plan.proofs.MoreRan.{restored_more}
 

@@ -18,11 +18,11 @@ use Rattle.pssm_model.specs.WellFormed.{KeepsModelRules}
 use Rattle.pssm_model.proofs.ElementLaws.{leaves_one, enters_one}
 use Rattle.pssm_model.proofs.RouteLaws.{is_one}
 use Rattle.pssm_model.proofs.OwnerChains.{under_further}
-use Rattle.pssm_model.proofs.RegionChains.{on_one_chain, under_state}
-use Rattle.pssm_model.proofs.InnerPaths.{no_circle}
-use Rattle.pssm_model.proofs.RouteOrder.{of_start, same_or_join}
-use Rattle.pssm_model.proofs.UpAndDown.{source_of}
-use Rattle.pssm_model.proofs.SomeAnchor.{some_anchor}
+use Rattle.pssm_model_laws.proofs.RegionChains.{on_one_chain, under_state}
+use Rattle.pssm_model_laws.proofs.InnerPaths.{no_circle}
+use Rattle.pssm_model_laws.proofs.RouteOrder.{of_start, same_or_join}
+use Rattle.pssm_model_laws.proofs.UpAndDown.{source_of}
+use Rattle.pssm_model_laws.proofs.SomeAnchor.{some_anchor}
 use Rattle.pssm_routes.specs.inner.Footprints.{IsAnchorBy}
 
 module _ (m : DraftMachine) where

@@ -15,11 +15,11 @@ use Rattle.pssm_model.specs.RouteWords.{IsStepRoute, IsThrough}
 use Rattle.pssm_model.specs.WellFormed.{KeepsModelRules}
 use Rattle.pssm_model.proofs.ElementLaws.{enters_one}
 use Rattle.pssm_model.proofs.RouteLaws.{is_one}
-use Rattle.pssm_model.proofs.RouteOrder.{route_of, of_rest}
-use Rattle.pssm_model.proofs.Branches.{Along}
-use Rattle.pssm_model.proofs.Branches.Along.{itself, goes as along_on}
-use Rattle.pssm_model.proofs.UpAndDown.{GoesUp, GoesDown, up_or_down_kind}
-use Rattle.pssm_model.proofs.DownLegs.{down_target}
+use Rattle.pssm_model_laws.proofs.RouteOrder.{route_of, of_rest}
+use Rattle.pssm_model_laws.proofs.Branches.{Along}
+use Rattle.pssm_model_laws.proofs.Branches.Along.{itself, goes as along_on}
+use Rattle.pssm_model_laws.proofs.UpAndDown.{GoesUp, GoesDown, up_or_down_kind}
+use Rattle.pssm_model_laws.proofs.DownLegs.{down_target}
 use Rattle.pssm_routes.specs.inner.Starts.{GoesOnBy}
 use Rattle.pssm_routes.specs.inner.Passing.{IsPassedOver}
 use Rattle.pssm_routes.specs.inner.Ways.{IsWay}

@@ -17,13 +17,13 @@ use Rattle.pssm_model.specs.RouteWords.{IsStepRoute, IsEndOf, IsAreaOf}
 use Rattle.pssm_model.specs.WellFormed.{KeepsModelRules}
 use Rattle.pssm_model.proofs.ElementLaws.{leaves_one}
 use Rattle.pssm_model.proofs.OwnerChains.{under_further}
-use Rattle.pssm_model.proofs.RegionChains.{on_one_chain}
-use Rattle.pssm_model.proofs.RouteOrder.{start_or_rest, before_rest}
-use Rattle.pssm_model.proofs.RouteKinds.{some_start, kinds_agree}
-use Rattle.pssm_model.proofs.RouteAreas.{has_area}
-use Rattle.pssm_model.proofs.OneLegScope.{one_area}
-use Rattle.pssm_model.proofs.SomeAnchor.{some_anchor}
-use Rattle.pssm_model.proofs.Anchors.{sources_within, anchor_around, conflict_is}
+use Rattle.pssm_model_laws.proofs.RegionChains.{on_one_chain}
+use Rattle.pssm_model_laws.proofs.RouteOrder.{start_or_rest, before_rest}
+use Rattle.pssm_model_laws.proofs.RouteKinds.{some_start, kinds_agree}
+use Rattle.pssm_model_laws.proofs.RouteAreas.{has_area}
+use Rattle.pssm_model_laws.proofs.OneLegScope.{one_area}
+use Rattle.pssm_model_laws.proofs.SomeAnchor.{some_anchor}
+use Rattle.pssm_model_laws.proofs.Anchors.{sources_within, anchor_around, conflict_is}
 use Rattle.pssm_legs.specs.declared.areas.Area.{Area}
 use Rattle.pssm_legs.specs.declared.areas.Area.TheVariants.{Nowhere, Inside, Within}
 use Rattle.pssm_legs.specs.Areas.{scope_of}

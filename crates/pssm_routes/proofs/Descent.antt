@@ -18,7 +18,7 @@ use Rattle.pssm_model.specs.Paths.LeadsOn.{after}
 use Rattle.pssm_model.specs.WellFormed.{KeepsModelRules}
 use Rattle.pssm_model.specs.RouteWords.{IsThrough}
 use Rattle.pssm_model.proofs.ElementLaws.{same_vertex, nothing_in_nil}
-use Rattle.pssm_model.proofs.Through.{step_leads, target_there, no_cycle}
+use Rattle.pssm_model_laws.proofs.Through.{step_leads, target_there, no_cycle}
 
 -- different numbers of vertices that come before
 pub record IsPassed (m : DraftMachine) (v : VertexId) (ns : List ℕ) : Type 0 where

@@ -17,8 +17,8 @@ use Rattle.pssm_model.specs.RouteWords.{IsThrough}
 use Rattle.pssm_model.specs.WellFormed.{KeepsModelRules}
 use Rattle.pssm_model.proofs.ElementLaws.{kind_at, leaves_one, enters_one, nothing_in_nil}
 use Rattle.pssm_model.proofs.RouteLaws.{in_one, is_one}
-use Rattle.pssm_model.proofs.Through.{kinds_clash, step_leads, target_there, exit_one_out}
-use Rattle.pssm_model.proofs.LegShapes.{cut_no_junction}
+use Rattle.pssm_model_laws.proofs.Through.{kinds_clash, step_leads, target_there, exit_one_out}
+use Rattle.pssm_model_laws.proofs.LegShapes.{cut_no_junction}
 use Rattle.pssm_routes.specs.declared.passing.Points.{Points}
 use Rattle.pssm_routes.specs.inner.Fitting.{PassesBy, IsMarked}
 use Rattle.pssm_routes.specs.inner.Passing.{IsPassedOver, HasWay, KnowsWays, IsFoundOnce, IsFurther, found_by}

@@ -26,9 +26,9 @@ use Rattle.pssm_model.specs.Routes.IsReached.{start as begins, on as goes}
 use Rattle.pssm_model.specs.WellFormed.{KeepsModelRules}
 use Rattle.pssm_model.specs.WellFormed.Breaks.{E05}
 use Rattle.pssm_model.proofs.ElementLaws.{same_vertex, leaves_one, enters_one, nothing_in_nil}
-use Rattle.pssm_model.proofs.Through.{IsThroughKind, kinds_clash, not_through, step_leads, source_there, no_cycle}
-use Rattle.pssm_model.proofs.RouteOrder.{of_start, of_rest, start_or_rest, before_rest, rest_leaves_through}
-use Rattle.pssm_model.proofs.StateRoutes.{leaves_some}
+use Rattle.pssm_model_laws.proofs.Through.{IsThroughKind, kinds_clash, not_through, step_leads, source_there, no_cycle}
+use Rattle.pssm_model_laws.proofs.RouteOrder.{of_start, of_rest, start_or_rest, before_rest, rest_leaves_through}
+use Rattle.pssm_model_laws.proofs.StateRoutes.{leaves_some}
 use Rattle.pssm_model.proofs.RouteLaws.{in_one}
 use Rattle.pssm_routes.proofs.Marks.{empty_is}
 use Rattle.pssm_routes.proofs.SameOrder.{ascending_same}

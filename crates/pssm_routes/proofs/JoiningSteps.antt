@@ -13,8 +13,8 @@ use Rattle.pssm_model.specs.Routes.{Truth, IsRoute, IsStateRoute, IsTrueAt}
 use Rattle.pssm_model.specs.RouteWords.{IsThrough}
 use Rattle.pssm_model.specs.WellFormed.{KeepsModelRules}
 use Rattle.pssm_model.proofs.ElementLaws.{leaves_one}
-use Rattle.pssm_model.proofs.Through.{not_through}
-use Rattle.pssm_model.proofs.StateRoutes.{leaves_some}
+use Rattle.pssm_model_laws.proofs.Through.{not_through}
+use Rattle.pssm_model_laws.proofs.StateRoutes.{leaves_some}
 use Rattle.pssm_routes.specs.declared.areas.Footprint.{Footprint}
 use Rattle.pssm_routes.specs.declared.seeking.Step.{Step}
 use Rattle.pssm_routes.specs.inner.Starts.{GoesOnBy}

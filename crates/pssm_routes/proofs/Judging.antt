@@ -18,9 +18,9 @@ use Rattle.pssm_routes.specs.inner.Starts.{IsCandidate}
 use Rattle.pssm_routes.specs.inner.Sets.{IsSettled, IsFull, HasJoinerFrom, AreApart, AreComplete}
 use Rattle.pssm_routes.proofs.Members.{in_front, in_rest, front_or_rest}
 use Rattle.pssm_routes.proofs.Settling.{fires_settled}
-use Rattle.pssm_model.proofs.RouteOrder.{of_start}
-use Rattle.pssm_model.proofs.RouteKinds.{some_start}
-use Rattle.pssm_model.proofs.UpAndDown.{source_of}
+use Rattle.pssm_model_laws.proofs.RouteOrder.{of_start}
+use Rattle.pssm_model_laws.proofs.RouteKinds.{some_start}
+use Rattle.pssm_model_laws.proofs.UpAndDown.{source_of}
 use Rattle.pssm_routes.proofs.Joiners.{clash_turns, footprint_in, route_in, enabled_conflict, joiner_can_join, joiner_sources, joins_with}
 
 -- the first of a list in order starts before each later one

@@ -19,10 +19,10 @@ use Rattle.pssm_model.specs.RouteWords.{IsThrough}
 use Rattle.pssm_model.specs.WellFormed.{KeepsModelRules}
 use Rattle.pssm_model.specs.WellFormed.Breaks.{E05, E16}
 use Rattle.pssm_model.proofs.ElementLaws.{kind_unique, enters_one}
-use Rattle.pssm_model.proofs.Known.{Known, known_either}
-use Rattle.pssm_model.proofs.KnownPlaces.{known_vertex_kind}
-use Rattle.pssm_model.proofs.Through.{kinds_clash, known_through, kind_of, target_there}
-use Rattle.pssm_model.proofs.RouteOrder.{target_of}
+use Rattle.pssm_model_laws.proofs.Known.{Known, known_either}
+use Rattle.pssm_model_laws.proofs.KnownPlaces.{known_vertex_kind}
+use Rattle.pssm_model_laws.proofs.Through.{kinds_clash, known_through, kind_of, target_there}
+use Rattle.pssm_model_laws.proofs.RouteOrder.{target_of}
 use Rattle.pssm_routes.specs.inner.Passing.{IsPassedOver, HasWay}
 use Rattle.pssm_routes.specs.inner.Passing.HasWay.{ends as way_ends, over as way_over, all as way_all}
 use Rattle.pssm_routes.specs.inner.Ways.{IsAllowed, IsOpen, LeadsOut}

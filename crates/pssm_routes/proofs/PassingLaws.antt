@@ -17,8 +17,8 @@ use Rattle.pssm_model.specs.Legs.{Leaves, Enters}
 use Rattle.pssm_model.specs.Routes.{Truth, IsTrueAt}
 use Rattle.pssm_model.specs.Shapes.{HasShape}
 use Rattle.pssm_model.proofs.ElementLaws.{same_vertex, leaves_one, enters_one, nothing_in_nil, some_at, mapped_at, mapped_some}
-use Rattle.pssm_model.proofs.KnownPlaces.{known_vertex_kind}
-use Rattle.pssm_model.proofs.Through.{kinds_clash, target_there}
+use Rattle.pssm_model_laws.proofs.KnownPlaces.{known_vertex_kind}
+use Rattle.pssm_model_laws.proofs.Through.{kinds_clash, target_there}
 use Rattle.pssm_routes.specs.declared.passing.Points.{Points}
 use Rattle.pssm_routes.specs.inner.Fitting.{IsMarked}
 use Rattle.pssm_routes.specs.inner.Passing.{IsPassedOver, HasWay, EndsWay, EndsOnMarked, AreAllGood, LeadsBack, found_by, IsFoundOnce, Grows, IsFurther, IsFurtherEnd, IsFurtherBack, HasEnds, AllLead, HasGoneBack}

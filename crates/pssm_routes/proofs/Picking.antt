@@ -22,10 +22,10 @@ use Rattle.pssm_model.specs.Routes.{Truth, IsSource, IsStateRoute, IsEnabled}
 use Rattle.pssm_model.specs.FiringSets.{IsFiringSet, IsListed}
 use Rattle.pssm_model.proofs.ElementLaws.{same_transition}
 use Rattle.pssm_model.proofs.RouteLaws.{none_in_order}
-use Rattle.pssm_model.proofs.RegionChains.{on_one_chain, under_state}
-use Rattle.pssm_model.proofs.RouteOrder.{of_start}
-use Rattle.pssm_model.proofs.UpAndDown.{source_of}
-use Rattle.pssm_model.proofs.Anchors.{sources_within}
+use Rattle.pssm_model_laws.proofs.RegionChains.{on_one_chain, under_state}
+use Rattle.pssm_model_laws.proofs.RouteOrder.{of_start}
+use Rattle.pssm_model_laws.proofs.UpAndDown.{source_of}
+use Rattle.pssm_model_laws.proofs.Anchors.{sources_within}
 use Rattle.pssm_routes.specs.declared.areas.Footprint.{Footprint}
 use Rattle.pssm_model.specs.WellFormed.{KeepsModelRules}
 use Rattle.pssm_routes.specs.inner.Footprints.{IsFootprintOf, Clash}

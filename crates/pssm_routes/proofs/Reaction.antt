@@ -9,7 +9,7 @@ use Rattle.pssm_model.specs.Shapes.{HasShape}
 use Rattle.pssm_model.specs.Legs.{Leaves}
 use Rattle.pssm_model.specs.Routes.{Truth}
 use Rattle.pssm_model.specs.WellFormed.{KeepsModelRules}
-use Rattle.pssm_model.proofs.RouteOrder.{of_start, target_of}
+use Rattle.pssm_model_laws.proofs.RouteOrder.{of_start, target_of}
 use Rattle.pssm_routes.specs.declared.seeking.Step.{Step}
 use Rattle.pssm_routes.specs.inner.Starts.{IsStartedWith, GoesOnBy, HasRouteBy, Reacts}
 use Rattle.pssm_routes.specs.inner.Ways.{LeadsOut, IsWayOut}

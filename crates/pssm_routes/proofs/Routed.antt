@@ -17,10 +17,10 @@ use Rattle.pssm_model.specs.RouteWords.{IsThrough}
 use Rattle.pssm_model.specs.WellFormed.{KeepsModelRules}
 use Rattle.pssm_model.proofs.ElementLaws.{leaves_one, enters_one}
 use Rattle.pssm_model.proofs.RouteLaws.{is_one, one_in_order}
-use Rattle.pssm_model.proofs.Known.{known_transition}
-use Rattle.pssm_model.proofs.Through.{kinds_clash, not_through, no_cycle, join_from_state, join_one_out, exit_one_out}
-use Rattle.pssm_model.proofs.LegShapes.{cut_no_junction}
-use Rattle.pssm_model.proofs.RouteOrder.{of_start, of_rest, start_or_rest}
+use Rattle.pssm_model_laws.proofs.Known.{known_transition}
+use Rattle.pssm_model_laws.proofs.Through.{kinds_clash, not_through, no_cycle, join_from_state, join_one_out, exit_one_out}
+use Rattle.pssm_model_laws.proofs.LegShapes.{cut_no_junction}
+use Rattle.pssm_model_laws.proofs.RouteOrder.{of_start, of_rest, start_or_rest}
 use Rattle.pssm_routes.specs.inner.Fitting.{PassesBy, FitsTogether, StartsOutside}
 use Rattle.pssm_routes.specs.inner.Starts.{AreStartsWith, GoesOnBy}
 use Rattle.pssm_routes.specs.inner.Passing.{IsPassedOver}

@@ -12,7 +12,7 @@ use Rattle.pssm_model.specs.Shapes.{HasShape}
 use Rattle.pssm_model.specs.Routes.{Truth, IsSource, IsStateRoute}
 use Rattle.pssm_model.specs.WellFormed.{KeepsModelRules}
 use Rattle.pssm_model.proofs.ElementLaws.{some_at, mapped_at}
-use Rattle.pssm_model.proofs.Through.{target_there}
+use Rattle.pssm_model_laws.proofs.Through.{target_there}
 use Rattle.pssm_routes.specs.declared.seeking.Step.{Step}
 use Rattle.pssm_routes.specs.declared.areas.Footprint.{Footprint}
 use Rattle.pssm_routes.specs.inner.Starts.{AreStartsWith, IsStartedWith, StartsAmong}

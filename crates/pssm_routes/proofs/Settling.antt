@@ -17,8 +17,8 @@ use Rattle.pssm_model.specs.Configuration.{Configuration}
 use Rattle.pssm_model.specs.Routes.{Truth, IsStateRoute, IsEnabled, IsSource, Conflict}
 use Rattle.pssm_model.specs.FiringSets.{IsSound, IsFiringSet}
 use Rattle.pssm_model.proofs.ElementLaws.{leaves_one}
-use Rattle.pssm_model.proofs.Known.{known_transition}
-use Rattle.pssm_model.proofs.RouteOrder.{same_or_join}
+use Rattle.pssm_model_laws.proofs.Known.{known_transition}
+use Rattle.pssm_model_laws.proofs.RouteOrder.{same_or_join}
 use Rattle.pssm_model.proofs.OwnerChains.{under_further, circle_is_endless}
 use Rattle.pssm_model.specs.Forest.LiesUnder.{owned, further}
 use Rattle.pssm_model.specs.WellFormed.{KeepsModelRules}

@@ -22,9 +22,9 @@ use Rattle.pssm_model.specs.FiringSets.{IsLateOrigin, IsLateRoute}
 use Rattle.pssm_model.specs.WellFormed.{KeepsModelRules, HasElse, HasSureBranch, IsComeToLate}
 use Rattle.pssm_model.specs.WellFormed.Breaks.{E18}
 use Rattle.pssm_model.proofs.ElementLaws.{leaves_one}
-use Rattle.pssm_model.proofs.KnownPlaces.{known_vertex_kind}
-use Rattle.pssm_model.proofs.Through.{known_through, target_there, join_from_state}
-use Rattle.pssm_model.proofs.InnerPaths.{late_is_kind, after_no_exit}
+use Rattle.pssm_model_laws.proofs.KnownPlaces.{known_vertex_kind}
+use Rattle.pssm_model_laws.proofs.Through.{known_through, target_there, join_from_state}
+use Rattle.pssm_model_laws.proofs.InnerPaths.{late_is_kind, after_no_exit}
 use Rattle.pssm_routes.specs.inner.Starts.{GoesOnBy}
 use Rattle.pssm_routes.specs.inner.Passing.{HasWay}
 use Rattle.pssm_routes.specs.inner.Passing.HasWay.{ends as way_ends, over as way_over, all as way_all}

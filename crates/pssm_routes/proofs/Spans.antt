@@ -24,13 +24,14 @@ use Rattle.pssm_model.proofs.ElementLaws.{mapped_at, leaves_one, enters_one, not
 use Rattle.pssm_model.proofs.RouteLaws.{is_one}
 use Rattle.pssm_model.proofs.OwnerChains.{under_further}
 use Rattle.pssm_model.proofs.Nesting.{home_of_vertex}
-use Rattle.pssm_model.proofs.KnownBelow.{Known, sure, known_as, known_both, known_below, known_kind, known_owner, vertex_of}
-use Rattle.pssm_model.proofs.InnerPaths.{no_circle, home_owner, target_there, vertex_with_kind}
-use Rattle.pssm_model.proofs.DownLegs.{known_inside}
-use Rattle.pssm_model.proofs.Through.{kinds_clash}
-use Rattle.pssm_model.proofs.RouteOrder.{of_start, of_rest, start_or_rest, same_or_join, before_rest}
-use Rattle.pssm_model.proofs.RouteSpans.{some_span}
-use Rattle.pssm_model.proofs.CommonRegions.{HasOneMore, IsOneOf, scope_same, scope_stays, scope_grows}
+use Rattle.pssm_model_laws.proofs.Known.{Known, sure, known_as, known_both, known_below}
+use Rattle.pssm_model_laws.proofs.KnownPlaces.{known_vertex_kind as known_kind, known_owner, vertex_of}
+use Rattle.pssm_model_laws.proofs.InnerPaths.{no_circle, home_owner, target_there, vertex_with_kind}
+use Rattle.pssm_model_laws.proofs.DownLegs.{known_inside}
+use Rattle.pssm_model_laws.proofs.Through.{kinds_clash}
+use Rattle.pssm_model_laws.proofs.RouteOrder.{of_start, of_rest, start_or_rest, same_or_join, before_rest}
+use Rattle.pssm_model_laws.proofs.RouteSpans.{some_span}
+use Rattle.pssm_model_laws.proofs.CommonRegions.{HasOneMore, IsOneOf, scope_same, scope_stays, scope_grows}
 use Rattle.pssm_routes.specs.inner.Spans.{IsMetBy, AreAllNear, IsWiderFor, IsBeside}
 use Rattle.pssm_routes.proofs.Around.{lies_deeper, fewer_above}
 use Rattle.pssm_routes.proofs.Choosing.{seen_more, seen_last, seen_cases}

@@ -16,9 +16,9 @@ use Rattle.pssm_model.specs.Routes.{IsRoute, IsAscending}
 use Rattle.pssm_model.specs.WellFormed.{KeepsModelRules}
 use Rattle.pssm_model.proofs.ElementLaws.{mapped_some, same_vertex, kind_at, enters_one}
 use Rattle.pssm_model.proofs.RouteLaws.{in_one, is_one}
-use Rattle.pssm_model.proofs.KnownPlaces.{known_vertex_kind}
-use Rattle.pssm_model.proofs.Through.{join_one_out}
-use Rattle.pssm_model.proofs.RouteOrder.{of_start, of_rest}
+use Rattle.pssm_model_laws.proofs.KnownPlaces.{known_vertex_kind}
+use Rattle.pssm_model_laws.proofs.Through.{join_one_out}
+use Rattle.pssm_model_laws.proofs.RouteOrder.{of_start, of_rest}
 use Rattle.pssm_routes.specs.inner.Starts.{AreStartsWith, GoesOnBy, StartsAmong}
 use Rattle.pssm_routes.specs.inner.Ways.{EndsInside}
 use Rattle.pssm_routes.proofs.Ascents.{ascends_pairs}

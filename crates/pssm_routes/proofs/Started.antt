@@ -12,10 +12,10 @@ use Rattle.pssm_model.specs.Legs.{Leaves, On}
 use Rattle.pssm_model.specs.Routes.{Truth, IsTrueAt, IsRoute, IsStateRoute, IsEnabledBy, IsEnabled, HasNoTrigger}
 use Rattle.pssm_model.proofs.ElementLaws.{leaves_one, same_vertex}
 use Rattle.pssm_model.proofs.RouteLaws.{in_one, is_one}
-use Rattle.pssm_model.proofs.StateRoutes.{leaves_some}
+use Rattle.pssm_model_laws.proofs.StateRoutes.{leaves_some}
 use Rattle.std.proofs.lemmas.Bool.{cases_eq}
 use Rattle.std.proofs.lemmas.List.Elements.{All-contains}
-use Rattle.pssm_model.proofs.Through.{not_through}
+use Rattle.pssm_model_laws.proofs.Through.{not_through}
 use Rattle.pssm_routes.specs.inner.Fitting.{route_with, StartsOutside}
 use Rattle.pssm_routes.specs.inner.Starts.{IsCausedBy, IsStarted, IsLeftBy, AreCausedBy, AreStarted, IsReady, JoinsIn}
 

@@ -17,10 +17,10 @@ use Rattle.pssm_model.specs.RouteWords.{IsThrough}
 use Rattle.pssm_model.specs.WellFormed.{KeepsModelRules}
 use Rattle.pssm_model.proofs.ElementLaws.{some_at, mapped_at, leaves_one, enters_one, nothing_in_nil}
 use Rattle.pssm_model.proofs.RouteLaws.{in_one, is_one}
-use Rattle.pssm_model.proofs.Known.{Known}
-use Rattle.pssm_model.proofs.KnownPlaces.{known_vertex_kind}
-use Rattle.pssm_model.proofs.LegShapes.{cut_no_junction}
-use Rattle.pssm_model.proofs.Through.{kinds_clash, not_through, end_not_through, known_through, step_leads, target_there, join_from_state, fork_to_end, exit_one_out}
+use Rattle.pssm_model_laws.proofs.Known.{Known}
+use Rattle.pssm_model_laws.proofs.KnownPlaces.{known_vertex_kind}
+use Rattle.pssm_model_laws.proofs.LegShapes.{cut_no_junction}
+use Rattle.pssm_model_laws.proofs.Through.{kinds_clash, not_through, end_not_through, known_through, step_leads, target_there, join_from_state, fork_to_end, exit_one_out}
 use Rattle.pssm_routes.specs.inner.Fitting.{PassesBy}
 use Rattle.pssm_routes.specs.inner.Passing.{IsPassedOver, HasWay}
 use Rattle.pssm_routes.specs.inner.Passing.HasWay.{ends as way_ends, over as way_over, all as way_all}

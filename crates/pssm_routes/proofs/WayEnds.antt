@@ -11,7 +11,7 @@ use Rattle.pssm_model.specs.Legs.{Enters}
 use Rattle.pssm_model.specs.Routes.{Truth}
 use Rattle.pssm_model.specs.WellFormed.{KeepsModelRules}
 use Rattle.pssm_model.proofs.ElementLaws.{mapped_at}
-use Rattle.pssm_model.proofs.KnownPlaces.{known_vertex_kind}
+use Rattle.pssm_model_laws.proofs.KnownPlaces.{known_vertex_kind}
 use Rattle.pssm_routes.specs.inner.Starts.{GoesOnBy}
 use Rattle.pssm_routes.specs.inner.Passing.{HasWay}
 use Rattle.pssm_routes.specs.inner.Passing.HasWay.{ends as way_ends}

@@ -16,7 +16,7 @@ use Rattle.pssm_model.specs.Routes.{Truth, IsTrueAt, guard_of}
 use Rattle.pssm_model.specs.RouteWords.{IsThrough}
 use Rattle.pssm_model.proofs.ElementLaws.{mapped_some, leaves_one, enters_one, nothing_in_nil}
 use Rattle.pssm_model.proofs.RouteLaws.{in_one, is_one}
-use Rattle.pssm_model.proofs.Through.{step_leads}
+use Rattle.pssm_model_laws.proofs.Through.{step_leads}
 use Rattle.pssm_routes.specs.inner.Passing.{IsPassedOver}
 use Rattle.pssm_routes.specs.inner.Ways.{IsOpen, IsWay}
 use Rattle.pssm_routes.specs.inner.Ways.IsWay.{begins, goes_on}

@@ -17,7 +17,7 @@ use Rattle.pssm_semantics.specs.declared.setting.Setting.{Setting}
 use Rattle.pssm_semantics.specs.Settings.{class_of}
 use Rattle.pssm_semantics.specs.Tasks.{IsReadyTask}
 use Rattle.pssm_semantics.specs.Proper.{IsWellFormed}
-use Rattle.pssm_semantics.proofs.SettingClasses.{class_of_object}
+use Rattle.pssm_semantics_laws.proofs.SettingClasses.{class_of_object}
 use Rattle.pssm_object.specs.Standing.{Standing}
 use Rattle.pssm_object.specs.Tasks.{ready_tasks, ListsTasks}
 use Rattle.pssm_object.proofs.TaskLists.{lists_tasks}

@@ -12,9 +12,9 @@ use Rattle.pssm_semantics.specs.declared.entry.Entry.{Entry}
 use Rattle.pssm_semantics.specs.declared.entry.Entry.TheVariants.{Post, Start, Take, Done, Exit, Effect, Enter, Opened, Pick, DoStep}
 use Rattle.pssm_semantics.specs.declared.stimulus.Stimulus.{Stimulus}
 use Rattle.pssm_semantics.specs.Pool.{signals_of_entry, signals_of, takes, pool_of, told_by}
-use Rattle.pssm_semantics.proofs.Members.{first_in, later_in}
-use Rattle.pssm_semantics.proofs.Objects.{same_object}
-use Rattle.pssm_semantics.proofs.Waiting.{waits_in, arrivals, pool_of-grows, pool_of-take, filter-all}
+use Rattle.pssm_semantics_laws.proofs.Members.{first_in, later_in}
+use Rattle.pssm_semantics_laws.proofs.Objects.{same_object}
+use Rattle.pssm_semantics_laws.proofs.Waiting.{waits_in, arrivals, pool_of-grows, pool_of-take, filter-all}
 use Rattle.pssm_pool.specs.declared.pools.Waiting.{Waiting}
 use Rattle.pssm_pool.specs.Waits.{with_arrived}
 use Rattle.pssm_object.specs.Standing.{HasSignalsTaken}

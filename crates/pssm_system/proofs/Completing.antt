@@ -19,11 +19,11 @@ use Rattle.pssm_semantics.specs.Settings.{class_of}
 use Rattle.pssm_semantics.specs.Journal.{Heads, IsPost, EntersAt, ExitsAt, object_of, configuration_after}
 use Rattle.pssm_semantics.specs.Steps.{StepAt, IsLastStep, item_of, item_by, course_of, head_of}
 use Rattle.pssm_semantics.specs.Completion.{EffectsAt, IsStepFinished}
-use Rattle.pssm_semantics.proofs.Ended.{SparesEnd, HasEnded-stays}
-use Rattle.pssm_semantics.proofs.LastStep.{IsLastStep-was}
-use Rattle.pssm_semantics.proofs.Courses.{ran_same}
-use Rattle.pssm_semantics.proofs.Objects.{same_object}
-use Rattle.pssm_semantics.proofs.Stores.{head_own}
+use Rattle.pssm_semantics_laws.proofs.Ended.{SparesEnd, HasEnded-stays}
+use Rattle.pssm_semantics_laws.proofs.LastStep.{IsLastStep-was}
+use Rattle.pssm_semantics_laws.proofs.Courses.{ran_same}
+use Rattle.pssm_semantics_laws.proofs.Objects.{same_object}
+use Rattle.pssm_semantics_laws.proofs.Stores.{head_own}
 use Rattle.std.proofs.Common.{get_or}
 use Rattle.std.proofs.lemmas.Bool.{cases_lt}
 use Rattle.std.proofs.lemmas.List.Elements.{Contains-get_or}
@@ -37,10 +37,10 @@ use Rattle.pssm_semantics.specs.Rules.{KeepsOwn}
 use Rattle.pssm_semantics.specs.Admissible.{MayFollow, IsAdmissibleIn, IsCompleteRun}
 use Rattle.pssm_semantics.specs.Laws.{CompletesWithin, HasOpenStep, needs_at_most, CompletesInTime}
 use Rattle.pssm_semantics.specs.Proper.{IsWellFormed}
-use Rattle.pssm_semantics.proofs.Appending.{admissible_push}
-use Rattle.pssm_semantics.proofs.SettingClasses.{class_of_object}
-use Rattle.pssm_semantics.proofs.Members.{first_in, later_in, in_cases}
-use Rattle.pssm_semantics.proofs.Outcomes.{known_outs}
+use Rattle.pssm_semantics_laws.proofs.Appending.{admissible_push}
+use Rattle.pssm_semantics_laws.proofs.SettingClasses.{class_of_object}
+use Rattle.pssm_semantics_laws.proofs.Members.{first_in, later_in, in_cases}
+use Rattle.pssm_semantics_laws.proofs.Outcomes.{known_outs}
 use Rattle.pssm_object.specs.Standing.{Standing, StandsAfter}
 use Rattle.pssm_object.specs.Laws.{IsWork, GoesOn, GoOn, Finishes}
 use Rattle.pssm_object.proofs.Advancing.{known_object, other_entries}

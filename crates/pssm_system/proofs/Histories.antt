@@ -15,9 +15,9 @@ use Rattle.pssm_semantics.specs.Rules.{Holds}
 use Rattle.pssm_semantics.specs.Verdict.{IsFirstBroken}
 use Rattle.pssm_semantics.specs.Admissible.{MayFollow, IsQuiet, KeepsJournalLimits}
 use Rattle.pssm_semantics.specs.Laws.{CompletesInTime, KeepsTakes, KeepsRegions}
-use Rattle.pssm_semantics.proofs.Appending.{every_push, admissible_push, admissible_none}
-use Rattle.pssm_semantics.proofs.Outputs.{signals_of-within}
-use Rattle.pssm_semantics.proofs.Takes.{admissible-keeps_takes}
+use Rattle.pssm_semantics_laws.proofs.Appending.{every_push, admissible_push, admissible_none}
+use Rattle.pssm_system.proofs.Outputs.{signals_of-within}
+use Rattle.pssm_system.proofs.Takes.{admissible-keeps_takes}
 use Rattle.pssm_object.specs.Standing.{Standing}
 use Rattle.pssm_object.specs.Following.{IsMove}
 use Rattle.pssm_system.specs.declared.situation.Situation.{Situation}

@@ -19,7 +19,7 @@ use Rattle.pssm_semantics.specs.Verdict.{number_of}
 use Rattle.pssm_semantics.specs.Proper.{ClassFits}
 use Rattle.pssm_semantics.specs.Classes.{IsWellFormedClass}
 use Rattle.pssm_semantics.specs.Proper.{IsWellFormed}
-use Rattle.pssm_semantics.proofs.SettingClasses.{class_of_object}
+use Rattle.pssm_semantics_laws.proofs.SettingClasses.{class_of_object}
 use Rattle.pssm_pool.specs.declared.pools.Waiting.{Waiting}
 use Rattle.pssm_object.specs.Standing.{Standing}
 use Rattle.pssm_object.specs.Following.{NamesPlaces, NamesSignal, IsTold, KeepsRule, stimulus_for}

@@ -20,3 +20,5 @@ pub mod Found
 pub mod Fresh
 pub mod Histories
 pub mod Slots
+pub mod Outputs
+pub mod Takes

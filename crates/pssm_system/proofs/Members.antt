@@ -8,7 +8,7 @@ use Rattle.pssm_semantics.specs.declared.setting.Setting.{Setting}
 use Rattle.pssm_semantics.specs.Settings.{class_of}
 use Rattle.pssm_semantics.specs.Classes.{IsWellFormedClass}
 use Rattle.pssm_semantics.specs.Proper.{IsWellFormed}
-use Rattle.pssm_semantics.proofs.SettingClasses.{class_of_object}
+use Rattle.pssm_semantics_laws.proofs.SettingClasses.{class_of_object}
 use Rattle.pssm_object.specs.Standing.{Standing, Stands}
 use Rattle.pssm_system.specs.inner.Keeping.{IsObject, AreObjects}
 use Rattle.pssm_system.proofs.Following.{object_there, one_class}

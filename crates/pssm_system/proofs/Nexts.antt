@@ -17,7 +17,7 @@ use Rattle.pssm_semantics.specs.Known.{NamesKnown}
 use Rattle.pssm_semantics.specs.Rules.{IsFirstWaiting, KeepsPool, KeepsOwn, taken_by}
 use Rattle.pssm_semantics.specs.Admissible.{MayFollow}
 use Rattle.pssm_semantics.specs.Proper.{IsWellFormed}
-use Rattle.pssm_semantics.proofs.Outcomes.{known_outs}
+use Rattle.pssm_semantics_laws.proofs.Outcomes.{known_outs}
 use Rattle.pssm_pool.specs.declared.pools.Waiting.{Waiting}
 use Rattle.pssm_object.specs.Standing.{Standing}
 use Rattle.pssm_object.specs.Following.{NamesPlaces, NamesSignal, IsCandidate, IsTold, KeepsRules, stimulus_of, stimulus_for}

@@ -4,7 +4,7 @@ use Rattle.std.specs.Prelude.{AllPairs, All}
 use Rattle.std.proofs.lemmas.List.Elements.{All-contains, Contains-get_or, Contains-append_cases}
 use Rattle.std.proofs.lemmas.List.Kept.{AllPairs-cons}
 use Rattle.pssm_model.proofs.ElementLaws.{nothing_in_nil}
-use Rattle.pssm_semantics.proofs.Members.{first_in, later_in, in_cases}
+use Rattle.pssm_semantics_laws.proofs.Members.{first_in, later_in, in_cases}
 
 pub AllPairs-first : {X : Type 0} (R : X → X → Type 0) (x : X) (xs : List X) → AllPairs R (x ∷ xs) → (y : X) → Contains xs y → R x y
 AllPairs-first R x xs pairs y inside =

@@ -14,7 +14,7 @@ use Rattle.pssm_semantics.specs.Pool.{told_by}
 use Rattle.pssm_semantics.specs.Admissible.{MayFollow}
 use Rattle.pssm_semantics.specs.Laws.{KeepsRegions}
 use Rattle.pssm_semantics.specs.Proper.{IsWellFormed}
-use Rattle.pssm_semantics.proofs.SettingClasses.{class_of_object}
+use Rattle.pssm_semantics_laws.proofs.SettingClasses.{class_of_object}
 use Rattle.pssm_pool.specs.declared.pools.Waiting.{Waiting}
 use Rattle.pssm_object.specs.Following.{IsTold, NamesSignal, stimulus_of, stimulus_for}
 use Rattle.pssm_object.proofs.Regions.{consistent_after, one_becomes}

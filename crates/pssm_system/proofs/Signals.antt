@@ -13,7 +13,7 @@ use Rattle.pssm_semantics.specs.Pool.{pool_of, told_by}
 use Rattle.pssm_semantics.specs.Rules.{IsFirstWaiting}
 use Rattle.pssm_semantics.specs.Deferral.{IsDeferred}
 use Rattle.pssm_semantics.proofs.Appended.{AllByRecursion-back}
-use Rattle.pssm_semantics.proofs.Takes.{pool_of-waits}
+use Rattle.pssm_system.proofs.Takes.{pool_of-waits}
 use Rattle.pssm_pool.specs.declared.pools.Waiting.{Waiting}
 use Rattle.pssm_object.specs.Standing.{Standing}
 use Rattle.pssm_object.specs.Following.{stimulus_of, Defers}

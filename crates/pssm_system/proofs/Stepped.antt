@@ -22,8 +22,8 @@ use Rattle.pssm_semantics.specs.Known.{IsOutOf, NamesKnown}
 use Rattle.pssm_semantics.specs.Rules.{KeepsPool, KeepsOwn}
 use Rattle.pssm_semantics.specs.Admissible.{MayFollow}
 use Rattle.pssm_semantics.specs.Proper.{IsWellFormed}
-use Rattle.pssm_semantics.proofs.SettingClasses.{all_there}
-use Rattle.pssm_semantics.proofs.Waiting.{signals_of-append}
+use Rattle.pssm_semantics_laws.proofs.SettingClasses.{all_there}
+use Rattle.pssm_semantics_laws.proofs.Waiting.{signals_of-append}
 use Rattle.pssm_pool.specs.declared.pools.Waiting.{Waiting}
 use Rattle.pssm_pool.specs.Waits.{held_in}
 use Rattle.pssm_object.specs.Standing.{Standing, HasSignalsTaken}

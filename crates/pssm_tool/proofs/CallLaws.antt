@@ -12,7 +12,7 @@ use Rattle.pssm_semantics.specs.declared.line.Line.{Line}
 use Rattle.pssm_semantics.specs.declared.line.Line.TheVariants.{Post}
 use Rattle.pssm_semantics.specs.declared.setting.Setting.{Setting}
 use Rattle.pssm_semantics.specs.declared.stimulus.Stimulus.{Stimulus}
-use Rattle.pssm_semantics.proofs.Appending.{every_push}
+use Rattle.pssm_semantics_laws.proofs.Appending.{every_push}
 use Rattle.pssm_lines.specs.declared.parts.LineParts.{LineParts}
 use Rattle.pssm_lines.specs.declared.parts.LineParts.TheVariants as parts
 use Rattle.pssm_lines.specs.declared.fault.LineFault.{LineFault}

@@ -5,7 +5,7 @@ use Rattle.pssm_semantics.specs.declared.entry.Entry.{Entry}
 use Rattle.pssm_semantics.specs.declared.setting.Setting.{Setting}
 use Rattle.pssm_semantics.specs.Rules.{Holds}
 use Rattle.pssm_semantics.specs.Admissible.{IsAdmissibleIn, IsPrefixOfRun}
-use Rattle.pssm_semantics.proofs.Admissible.{IsAdmissible-front}
+use Rattle.pssm_semantics_laws.proofs.Admissible.{IsAdmissible-front}
 use Rattle.pssm_journal.specs.Judged.{IsJudged, Accepted}
 use Rattle.pssm_tool.specs.declared.answer.Answer.{Answer}
 use Rattle.pssm_tool.specs.declared.answer.Answer.TheVariants.{Accept}

@@ -16,8 +16,8 @@ use Rattle.pssm_semantics.specs.Proper.{IsWellFormed}
 use Rattle.pssm_semantics.specs.Journal.{object_of}
 use Rattle.pssm_semantics.specs.Pool.{told_by, posts_of_entry, outs_of, posts_of, output_count}
 use Rattle.pssm_semantics.specs.Admissible.{MayFollow, IsQuiet, IsFull, KeepsJournalLimits, FitsStimuli}
-use Rattle.pssm_semantics.proofs.SettingClasses.{class_of_object}
-use Rattle.pssm_semantics.proofs.Outcomes.{few_outs}
+use Rattle.pssm_semantics_laws.proofs.SettingClasses.{class_of_object}
+use Rattle.pssm_semantics_laws.proofs.Outcomes.{few_outs}
 use Rattle.pssm_system.specs.History.{History}
 use Rattle.pssm_tool.specs.declared.run.Ended.TheVariants.{Quiet, Limit}
 use Rattle.pssm_tool.specs.RunTexts.{EndsRun}

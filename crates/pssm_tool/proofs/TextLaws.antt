@@ -9,7 +9,7 @@ use Rattle.pssm_semantics.specs.declared.line.Line.{Line}
 use Rattle.pssm_semantics.specs.declared.setting.Setting.{Setting}
 use Rattle.pssm_semantics.specs.Forms.{IsRunEntry}
 use Rattle.pssm_semantics.specs.Admissible.{IsAdmissibleIn, KeepsJournalLimits}
-use Rattle.pssm_semantics.proofs.Appending.{every_push}
+use Rattle.pssm_semantics_laws.proofs.Appending.{every_push}
 use Rattle.pssm_lines.specs.LineText.{line_text, header_line, text_of, journal_text}
 use Rattle.pssm_lines.specs.Grammar.{IsLine}
 use Rattle.pssm_lines.specs.Faults.{IsJournalLine}

@@ -3,8 +3,8 @@ use Rattle.std.proofs.Common.{◌≡◌, ◌<◌, ◌+◌, length, refl, subst, 
 use Rattle.std.proofs.lemmas.List.{get_or_default}
 use Rattle.pssm_model.specs.declared.ids.RegionId.{RegionId}
 use Rattle.pssm_model.specs.Forest.{IsScope}
-use Rattle.pssm_model.proofs.CommonRegions.{IsMet, scope_stays, scope_grows, none_met, one_more_met}
-use Rattle.pssm_model.proofs.Through.{source_there}
+use Rattle.pssm_model_laws.proofs.CommonRegions.{IsMet, scope_stays, scope_grows, none_met, one_more_met}
+use Rattle.pssm_model_laws.proofs.Through.{source_there}
 use Rattle.pssm_legs.proofs.PathRegions.{in_head, in_tail}
 use Rattle.pssm_legs.proofs.areas.common_region.Goals as goal
 use Rattle.pssm_legs.proofs.areas.common_region.Goals.{then-not-lies_in_region, else-not-lies_in_region}

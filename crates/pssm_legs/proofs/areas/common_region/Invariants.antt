@@ -1,6 +1,6 @@
 use Rattle.std.proofs.Common.{◌<◌, length}
 use Rattle.pssm_model.specs.Forest.{IsScope}
-use Rattle.pssm_model.proofs.CommonRegions.{IsMet}
+use Rattle.pssm_model_laws.proofs.CommonRegions.{IsMet}
 use Rattle.pssm_legs.proofs.areas.common_region.Given as goal
 
 -- the innermost region of the ends of the first and the targets so far

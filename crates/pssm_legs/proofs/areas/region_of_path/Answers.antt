@@ -1,6 +1,6 @@
 -- the point at which the path begins or ends tells the State, and else all vertices are asked
 use Rattle.std.proofs.Common.{inl, inr}
-use Rattle.pssm_model.proofs.Through.{source_there, target_there, entry_inside}
+use Rattle.pssm_model_laws.proofs.Through.{source_there, target_there, entry_inside}
 use Rattle.pssm_legs.proofs.NoneSoFar.{refuted}
 use Rattle.pssm_legs.proofs.PathRegions.{leaves_there, enters_there, path_ends, path_enters, path_shares, exit_begins_inside}
 use Rattle.pssm_legs.proofs.areas.region_of_path.Goals as goal

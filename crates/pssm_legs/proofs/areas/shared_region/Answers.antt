@@ -1,7 +1,7 @@
 use Rattle.std.proofs.Common.{refl, sym, subst, ⊎_elim, arith}
 use Rattle.pssm_model.specs.Forest.{LiesInRegion}
-use Rattle.pssm_model.proofs.RegionChains.{region_there}
-use Rattle.pssm_model.proofs.CommonRegions.{one_of_two}
+use Rattle.pssm_model_laws.proofs.RegionChains.{region_there}
+use Rattle.pssm_model_laws.proofs.CommonRegions.{one_of_two}
 use Rattle.pssm_legs.proofs.areas.shared_region.Goals as goal
 
 pub unreachable-requires : goal.unreachable-requires

@@ -4,7 +4,7 @@ use Rattle.std.proofs.lemmas.Result.{IfOk-weaker}
 use Rattle.pssm_model.specs.declared.steps.Route.{Route}
 use Rattle.pssm_model.specs.Legs.{On}
 use Rattle.pssm_model.specs.RouteWords.{IsStepRoute}
-use Rattle.pssm_model.proofs.RouteOrder.{of_start}
+use Rattle.pssm_model_laws.proofs.RouteOrder.{of_start}
 use Rattle.pssm_legs.specs.declared.legs.Leg.{Leg}
 use Rattle.pssm_legs.specs.inner.Chained.{IsStarAt, IsMade, BeginsRoute}
 use Rattle.pssm_legs.proofs.PathRegions.{in_head}

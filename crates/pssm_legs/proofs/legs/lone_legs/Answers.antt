@@ -1,7 +1,7 @@
 -- the one leg is that of a chain of one transition
 use Rattle.std.proofs.Common.{◌∙◌, refl}
-use Rattle.pssm_model.proofs.RouteOrder.{of_start}
-use Rattle.pssm_model.proofs.Through.{target_there}
+use Rattle.pssm_model_laws.proofs.RouteOrder.{of_start}
+use Rattle.pssm_model_laws.proofs.Through.{target_there}
 use Rattle.pssm_legs.proofs.Chains.{on_within}
 use Rattle.pssm_legs.proofs.LoneRoutes.{lone_begins, lone_chain, lone_are_legs}
 use Rattle.pssm_legs.proofs.legs.lone_legs.Goals as goal

@@ -1,7 +1,7 @@
 -- the chain grows by one transition at each turn
 use Rattle.std.proofs.Common.{◌-◌, ◌<◌, ◌∷◌, length, sym, subst}
-use Rattle.pssm_model.proofs.Through.{target_there}
-use Rattle.pssm_model.proofs.RouteOrder.{of_rest}
+use Rattle.pssm_model_laws.proofs.Through.{target_there}
+use Rattle.pssm_model_laws.proofs.RouteOrder.{of_rest}
 use Rattle.pssm_legs.proofs.Chains.{IsChaining, on_within, chain_begins, chain_goes_on, chain_ends, chain_enters, fewer_left}
 use Rattle.pssm_legs.proofs.path.chain_of.Goals as goal
 

@@ -2,7 +2,7 @@
 use Rattle.std.proofs.Common.{◌<◌, AllPairs, Contains, sym, subst}
 use Rattle.pssm_model.specs.declared.ids.TransId.{TransId}
 use Rattle.pssm_model.specs.declared.elements.VertexKind.TheVariants as kinds
-use Rattle.pssm_model.proofs.RouteOrder.{route_of, of_rest}
+use Rattle.pssm_model_laws.proofs.RouteOrder.{route_of, of_rest}
 use Rattle.pssm_legs.proofs.PathRegions.{kind_there}
 use Rattle.pssm_legs.proofs.Chains.{on_within, junction_goes_on}
 use Rattle.pssm_legs.proofs.path.next_of.Goals as goal

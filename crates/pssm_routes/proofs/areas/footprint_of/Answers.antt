@@ -1,6 +1,6 @@
 -- a route has a first start
 use Rattle.std.proofs.Common.{◌<◌, length, Contains, sym, subst, inl, arith}
-use Rattle.pssm_model.proofs.RouteKinds.{some_start}
+use Rattle.pssm_model_laws.proofs.RouteKinds.{some_start}
 use Rattle.pssm_routes.proofs.areas.footprint_of.Goals as goal
 
 pub unreachable-requires : goal.unreachable-requires

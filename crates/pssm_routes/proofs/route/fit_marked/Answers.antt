@@ -2,7 +2,7 @@
 use Rattle.std.proofs.Common.{false, replicate}
 use Rattle.pssm_routes.proofs.ListPlaces.{none_is_true}
 use Rattle.pssm_routes.proofs.Fitting.{dead_fits_not}
-use Rattle.pssm_model.proofs.RouteOrder.{of_start}
+use Rattle.pssm_model_laws.proofs.RouteOrder.{of_start}
 use Rattle.pssm_routes.specs.inner.Fitting.{route_with}
 use Rattle.pssm_routes.proofs.route.fit_marked.Goals as goal
 

@@ -1,6 +1,6 @@
 -- no end without a way on, and no transition that leaves another vertex
 use Rattle.pssm_routes.proofs.Fitting.{dead_fits_not, seen_fits}
-use Rattle.pssm_model.proofs.RouteOrder.{of_rest}
+use Rattle.pssm_model_laws.proofs.RouteOrder.{of_rest}
 use Rattle.pssm_routes.specs.inner.Fitting.{route_with}
 use Rattle.pssm_routes.proofs.route.fit_seen.Goals as goal
 

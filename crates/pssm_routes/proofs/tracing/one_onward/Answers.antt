@@ -7,7 +7,7 @@ use Rattle.pssm_model.specs.declared.ids.VertexId.{VertexId}
 use Rattle.pssm_model.specs.Legs.{Enters}
 use Rattle.pssm_model.specs.Routes.{IsTrueAt}
 use Rattle.pssm_model.proofs.RouteLaws.{all_of_one}
-use Rattle.pssm_model.proofs.Through.{target_there}
+use Rattle.pssm_model_laws.proofs.Through.{target_there}
 use Rattle.pssm_routes.specs.inner.Fitting.{IsMarked}
 use Rattle.pssm_routes.specs.inner.Behind.{GoesOnAtOnce}
 use Rattle.pssm_routes.proofs.LateRoutes.{leaving_is_there}

@@ -1,0 +1,12 @@
+pub mod Active
+pub mod Courses
+pub mod Ended
+pub mod LastStep
+pub mod Members
+pub mod Objects
+pub mod Stores
+pub mod Waiting
+pub mod Outcomes
+pub mod SettingClasses
+pub mod Appending
+pub mod Admissible
