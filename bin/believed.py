@@ -1,12 +1,15 @@
 #!/usr/bin/env python3
 """What a reader must believe: the definitions that the clauses of the top call rest on.
 
-  bin/believed.py             for each file of definitions in reading order, how many of its lines the clauses of `pssm` rest on
+  bin/believed.py             for each file of definitions, in the order of crates.txt, how many of its lines, without comments, the clauses
+                              of `pssm` rest on
   bin/believed.py --names     the same, and the names of these definitions
-  bin/believed.py --others    the definitions in `specs/` that no clause of a function that a crate gives out rests on
+  bin/believed.py --others    the definitions in `specs/`, but for those in `specs/inner/`, that no clause of a function that a crate gives out
+                              rests on
 
-A clause names definitions, and these name others; all that is come to so is counted, with the comment above it. Types of Rust that a
-clause speaks of are data and stand in `src/`; what std defines stands in the toolchain.
+A clause names definitions, and these name others; all that is come to so is counted. Names are taken as they are written: where a
+definition binds a name that is also another definition's, it counts as naming that one. Types of Rust that a clause speaks of are data and
+stand in `src/`; what std defines stands in the toolchain.
 """
 import os
 import re
@@ -14,6 +17,8 @@ import sys
 
 ROOT = os.path.dirname(os.path.dirname(os.path.abspath(__file__)))
 WORD = re.compile(r"[A-Za-z_][\w'-]*(?:\.[A-Za-z_][\w'-]*)*")
+# the line with which a definition begins, or goes on by cases
+HEAD = re.compile(r"(?:(?:abbrev|unfoldable|pub|record|data) )*([A-Za-z_][\w'-]*|◌\S+)(?= |$)")
 
 
 def read(path):
@@ -41,28 +46,41 @@ class Definitions:
         self.lines = text.splitlines()
         self.names = imports(text)
         self.at = {}
-        start, name, comment = None, None, None
+        start, name, above, mutual = None, None, None, False
         for number, line in enumerate(self.lines + ['-- end']):
-            head = re.match(r'(?:(?:abbrev|unfoldable|pub|record|data) )*([A-Za-z_][\w\'-]*)(?= |$)', line)
+            if mutual and line and not line.startswith('  '):
+                mutual = False
+            if mutual:
+                line = line[2:]
+            head = HEAD.match(line)
+            said = head.group(1) if head else None
+            if line.startswith(('unfolding ', 'infix')) or (said and name and name.startswith('◌') and name.strip('◌') in line):
+                said = None
             if line.startswith('--'):
-                comment = number if comment is None else comment
-            if not line or line.startswith(('--', 'use ', 'pub use ')) or (head and head.group(1) != name):
+                above = number if above is None else above
+            begins = line.startswith('infix') or re.match(r'(abbrev )?mutual$', line)
+            if not line or line.startswith(('--', 'use ', 'pub use ')) or begins or (said and said != name):
                 if name is not None:
                     self.at.setdefault(name, []).append((start, number))
                     name = None
-            if head and not line.startswith(('use ', 'pub use ', 'pub mod ', 'mod ', '--')):
+            if begins:
+                # (it belongs to what follows, as a comment does)
+                above = number if above is None else above
+                mutual = 'mutual' in line
+            elif said and not line.startswith(('use ', 'pub use ', 'pub mod ', 'mod ', '--')):
                 if name is None:
-                    name, start = head.group(1), number if comment is None else comment
-                comment = None
+                    name, start = said, number if above is None else above
+                above = None
             elif not line:
-                comment = None
+                above = None
 
     def words(self, name):
-        text = '\n'.join('\n'.join(self.lines[a:b]) for a, b in self.at[name])
-        return set(WORD.findall(re.sub(r'--.*', '', text)))
+        text = re.sub(r'--.*', '', '\n'.join('\n'.join(self.lines[a:b]) for a, b in self.at[name]))
+        signs = {sign for sign in [*self.at, *self.names] if sign.startswith('◌') and sign.strip('◌') in text}
+        return set(WORD.findall(text)) | signs
 
     def count(self, name):
-        return sum(not line.startswith('--') for a, b in self.at[name] for line in self.lines[a:b])
+        return sum(not line.lstrip().startswith('--') for a, b in self.at[name] for line in self.lines[a:b])
 
 
 class House:

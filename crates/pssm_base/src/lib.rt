@@ -26,6 +26,3 @@ pub use real::{FileInputs, StdoutSink};
 pub use sink::{Sink, put_all};
 pub use sure::{SureInputs, SureSink};
 pub use whole::read_whole;
-
-#[cfg(test)]
-mod tests;

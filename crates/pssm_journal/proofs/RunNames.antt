@@ -1,9 +1,6 @@
--- The names of a setting with at most one of each kind differ, and the entries of runs are spelled.
-use Rattle.std.proofs.Common.{ℕ, ◌≤◌, List, [], ◌∷◌, length, map, All, sym, subst, arith, inl, inr}
-use Rattle.std.specs.Prelude.{◌≢◌, AllPairs}
+-- The entries of runs are spelled.
+use Rattle.std.proofs.Common.{List, [], ◌∷◌, sym, subst, inl, inr}
 use Rattle.std.specs.List.{AllByRecursion}
-use Rattle.std.proofs.lemmas.List.{length-map}
-use Rattle.std.proofs.lemmas.List.Elements.{recursion_from_All}
 use Rattle.pssm_model.specs.declared.ids.RegionId.{RegionId}
 use Rattle.pssm_model.specs.declared.steps.Mode.{Mode}
 use Rattle.pssm_model.specs.declared.steps.Route.{Route}
@@ -12,29 +9,8 @@ use Rattle.pssm_model.specs.declared.steps.Firing.{Firing}
 use Rattle.pssm_semantics.specs.declared.entry.ObjectId.{ObjectId}
 use Rattle.pssm_semantics.specs.declared.entry.Entry.{Entry}
 use Rattle.pssm_semantics.specs.declared.entry.Entry.TheVariants.{Post, Start, Take, Done, Exit, Effect, Enter, Opened, Pick, DoStep}
-use Rattle.pssm_semantics.specs.declared.setting.SignalDecl.{SignalDecl}
-use Rattle.pssm_semantics.specs.declared.setting.ObjectDecl.{ObjectDecl}
-use Rattle.pssm_semantics.specs.declared.setting.Class.{Class}
-use Rattle.pssm_semantics.specs.declared.setting.Setting.{Setting}
-use Rattle.pssm_semantics.specs.Names.{AreApart, NamesDiffer}
 use Rattle.pssm_semantics.specs.Forms.{IsRunRoute, IsShortFiring, IsShortWay, IsRunEntry}
 use Rattle.pssm_journal.specs.Naming.{HasStart, HaveStarts, IsSpelledEntry}
-
--- one name, or none, is apart from all others
-apart_few : (names : List (List ℕ)) → length names ≤ 1 → AllPairs (λ a b. a ≢ b) names
-apart_few names few i j d before within = absurd (omega (arith, before, within, few))
-
-few_marks : (classes : List Class) → AllByRecursion (λ c. length c.program.marks ≤ 1) classes → AllByRecursion (λ c. AreApart 65536 c.program.marks) classes
-few_marks [] few = tt
-few_marks (c ∷ classes) few = ((apart_few c.program.marks few.0, omega (arith, few.0)), few_marks classes few.1)
-
--- where there is at most one name of each kind
-pub few_names_differ : (setting : Setting) → length setting.objects ≤ 1 → length setting.signals ≤ 1 → All (λ c. length c.program.marks ≤ 1) setting.classes → NamesDiffer setting
-few_names_differ setting objects signals marks = record {
-  objects = (apart_few (map (λ (d : ObjectDecl). d.name) setting.objects) (omega (arith, objects, length-map setting.objects (λ (d : ObjectDecl). d.name))), omega (arith, objects, length-map setting.objects (λ (d : ObjectDecl). d.name)));
-  signals = (apart_few (map (λ (d : SignalDecl). d.name) setting.signals) (omega (arith, signals, length-map setting.signals (λ (d : SignalDecl). d.name))), omega (arith, signals, length-map setting.signals (λ (d : SignalDecl). d.name)));
-  marks = few_marks setting.classes (recursion_from_All (λ c. length c.program.marks ≤ 1) setting.classes marks);
-}
 
 -- a route of a run has a start
 route_starts : (route : Route) → IsRunRoute route → HasStart route

@@ -19,8 +19,6 @@ mod naming;
 mod outputs;
 mod places;
 mod ranges;
-#[cfg(test)]
-mod tests;
 mod writing;
 
 pub use brief::{BriefEntry, EntryAct, Near, entry_of_brief};

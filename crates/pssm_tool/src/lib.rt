@@ -17,8 +17,6 @@ mod refusal;
 mod run;
 mod status;
 mod stimuli;
-#[cfg(test)]
-mod tests;
 mod text;
 mod top;
 mod words;

@@ -1,7 +1,7 @@
 //! Copies of a machine and its parts, and what is equal.
 //!
 //! A value of many parts is dropped by a call: a drop at the end of a body is proved for each way out of it.
-use crate::tests::{machine_of, vec_of};
+use crate::tests::drafts::{machine_of, vec_of};
 use pssm_model::{Duplicate, Firing, Machine, Route, Row, Same, SignalId, Text, TransId};
 use std::alloc::Global;
 use std::test::Fail;

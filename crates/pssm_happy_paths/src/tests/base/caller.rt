@@ -6,7 +6,7 @@ ghost use Rattle.pssm_base.specs.Faults.{Rose, NoneFell};
 ghost use Rattle.pssm_base.specs.Putting.{TookPart};
 ghost use Rattle.pssm_base.specs.Reading.{SameContent};
 
-use crate::{Inputs, Sink, SureInputs, SureSink, WholeFault, put_all, read_whole};
+use pssm_base::{Inputs, Sink, SureInputs, SureSink, WholeFault, put_all, read_whole};
 use std::alloc::Global;
 
 // How many bytes a path may hold.

@@ -1,4 +1,4 @@
-//! Drafts are spelled by bytes. A number is a byte from `0` on. A region is `t`, or `A` plus the number of its State. A vertex is its
+//! Machines as drafts made by hand, spelled by bytes. A number is a byte from `0` on. A region is `t`, or `A` plus the number of its State. A vertex is its
 //! owner, a region's number or a State as before, and a letter for its kind; a transition is its source, its target, and `.`, `!` with a
 //! trigger, `?` with a guard, `e` with `else`, or `l` local with a trigger.
 ghost use Rattle.std.specs.Prelude.{◌<◌};
@@ -9,11 +9,6 @@ use pssm_model::{
 };
 use std::alloc::Global;
 use std::test::Fail;
-
-mod copies;
-mod places;
-mod rules;
-mod shapes;
 
 /// The number that a byte spells.
 fn number(byte: u8) -> u16 {
@@ -47,7 +42,7 @@ fn kind(byte: u8) -> VertexKind {
     }
 }
 
-fn vertex(alloc: Global, owner: Owner, kind: VertexKind) -> Vertex {
+pub fn vertex(alloc: Global, owner: Owner, kind: VertexKind) -> Vertex {
     Vertex {
         owner,
         kind,
@@ -102,7 +97,7 @@ fn transitions_of(alloc: Global, spelled: &[u8]) -> Result<Row<Transition>, Fail
     Ok(Row::from_vec(transitions))
 }
 
-fn draft_of(
+pub fn draft_of(
     alloc: Global,
     regions: &[u8],
     vertices: &[u8],
@@ -120,7 +115,7 @@ fn draft_of(
 }
 
 /// The machine of a draft that has a shape.
-fn machine_of(
+pub fn machine_of(
     alloc: Global,
     regions: &[u8],
     vertices: &[u8],
@@ -133,7 +128,7 @@ fn machine_of(
 }
 
 /// The draft of one State in one region.
-fn draft_of_a_state(alloc: Global, state: Vertex) -> Result<DraftMachine, Fail> {
+pub fn draft_of_a_state(alloc: Global, state: Vertex) -> Result<DraftMachine, Fail> {
     Ok(DraftMachine {
         regions: Row::from_vec([Owner::Top].to_vec(alloc)?),
         vertices: Row::from_vec(vec_of(alloc, state)?),
@@ -141,7 +136,7 @@ fn draft_of_a_state(alloc: Global, state: Vertex) -> Result<DraftMachine, Fail> 
     })
 }
 
-fn vec_of<T: Drop>(alloc: Global, item: T) -> Result<Vec<T>, Fail> {
+pub fn vec_of<T: Drop>(alloc: Global, item: T) -> Result<Vec<T>, Fail> {
     let mut items = Vec::new(alloc);
     items.push(item)?;
     Ok(items)

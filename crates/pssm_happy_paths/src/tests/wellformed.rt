@@ -1,7 +1,7 @@
 //! Rules of models at guards, at a final state that behaves, and of a machine without regions.
 ghost use Rattle.pssm_model.specs.Shapes.{HasShape};
 
-use crate::tests::{draft_of, draft_of_a_state, vertex};
+use crate::tests::drafts::{draft_of, draft_of_a_state, vertex};
 use pssm_model::{
     ActId, DraftMachine, Element, FaultPlace, Machine, Owner, RegionId, TransId, VertexId,
     VertexKind,

@@ -1,5 +1,5 @@
 //! Shapes that no text has: owners of a wrong sort, and numbers past those of a text.
-use crate::tests::{draft_of, vertex};
+use crate::tests::drafts::{draft_of, vertex};
 use pssm_model::{
     DraftMachine, Element, Machine, Owner, RegionId, Row, Shape, VertexId, VertexKind,
 };

@@ -1,5 +1,5 @@
 //! Where the vertices of a machine lie, and what they lie in together.
-use crate::tests::machine_of;
+use crate::tests::drafts::machine_of;
 use pssm_model::{Machine, RegionId, VertexId};
 use std::alloc::Global;
 use std::ops::Range;

@@ -1,8 +1,8 @@
 //! What no clause says: that the calls succeed with ample memory, and that real files are passed on.
 mod caller;
 
-use super::*;
 use caller::{Stop, copy_second, copy_surely};
+use pssm_base::*;
 use std::alloc::Global;
 use std::test::Fail;
 use std::{env, fs, io, process};
