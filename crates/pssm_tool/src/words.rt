@@ -1,6 +1,7 @@
 //! The words of the command line.
 ghost use Rattle.std.specs.Prelude.{◌≡◌, ◌≤◌, ◌∷◌, ◌++◌, List, ℕ, codes, IfOk, IfSome, IfNone, IsTrue, ◌↔◌, string_bytes};
-ghost use Rattle.pssm_tool.specs.Words.{texts, BeginWith, HasOption, BeginsWithDashes, Meaning, Means, IsUsage, meaning_of};
+ghost use Rattle.pssm_tool.specs.Words.{texts, BeginWith, HasOption, BeginsWithDashes, Meaning, Means, IsUsage};
+ghost use Rattle.pssm_tool.specs.inner.Commands.{meaning_of};
 
 use crate::stimuli::are_spelled;
 use pssm_spelling::number_of;
