@@ -4,7 +4,8 @@ use Rattle.std.proofs.Math.Nat.{le-max_left, le-max_right}
 use Rattle.pssm_semantics.specs.declared.setting.Names.{Names}
 use Rattle.pssm_semantics.specs.declared.tree.Expr.{Expr, end_of-Expr, more_of-Expr}
 use Rattle.pssm_semantics.specs.declared.tree.Expr.TheVariants.{Num, Var, Param, Sum', Diff', Prod'}
-use Rattle.pssm_acts.specs.ActText.{is_operation, in_parentheses, expr_text, operand_text}
+use Rattle.pssm_acts.specs.ActText.{is_operation, in_parentheses, expr_text}
+use Rattle.pssm_acts.specs.inner.Operands.{operand_text}
 use Rattle.pssm_semantics.specs.Fits.{ExprFits}
 use Rattle.pssm_acts.specs.Grammar.{Part, Atom, Sum, SpellsExpr, number, variable, parameter, parentheses, atom, times, product, plus, minus}
 use Rattle.pssm_spelling.specs.Numbers.{SpellsNumber}

@@ -7,7 +7,8 @@ use Rattle.pssm_semantics.specs.declared.tree.Expr.TheVariants.{Num, Var, Param,
 use Rattle.pssm_semantics.specs.declared.tree.Cond.{Cond, end_of-Cond, more_of-Cond}
 use Rattle.pssm_semantics.specs.declared.tree.Cond.TheViews as tests
 use Rattle.pssm_semantics.specs.declared.tree.Cond.TheVariants.{True, False, Compare, Not', And', Or'}
-use Rattle.pssm_acts.specs.ActText.{expr_text, operand_text, cond_text, unit_text}
+use Rattle.pssm_acts.specs.ActText.{expr_text, cond_text}
+use Rattle.pssm_acts.specs.inner.Operands.{operand_text, unit_text}
 use Rattle.pssm_semantics.proofs.Views.{Sum-is, Diff-is, Prod-is, Not-is, And-is, Or-is}
 
 -- how many operations an expression has

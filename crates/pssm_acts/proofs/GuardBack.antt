@@ -6,7 +6,8 @@ use Rattle.pssm_semantics.specs.declared.tree.Rel.{Rel}
 use Rattle.pssm_semantics.specs.declared.tree.Rel.TheVariants.{Eq, Ne, Lt, Le, Gt, Ge}
 use Rattle.pssm_semantics.specs.declared.tree.Cond.{Cond, end_of-Cond, more_of-Cond}
 use Rattle.pssm_semantics.specs.declared.tree.Cond.TheVariants.{True, False, Compare, Not', And', Or'}
-use Rattle.pssm_acts.specs.ActText.{is_chain, in_brackets, expr_text, rel_text, cond_text, unit_text}
+use Rattle.pssm_acts.specs.ActText.{is_chain, in_brackets, expr_text, rel_text, cond_text}
+use Rattle.pssm_acts.specs.inner.Operands.{unit_text}
 use Rattle.pssm_semantics.specs.Fits.{CondFits}
 use Rattle.pssm_acts.specs.Grammar.{GuardPart, Unit', Either, SpellsGuard, SpellsCond, truth, falsity, negation, brackets, relation, lone_unit, conjoined, lone_conjunction, disjoined}
 use Rattle.pssm_acts.specs.ReadBack.{AreNames, levels_with, expr_levels, cond_levels, GuardIsPlain, GuardCanBeReadBack}

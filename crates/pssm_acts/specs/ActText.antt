@@ -54,10 +54,6 @@ expr_text names (Diff' p (more_of-Expr a end_of-Expr) q (more_of-Expr b end_of-E
 expr_text names (Prod' p (more_of-Expr a end_of-Expr) q (more_of-Expr b end_of-Expr)) =
     in_parentheses (is_operation a) (expr_text names a) ++ codes " * " ++ in_parentheses (is_operation b) (expr_text names b)
 
--- an expression as an operand
-abbrev pub operand_text : Names → Expr → List ℕ
-operand_text names e = in_parentheses (is_operation e) (expr_text names e)
-
 -- a relation
 abbrev pub rel_text : Rel → List ℕ
 rel_text Eq = codes " == "
@@ -88,10 +84,6 @@ cond_text names (And' p (more_of-Cond a end_of-Cond) q (more_of-Cond b end_of-Co
     in_brackets (is_chain a) (cond_text names a) ++ codes " && " ++ in_brackets (is_chain b) (cond_text names b)
 cond_text names (Or' p (more_of-Cond a end_of-Cond) q (more_of-Cond b end_of-Cond)) =
     in_brackets (is_chain a) (cond_text names a) ++ codes " || " ++ in_brackets (is_chain b) (cond_text names b)
-
--- a guard as an operand
-abbrev pub unit_text : Names → Cond → List ℕ
-unit_text names c = in_brackets (is_chain c) (cond_text names c)
 
 -- expressions, each with a comma and a space before it
 abbrev pub further_text : Names → List Expr → List ℕ

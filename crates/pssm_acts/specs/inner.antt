@@ -7,3 +7,4 @@ pub mod PhraseReading
 pub mod Stacks
 pub mod Readers
 pub mod TextLeft
+pub mod Operands

@@ -12,7 +12,7 @@ use std::alloc::AllocError;
 /// bits. `Arity`: a send has not as many arguments as its signal, or a mark more than eight.
 /// `TooLong`: the text, a behaviour, its nesting or the number of steps is past its limit.
 /// `NoMemory`: memory ran out before the text was read.
-#[derive(Clone, Copy, Debug, PartialEq, Eq)]
+#[derive(Clone, Copy, PartialEq, Eq)]
 pub enum ActFault {
     Syntax { at: u32 },
     UnknownName { at: u32 },

@@ -1,7 +1,8 @@
 //! How numbers, names, expressions and guards are written, each at the end of a text.
 ghost use Rattle.std.specs.Prelude.{◌≡◌, ◌++◌, ◌↔◌, [], IfOk, IsTrue};
 ghost use Rattle.std.specs.List.{slice_index_or};
-ghost use Rattle.pssm_acts.specs.ActText.{cond_text, expr_text, is_chain, is_operation, operand_text, rel_text, unit_text, name_at};
+ghost use Rattle.pssm_acts.specs.ActText.{cond_text, expr_text, is_chain, is_operation, rel_text, name_at};
+ghost use Rattle.pssm_acts.specs.inner.Operands.{operand_text, unit_text};
 
 use pssm_model::Text;
 use pssm_semantics::{Cond, Expr, Names, Rel};

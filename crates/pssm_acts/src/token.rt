@@ -9,7 +9,7 @@ use pssm_spelling::{NAME_LEN, digits_len, name_len, name_starts};
 /// profile's choice).
 ///
 /// `Param` has the parameter's number, 1 to 8. `Unknown` stands for bytes that begin no token.
-#[derive(Clone, Copy, PartialEq, Eq, Debug)]
+#[derive(Clone, Copy, PartialEq, Eq)]
 pub enum Kind {
     Name,
     Number,

@@ -4,7 +4,8 @@ use Rattle.std.proofs.Math.Seq.{take-add, take-length}
 use Rattle.std.proofs.KnownBytes.{Appends-trans}
 use Rattle.std.specs.Io.KnownBytes.{Appends}
 use Rattle.pssm_base.specs.Faults.{NoneFell}
-use Rattle.pssm_base.specs.Reading.{SameContent, IsFront, IsRead}
+use Rattle.pssm_base.specs.Reading.{SameContent, IsFront}
+use Rattle.pssm_base.specs.inner.Filling.{IsRead}
 
 -- what a sink has taken of the bytes so far, and that its count did not fall
 pub record HasPut (before now : Option (List ℕ)) (old new : ℕ) (bytes : List ℕ) (done : ℕ) : Type 0 where

@@ -2,3 +2,4 @@ pub mod Faults
 pub mod Memory
 pub mod Putting
 pub mod Reading
+pub mod inner

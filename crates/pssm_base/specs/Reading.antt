@@ -11,10 +11,6 @@ pub record IsFront (bytes : List ℕ) (from n : ℕ) (into : List ℕ) : Type 0 
   pub copied : take n into ≡ take n (drop from bytes)
   pub end : (n ≡ 0) ↔ (length bytes ≤ from)
 
--- the bytes read so far are a front of what the path holds, where that is told
-abbrev pub IsRead : Option (List ℕ) → List ℕ → Type 0
-IsRead content bytes = IfSome content (λ held. bytes ≡ take (length bytes) held)
-
 -- what each path holds, where that is told
 abbrev pub Contents : Type 0
 Contents = List ℕ → Option (List ℕ)

@@ -55,7 +55,7 @@ impl Inputs for SureInputs {
 }
 
 /// Takes every piece whole, and keeps nothing. No call fails.
-#[derive(Clone, Copy, Debug, PartialEq, Eq)]
+#[derive(Clone, Copy, PartialEq, Eq)]
 pub struct SureSink;
 
 impl SureSink {

@@ -1,7 +1,8 @@
 //! All that a path holds, in memory.
 ghost use Rattle.std.specs.Prelude.{◌≡◌, ◌<◌, ◌≤◌, ◌≢◌, ◌+◌, [], length, IfSome, IfOk, IfErr, OnOk, vec_len, IsErrOf};
 ghost use Rattle.pssm_base.specs.Faults.{Rose, NoneFell};
-ghost use Rattle.pssm_base.specs.Reading.{SameContent, IsRead};
+ghost use Rattle.pssm_base.specs.Reading.{SameContent};
+ghost use Rattle.pssm_base.specs.inner.Filling.{IsRead};
 
 use crate::{Inputs, WholeFault};
 use std::alloc::Global;

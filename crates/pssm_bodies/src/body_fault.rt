@@ -10,7 +10,7 @@ use std::alloc::AllocError;
 ///
 /// `At`: the body of this number is the first, in the order of the file, that has a fault; its fault, at a byte of its
 /// text. `NoMemory`: memory ran out before the texts were read.
-#[derive(Clone, Copy, Debug, PartialEq, Eq)]
+#[derive(Clone, Copy, PartialEq, Eq)]
 pub enum BodyFault {
     At { number: u32, fault: ActFault },
     NoMemory,

@@ -20,4 +20,3 @@ pub use body_fault::BodyFault;
 pub use fitting::programs_fit;
 pub use laws::{one_outcome, some_outcome};
 pub use reading::{Programmed, read_bodies};
-pub use slot::{Reading, Slot};

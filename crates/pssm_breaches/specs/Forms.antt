@@ -10,7 +10,6 @@ use Rattle.pssm_model.specs.DraftSettings.{region_of, vertex_of, transition_of, 
 use Rattle.pssm_heritage.specs.declared.kinds.ElementKind.{ElementKind}
 use Rattle.pssm_heritage.specs.declared.kinds.ElementKind.TheVariants.{Region, Vertex, Transition}
 use Rattle.pssm_heritage.specs.Becoming.{Became}
-use Rattle.pssm_heritage.specs.Numbers.{elements_of, IsSiftedBy}
 
 -- Whether it may not be redefined further (UML 2.5.1 9.2.3, isLeaf); of a region that is not asked.
 abbrev pub is_leaf : Draft → ElementKind → ElementRef → Bool
@@ -43,7 +42,3 @@ pub record IsLastAbove (draft : Draft) (kind : ElementKind) (m : ℕ) (first las
   pub above : ExtendsFar draft m last.machine
   pub became : Became draft kind last first
   pub no_later : (other : ElementRef) → ExtendsFar draft m other.machine → Became draft kind other first → ComesBefore draft last other → ⊥
-
--- the forms of one element of the flattened machine, from the first one to the last
-abbrev pub AreForms : Draft → ElementKind → List ℕ → ElementRef → List ElementRef → Type 0
-AreForms draft kind machines first forms = IsSiftedBy (λ e. Became draft kind e first) (elements_of draft kind machines) forms

@@ -8,7 +8,7 @@ ghost use Rattle.std.specs.Prelude.{◌<◌, IfOk};
 use std::alloc::AllocError;
 
 /// Why a text spells no bytes.
-#[derive(Clone, Copy, PartialEq, Eq, Debug)]
+#[derive(Clone, Copy, PartialEq, Eq)]
 pub enum SpellFault {
     /// A backslash in it begins no escape.
     NoEscape,

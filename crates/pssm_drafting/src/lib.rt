@@ -13,11 +13,4 @@ mod places;
 mod signals;
 mod waiting;
 
-pub use classes::{class_at, classes_of, variables_of};
 pub use draft::draft_of;
-pub use elements::{end_at, pseudostate_at, region_at, state_at, transition_at, vertex_at};
-pub use machines::{machines_of, parts_at, regions_of, transitions_of, vertices_of};
-pub use objects::{object_with, objects_of};
-pub use places::{owner_of, ref_if};
-pub use signals::signals_of;
-pub use waiting::signals_at;

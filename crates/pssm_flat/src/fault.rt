@@ -12,7 +12,7 @@ use std::alloc::AllocError;
 /// one, and the element that the fault names stands on the line. `Act`: the action text of the line has this first
 /// fault, at a byte of the text from 0; with a right text in its place the line could stand there. `NoMemory`: memory
 /// ran out before the text was read; no other variant carries it.
-#[derive(Clone, Copy, Debug, PartialEq, Eq)]
+#[derive(Clone, Copy, PartialEq, Eq)]
 pub enum FlatFault {
     BadLine { line: u32 },
     Shape { line: u32, shape: Shape },

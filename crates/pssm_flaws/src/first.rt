@@ -4,7 +4,7 @@ ghost use Rattle.pssm_roles.specs.Roles.{AreRolesOf, HasRole};
 ghost use Rattle.pssm_profile.specs.declared.flaw.Flaw.{Flaw};
 ghost use Rattle.pssm_profile.specs.Flaws.{HasFlaw, IsFlawOf, IsUnread};
 ghost use Rattle.pssm_profile.specs.Faults.{place_of};
-ghost use Rattle.pssm_flaws.specs.Told.{AreCounted};
+ghost use Rattle.pssm_flaws.specs.inner.Told.{AreCounted};
 
 use crate::counted::Counted;
 use crate::places::flaw_with;

@@ -11,6 +11,4 @@ mod first;
 mod pass;
 mod places;
 
-pub use counted::Counted;
-pub use first::first_flaw_at;
 pub use pass::checked;

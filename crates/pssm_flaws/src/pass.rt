@@ -4,7 +4,7 @@ ghost use Rattle.pssm_roles.specs.Roles.{AreRolesOf};
 ghost use Rattle.pssm_profile.specs.declared.fault.XmiFault.TheVariants as xmi_faults;
 ghost use Rattle.pssm_profile.specs.Faults.{IsProfileFault, HasNoProfileFault};
 ghost use Rattle.pssm_tally.specs.Tallies.{CountsTo, HasKind};
-ghost use Rattle.pssm_flaws.specs.Told.{AreCounted};
+ghost use Rattle.pssm_flaws.specs.inner.Told.{AreCounted};
 ghost use Rattle.pssm_flaws.specs.inner.Steps.{HasNoFlaw, IsFaultAt};
 
 use crate::counted::Counted;

@@ -1,7 +1,7 @@
 //! Kinds of elements, and rules of redefinition.
 
 /// The kinds of elements that may redefine others (UML 2.5.1, 14.3.3): regions, vertices and transitions.
-#[derive(Clone, Copy, PartialEq, Eq, Debug)]
+#[derive(Clone, Copy, PartialEq, Eq)]
 pub enum ElementKind {
     Region,
     Vertex,
@@ -15,7 +15,7 @@ pub enum ElementKind {
 /// kind. `Twice`: a machine redefines an element once. `Leaf`: it has not become a leaf.
 /// `ChangedSource` and `ChangedTriggers`: a transition keeps its source, and its triggers where it
 /// lists any.
-#[derive(Clone, Copy, PartialEq, Eq, Debug)]
+#[derive(Clone, Copy, PartialEq, Eq)]
 pub enum RedefRule {
     NotInherited,
     Twice,

@@ -28,8 +28,8 @@ pub use laws::{read_again, run_lines};
 pub use namespace::Namespace;
 pub use naming::line_of;
 pub use pssm_lines::{
-    BriefAct, BriefParts, Fed, Front, LineFault, LineParts, LineReader, OutParts, OutsText,
-    brief_at, firing_of, front_of, next_out, one_fault, one_spelling, write_line,
+    BriefAct, BriefParts, Fed, Front, LineFault, LineParts, LineReader, OutsText, brief_at,
+    firing_of, front_of, write_line,
 };
 pub use pssm_semantics::{Entry, Line, LineOut, Out, Rule};
 pub use writing::put_entry;

@@ -7,7 +7,8 @@ use Rattle.pssm_judge.specs.declared.run.Stop.{Stop}
 use Rattle.pssm_judge.specs.declared.run.Stop.TheVariants as stops
 use Rattle.pssm_judge.specs.declared.verdict.Verdict.{Verdict}
 use Rattle.pssm_judge.specs.declared.verdict.JudgeFault.{JudgeFault}
-use Rattle.pssm_judge.specs.Verdicts.{IsVerdictOn, IsFaultOn, said_at, answer_to}
+use Rattle.pssm_judge.specs.Verdicts.{IsVerdictOn}
+use Rattle.pssm_judge.specs.inner.Answers.{IsFaultOn, said_at, answer_to}
 
 pub answered_verdict : (setting : Setting) (bytes : List ℕ) (stop : Stop) (answer : Result Verdict JudgeFault) → answer ≡ answer_to stop → IsJudged setting bytes (said_at stop)
     → IfOk answer (IsVerdictOn setting bytes)

@@ -20,7 +20,8 @@ use Rattle.pssm_system.specs.History.{History}
 use Rattle.pssm_judge.specs.declared.run.Stop.{Stop}
 use Rattle.pssm_judge.specs.declared.run.Stop.TheVariants.{Limit, Refuse}
 use Rattle.pssm_judge.specs.declared.verdict.Verdict.TheVariants.{Accept}
-use Rattle.pssm_judge.specs.Verdicts.{said_at, IsVerdictOn}
+use Rattle.pssm_judge.specs.Verdicts.{IsVerdictOn}
+use Rattle.pssm_judge.specs.inner.Answers.{said_at}
 use Rattle.pssm_judge.specs.inner.Following.{TakesLine, StopsAt}
 use Rattle.pssm_judge.specs.inner.Judging.{IsJudging}
 use Rattle.pssm_judge.proofs.FollowingLaws.{entries_append}

@@ -1,5 +1,5 @@
 -- What the judge's answers say of a journal.
-use Rattle.std.specs.Prelude.{◌≡◌, ℕ, List, length, Result, Ok, Err}
+use Rattle.std.specs.Prelude.{◌≡◌, ℕ, List, length}
 use Rattle.pssm_base.specs.Faults.{Rose}
 use Rattle.pssm_base.specs.Reading.{Contents, ReadsWhole, HoldsMore}
 use Rattle.pssm_semantics.specs.declared.entry.Entry.{Entry}
@@ -8,8 +8,6 @@ use Rattle.pssm_semantics.specs.declared.setting.Setting.{Setting}
 use Rattle.pssm_semantics.specs.Laws.{CompletesInTime}
 use Rattle.pssm_lines.specs.LineText.{journal_text}
 use Rattle.pssm_journal.specs.Judged.{Judged, Accepted, Refused, Limited, BadText, IsKept, IsJudged}
-use Rattle.pssm_judge.specs.declared.run.Stop.{Stop}
-use Rattle.pssm_judge.specs.declared.run.Stop.TheVariants as stops
 use Rattle.pssm_judge.specs.declared.verdict.Verdict.{Verdict}
 use Rattle.pssm_judge.specs.declared.verdict.Verdict.TheVariants.{Accept, Refuse}
 use Rattle.pssm_judge.specs.declared.verdict.JudgeFault.{JudgeFault}
@@ -29,13 +27,6 @@ abbrev pub IsVerdictOn : Setting → List ℕ → Verdict → Type 0
 IsVerdictOn setting bytes (Accept entries) = IsJudged setting bytes (Accepted entries) × IsPrefixText setting bytes entries
 IsVerdictOn setting bytes (Refuse entry rule) = IsJudged setting bytes (Refused entry rule)
 
--- what the bytes deserve where there is no verdict; want of memory says nothing of them
-abbrev pub IsFaultOn : Setting → List ℕ → JudgeFault → Type 0
-IsFaultOn setting bytes (Text fault) = IsJudged setting bytes (BadText fault)
-IsFaultOn setting bytes (Limit entry) = IsJudged setting bytes (Limited entry)
-IsFaultOn setting bytes NoMemory = Unit {0}
-IsFaultOn setting bytes _ = ⊥
-
 -- The path was read whole, and its bytes deserve the verdict.
 pub record IsVerdictFor (setting : Setting) (contents : Contents) (path : List ℕ) (verdict : Verdict) : Type 0 where
   pub bytes : List ℕ
@@ -53,13 +44,3 @@ IsFaultFor setting contents before after path (Limit entry) = ReadsJudged settin
 IsFaultFor setting contents before after path TooLarge = HoldsMore contents path 16777216
 IsFaultFor setting contents before after path ReadFault = Rose before after
 IsFaultFor setting contents before after path NoMemory = Unit {0}
-
--- what is to be said where the judging ends at an entry
-abbrev pub said_at : Stop → Judged
-said_at (stops.Limit entry) = Limited entry
-said_at (stops.Refuse entry rule) = Refused entry rule
-
--- the judge's answer there
-abbrev pub answer_to : Stop → Result Verdict JudgeFault
-answer_to (stops.Limit entry) = Err (Limit entry)
-answer_to (stops.Refuse entry rule) = Ok (Refuse entry rule)

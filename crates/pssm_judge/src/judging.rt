@@ -5,7 +5,8 @@ ghost use Rattle.pssm_base.specs.Reading.{SameContent};
 ghost use Rattle.pssm_semantics.specs.declared.setting.Setting.{Setting};
 ghost use Rattle.pssm_semantics.specs.Proper.{IsWellFormed};
 ghost use Rattle.pssm_judge.specs.inner.Judging.{IsJudging, IsTurn, IsShorter, IsBehind, IsLessLeft};
-ghost use Rattle.pssm_judge.specs.Verdicts.{IsVerdictOn, IsVerdictFor, IsFaultOn, IsFaultFor};
+ghost use Rattle.pssm_judge.specs.Verdicts.{IsVerdictOn, IsVerdictFor, IsFaultFor};
+ghost use Rattle.pssm_judge.specs.inner.Answers.{IsFaultOn};
 
 use crate::run::{Run, Stop};
 use crate::verdict::{JudgeFault, Verdict};

@@ -11,7 +11,7 @@ ghost use Rattle.pssm_journal.specs.Briefs.{brief_entry};
 ghost use Rattle.pssm_semantics.specs.declared.entry.Rule.TheVariants.{A1};
 ghost use Rattle.pssm_judge.specs.declared.run.Stop.TheVariants.{Refuse};
 ghost use Rattle.pssm_judge.specs.inner.Following.{IsTold, TakesLine, StopsAt};
-ghost use Rattle.pssm_judge.specs.Verdicts.{answer_to};
+ghost use Rattle.pssm_judge.specs.inner.Answers.{answer_to};
 
 use crate::limits::{brief_output_count, output_count, passes_limits};
 use crate::room::{firing_in, firing_out};

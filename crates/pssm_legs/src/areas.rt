@@ -17,7 +17,7 @@ ghost use Rattle.pssm_legs.specs.inner.Chained.{BeginsChain, IsChainOf, IsMet, I
 use pssm_model::{Machine, Owner, RegionId, TransId, TransKind, VertexId, VertexKind};
 
 /// Where a leg exits and enters: nowhere, inside a State, or in a region.
-#[derive(Clone, Copy, PartialEq, Eq, Debug)]
+#[derive(Clone, Copy, PartialEq, Eq)]
 pub enum Area {
     Nowhere,
     Inside(VertexId),

@@ -12,4 +12,4 @@ mod path;
 
 pub use areas::{Area, covers};
 pub use asking::{calls, opens_for, orders};
-pub use legs::{Leg, Legs, leg_at, legs_of, lone_legs, lone_start};
+pub use legs::{Leg, Legs, legs_of, lone_legs, lone_start};

@@ -12,7 +12,7 @@ use pssm_numbering::{File, ListKind, Numbering};
 use std::alloc::{AllocError as NoMemory, Global};
 
 // What is counted of a machine.
-#[derive(Clone, Copy, Debug, PartialEq, Eq)]
+#[derive(Clone, Copy, PartialEq, Eq)]
 pub(crate) enum Counted {
     Regions,
     Vertices,

@@ -1,13 +1,13 @@
 -- Routes of one transition, and what fires where little is enabled.
-use Rattle.std.proofs.Common.{◌≡◌, ◌≢◌, ◌<◌, ℕ, zero, suc, List, [], ◌∷◌, Contains, All, AllPairs, get_or, refl, sym, ap, subst, inl, arith, inr}
+use Rattle.std.proofs.Common.{◌≡◌, ◌≢◌, ◌<◌, ℕ, zero, suc, List, [], ◌∷◌, Contains, All, AllPairs, get_or, refl, sym, inl, arith, inr}
 use Rattle.std.proofs.lemmas.List.Elements.{Contains-append_left, Contains-append_right, All-contains}
 use Rattle.pssm_model.specs.declared.ids.VertexId.{VertexId}
 use Rattle.pssm_model.specs.declared.ids.TransId.{TransId}
 use Rattle.pssm_model.specs.declared.elements.DraftMachine.{DraftMachine}
 use Rattle.pssm_model.specs.declared.steps.Route.{Route}
-use Rattle.pssm_model.specs.Legs.{Leaves, On}
+use Rattle.pssm_model.specs.Legs.{On}
 use Rattle.pssm_model.specs.Configuration.{Configuration}
-use Rattle.pssm_model.specs.Routes.{single_route, Truth, IsReached, IsSource, IsEnabled, Conflict}
+use Rattle.pssm_model.specs.Routes.{Truth, IsReached, IsSource, IsEnabled, Conflict}
 use Rattle.pssm_model.specs.Routes.IsReached.{start, on}
 use Rattle.pssm_model.specs.declared.steps.Event.{Event}
 use Rattle.pssm_model.specs.FiringSets.{IsSound, StartsBefore, IsFiring}
@@ -47,28 +47,10 @@ all_of_one P x is k d lt = at_zero k lt
 pub same_route : (p q : Route) → p.starts ≡ q.starts → p.rest ≡ q.rest → p ≡ q
 same_route p q e f = λ i. record { starts = e i; rest = f i }
 
--- routes of one transition are equal where their transitions are
-pub single_route_same : (t u : TransId) → single_route t ≡ single_route u → t ≡ u
-single_route_same t u e = let starts = ap (λ (r : Route). r.starts) e in cc
-
--- the transitions of a route of one
-pub on_single : (t : TransId) → On (single_route t) t
-on_single t = in_one t
-
-pub on_single_is : (t u : TransId) → On (single_route t) u → u ≡ t
-on_single_is t u h = is_one t u h
-
 -- a reached transition is of the route
 pub reached_is_on : (m : DraftMachine) (route : Route) (t : TransId) → IsReached m route t → On route t
 reached_is_on m route t (start h) = Contains-append_left route.starts route.rest t h
 reached_is_on m route t (on {u = u} r e l h) = Contains-append_right route.starts route.rest t h
-
--- the source of a route of one transition is the source of the transition
-pub single_source_is : (m : DraftMachine) (t : TransId) (s : VertexId) → IsSource m (single_route t) s → Leaves m t s
-single_source_is m t s h = subst (λ u. Leaves m u s) (is_one t h.0 h.1) h.2
-
-pub single_source : (m : DraftMachine) (t : TransId) (s : VertexId) → Leaves m t s → IsSource m (single_route t) s
-single_source m t s h = (t, in_one t, h)
 
 -- nothing fires where nothing is enabled
 pub nothing_is_sound : (m : DraftMachine) (now : Configuration) (truth : Truth) (event : Event) → IsSound m now truth event []

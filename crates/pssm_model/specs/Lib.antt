@@ -18,5 +18,4 @@ pub mod Equal
 pub mod formers
 pub mod Codes
 pub mod inner
-pub mod later
 pub mod DraftSettings

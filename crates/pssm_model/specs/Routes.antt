@@ -17,10 +17,6 @@ use Rattle.pssm_model.specs.Forest.{transition_at, HasKind, LiesInState, IsOrLie
 use Rattle.pssm_model.specs.Configuration.{Configuration, IsComplete}
 use Rattle.pssm_model.specs.Legs.{Leaves, Enters, On, transitions_of, Exits}
 
--- the route of one transition (UML 2.5.1 14.2.3.8, compound transitions)
-abbrev pub single_route : TransId → Route
-single_route t = record { starts = t ∷ []; rest = [] }
-
 -- the values of the guards (UML 2.5.1 14.2.3.8, guards)
 abbrev pub Truth : Type 0
 Truth = GuardId → Bool

@@ -10,7 +10,7 @@ use std::alloc::{AllocError as NoMemory, Global};
 ///
 /// `Within`: it ends at the machine, and so many regions stand on it, at most 32. `Beyond`: it ends at the machine, and
 /// more stand on it. `Nowhere`: it does not end at the machine.
-#[derive(Clone, Copy, PartialEq, Eq, Debug)]
+#[derive(Clone, Copy, PartialEq, Eq)]
 pub enum Depth {
     Unknown,
     Within(u16),

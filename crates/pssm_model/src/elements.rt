@@ -9,7 +9,7 @@ use std::alloc::AllocError;
 
 /// What owns a region or a vertex: the machine (`Top`), a region, or a State
 /// (UML 2.5.1, 14.2.3.2 and 14.2.3.7).
-#[derive(Clone, Copy, PartialEq, Eq, Debug)]
+#[derive(Clone, Copy, PartialEq, Eq)]
 pub enum Owner {
     Top,
     Region(RegionId),
@@ -17,7 +17,7 @@ pub enum Owner {
 }
 
 /// The guard of a transition: none, `else`, or one of the class's guards (UML 2.5.1, 14.2.3.8).
-#[derive(Clone, Copy, PartialEq, Eq, Debug)]
+#[derive(Clone, Copy, PartialEq, Eq)]
 pub enum Guard {
     Always,
     Otherwise,
@@ -25,7 +25,7 @@ pub enum Guard {
 }
 
 /// The kind of a transition (UML 2.5.1, 14.2.3.8 and 14.5.12).
-#[derive(Clone, Copy, PartialEq, Eq, Debug)]
+#[derive(Clone, Copy, PartialEq, Eq)]
 pub enum TransKind {
     External,
     Local,
@@ -34,7 +34,7 @@ pub enum TransKind {
 
 /// The kind of a vertex: a State, a final state, or a kind of pseudostate
 /// (UML 2.5.1, 14.2.3.4 to 14.2.3.7 and 14.5.7).
-#[derive(Clone, Copy, PartialEq, Eq, Debug)]
+#[derive(Clone, Copy, PartialEq, Eq)]
 pub enum VertexKind {
     State,
     Final,
@@ -87,7 +87,7 @@ pub struct DraftMachine {
 }
 
 /// A region, vertex or transition of a machine.
-#[derive(Clone, Copy, PartialEq, Eq, Debug)]
+#[derive(Clone, Copy, PartialEq, Eq)]
 pub enum Element {
     Region(RegionId),
     Vertex(VertexId),
@@ -95,7 +95,7 @@ pub enum Element {
 }
 
 /// Where a machine breaks a rule of models: at the machine as a whole, or at an element.
-#[derive(Clone, Copy, PartialEq, Eq, Debug)]
+#[derive(Clone, Copy, PartialEq, Eq)]
 pub enum FaultPlace {
     Top,
     At(Element),
@@ -106,7 +106,7 @@ pub enum FaultPlace {
 /// `BadOwner`: an owner is of the wrong kind or out of range, or the owner chain does not end at the machine.
 /// `BadEnd`: an end of the transition is no vertex. `TooMany`: the element stands past the limit of its kind.
 /// `TooDeep`: more than 32 regions stand on its owner chain.
-#[derive(Clone, Copy, PartialEq, Eq, Debug)]
+#[derive(Clone, Copy, PartialEq, Eq)]
 pub enum Shape {
     BadOwner(Element),
     BadEnd(Element),

@@ -39,14 +39,14 @@ impl Firing {
 }
 
 /// What enables routes: the arrival of a signal, or the completion of a State (UML 2.5.1, 14.2.3.8 and 14.2.3.9).
-#[derive(Clone, Copy, PartialEq, Eq, Debug)]
+#[derive(Clone, Copy, PartialEq, Eq)]
 pub enum Event {
     Signal(SignalId),
     Completion(VertexId),
 }
 
 /// How a region opens: by default, or by shallow or deep history (UML 2.5.1, 14.2.3.2 and 14.2.3.7).
-#[derive(Clone, Copy, PartialEq, Eq, Debug)]
+#[derive(Clone, Copy, PartialEq, Eq)]
 pub enum Mode {
     Plain,
     Shallow,
@@ -63,7 +63,7 @@ pub enum How {
 
 /// A thing that a step has to do: the exit of a State, the effect of a transition, the entry of a State,
 /// the opening of a region, or the pick of a branch at a choice.
-#[derive(Clone, Copy, PartialEq, Eq, Debug)]
+#[derive(Clone, Copy, PartialEq, Eq)]
 pub enum Item {
     Exit(VertexId),
     Effect(TransId),

@@ -13,7 +13,7 @@ use pssm_model::Row;
 use std::alloc::{AllocError as NoMemory, Global};
 
 /// A kind of elements that a state machine has a list of.
-#[derive(Clone, Copy, Debug, PartialEq, Eq)]
+#[derive(Clone, Copy, PartialEq, Eq)]
 pub enum ListKind {
     /// A region.
     Region,

@@ -5,7 +5,7 @@ ghost use Rattle.pssm_numbering.specs.Kinds as kinds;
 use pssm_roles::Role;
 
 /// A kind of elements that make a list.
-#[derive(Clone, Copy, Debug, PartialEq, Eq)]
+#[derive(Clone, Copy, PartialEq, Eq)]
 pub enum Kind {
     /// A signal.
     Signal,

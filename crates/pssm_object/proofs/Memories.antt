@@ -14,7 +14,7 @@ use Rattle.pssm_model.specs.declared.elements.VertexKind.TheVariants as kinds
 use Rattle.pssm_model.specs.declared.steps.Mode.TheVariants.{Plain, Shallow, Deep}
 use Rattle.pssm_model.specs.Routes.{Truth}
 use Rattle.pssm_model.specs.Ways.{Memory, IsRemembered, OpensByHistory, IsWay}
-use Rattle.pssm_model.specs.later.Plans.{IsWayNow}
+use Rattle.pssm_model.specs.Order.{IsWayNow}
 use Rattle.pssm_model.specs.Course.{ExitsFrom, HasExitedLast, RemembersSoFar}
 use Rattle.pssm_semantics.specs.declared.entry.ObjectId.{ObjectId}
 use Rattle.pssm_semantics.specs.declared.entry.Entry.{Entry}

@@ -10,7 +10,6 @@ mod bodies;
 mod guards;
 mod saying;
 
-pub use behaviours::{behaviour_named, body_with, text_of};
-pub use bodies::{body_at, choice_of};
-pub use guards::{guard_of, says_else, truth_text};
+pub use behaviours::behaviour_named;
+pub use guards::guard_of;
 pub use saying::{first_value, kind_of, label_of, transition_kind};

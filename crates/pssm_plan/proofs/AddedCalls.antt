@@ -14,7 +14,7 @@ use Rattle.pssm_model.specs.Items.{restored_mode}
 use Rattle.pssm_model.specs.Shapes.{HasShape}
 use Rattle.pssm_model.specs.Configuration.{Configuration}
 use Rattle.pssm_plan.specs.declared.ways.Way.{Way}
-use Rattle.pssm_plan.specs.Ways.{calls_by, opens_by}
+use Rattle.pssm_plan.specs.inner.ByWays.{calls_by, opens_by}
 use Rattle.pssm_plan.specs.declared.roster.Call.{Call}
 use Rattle.pssm_plan.specs.declared.progress.Restored.{Restored}
 use Rattle.pssm_plan.specs.inner.Marks.{IsMarked, IsListed, IsLonger}

@@ -6,7 +6,7 @@ use Rattle.std.proofs.lemmas.Option.{slice_get_read}
 use Rattle.pssm_model.specs.declared.elements.DraftMachine.{DraftMachine}
 use Rattle.pssm_model.specs.declared.steps.Item.{Item}
 use Rattle.pssm_plan.specs.declared.ways.Way.{Way}
-use Rattle.pssm_plan.specs.Ways.{calls_by}
+use Rattle.pssm_plan.specs.inner.ByWays.{calls_by}
 
 module _ {X : Type 0} (xs : List X) (first last : ℕ) where
   pub part_contains : (y : X) (i : ℕ) → last ≤ length xs → first ≤ i → i < last → get_or xs i y ≡ y → Contains (take (last - first) (drop first xs)) y

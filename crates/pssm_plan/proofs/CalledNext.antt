@@ -18,7 +18,8 @@ use Rattle.pssm_model.specs.Items.Called.{start, run, ends, opens, restored, ent
 use Rattle.pssm_plan.specs.declared.ways.Way.{Way}
 use Rattle.pssm_plan.specs.declared.roster.Call.{Call}
 use Rattle.pssm_plan.specs.declared.progress.Restored.{Restored}
-use Rattle.pssm_plan.specs.Ways.{IsWayIn, IsWayTaken, AreWaysOf, calls_by, opens_by}
+use Rattle.pssm_plan.specs.Ways.{IsWayIn, IsWayTaken, AreWaysOf}
+use Rattle.pssm_plan.specs.inner.ByWays.{calls_by, opens_by}
 use Rattle.pssm_plan.specs.inner.Marks.{IsMarked}
 use Rattle.pssm_plan.specs.inner.Calling.{IsNoExit, MayRun, IsOfWays, IsLate, IsOpeningOf, IsOfRestored, IsOpenedByEntry, IsEntered}
 use Rattle.pssm_plan.proofs.MoreRan.{gone_on, ran_kept, ran_now, run_more, gone_by_more}

@@ -19,7 +19,7 @@ use Rattle.pssm_model.proofs.ElementLaws.{mapped_some}
 use Rattle.pssm_model.proofs.OwnerChains.{owned_is_place}
 use Rattle.pssm_model_laws.proofs.InnerPaths.{point_owner}
 use Rattle.pssm_plan.specs.declared.ways.Way.{Way}
-use Rattle.pssm_plan.specs.Ways.{calls_by}
+use Rattle.pssm_plan.specs.inner.ByWays.{calls_by}
 use Rattle.pssm_plan.proofs.Depths.{scope_there}
 
 module _ (m : DraftMachine) where

@@ -14,7 +14,8 @@ use Rattle.pssm_model.specs.Legs.SameLeg.{itself}
 use Rattle.pssm_legs.specs.declared.legs.Leg.{Leg}
 use Rattle.pssm_legs.specs.LegsOf.{IsAt, path_of, IsLastOf, IsLegIn}
 use Rattle.pssm_plan.specs.declared.ways.Way.{Way}
-use Rattle.pssm_plan.specs.Ways.{IsWayIn, calls_by}
+use Rattle.pssm_plan.specs.Ways.{IsWayIn}
+use Rattle.pssm_plan.specs.inner.ByWays.{calls_by}
 use Rattle.pssm_plan.specs.inner.Calling.{IsEffectBy, IsEffectOf, IsEffectOfSome, IsPickBy, IsPickAt, IsPickAtSome}
 use Rattle.pssm_plan.specs.inner.Near.{IsNear, EndsNear, ComesNear}
 use Rattle.pssm_model.proofs.ElementLaws.{kind_unique}

@@ -14,7 +14,8 @@ use Rattle.pssm_legs.specs.Calls.{IsOrderedInLeg, IsCalledBy}
 use Rattle.pssm_legs.specs.Calls.IsOrderedInLeg.{exit_effect, path, effect_enter, effect_end, enter_end, later}
 use Rattle.pssm_plan.specs.declared.ways.Way.{Way}
 use Rattle.pssm_plan.specs.declared.roster.Call.{Call}
-use Rattle.pssm_plan.specs.Ways.{AreWaysIn, calls_by, orders_by}
+use Rattle.pssm_plan.specs.Ways.{AreWaysIn}
+use Rattle.pssm_plan.specs.inner.ByWays.{calls_by, orders_by}
 use Rattle.pssm_plan.specs.inner.Marks.{HasSeen, IsSettled}
 use Rattle.pssm_plan.specs.inner.Sequence.{IsSequence}
 

@@ -5,3 +5,4 @@ pub mod Going
 pub mod Views
 pub mod OverRoutes
 pub mod Near
+pub mod ByWays

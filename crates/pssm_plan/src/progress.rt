@@ -26,7 +26,7 @@ use pssm_model::{How, Item, Machine, Mode, Route, VertexId};
 use std::alloc::{AllocError as NoMemory, Global};
 
 /// A State that an opening has restored, in the mode of that opening.
-#[derive(Clone, Copy, PartialEq, Eq, Debug)]
+#[derive(Clone, Copy, PartialEq, Eq)]
 pub struct Restored {
     pub mode: Mode,
     pub state: VertexId,

@@ -5,7 +5,8 @@ ghost use Rattle.pssm_model.specs.RouteWords.{IsStepRoute};
 ghost use Rattle.pssm_model.specs.WellFormed.{KeepsModelRules};
 ghost use Rattle.pssm_legs.specs.Calls.{IsItemIn};
 ghost use Rattle.pssm_plan.specs.declared.ways.Way.{Way as TakenWay};
-ghost use Rattle.pssm_plan.specs.Ways.{IsWayIn, AreWaysIn, calls_by, opens_by, orders_by};
+ghost use Rattle.pssm_plan.specs.Ways.{IsWayIn, AreWaysIn};
+ghost use Rattle.pssm_plan.specs.inner.ByWays.{calls_by, opens_by, orders_by};
 ghost use Rattle.pssm_plan.specs.inner.Sequence.{IsLong, IsSomeLong, MayOrder, IsNestedPair, IsSequence, IsOrderedBySome};
 ghost use Rattle.pssm_plan.specs.inner.Sequence.{IsOpenedBySome, kind_number};
 

@@ -7,7 +7,7 @@ use Rattle.pssm_xml.specs.Elements.{IsParent, IsNextChild, is_child_of, value_or
 use Rattle.pssm_roles.specs.Roles.{is_typed}
 use Rattle.std.specs.Option.{option_map_or}
 use Rattle.pssm_roles.specs.inner.Seen.{IsChildOf, left_from}
-use Rattle.pssm_profile.specs.Numbers.{number_of, together}
+use Rattle.pssm_profile.specs.inner.Numbers.{number_of, together}
 use Rattle.pssm_profile.specs.declared.number.Number.{Number}
 use Rattle.pssm_profile.specs.declared.number.Number.TheVariants.{Nothing, Several}
 use Rattle.pssm_profile.specs.inner.Children.{before, named_child}

@@ -35,37 +35,11 @@ IsState role.State = Unit {0}
 IsState role.FinalState = Unit {0}
 IsState _ = ⊥
 
--- a class, active or not, or a state machine that is one
-abbrev pub IsClass : Role → Type 0
-IsClass role.ActiveClass = Unit {0}
-IsClass role.OtherClass = Unit {0}
-IsClass role.ClassMachine = Unit {0}
-IsClass _ = ⊥
-
--- a state machine, which may be a class too
-abbrev pub IsMachine : Role → Type 0
-IsMachine role.Machine = Unit {0}
-IsMachine role.ClassMachine = Unit {0}
-IsMachine _ = ⊥
-
 -- a behaviour or an expression, which has languages and bodies
 abbrev pub HasText : Role → Type 0
 HasText role.Behaviour = Unit {0}
 HasText role.Expression = Unit {0}
 HasText _ = ⊥
-
--- a pseudostate, also one that is a connection point of a State
-abbrev pub IsPseudostate : Role → Type 0
-IsPseudostate role.Pseudostate = Unit {0}
-IsPseudostate role.ConnectionPoint = Unit {0}
-IsPseudostate _ = ⊥
-
--- a State, a final State or a transition, which can be a leaf
-abbrev pub CanBeLeaf : Role → Type 0
-CanBeLeaf role.State = Unit {0}
-CanBeLeaf role.FinalState = Unit {0}
-CanBeLeaf role.Transition = Unit {0}
-CanBeLeaf _ = ⊥
 
 -- ---- where one can be, and one must be
 

@@ -1,3 +1,4 @@
 pub mod Counting
 pub mod Children
 pub mod Texts
+pub mod Numbers

@@ -1,7 +1,7 @@
 //! What can be wrong with an element.
 
 /// Why an element is not read, in the order in which one of several comes (this profile's choice).
-#[derive(Clone, Copy, Debug, PartialEq, Eq)]
+#[derive(Clone, Copy, PartialEq, Eq)]
 pub enum Unread {
     /// The root is no model and no package, and has not exactly one of these in it.
     Root,
@@ -28,7 +28,7 @@ pub enum Unread {
 }
 
 /// What an element lacks, in the order in which one of several comes (this profile's choice).
-#[derive(Clone, Copy, Debug, PartialEq, Eq)]
+#[derive(Clone, Copy, PartialEq, Eq)]
 pub enum Owed {
     /// `xmi:type`.
     Type,
@@ -45,7 +45,7 @@ pub enum Owed {
 }
 
 /// What is wrong with an element, in the order in which one of several comes (this profile's choice).
-#[derive(Clone, Copy, Debug, PartialEq, Eq)]
+#[derive(Clone, Copy, PartialEq, Eq)]
 pub enum Flaw {
     /// An earlier element has its id.
     DoubleId,

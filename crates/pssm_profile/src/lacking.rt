@@ -3,7 +3,7 @@ ghost use Rattle.std.specs.Prelude.{◌≡◌, ◌↔◌, ◌<◌, ℕ, length, 
 ghost use Rattle.pssm_xml.specs.Elements.{HasNoValue};
 ghost use Rattle.pssm_profile.specs.Counts.{RefersToNothing};
 ghost use Rattle.pssm_profile.specs.Flaws.{Lacks};
-ghost use Rattle.pssm_profile.specs.Numbers.{number_of as number_for};
+ghost use Rattle.pssm_profile.specs.inner.Numbers.{number_of as number_for};
 
 use crate::flaw::Owed;
 use crate::naming::lacks_id;

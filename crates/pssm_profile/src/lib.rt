@@ -29,21 +29,11 @@ pub use asking::{
     is_missing, is_other_root, is_unread_elsewhere, is_unread_language, is_unread_several,
     is_unread_submachine, is_unread_type, is_unread_value,
 };
-pub use counting::{children_count, has_submachine, held_count, is_called, wraps_others};
+pub use counting::is_called;
 pub use fault::XmiFault;
 pub use flaw::{Flaw, Owed, Unread};
-pub use lacking::{lacks, refers_to_nothing};
 pub use laws::one_flaw_comes;
-pub use naming::{has_own_long_name, lacks_id, stands_elsewhere};
-pub use number::Number;
-pub use order::{fault_of, owed_rank, precedes, rank, unread_rank};
-pub use reading::is_read;
-pub use referring::{guards_number, references_number};
-pub use roles::{can_be_leaf, has_text, is_class, is_machine, is_pseudostate, is_state};
-pub use saying::{
-    says_no_integer, says_no_pseudostate_kind, says_no_transition_kind, says_no_truth,
-};
-pub use several::several_at;
-pub use texts::{choice_of, says_no_text};
-pub use values::{has_bad_value, is_typed};
+pub use naming::has_own_long_name;
+pub use order::fault_of;
+pub use texts::choice_of;
 pub use variables::is_variable;

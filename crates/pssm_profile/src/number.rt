@@ -1,9 +1,9 @@
 //! `Number`: none, one or several.
 ghost use Rattle.std.specs.Prelude.{◌≡◌};
-ghost use Rattle.pssm_profile.specs.Numbers.{number_of as number_for, together};
+ghost use Rattle.pssm_profile.specs.inner.Numbers.{number_of as number_for, together};
 
 /// How many there are, as far as it is asked: none, one, or more.
-#[derive(Clone, Copy, Debug, PartialEq, Eq)]
+#[derive(Clone, Copy, PartialEq, Eq)]
 pub enum Number {
     Nothing,
     One,

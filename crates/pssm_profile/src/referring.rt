@@ -4,7 +4,7 @@ ghost use Rattle.pssm_roles.specs.inner.Asked.{Gives};
 ghost use Rattle.pssm_roles.specs.Roles as roles;
 ghost use Rattle.pssm_xml.specs.Elements.{children};
 ghost use Rattle.pssm_profile.specs.Counts.{held, referred, references_count, guards_count};
-ghost use Rattle.pssm_profile.specs.Numbers.{number_of as number_for};
+ghost use Rattle.pssm_profile.specs.inner.Numbers.{number_of as number_for};
 ghost use Rattle.pssm_profile.specs.inner.Children.{named_child, weight};
 
 use crate::counting::{held_count, is_called};

@@ -2,7 +2,7 @@
 ghost use Rattle.std.specs.Prelude.{◌≡◌, ◌<◌, ◌+◌, ℕ, length, nat_lt, codes};
 ghost use Rattle.std.specs.List.{list_any};
 ghost use Rattle.pssm_profile.specs.Counts.{references_count, children_count as count_of, guards_count};
-ghost use Rattle.pssm_profile.specs.Numbers.{number_of as number_for};
+ghost use Rattle.pssm_profile.specs.inner.Numbers.{number_of as number_for};
 ghost use Rattle.pssm_profile.specs.Flaws.{counts_of_class, counts_of_machine, counts_of_state, counts_of_transition, has_several};
 
 use crate::counting::children_count;

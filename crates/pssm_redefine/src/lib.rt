@@ -21,8 +21,5 @@ mod transitions;
 mod variables;
 mod vertices;
 
-pub use flattening::{flatten, flattened};
-pub use gathering::gather;
+pub use flattening::flatten;
 pub use laws::{flat_or_fault, one_flat, some_flat};
-pub use machine::merge;
-pub use parts::{Ends, Gathered};

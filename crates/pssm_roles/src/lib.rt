@@ -19,4 +19,3 @@ pub use laws::{one_role, some_role};
 pub use references::{Reference, references_of};
 pub use role::Role;
 pub use roles::roles_of;
-pub use table::{root_role, row_of};

@@ -3,7 +3,7 @@ ghost use Rattle.std.specs.Prelude.{◌≡◌};
 ghost use Rattle.pssm_roles.specs.Roles as roles;
 
 /// What an element of a model file is (which roles are read is this profile's choice).
-#[derive(Clone, Copy, Debug, PartialEq, Eq)]
+#[derive(Clone, Copy, PartialEq, Eq)]
 pub enum Role {
     /// `xmi:XMI` as the root.
     Wrapper,

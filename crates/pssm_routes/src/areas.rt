@@ -17,7 +17,7 @@ use pssm_model::{Machine, Owner, RegionId, Route, TransId, TransKind, VertexId};
 
 /// From where a route starts, its source or the State beside its join in which its sources lie, and
 /// where it exits.
-#[derive(Clone, Copy, PartialEq, Eq, Debug)]
+#[derive(Clone, Copy, PartialEq, Eq)]
 pub struct Footprint {
     pub source: VertexId,
     pub area: Area,

@@ -22,7 +22,7 @@ use std::alloc::{AllocError as NoMemory, Global};
 
 /// By which transition a search came to a junction or exit point, and the place of the step before
 /// it, if there is one.
-#[derive(Clone, Copy, PartialEq, Eq, Debug)]
+#[derive(Clone, Copy, PartialEq, Eq)]
 pub struct Step {
     pub by: TransId,
     pub before: Option<u16>,

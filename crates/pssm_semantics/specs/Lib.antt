@@ -21,3 +21,4 @@ pub mod Work
 pub mod Classes
 pub mod Tasks
 pub mod later
+pub mod inner

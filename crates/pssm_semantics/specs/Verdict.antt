@@ -1,5 +1,5 @@
 -- The verdict on a journal, whatever the rules are.
-use Rattle.std.specs.Prelude.{◌≡◌, ◌+◌, ◌<◌, ℕ, List, length}
+use Rattle.std.specs.Prelude.{◌<◌, ℕ, List}
 use Rattle.pssm_semantics.specs.declared.entry.Entry.{Entry}
 use Rattle.pssm_semantics.specs.declared.entry.Rule.{Rule}
 use Rattle.pssm_semantics.specs.declared.entry.Rule.TheVariants.{A1, A2, A3, A4, A5, A6, A7, A8, A9, A10, A11, A12}
@@ -28,13 +28,3 @@ pub record IsFirstBroken (Holds : Rule → List Entry → Entry → Type 0) (J :
 -- Each entry breaks no rule after the entries before it (this profile's choice).
 abbrev pub IsAdmissible : (Rule → List Entry → Entry → Type 0) → List Entry → Type 0
 IsAdmissible Holds J = (before after : List Entry) (e : Entry) → Splits J before e after → (rule : Rule) → Holds rule before e
-
--- the least position, from 1, whose entry breaks a rule, and the first rule that this entry breaks (this profile's choice)
-pub record IsRefused (Holds : Rule → List Entry → Entry → Type 0) (J : List Entry) (position : ℕ) (rule : Rule) : Type 0 where
-  pub before : List Entry
-  pub entry : Entry
-  pub after : List Entry
-  pub splits : Splits J before entry after
-  pub position_is : position ≡ length before + 1
-  pub admissible : IsAdmissible Holds before
-  pub first : IsFirstBroken Holds before entry rule

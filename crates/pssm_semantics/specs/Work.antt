@@ -1,7 +1,6 @@
 -- What was run.
 use Rattle.std.specs.Prelude.{ℤ, List}
 use Rattle.pssm_semantics.specs.declared.entry.ObjectId.{ObjectId}
-use Rattle.pssm_semantics.specs.declared.entry.Out.{Out}
 use Rattle.pssm_semantics.specs.declared.setting.Outcome.{Outcome}
 use Rattle.pssm_semantics.specs.declared.tree.Act.{Act}
 use Rattle.pssm_semantics.specs.Values.{outcome_of}
@@ -16,7 +15,3 @@ pub record Work : Type 0 where
 -- what it makes (UML 2.5.1 13.2.3, executions of behaviours)
 abbrev pub outcome_from : Work → Outcome
 outcome_from work = outcome_of work.act work.own work.store work.params
-
--- the values of the variables and the outputs after some statements (UML 2.5.1 13.2.3, executions of behaviours)
-abbrev pub so_far : List ℤ → List Out → Outcome
-so_far store outs = record { store = store; outs = outs }

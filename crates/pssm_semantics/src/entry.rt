@@ -8,7 +8,7 @@ use pssm_model::{
 use std::alloc::{AllocError as NoMemory, Global};
 
 /// An object of the setting, counted from 0 in the order of the model, at most 63.
-#[derive(Clone, Copy, PartialEq, Eq, PartialOrd, Ord, Hash, Debug)]
+#[derive(Clone, Copy, PartialEq, Eq, PartialOrd, Ord, Hash)]
 pub struct ObjectId(pub u8);
 
 /// What a behaviour gives out: a mark, or a signal sent to an object (UML 2.5.1, 16.3.3, send signal actions).

@@ -2,7 +2,7 @@
 ghost use Rattle.std.specs.Prelude.{◌≡◌, ◌≤◌, length, All, IfOk, slice_set};
 ghost use Rattle.pssm_semantics.specs.Arguments.{StmtArgsFit};
 ghost use Rattle.pssm_semantics.specs.Values.{after_stmt, after_stmts, values_of};
-ghost use Rattle.pssm_semantics.specs.Work.{so_far};
+ghost use Rattle.pssm_semantics.specs.inner.Running.{so_far};
 
 use crate::args::Args;
 use crate::entry::{ObjectId, Out};

@@ -24,7 +24,7 @@ impl Stimulus {
 }
 
 /// A piece of work that runs a behaviour: an exit, an effect, an entry, or a step of a do-activity, from 0.
-#[derive(Clone, Copy, PartialEq, Eq, Debug)]
+#[derive(Clone, Copy, PartialEq, Eq)]
 pub enum Task {
     Exit(VertexId),
     Effect(TransId),

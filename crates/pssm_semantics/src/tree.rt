@@ -57,7 +57,7 @@ pub enum Expr {
 }
 
 /// A relation of two numbers: `==`, `!=`, `<`, `<=`, `>` or `>=`.
-#[derive(Clone, Copy, PartialEq, Eq, Debug)]
+#[derive(Clone, Copy, PartialEq, Eq)]
 pub enum Rel {
     Eq,
     Ne,

@@ -1,8 +1,8 @@
--- What one more entry does to admissible journals and to refusals, whatever the rules are.
-use Rattle.std.proofs.Common.{inl, inr, ℕ, ◌+◌, List, [], ◌∷◌, ◌++◌, length, refl, ◌∙◌, ap, subst, append_assoc}
+-- What one more entry does to admissible journals, whatever the rules are.
+use Rattle.std.proofs.Common.{inl, inr, List, [], ◌∷◌, ◌++◌, refl, ◌∙◌, ap, subst, append_assoc}
 use Rattle.pssm_semantics.specs.declared.entry.Entry.{Entry}
 use Rattle.pssm_semantics.specs.declared.entry.Rule.{Rule}
-use Rattle.pssm_semantics.specs.Verdict.{IsFirstBroken, IsAdmissible, IsRefused}
+use Rattle.pssm_semantics.specs.Verdict.{IsAdmissible}
 use Rattle.pssm_semantics.proofs.Appended.{split-append, never_ends}
 
 -- The journal without entries is admissible.
@@ -28,27 +28,3 @@ IsAdmissible-front Holds J more all before after e splits rule =
 -- Its last entry breaks no rule after the others.
 pub IsAdmissible-last : (Holds : Rule → List Entry → Entry → Type 0) (J : List Entry) (e : Entry) → IsAdmissible Holds (J ++ e ∷ []) → (rule : Rule) → Holds rule J e
 IsAdmissible-last Holds J e all rule = all J [] e refl rule
-
--- A journal is refused at the first entry that breaks a rule.
-pub IsRefused-at : (Holds : Rule → List Entry → Entry → Type 0) (J more : List Entry) (e : Entry) (rule : Rule) → IsAdmissible Holds J → IsFirstBroken Holds J e rule
-    → IsRefused Holds (J ++ e ∷ more) (length J + 1) rule
-IsRefused-at Holds J more e rule all first =
-    record { before = J; entry = e; after = more; splits = refl; position_is = refl; admissible = all; first = first }
-
--- It stays refused whatever follows.
-pub IsRefused-more : (Holds : Rule → List Entry → Entry → Type 0) (J more : List Entry) (position : ℕ) (rule : Rule) → IsRefused Holds J position rule
-    → IsRefused Holds (J ++ more) position rule
-IsRefused-more Holds J more position rule h = record {
-  before = h.before;
-  entry = h.entry;
-  after = h.after ++ more;
-  splits = ap (λ xs. xs ++ more) h.splits ∙ append_assoc h.before (h.entry ∷ h.after) more;
-  position_is = h.position_is;
-  admissible = h.admissible;
-  first = h.first;
-}
-
--- No journal is both admissible and refused.
-pub IsAdmissible-not_refused : (Holds : Rule → List Entry → Entry → Type 0) (J : List Entry) (position : ℕ) (rule : Rule) → IsAdmissible Holds J
-    → IsRefused Holds J position rule → ⊥
-IsAdmissible-not_refused Holds J position rule all h = h.first.broken (all h.before h.after h.entry h.splits rule)

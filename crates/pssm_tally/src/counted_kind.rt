@@ -15,7 +15,7 @@ use pssm_xml::Elements;
 use std::alloc::{AllocError as NoMemory, Global};
 
 /// A kind of elements whose names differ and that are counted: signals, active classes, and the objects of these.
-#[derive(Clone, Copy, Debug, PartialEq, Eq)]
+#[derive(Clone, Copy, PartialEq, Eq)]
 pub enum CountedKind {
     Signal,
     Class,

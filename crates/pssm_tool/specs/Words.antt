@@ -1,5 +1,5 @@
 -- The words of the command line, and the command that they mean.
-use Rattle.std.specs.Prelude.{◌≡◌, ℕ, ℤ, List, [], ◌∷◌, ◌++◌, map, codes, String, string_bytes}
+use Rattle.std.specs.Prelude.{◌≡◌, ℕ, ℤ, List, [], ◌∷◌, map, codes, String, string_bytes}
 use Rattle.std.specs.List.{AllByRecursion}
 use Rattle.std.specs.declared.alloc.Global.{Global}
 use Rattle.pssm_spelling.specs.Spelling.{IsName}
@@ -7,8 +7,6 @@ use Rattle.pssm_spelling.specs.Numbers.{IsNumber}
 use Rattle.pssm_lines.specs.LineText.{call_text}
 use Rattle.pssm_lines.specs.Grammar.{AreArgs}
 use Rattle.pssm_tool.specs.declared.words.Options.{Options}
-use Rattle.pssm_tool.specs.declared.words.Command.{Command}
-use Rattle.pssm_tool.specs.declared.words.Command.TheVariants.{Judge, Run, Check, Flat}
 
 -- the words as texts
 abbrev pub texts : List (String Global) → List (List ℕ)
@@ -67,10 +65,3 @@ Means words (Prints model) = words ≡ codes "flat" ∷ model ∷ []
 -- The words mean nothing.
 abbrev pub IsUsage : List (List ℕ) → Type 0
 IsUsage words = (meaning : Meaning) → Means words meaning → ⊥
-
--- what a command that was read means
-abbrev pub meaning_of : Command → Meaning
-meaning_of (Judge model journal) = Judges model.now journal.now
-meaning_of (Run options model stimuli) = Runs options model.now (texts stimuli.now)
-meaning_of (Check model) = Checks model.now
-meaning_of (Flat model) = Prints model.now

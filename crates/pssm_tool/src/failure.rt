@@ -5,7 +5,7 @@ ghost use Rattle.pssm_tool.specs.declared.failure.Failure.TheVariants.{NoMemory 
 use std::alloc::AllocError;
 
 /// Why there is no answer to the words. Nothing is written.
-#[derive(Clone, Copy, PartialEq, Eq, Debug)]
+#[derive(Clone, Copy, PartialEq, Eq)]
 pub enum Failure {
     /// A file could not be read: the count of its path's faults rose.
     ReadFault,

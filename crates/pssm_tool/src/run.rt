@@ -15,7 +15,7 @@ use rand_pcg::Pcg64;
 use std::alloc::{AllocError as NoMemory, Global};
 
 /// How a run ends.
-#[derive(Clone, Copy, PartialEq, Eq, Debug)]
+#[derive(Clone, Copy, PartialEq, Eq)]
 pub enum Ended {
     /// All stimuli are posted, and nothing more can happen.
     Quiet,

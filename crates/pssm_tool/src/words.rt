@@ -1,13 +1,14 @@
 //! The words of the command line.
 ghost use Rattle.std.specs.Prelude.{◌≡◌, ◌≤◌, ◌∷◌, ◌++◌, List, ℕ, codes, IfOk, IfSome, IfNone, IsTrue, ◌↔◌, string_bytes};
-ghost use Rattle.pssm_tool.specs.Words.{texts, BeginWith, HasOption, BeginsWithDashes, Meaning, Means, IsUsage, meaning_of};
+ghost use Rattle.pssm_tool.specs.Words.{texts, BeginWith, HasOption, BeginsWithDashes, Meaning, Means, IsUsage};
+ghost use Rattle.pssm_tool.specs.inner.Commands.{meaning_of};
 
 use crate::stimuli::are_spelled;
 use pssm_spelling::number_of;
 use std::alloc::{AllocError as NoMemory, Global};
 
 /// What may be chosen for a run.
-#[derive(Clone, Copy, PartialEq, Eq, Debug)]
+#[derive(Clone, Copy, PartialEq, Eq)]
 pub struct Options {
     /// What the free choices are made from.
     pub seed: u64,

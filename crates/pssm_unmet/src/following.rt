@@ -7,7 +7,7 @@ ghost use Rattle.pssm_unmet.specs.inner.Found.{named};
 use pssm_roles::Role;
 
 /// What a reference may mean.
-#[derive(Clone, Copy, Debug, PartialEq, Eq)]
+#[derive(Clone, Copy, PartialEq, Eq)]
 pub enum Target {
     /// Any element, also one that is passed over.
     AnyElement,

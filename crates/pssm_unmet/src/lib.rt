@@ -12,6 +12,5 @@ mod meaning;
 mod unmet;
 
 pub use finding::first_unmet;
-pub use following::Target;
 pub use laws::one_is_first;
 pub use unmet::Unmet;

@@ -4,7 +4,7 @@ ghost use Rattle.pssm_unmet.specs.inner.Found as found;
 
 /// What is wrong with a reference. `at` is the byte at which the element begins where the reference
 /// stands: the element that has it, or its child that holds it.
-#[derive(Clone, Copy, Debug, PartialEq, Eq)]
+#[derive(Clone, Copy, PartialEq, Eq)]
 pub enum Unmet {
     /// No element of the right kind has the id.
     Unknown { at: u32 },

@@ -24,7 +24,7 @@ fn first_place(earlier: Option<u32>, place: u32, passes: bool) -> Option<u32>
 
 /// The body that is meant: none, so that the text is empty; the one at this place, from 0, among the bodies; or one in
 /// a language that is not read.
-#[derive(Clone, Copy, PartialEq, Eq, Debug)]
+#[derive(Clone, Copy, PartialEq, Eq)]
 pub enum MeantBody {
     Nothing,
     At(u32),
@@ -33,7 +33,7 @@ pub enum MeantBody {
 
 /// What the languages and bodies of a behaviour say that were seen so far: how many there are of each, and the place of
 /// the first language that is `pssm`. It is fed with the children in document order, whichever come first.
-#[derive(Clone, Copy, PartialEq, Eq, Debug)]
+#[derive(Clone, Copy, PartialEq, Eq)]
 pub struct BodyChoice {
     pub languages: u32,
     pub pssm: Option<u32>,

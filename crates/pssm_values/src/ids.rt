@@ -1,8 +1,6 @@
 //! Ids that the value of an attribute holds.
-ghost use Rattle.std.specs.Prelude.{◌≡◌, ◌<◌, ◌∷◌, [], length, MatchOption, IfSome, bytes_eq};
-ghost use Rattle.std.specs.List.{list_any};
-ghost use Rattle.std.specs.Option.{option_copied};
-ghost use Rattle.pssm_values.specs.Ids.{ids_in, only};
+ghost use Rattle.std.specs.Prelude.{◌≡◌, ◌<◌, ◌∷◌, [], length, MatchOption, IfSome};
+ghost use Rattle.pssm_values.specs.Ids.{ids_in};
 
 use crate::blanks::{behind_blanks, word_len};
 
@@ -35,32 +33,4 @@ pub fn ids_len(value: &[u8]) -> usize
         rest = others;
     }
     count
-}
-
-/// The id that the value holds, where it holds one and no more.
-pub fn only_id(value: &[u8]) -> Option<&[u8]>
-    ensures { option_copied result ≡ only (ids_in value.now) }
-{
-    let (id, rest) = first_id(value)?;
-    match first_id(rest) {
-        None => Some(id),
-        Some(_) => None,
-    }
-}
-
-/// Whether the value holds the id.
-pub fn holds_id(value: &[u8], id: &[u8]) -> bool
-    ensures { result ≡ list_any (bytes_eq id.now) (ids_in value.now) }
-{
-    let mut rest = value;
-    for i in 0..value.len() {
-        let Some((held, others)) = first_id(rest) else {
-            return false;
-        };
-        if id == held {
-            return true;
-        }
-        rest = others;
-    }
-    false
 }

@@ -8,7 +8,3 @@ pub const CLASSES_AT_MOST: u32 = 64;
 pub const OBJECTS_AT_MOST: u32 = 64;
 /// Parameters of a signal.
 pub const PARAMETERS_AT_MOST: u32 = 8;
-/// Variables of a class, with those that its machine inherits.
-pub const VARIABLES_AT_MOST: u32 = 64;
-/// Regions, vertices, transitions or bodies of a machine, with those of the machines that it extends.
-pub const ELEMENTS_AT_MOST: u32 = 65_535;

@@ -49,11 +49,7 @@ IsParent doc p n = option_and_then (λ (e : Element). e.parent) (slice_get doc n
 abbrev pub IsRoot : List Element → ℕ → Type 0
 IsRoot doc n = (e : Element) × (slice_get doc n ≡ Some e) × (e.parent ≡ None)
 
--- a child of this name
-abbrev pub IsChild : List Element → ℕ → List ℕ → ℕ → Type 0
-IsChild doc p name n = IsParent doc p n × IsNamed doc n name
-
--- the same as a test
+-- whether an element is a child of this name
 abbrev pub is_child_of : ℕ → List ℕ → Element → Bool
 is_child_of p name e = option_map_or (λ q. q == p) e.parent false && bytes_eq e.name name
 

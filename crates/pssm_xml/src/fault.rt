@@ -9,7 +9,7 @@ use std::alloc::AllocError;
 /// `NotUtf8`: the byte belongs to no character. `Malformed`: no piece of a document begins there, or one that cannot
 /// stand there, or the text ends there too early. `Doctype`: a document type stands before the root. `TooDeep`: the tag
 /// begins the 129th element that is open. `NoMemory`: memory ran out; no other variant carries it.
-#[derive(Clone, Copy, Debug, PartialEq, Eq)]
+#[derive(Clone, Copy, PartialEq, Eq)]
 pub enum TextFault {
     NotUtf8 { at: u32 },
     Malformed { at: u32 },

@@ -24,7 +24,7 @@ fn machine_of_a_state(alloc: Global) -> Result<Machine, Fail> {
     };
     let machine = Machine::new(alloc, &draft);
     drop(draft);
-    Ok(machine?)
+    Ok(machine.ok().ok_or("no machine")?)
 }
 
 #[test]

@@ -124,7 +124,7 @@ pub fn machine_of(
     let draft = draft_of(alloc, regions, vertices, transitions)?;
     let machine = Machine::new(alloc, &draft);
     drop(draft);
-    Ok(machine?)
+    Ok(machine.ok().ok_or("no machine")?)
 }
 
 /// The draft of one State in one region.

@@ -30,7 +30,7 @@ fn faults_in(alloc: Global, machine: &Machine) -> Result<(usize, Option<Broken>)
 
 /// How many rules the machine of the draft breaks, and the last of them.
 fn faults_of(alloc: Global, draft: &DraftMachine) -> Result<(usize, Option<Broken>), Fail> {
-    let machine = Machine::new(alloc, draft)?;
+    let machine = Machine::new(alloc, draft).ok().ok_or("no machine")?;
     let faults = faults_in(alloc, &machine);
     drop(machine);
     faults

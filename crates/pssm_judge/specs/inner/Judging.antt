@@ -10,7 +10,7 @@ use Rattle.pssm_system.specs.History.{History}
 use Rattle.pssm_judge.specs.declared.judging.Turn.{Turn}
 use Rattle.pssm_judge.specs.declared.judging.Turn.TheVariants.{On, Stop}
 use Rattle.pssm_judge.specs.declared.judging.Behind.{Behind}
-use Rattle.pssm_judge.specs.Verdicts.{said_at}
+use Rattle.pssm_judge.specs.inner.Answers.{said_at}
 
 -- The run has taken the lines that were read so far, and the rest of the bytes is still to be read, from the line with this number on.
 pub record IsJudging (setting : Setting) (bytes rest : List ℕ) (begun : Bool) (number : ℕ) (run : History) : Type 0 where

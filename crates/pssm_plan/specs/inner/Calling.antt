@@ -16,7 +16,7 @@ use Rattle.pssm_legs.specs.declared.legs.Leg.{Leg}
 use Rattle.pssm_plan.specs.declared.ways.Way.{Way}
 use Rattle.pssm_plan.specs.declared.roster.Call.{Call}
 use Rattle.pssm_plan.specs.declared.progress.Restored.{Restored}
-use Rattle.pssm_plan.specs.Ways.{calls_by, opens_by}
+use Rattle.pssm_plan.specs.inner.ByWays.{calls_by, opens_by}
 use Rattle.pssm_plan.specs.inner.Marks.{IsMarked}
 use Rattle.pssm_plan.specs.inner.Sequence.{IsOpenedBySome}
 

@@ -9,7 +9,7 @@ use Rattle.pssm_model.specs.Forest.{LiesInState}
 use Rattle.pssm_legs.specs.Calls.{IsItemIn}
 use Rattle.pssm_plan.specs.declared.ways.Way.{Way}
 use Rattle.pssm_plan.specs.declared.roster.Call.{Call}
-use Rattle.pssm_plan.specs.Ways.{opens_by, orders_by}
+use Rattle.pssm_plan.specs.inner.ByWays.{opens_by, orders_by}
 use Rattle.pssm_plan.specs.inner.Marks.{IsListed, IsMarked, IsFresh}
 
 -- One of the ways opens the region of the State.

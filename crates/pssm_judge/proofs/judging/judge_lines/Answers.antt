@@ -1,7 +1,7 @@
 use Rattle.std.proofs.Common.{◌<◌, Option, true, length, subst}
 use Rattle.std.specs.Prelude.{MatchOption}
 use Rattle.pssm_judge.specs.declared.run.Stop.{Stop}
-use Rattle.pssm_judge.specs.Verdicts.{IsFaultOn, said_at}
+use Rattle.pssm_judge.specs.inner.Answers.{IsFaultOn, said_at}
 use Rattle.pssm_journal.specs.Judged.{IsJudged}
 use Rattle.pssm_judge.specs.inner.Judging.{IsJudging}
 use Rattle.pssm_judge.proofs.JudgingLaws.{judging_begin}

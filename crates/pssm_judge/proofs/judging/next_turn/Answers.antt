@@ -1,7 +1,7 @@
 use Rattle.std.proofs.Common.{◌+◌, ℕ, List, true, subst, arith}
 use Rattle.pssm_semantics.specs.declared.setting.Setting.{Setting}
 use Rattle.pssm_judge.specs.declared.judging.Turn.{Turn}
-use Rattle.pssm_judge.specs.Verdicts.{IsFaultOn}
+use Rattle.pssm_judge.specs.inner.Answers.{IsFaultOn}
 use Rattle.pssm_judge.specs.inner.Judging.{IsJudging, IsTurn, IsShorter, IsBehind}
 use Rattle.pssm_judge.proofs.JudgingLaws.{few_lines}
 use Rattle.pssm_judge.proofs.TurnLaws.{onward, onward_fault, less_left, passed_on}

@@ -1,6 +1,6 @@
 use Rattle.std.proofs.Common.{take}
 use Rattle.pssm_model.specs.declared.steps.Item.{Item}
-use Rattle.pssm_plan.specs.Ways.{calls_by}
+use Rattle.pssm_plan.specs.inner.ByWays.{calls_by}
 use Rattle.pssm_plan.specs.inner.Marks.{IsListed}
 use Rattle.pssm_plan.proofs.listing.meets.Given as goal
 

@@ -3,7 +3,7 @@ use Rattle.std.proofs.lemmas.List.{take_all}
 use Rattle.pssm_model.specs.declared.steps.Item.{Item}
 use Rattle.pssm_config.specs.Tables.{configuration_of}
 use Rattle.pssm_plan.specs.declared.ways.Way.{Way}
-use Rattle.pssm_plan.specs.Ways.{calls_by}
+use Rattle.pssm_plan.specs.inner.ByWays.{calls_by}
 use Rattle.pssm_plan.specs.inner.Calling.{MayRun, IsOfWays}
 use Rattle.pssm_plan.proofs.Extending.{extended_same}
 use Rattle.pssm_plan.proofs.Growing.{AddedBy, grown_by_one}

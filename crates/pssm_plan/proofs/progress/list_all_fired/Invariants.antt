@@ -1,6 +1,6 @@
 use Rattle.std.proofs.Common.{take}
 use Rattle.pssm_config.specs.Tables.{configuration_of}
-use Rattle.pssm_plan.specs.Ways.{calls_by}
+use Rattle.pssm_plan.specs.inner.ByWays.{calls_by}
 use Rattle.pssm_plan.specs.inner.Calling.{MayRun}
 use Rattle.pssm_plan.proofs.Growing.{HasGrown, AddedBy}
 use Rattle.pssm_plan.proofs.progress.list_all_fired.Given as goal

@@ -1,5 +1,5 @@
 use Rattle.pssm_plan.specs.declared.ways.Way.{Way}
-use Rattle.pssm_plan.specs.Ways.{calls_by}
+use Rattle.pssm_plan.specs.inner.ByWays.{calls_by}
 use Rattle.std.proofs.Common.{◌≡◌, true}
 use Rattle.pssm_plan.proofs.SomeWay.{is_there, none_before_more}
 use Rattle.pssm_plan.proofs.ways.first_calling.Goals as goal

@@ -1,7 +1,7 @@
 use Rattle.std.proofs.Common.{◌≡◌, ◌+◌, ℕ, true, sym, subst, arith}
 use Rattle.std.proofs.lemmas.Option.{slice_get_within}
 use Rattle.pssm_plan.specs.declared.ways.Way.{Way}
-use Rattle.pssm_plan.specs.Ways.{calls_by}
+use Rattle.pssm_plan.specs.inner.ByWays.{calls_by}
 use Rattle.pssm_plan.proofs.SomeWay.{is_there, NoneFrom, none_from_here, none_from_next}
 use Rattle.pssm_plan.proofs.ways.last_calling.Goals.{then-way_calls, else-way_calls}
 use Rattle.pssm_plan.proofs.ways.last_calling.Goals as goal

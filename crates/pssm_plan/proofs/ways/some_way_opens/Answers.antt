@@ -1,7 +1,7 @@
 use Rattle.std.proofs.Common.{◌≡◌, List, true, false, refl, sym, subst, arith}
 use Rattle.std.proofs.lemmas.List.{take_all}
 use Rattle.pssm_plan.specs.declared.ways.Way.{Way}
-use Rattle.pssm_plan.specs.Ways.{opens_by}
+use Rattle.pssm_plan.specs.inner.ByWays.{opens_by}
 use Rattle.pssm_plan.specs.inner.Sequence.{IsOpenedBySome}
 use Rattle.pssm_plan.proofs.SomeWay.{is_there, none_more}
 use Rattle.pssm_plan.proofs.ways.some_way_opens.Goals as goal

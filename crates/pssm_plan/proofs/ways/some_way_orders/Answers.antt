@@ -1,7 +1,7 @@
 use Rattle.std.proofs.Common.{◌≡◌, List, true, false, refl, sym, subst, arith}
 use Rattle.std.proofs.lemmas.List.{take_all}
 use Rattle.pssm_plan.specs.declared.ways.Way.{Way}
-use Rattle.pssm_plan.specs.Ways.{orders_by}
+use Rattle.pssm_plan.specs.inner.ByWays.{orders_by}
 use Rattle.pssm_plan.specs.inner.Sequence.{IsOrderedBySome}
 use Rattle.pssm_plan.proofs.SomeWay.{is_there, none_more}
 use Rattle.pssm_plan.proofs.ways.some_way_orders.Goals as goal

@@ -3,7 +3,7 @@ use Rattle.std.specs.Prelude.{sum}
 use Rattle.pssm_xml.specs.Documents.{Element}
 use Rattle.pssm_xml.specs.Elements.{IsParent}
 use Rattle.pssm_roles.specs.inner.Seen.{IsChildOf, left_from}
-use Rattle.pssm_profile.specs.Numbers.{number_of as number_for}
+use Rattle.pssm_profile.specs.inner.Numbers.{number_of as number_for}
 use Rattle.pssm_profile.specs.inner.Children.{before, named_child, weight}
 use Rattle.pssm_profile.proofs.CountingLaws.{in_range}
 use Rattle.pssm_profile.proofs.ChildLaws.{is_child, fewer_left, at_first, at_next, counts_on}

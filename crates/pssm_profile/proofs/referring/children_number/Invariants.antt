@@ -1,6 +1,6 @@
 use Rattle.std.proofs.Common.{◌≡◌, sum, map, length}
 use Rattle.pssm_roles.specs.inner.Seen.{IsChildOf, left_from}
-use Rattle.pssm_profile.specs.Numbers.{number_of as number_for}
+use Rattle.pssm_profile.specs.inner.Numbers.{number_of as number_for}
 use Rattle.pssm_profile.specs.inner.Children.{before, weight}
 use Rattle.pssm_profile.proofs.referring.children_number.Given as goal
 

@@ -2,7 +2,7 @@
 use Rattle.std.proofs.Common.{◌≡◌, ◌+◌, ◌*◌, take}
 use Rattle.pssm_semantics.specs.Fits.{stmt_count, stmts_count}
 use Rattle.pssm_semantics.specs.Values.{after_stmts}
-use Rattle.pssm_semantics.specs.Work.{so_far}
+use Rattle.pssm_semantics.specs.inner.Running.{so_far}
 use Rattle.pssm_semantics.proofs.running.+running.Given as goal
 
 abbrev pub decreases-run_stmt : goal.decreases-run_stmt

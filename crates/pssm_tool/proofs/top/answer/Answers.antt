@@ -1,5 +1,6 @@
 use Rattle.std.proofs.Common.{IfSome, subst}
-use Rattle.pssm_tool.specs.Words.{texts, Means, meaning_of, Judges, Runs, Checks, Prints}
+use Rattle.pssm_tool.specs.Words.{texts, Means, Judges, Runs, Checks, Prints}
+use Rattle.pssm_tool.specs.inner.Commands.{meaning_of}
 use Rattle.pssm_tool.specs.Due.{IsOwed}
 use Rattle.pssm_tool.proofs.DueLaws.{at_words}
 use Rattle.pssm_tool.proofs.top.answer.Goals as goal

@@ -1,6 +1,7 @@
 use Rattle.std.proofs.Common.{◌∙◌, List, ℕ, IfOk, IfSome, codes, ap, sym, subst}
 use Rattle.std.proofs.lemmas.Slice.Eq.{bytes_eq-Decides}
-use Rattle.pssm_tool.specs.Words.{texts, Means, meaning_of}
+use Rattle.pssm_tool.specs.Words.{texts, Means}
+use Rattle.pssm_tool.specs.inner.Commands.{meaning_of}
 use Rattle.pssm_tool.proofs.Three.{two_items, three_items}
 use Rattle.pssm_tool.proofs.WordLaws.{first_and_rest, words_first, one_meaning}
 use Rattle.pssm_tool.proofs.words.command_of.Goals as goal

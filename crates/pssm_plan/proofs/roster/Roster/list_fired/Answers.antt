@@ -2,7 +2,7 @@ use Rattle.std.proofs.Common.{◌⊎◌}
 use Rattle.std.proofs.lemmas.Result.{on_ok_weaker}
 use Rattle.pssm_model.specs.declared.steps.Item.{Item}
 use Rattle.pssm_config.specs.Tables.{configuration_of}
-use Rattle.pssm_plan.specs.Ways.{calls_by}
+use Rattle.pssm_plan.specs.inner.ByWays.{calls_by}
 use Rattle.pssm_plan.specs.inner.Calling.{IsExitBy, IsOtherBy, MayRun}
 use Rattle.pssm_plan.proofs.Extending.{extended_same, extended_further}
 use Rattle.pssm_plan.proofs.AddedCalls.{fired_are}

@@ -1,5 +1,5 @@
 use Rattle.std.proofs.Common.{◌≤◌, ℕ, length, arith}
-use Rattle.pssm_plan.specs.Ways.{calls_by}
+use Rattle.pssm_plan.specs.inner.ByWays.{calls_by}
 use Rattle.pssm_plan.specs.inner.Calling.{IsOpeningBy}
 use Rattle.pssm_plan.proofs.Extending.{extended_same}
 use Rattle.pssm_plan.proofs.Growing.{grown_by_next}
