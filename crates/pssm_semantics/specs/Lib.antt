@@ -20,4 +20,3 @@ pub mod Arguments
 pub mod Work
 pub mod Classes
 pub mod Tasks
-pub mod later
