@@ -1,5 +1,5 @@
 -- How far an object has come after one more entry that keeps every rule.
-use Rattle.std.proofs.Common.{◌≡◌, ◌⊎◌, ◌++◌, ◌==◌, List, [], ◌∷◌, Bool, true, Contains, IfSome, IsSome, Option, Some, None, refl, sym, ap, subst, inl, inr, ⊎_elim, eq-eqb}
+use Rattle.std.proofs.Common.{◌≡◌, ◌⊎◌, ◌++◌, ◌==◌, List, [], ◌∷◌, Contains, IfSome, IsSome, Option, Some, None, refl, sym, ap, subst, inl, inr, ⊎_elim, eq-eqb}
 use Rattle.std.proofs.lemmas.List.Elements.{Contains-append_left, Contains-push}
 use Rattle.pssm_model.specs.declared.ids.VertexId.{VertexId}
 use Rattle.pssm_model.specs.declared.ids.RegionId.{RegionId}
@@ -18,7 +18,6 @@ use Rattle.pssm_model.specs.Course.{Head, FiresBy, RemembersSoFar}
 use Rattle.pssm_model.specs.Course.Head.{Starts, Fires}
 use Rattle.pssm_model.specs.Routes.{Truth, IsStateRoute}
 use Rattle.pssm_model.specs.FiringSets.{IsFiring}
-use Rattle.pssm_model.specs.Items.{IsWaiting}
 use Rattle.pssm_model.specs.Ways.{IsWay}
 use Rattle.pssm_model.specs.Order.{HasGone, course_by}
 use Rattle.pssm_model.specs.Order.HasGone.{begun, more as gone_more}
@@ -32,8 +31,8 @@ use Rattle.pssm_semantics.specs.declared.entry.Rule.TheVariants.{A3, A7, A8, A9,
 use Rattle.pssm_semantics.specs.declared.setting.Class.{Class}
 use Rattle.pssm_semantics.specs.declared.stimulus.Stimulus.{Stimulus}
 use Rattle.pssm_semantics.specs.Journal.{Heads, IsPost, IsStart, IsActive, IsMemory, object_of, configuration_after}
-use Rattle.pssm_semantics.specs.Steps.{head_of, item_of, item_by}
-use Rattle.pssm_semantics.specs.Values.{Params, eight_of, no_params}
+use Rattle.pssm_semantics.specs.Steps.{head_of, item_of}
+use Rattle.pssm_semantics.specs.Values.{eight_of, no_params}
 use Rattle.pssm_semantics.specs.Pool.{told_by}
 use Rattle.pssm_semantics.specs.Behaviours.{store_of, guards_under, guards_at}
 use Rattle.pssm_semantics.specs.Rules.{IsWhatFires, KeepsFiring, KeepsOwn, KeepsStart, IsCalledItem, IsClearedItem}
@@ -41,11 +40,9 @@ use Rattle.pssm_semantics.specs.Classes.{IsWellFormedClass}
 use Rattle.pssm_semantics_laws.proofs.Appending.{every_push}
 use Rattle.pssm_semantics_laws.proofs.Objects.{same_object}
 use Rattle.pssm_semantics_laws.proofs.Stores.{head_own}
-use Rattle.pssm_pool.specs.declared.pools.Waiting.{Waiting}
 use Rattle.pssm_config.specs.Tables.{configuration_of}
-use Rattle.pssm_plan.specs.Agenda.{Agenda}
 use Rattle.pssm_object.specs.Standing.{Standing, AreActiveAlike, IsUnderWay, HasNotStarted, StandsAfter}
-use Rattle.pssm_object.specs.Coming.{HasCourse, HasCome, KnowsSignal, Continues}
+use Rattle.pssm_object.specs.Coming.{HasCourse, HasCome, Continues}
 use Rattle.pssm_object.proofs.Advancing.{known_object, post_heads, if_other, no_item}
 use Rattle.pssm_object.proofs.Agreeing.{Agree-refl, Agree-symm, Agree-trans}
 use Rattle.pssm_object.proofs.AgreeingRoutes.{conflict_too}

@@ -1,5 +1,5 @@
 -- The laws of all admissible journals of a well-formed setting: what is active in each region; and the entries that runs have.
-use Rattle.std.proofs.Common.{refl, ◌≡◌, ◌<◌, ℕ, zero, suc, List, length, Option, Some, None, IsSomeAnd, sym, subst, arith}
+use Rattle.std.proofs.Common.{refl, ◌≡◌, ◌<◌, ℕ, zero, suc, List, Option, Some, None, IsSomeAnd, sym, subst, arith}
 use Rattle.pssm_plan.specs.Steadiness.{IsConsistent}
 use Rattle.pssm_semantics.specs.declared.entry.ObjectId.{ObjectId}
 use Rattle.pssm_semantics.specs.declared.entry.Entry.{Entry}

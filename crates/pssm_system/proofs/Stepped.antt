@@ -13,7 +13,6 @@ use Rattle.pssm_semantics.specs.declared.entry.Entry.TheVariants.{Post, Start, T
 use Rattle.pssm_semantics.specs.declared.entry.Rule.TheVariants.{A1, A6}
 use Rattle.pssm_semantics.specs.declared.stimulus.Stimulus.{Stimulus}
 use Rattle.pssm_semantics.specs.declared.setting.Class.{Class}
-use Rattle.pssm_semantics.specs.declared.setting.ObjectDecl.{ObjectDecl}
 use Rattle.pssm_semantics.specs.declared.setting.Setting.{Setting}
 use Rattle.pssm_semantics.specs.Settings.{class_of}
 use Rattle.pssm_semantics.specs.Journal.{object_of, IsPost}
@@ -22,7 +21,6 @@ use Rattle.pssm_semantics.specs.Known.{IsOutOf, NamesKnown}
 use Rattle.pssm_semantics.specs.Rules.{KeepsPool, KeepsOwn}
 use Rattle.pssm_semantics.specs.Admissible.{MayFollow}
 use Rattle.pssm_semantics.specs.Proper.{IsWellFormed}
-use Rattle.pssm_semantics_laws.proofs.SettingClasses.{all_there}
 use Rattle.pssm_semantics_laws.proofs.Waiting.{signals_of-append}
 use Rattle.pssm_pool.specs.declared.pools.Waiting.{Waiting}
 use Rattle.pssm_pool.specs.Waits.{held_in}

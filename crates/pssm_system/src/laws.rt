@@ -1,4 +1,5 @@
-//! Laws of all admissible journals, whoever keeps them: functions that do nothing, and whose contracts are the laws.
+//! Laws of all admissible journals, whoever keeps them: functions that do nothing, and whose contracts
+//! are the laws.
 ghost use Rattle.pssm_semantics.specs.declared.setting.Setting.{Setting};
 ghost use Rattle.pssm_semantics.specs.Laws.{CompletionLaw, LawsOfJournals};
 
