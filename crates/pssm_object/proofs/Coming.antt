@@ -57,7 +57,8 @@ use Rattle.pssm_object.proofs.UnderWay.{active_changed, called_item_waits, clear
 
 -- Where the configuration at the head of a step agrees with another, the step is under way from there too.
 module _ (m : DraftMachine) (a b : Configuration) (same : Agree a b) where
-  active_along : (now then : Configuration) → AreActiveAlike now then → (ran : List (Item × How)) → AreActiveAlike (changed_along m now ran) (changed_along m then ran)
+  active_along : (now then : Configuration) → AreActiveAlike now then → (ran : List (Item × How))
+      → AreActiveAlike (changed_along m now ran) (changed_along m then ran)
   active_along now then alike [] = alike
   active_along now then alike (x ∷ ran) =
       active_along (changed_by_item m now x.0 x.1) (changed_by_item m then x.0 x.1) (active_changed m now then x.0 x.1 alike) ran
@@ -160,7 +161,8 @@ module _ (m : DraftMachine) (J : List Entry) (o : ObjectId) where
   after e = configuration_after m (J ++ e ∷ []) o
 
   -- the configuration after an entry that does not change it, by the object's name
-  kept : (e : Entry) → object_of e ≡ o → Agree (configuration_after m (J ++ e ∷ []) (object_of e)) (configuration_after m J (object_of e)) → Agree (after e) now
+  kept : (e : Entry) → object_of e ≡ o → Agree (configuration_after m (J ++ e ∷ []) (object_of e)) (configuration_after m J (object_of e))
+      → Agree (after e) now
   kept e own same = subst (λ q. Agree (configuration_after m (J ++ e ∷ []) q) (configuration_after m J q)) own same
 
   post_kept : (e : Entry) → IsPost e → object_of e ≡ o → Agree (after e) now
@@ -284,7 +286,8 @@ module _ (class : Class) (b : IsWellFormedClass class) (J : List Entry) (o : Obj
       (eq-eqb q.0 o.0 (ap (λ (p : ObjectId). p.0) h.own)) refl (kept m J o e h.own (configuration-changed m J e))
       (subst (λ p. IsWhatFires class (told_by J) J p no_params (Completion v) firing) h.own (h.keeps A7)) (started q h.own (h.keeps A3) come)
   come_more signal (Exit q v outs) come h =
-      come_ran signal (Exit q v outs) (items.Exit v) Nothing h.own (λ heads. cc) refl (h.keeps A8) (h.keeps A9) (h.keeps A10) (started q h.own (h.keeps A3) come)
+      come_ran signal (Exit q v outs) (items.Exit v) Nothing h.own (λ heads. cc) refl (h.keeps A8) (h.keeps A9) (h.keeps A10)
+      (started q h.own (h.keeps A3) come)
   come_more signal (Effect q t outs) come h =
       come_ran signal (Effect q t outs) (items.Effect t) Nothing h.own (λ heads. cc) refl (h.keeps A8) (h.keeps A9) (h.keeps A10)
       (started q h.own (h.keeps A3) come)
