@@ -79,7 +79,7 @@ pub known_object : (o p : ObjectId) → Known (o ≡ p)
 known_object o p = known_as (λ e. ap (λ n. let x : ObjectId = record { 0 = n } in x) e) (λ e. ap (λ (x : ObjectId). x.0) e) (known_number o.0 p.0)
 
 -- no post begins a step or runs an item
-post_heads : (e : Entry) (o : ObjectId) → IsPost e → Heads e o → ⊥
+pub post_heads : (e : Entry) (o : ObjectId) → IsPost e → Heads e o → ⊥
 post_heads (Post q g args) o post heads = cc
 post_heads (Start q) o post heads = post
 post_heads (Take q n firing) o post heads = post
@@ -91,11 +91,11 @@ post_heads (Opened q r mode how) o post heads = post
 post_heads (Pick q v route) o post heads = post
 post_heads (DoStep q v k outs) o post heads = post
 
-if_other : {X : Type 0} (same : Bool) (y : Option X) → (same ≡ true → y ≡ None) → (if same then y else None) ≡ None
+pub if_other : {X : Type 0} (same : Bool) (y : Option X) → (same ≡ true → y ≡ None) → (if same then y else None) ≡ None
 if_other true y none = none refl
 if_other false y none = refl
 
-no_item : (e : Entry) → IsPost e → item_of e ≡ None
+pub no_item : (e : Entry) → IsPost e → item_of e ≡ None
 no_item (Post q g args) post = refl
 no_item (Start q) post = absurd post
 no_item (Take q n firing) post = absurd post

@@ -6,19 +6,19 @@ use Rattle.pssm_model.specs.declared.steps.Item.{Item}
 use Rattle.pssm_model.specs.Configuration.{Configuration}
 use Rattle.pssm_model.specs.Course.{Head}
 use Rattle.pssm_model.specs.Order.{course_by, entries_at_most}
-use Rattle.pssm_config.specs.Tables.{configuration_of}
-use Rattle.pssm_plan.proofs.KnownItems.{known_true}
 use Rattle.pssm_plan.proofs.StepLengths.{step_length}
 use Rattle.pssm_semantics.specs.declared.entry.ObjectId.{ObjectId}
 use Rattle.pssm_semantics.specs.declared.entry.Entry.{Entry}
 use Rattle.pssm_semantics.specs.declared.setting.Class.{Class}
+use Rattle.pssm_semantics.specs.Journal.{configuration_after}
 use Rattle.pssm_semantics.specs.Completion.{HasEnded, IsStepFinished}
 use Rattle.pssm_semantics.specs.Classes.{IsWellFormedClass}
-use Rattle.pssm_object.specs.Standing.{Standing, IsUnderWay, StandsAfter}
+use Rattle.pssm_object.specs.Standing.{IsUnderWay}
+use Rattle.pssm_object.specs.Coming.{HasCome}
 use Rattle.pssm_object.specs.Laws.{GoesOn, Finishes}
-use Rattle.pssm_object.proofs.KnownEnds.{known_end}
+use Rattle.pssm_object.proofs.KnownEnds.{known_ended, known_active}
 use Rattle.pssm_object.proofs.Rules.{unstarted_finished}
-use Rattle.pssm_object.proofs.Standings.{plan_or_none, only_posts, step_of}
+use Rattle.pssm_object.proofs.Coming.{come_known}
 use Rattle.pssm_object.proofs.UnderWay.{step_finished, finished_step, runs_on}
 use Rattle.pssm_object.proofs.Ready.{runs_ready, out_or_ready}
 
@@ -76,38 +76,37 @@ module _ (class : Class) (b : IsWellFormedClass class) where
       finishes_in class J o (n + 1) (suc n) (omega arith)
       (finishes_after class J o e.0 n e.1.goes_on
       (finishes_step n (J ++ e.0 ∷ []) o head at_head (ran ++ (ready.0, e.1.how) ∷ []) next
-      (known_end J e.0 next ready.0 e.1.how e.1.goes_on.own e.1.runs living) (omega (arith, len, few)))))
+      (known_ended m (J ++ e.0 ∷ []) o (known_active next)) (omega (arith, len, few)))))
       (out_or_ready class b u)
 
-  module _ {J : List Entry} {x : Standing} (s : StandsAfter class J x) where
+  module _ {J : List Entry} {o : ObjectId} (come : HasCome m J o) where
     -- whether the object has ended is known
-    pub end_known : HasEnded m J x.own ⊎ (HasEnded m J x.own → ⊥)
-    end_known = ⊎_elim (λ yes. inl (s.ended_is.0 yes)) (λ no. inr (λ ended. no (s.ended_is.1 ended))) (known_true x.ended)
+    end_known : HasEnded m J o ⊎ (HasEnded m J o → ⊥)
+    end_known = known_ended m J o (come_known come)
 
-    -- whether the step of the object is finished is known
-    pub step_known : IsStepFinished m J x.own ⊎ (IsStepFinished m J x.own → ⊥)
-    step_known =
-        ⊎_elim
-        (λ ended. inl (inr ended))
-        (λ living.
-        ⊎_elim
-        (λ none. inl (unstarted_finished J x.own (only_posts s none) m))
-        (λ some.
-        let u = step_of s some.0 some.1 in
-        ⊎_elim
-        (λ out. inl (step_finished u out))
-        (λ ready. inr (λ finished.
-        let out = finished_step u living finished in
-        ready.1.waiting.not_run (out ready.0 ready.1.waiting.called)))
-        (out_or_ready class b u))
-        (plan_or_none x.plan))
-        end_known
+    -- whether its step is finished is known
+    pub step_known : IsStepFinished m J o ⊎ (IsStepFinished m J o → ⊥)
+    step_known = by come
+      where
+        by : HasCome m J o → IsStepFinished m J o ⊎ (IsStepFinished m J o → ⊥)
+        by (inl none) = inl (unstarted_finished J o none.posts m)
+        by (inr c) =
+            ⊎_elim
+            (λ ended. inl (inr ended))
+            (λ living.
+            ⊎_elim
+            (λ out. inl (step_finished c.under_way out))
+            (λ ready. inr (λ finished.
+            let out = finished_step c.under_way living finished in
+            ready.1.waiting.not_run (out ready.0 ready.1.waiting.called)))
+            (out_or_ready class b c.under_way))
+            end_known
 
-    -- and it can be finished, wherever the object stands
-    pub finishes : Finishes class J x.own (entries_at_most m)
-    finishes =
-        ⊎_elim
-        (λ none. finishes_in class J x.own 0 (entries_at_most m) (omega arith) (finishes_now class J x.own (unstarted_finished J x.own (only_posts s none) m)))
-        (λ some.
-        finishes_step (entries_at_most m) J x.own some.0.head (configuration_of some.0.at_head) some.0.ran (step_of s some.0 some.1) end_known (omega arith))
-        (plan_or_none x.plan)
+    -- and it can be finished, however far the object has come
+    pub finishes : Finishes class J o (entries_at_most m)
+    finishes = by come
+      where
+        by : HasCome m J o → Finishes class J o (entries_at_most m)
+        by (inl none) = finishes_in class J o 0 (entries_at_most m) (omega arith) (finishes_now class J o (unstarted_finished J o none.posts m))
+        by (inr c) =
+            finishes_step (entries_at_most m) J o c.head (configuration_after m c.before o) c.ran c.under_way end_known (omega arith)

@@ -1,5 +1,5 @@
--- Whether an object has ended after one more item of its step is known.
-use Rattle.std.proofs.Common.{◌≡◌, ◌++◌, List, [], ◌∷◌, length, Option, Some, None, refl, sym, ap, subst, ◌∙◌, inl, inr, ⊎_elim}
+-- What is active for an object whose step is under way is known, and whether an object has ended.
+use Rattle.std.proofs.Common.{◌≡◌, List, [], ◌∷◌, length, Option, Some, None, refl, sym, ap, subst, ◌∙◌, inl, inr, ⊎_elim}
 use Rattle.std.specs.Option.{option_map}
 use Rattle.std.proofs.lemmas.Option.{slice_get_within}
 use Rattle.pssm_model.specs.declared.ids.VertexId.{VertexId}
@@ -19,17 +19,17 @@ use Rattle.pssm_model.specs.Legs.{Enters}
 use Rattle.pssm_model.specs.Configuration.{Configuration, HasActiveFinal, AllTopsAreFinal}
 use Rattle.pssm_model.specs.Course.{Head}
 use Rattle.pssm_plan.specs.Steadiness.{changed_by_item, changed_along}
-use Rattle.pssm_model_laws.proofs.Known.{Known, known_as, known_both, known_either, known_not, known_below, known_vertex}
+use Rattle.pssm_model_laws.proofs.Known.{Known, known_as, known_both, known_either, known_not, known_below, known_among, known_vertex}
 use Rattle.pssm_model_laws.proofs.KnownPlaces.{known_owner, known_vertex_kind}
 use Rattle.pssm_semantics.specs.declared.entry.ObjectId.{ObjectId}
 use Rattle.pssm_semantics.specs.declared.entry.Entry.{Entry}
-use Rattle.pssm_semantics.specs.Journal.{object_of, configuration_after}
-use Rattle.pssm_semantics.specs.Steps.{item_of}
-use Rattle.pssm_semantics.specs.Completion.{HasEnded}
+use Rattle.pssm_semantics.specs.declared.entry.Entry.TheVariants.{Post, Start, Take, Done, Exit, Effect, Enter, Opened, Pick, DoStep}
+use Rattle.pssm_semantics.specs.Journal.{IsActive, configuration_after}
+use Rattle.pssm_semantics.specs.Completion.{EffectsAt, HasEnded}
 use Rattle.pssm_object.specs.Standing.{IsUnderWay}
-use Rattle.pssm_object.specs.inner.Ending.{Terminates, Ends}
+use Rattle.pssm_object.specs.inner.Ending.{Terminates}
 use Rattle.pssm_object.proofs.MachineLaws.{kind_there}
-use Rattle.pssm_object.proofs.EndingLaws.{ended_exactly}
+use Rattle.pssm_object.proofs.Advancing.{known_object}
 
 -- what is active after items that have run is known, where it is known of the configuration before them
 known_changed : (m : DraftMachine) (now : Configuration) (item : Item) (how : How) → ((s : VertexId) → Known (now.Active s))
@@ -87,23 +87,37 @@ known_terminates m t = by (transition_at m t) refl
         (λ h. let same : h.0 ≡ x.target = (let two = sym h.1 ∙ at in cc) in subst (λ v. HasKind m v kinds.Terminate) same h.2)
         (known_vertex_kind m x.target kinds.Terminate)
 
--- whether an item ends an object is known, where not all top regions have an active final state
-known_by_effect : (m : DraftMachine) (after : Configuration) (item : Item) → (AllTopsAreFinal m after → ⊥) → Known (Ends m after item)
-known_by_effect m after (items.Effect t) not = known_terminates m t
-known_by_effect m after (items.Enter s) not = inr (λ h. not h.1)
-known_by_effect m after (items.Exit s) not = inr (λ h. h)
-known_by_effect m after (items.Opened r mode) not = inr (λ h. h)
-known_by_effect m after (items.Pick c) not = inr (λ h. h)
+-- whether an effect in an entry ends the object is known
+abbrev TerminatesBy : DraftMachine → ObjectId → Entry → Type 0
+TerminatesBy m o e = (t : TransId) × (v : VertexId) × EffectsAt e o t × Enters m t v × HasKind m v kinds.Terminate
 
--- so whether the object has ended after the item is known
-pub known_end : {m : DraftMachine} (J : List Entry) {o : ObjectId} (e : Entry) {head : Head} {at_head : Configuration} {ran : List (Item × How)}
-    → IsUnderWay m (J ++ e ∷ []) o head at_head ran → (item : Item) (how : How) → object_of e ≡ o → item_of e ≡ Some (item, how) → (HasEnded m J o → ⊥)
-    → Known (HasEnded m (J ++ e ∷ []) o)
-known_end {m = m} J {o = o} e {at_head = at_head} {ran = ran} u item how own runs living =
-    let after = configuration_after m (J ++ e ∷ []) o in
-    let active = λ (s : VertexId). known_as (u.along s).1 (u.along s).0 (known_along m at_head ran u.known s) in
-    ⊎_elim
-    (λ tops. inl (inr tops))
-    (λ not. known_as (ended_exactly m J o e item how own runs living).1 (ended_exactly m J o e item how own runs living).0
-    (known_by_effect m after item not))
-    (known_tops m after active)
+known_terminates_by : (m : DraftMachine) (o : ObjectId) (e : Entry) → Known (TerminatesBy m o e)
+known_terminates_by m o (Effect q t outs) =
+    known_as
+    (λ h. (t, h.1.0, (h.0, refl), h.1.1, h.1.2))
+    (λ h. (h.2.0, subst (λ u. Terminates m u) (sym h.2.1) (h.1, h.3, h.4)))
+    (known_both (known_object q o) (known_terminates m t))
+known_terminates_by m o (Post q g args) = inr (λ h. h.2)
+known_terminates_by m o (Start q) = inr (λ h. h.2)
+known_terminates_by m o (Take q number firing) = inr (λ h. h.2)
+known_terminates_by m o (Done q v firing) = inr (λ h. h.2)
+known_terminates_by m o (Exit q v outs) = inr (λ h. h.2)
+known_terminates_by m o (Enter q v outs) = inr (λ h. h.2)
+known_terminates_by m o (Opened q r mode how) = inr (λ h. h.2)
+known_terminates_by m o (Pick q c route) = inr (λ h. h.2)
+known_terminates_by m o (DoStep q v k outs) = inr (λ h. h.2)
+
+-- so whether the object has ended is known, where it is known what is active
+pub known_ended : (m : DraftMachine) (J : List Entry) (o : ObjectId) → ((s : VertexId) → Known (IsActive J o s)) → Known (HasEnded m J o)
+known_ended m J o active =
+    known_either
+    (known_as
+    (λ h. (h.0, h.2.0, h.2.1, h.1, h.2.2, h.2.3, h.2.4))
+    (λ h. (h.0, h.3, (h.1, h.2, h.4, h.5, h.6)))
+    (known_among (TerminatesBy m o) J (λ e inside. known_terminates_by m o e)))
+    (known_tops m (configuration_after m J o) active)
+
+-- what is active for an object whose step is under way is known
+pub known_active : {m : DraftMachine} {J : List Entry} {o : ObjectId} {head : Head} {at_head : Configuration} {ran : List (Item × How)}
+    → IsUnderWay m J o head at_head ran → (s : VertexId) → Known (IsActive J o s)
+known_active {m = m} {at_head = at_head} {ran = ran} u s = known_as (u.along s).1 (u.along s).0 (known_along m at_head ran u.known s)

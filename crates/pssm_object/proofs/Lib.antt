@@ -25,6 +25,7 @@ pub mod Following
 pub mod Signals
 pub mod Advancing
 pub mod Ready
+pub mod Coming
 pub mod Completing
 pub mod Regions
 pub mod Forms

@@ -20,7 +20,7 @@ use Rattle.pssm_object.specs.Standing.{IsUnderWay}
 use Rattle.pssm_object.proofs.KnownMemories.{known_so_far}
 
 -- steps in configurations that remember the same remember the same so far
-so_far_same : (m : DraftMachine) (first second : Head) (a b : Configuration) → ((r : RegionId) (s : VertexId) → a.Remembers r s → b.Remembers r s)
+pub so_far_same : (m : DraftMachine) (first second : Head) (a b : Configuration) → ((r : RegionId) (s : VertexId) → a.Remembers r s → b.Remembers r s)
     → (ran : List (Item × How)) (r : RegionId) (s : VertexId) → RemembersSoFar m (course_by first a ran) r s → RemembersSoFar m (course_by second b ran) r s
 so_far_same m first second a b same ran r s h = ⊎_elim (λ last. inl last) (λ was. inr (same r s was.0, was.1)) h
 

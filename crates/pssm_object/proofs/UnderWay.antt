@@ -110,7 +110,7 @@ changed_alike m a b (items.Effect t) how h = h
 changed_alike m a b (items.Pick c) how h = h
 
 -- and what is active, where as much is active
-active_changed : (m : DraftMachine) (a b : Configuration) (item : Item) (how : How) → AreActiveAlike a b
+pub active_changed : (m : DraftMachine) (a b : Configuration) (item : Item) (how : How) → AreActiveAlike a b
     → AreActiveAlike (changed_by_item m a item how) (changed_by_item m b item how)
 active_changed m a b (items.Enter s) how h v =
     (⊎_elim (λ same. inl same) (λ was. inr ((h v).0 was)), ⊎_elim (λ same. inl same) (λ was. inr ((h v).1 was)))

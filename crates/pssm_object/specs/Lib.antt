@@ -1,5 +1,6 @@
 pub mod Queue
 pub mod Standing
+pub mod Coming
 pub mod Following
 pub mod Doing
 pub mod Tasks

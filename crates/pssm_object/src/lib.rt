@@ -20,5 +20,5 @@ mod stepping;
 mod tasks;
 mod working;
 
-pub use laws::{active_states, entry_forms, open_steps, other_entries};
+pub use laws::{active_states, comings, entry_forms, open_steps, other_entries};
 pub use object::Object;

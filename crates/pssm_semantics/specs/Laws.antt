@@ -18,7 +18,8 @@ use Rattle.pssm_semantics.specs.Journal.{Splits, IsActive}
 use Rattle.pssm_semantics.specs.Pool.{told_by}
 use Rattle.pssm_semantics.specs.Completion.{BecomesComplete}
 use Rattle.pssm_semantics.specs.Completion.{IsStepFinished}
-use Rattle.pssm_semantics.specs.Admissible.{IsCompleteRun}
+use Rattle.pssm_semantics.specs.Proper.{IsWellFormed}
+use Rattle.pssm_semantics.specs.Admissible.{IsAdmissibleIn, IsCompleteRun}
 
 -- The journal can be continued to a complete run by at most so many entries (UML 2.5.1 14.2.3.9, run to completion).
 pub record CompletesWithin (setting : Setting) (J : List Entry) (most : ℕ) : Type 0 where
@@ -69,19 +70,23 @@ abbrev pub TakesDiffer : List Entry → Type 0
 TakesDiffer J =
     (i j : ℕ) (o q : ObjectId) (n k : ℕ) (f g : Firing) → i < j → slice_get J i ≡ Some (Take o n f) → slice_get J j ≡ Some (Take q k g) → n ≢ k
 
--- Each region has at most one active direct vertex (UML 2.5.1 14.2.3.4, State configurations).
+-- The journal begins with these entries: all of them, none, or those up to some entry (this profile's choice).
+abbrev pub IsFront : List Entry → List Entry → Type 0
+IsFront front J = (rest : List Entry) × (J ≡ front ++ rest)
+
+-- After every entry each region has at most one active direct vertex (UML 2.5.1 14.2.3.4, State configurations).
 abbrev pub RegionsHoldOne : Setting → List Entry → Type 0
 RegionsHoldOne setting J =
-    (o : ObjectId) (class : Class) (r : RegionId) (s q : VertexId) → class_of setting o ≡ Some class
+    (front : List Entry) (o : ObjectId) (class : Class) (r : RegionId) (s q : VertexId) → IsFront front J → class_of setting o ≡ Some class
     → owner_of class.machine (State s) ≡ Some (Region r) → owner_of class.machine (State q) ≡ Some (Region r)
-    → IsActive J o s → IsActive J o q → s ≡ q
+    → IsActive front o s → IsActive front o q → s ≡ q
 
--- The owner of an active vertex's region is the machine or an active State (UML 2.5.1 14.2.3.4, State configurations).
+-- After every entry the owner of an active vertex's region is the machine or an active State (UML 2.5.1 14.2.3.4, State configurations).
 abbrev pub OwnersAreActive : Setting → List Entry → Type 0
 OwnersAreActive setting J =
-    (o : ObjectId) (class : Class) (r : RegionId) (s : VertexId) → class_of setting o ≡ Some class
-    → owner_of class.machine (State s) ≡ Some (Region r) → IsActive J o s
-    → (owner_of class.machine (Region r) ≡ Some Top) ⊎ ((q : VertexId) × (owner_of class.machine (Region r) ≡ Some (State q)) × IsActive J o q)
+    (front : List Entry) (o : ObjectId) (class : Class) (r : RegionId) (s : VertexId) → IsFront front J → class_of setting o ≡ Some class
+    → owner_of class.machine (State s) ≡ Some (Region r) → IsActive front o s
+    → (owner_of class.machine (Region r) ≡ Some Top) ⊎ ((q : VertexId) × (owner_of class.machine (Region r) ≡ Some (State q)) × IsActive front o q)
 
 -- No entry makes two States of an object complete, so the completion queue has one order (UML 2.5.1 14.2.3.8, completion events).
 abbrev pub OneBecomesComplete : Setting → List Entry → Type 0
@@ -95,9 +100,19 @@ pub record KeepsTakes (setting : Setting) (J : List Entry) : Type 0 where
   pub takes_are_told : TakesAreTold J
   pub takes_differ : TakesDiffer J
 
--- what holds besides where the setting is well formed; every front of an admissible journal is admissible, so it holds after every entry
--- (UML 2.5.1 14.2.3.4 and 14.2.3.8, State configurations and completion events)
+-- what holds besides where the setting is well formed (UML 2.5.1 14.2.3.4 and 14.2.3.8, State configurations and completion events)
 pub record KeepsRegions (setting : Setting) (J : List Entry) : Type 0 where
   pub one_each : RegionsHoldOne setting J
   pub owners : OwnersAreActive setting J
   pub one_completes : OneBecomesComplete setting J
+
+-- Every admissible journal of a well-formed setting can be completed, by no more entries than its open steps need at most
+-- (UML 2.5.1 14.2.3.9, run to completion; the bound is this profile's choice).
+abbrev pub CompletionLaw : Setting → Type 0
+CompletionLaw setting =
+    (J : List Entry) → IsWellFormed setting → IsAdmissibleIn setting J → CompletesInTime setting J
+
+-- the laws of all admissible journals (UML 2.5.1 14.2.3.4, 14.2.3.8 and 14.2.3.9)
+abbrev pub LawsOfJournals : Setting → Type 0
+LawsOfJournals setting =
+    (J : List Entry) → IsAdmissibleIn setting J → KeepsTakes setting J × (IsWellFormed setting → KeepsRegions setting J)

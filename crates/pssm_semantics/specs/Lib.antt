@@ -20,5 +20,4 @@ pub mod Arguments
 pub mod Work
 pub mod Classes
 pub mod Tasks
-pub mod later
 pub mod inner

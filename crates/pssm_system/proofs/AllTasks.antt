@@ -27,7 +27,7 @@ use Rattle.pssm_system.specs.inner.Keeping.{IsObject, AreObjects, tasks_for, tas
 use Rattle.pssm_system.proofs.Following.{object_there}
 use Rattle.pssm_system.proofs.Pairs.{AllPairs-first, AllPairs-rest, AllPairs-more, AllPairs-both, in_mapped, mapped_in}
 use Rattle.pssm_system.proofs.Places.{get-front, get-back}
-use Rattle.pssm_system.proofs.Stepped.{class_exists}
+use Rattle.pssm_system.proofs.Coming.{class_exists}
 
 differ_within : (o : ObjectId) (tasks : List Task) → AllPairs (λ a b. a ≢ b) tasks
     → AllPairs (λ (v w : ObjectId × Task). v ≢ w) (map (λ t. (o, t)) tasks)

@@ -41,11 +41,10 @@ use Rattle.pssm_semantics_laws.proofs.Appending.{admissible_push}
 use Rattle.pssm_semantics_laws.proofs.SettingClasses.{class_of_object}
 use Rattle.pssm_semantics_laws.proofs.Members.{first_in, later_in, in_cases}
 use Rattle.pssm_semantics_laws.proofs.Outcomes.{known_outs}
-use Rattle.pssm_object.specs.Standing.{Standing, StandsAfter}
 use Rattle.pssm_object.specs.Laws.{IsWork, GoesOn, GoOn, Finishes}
-use Rattle.pssm_object.proofs.Advancing.{known_object, other_entries}
+use Rattle.pssm_object.proofs.Advancing.{known_object}
 use Rattle.pssm_object.proofs.Completing.{step_known, finishes}
-use Rattle.pssm_system.specs.inner.Keeping.{IsObject}
+use Rattle.pssm_system.proofs.Coming.{class_exists, has_come}
 use Rattle.pssm_system.proofs.Following.{IsNoTake, object_there, one_class, holds}
 use Rattle.pssm_system.proofs.Judged.{no_pool, taken_none, known_by}
 
@@ -164,13 +163,6 @@ differ-pairs (o ∷ rest) h =
     AllPairs-cons (λ a b. a ≢ b) o rest (λ k d lt. h.0 (get_or rest k d) (Contains-get_or rest k d lt)) (differ-pairs rest h.1)
 
 module _ {setting : Setting} (b : IsWellFormed setting) where
-  -- an object of the setting stands somewhere after these entries
-  pub record StandsIn (J : List Entry) (o : ObjectId) : Type 0 where
-    pub class : Class
-    pub class_is : class_of setting o ≡ Some class
-    pub standing : Standing
-    pub object : IsObject class J o standing
-
   module _ (o : ObjectId) (class : Class) (is : class_of setting o ≡ Some class) where
     -- an entry that goes on with its step may follow
     may-go_on : (J : List Entry) (e : Entry) → GoesOn class J o e → MayFollow setting J e
@@ -193,60 +185,47 @@ module _ {setting : Setting} (b : IsWellFormed setting) where
     apart : (J : List Entry) (e : Entry) → GoesOn class J o e → object_of e ≡ q → ⊥
     apart J e h own = other (sym h.own ∙ own)
 
-    stands-through : (k : Class) (x : Standing) → x.own ≡ q → (J more : List Entry) → GoOn class J o more → StandsAfter k J x → StandsAfter k (J ++ more) x
-    stands-through k x own J [] h s = subst (λ js. StandsAfter k js x) (sym (append-nil J)) s
-    stands-through k x own J (e ∷ rest) h s =
-        subst (λ js. StandsAfter k js x) (behind J rest e)
-        (stands-through k x own (J ++ e ∷ []) rest h.1 (other_entries k s e (λ here. absurd (apart J e h.0 (here ∙ own)))))
-
     finished-through : (m : DraftMachine) (J more : List Entry) → GoOn class J o more → IsStepFinished m J q → IsStepFinished m (J ++ more) q
     finished-through m J [] h finished = subst (λ js. IsStepFinished m js q) (sym (append-nil J)) finished
     finished-through m J (e ∷ rest) h finished =
         subst (λ js. IsStepFinished m js q) (behind J rest e)
         (finished-through m (J ++ e ∷ []) rest h.1 (still-finished m J e q (apart J e h.0) finished))
 
+  -- an object of the setting, with its class
+  abbrev HasClass : ObjectId → Type 0
+  HasClass o = (class : Class) × (class_of setting o ≡ Some class)
+
   -- the steps of these objects are finished one after the other
-  completes-these : (os : List ObjectId) (J : List Entry) → IsAdmissibleIn setting J → Differ os → ((o : ObjectId) → Contains os o → StandsIn J o)
+  completes-these : (os : List ObjectId) (J : List Entry) → IsAdmissibleIn setting J → ((o : ObjectId) → Contains os o → HasClass o)
       → ((o : ObjectId) (class : Class) → class_of setting o ≡ Some class → (Contains os o → ⊥) → IsStepFinished class.machine J o)
       → CompletesWithin setting J (needs_at_most setting os)
-  completes-these [] J admissible differ stand finished = record {
+  completes-these [] J admissible there finished = record {
     more = [];
     few = omega arith;
     run = subst (IsCompleteRun setting) (sym (append-nil J))
         (record { admissible = admissible; finished = λ o class is. finished o class is (nothing_in_nil o) });
   }
-  completes-these (o ∷ rest) J admissible differ stand finished =
-      let here = stand o (first_in o rest) in
-      let formed = (class_of_object setting b o here.class here.class_is).0 in
-      let ends : Finishes here.class J o (entries_at_most here.class.machine) =
-      subst (λ q. Finishes here.class J q (entries_at_most here.class.machine)) here.object.own (finishes here.class formed here.object.stands) in
-      let later = completes-these rest (J ++ ends.more) (admissible-through o here.class here.class_is J ends.more ends.goes_on admissible) differ.1
-      (λ q inside.
-      let was = stand q (later_in o rest q inside) in
-      record {
-        class = was.class;
-        class_is = was.class_is;
-        standing = was.standing;
-        object = record {
-          own = was.object.own;
-          stands = stands-through o here.class q (differ.0 q inside) was.class was.standing was.object.own J ends.more ends.goes_on was.object.stands;
-        };
-      })
+  completes-these (o ∷ rest) J admissible there finished =
+      let here = there o (first_in o rest) in
+      let ends : Finishes here.0 J o (entries_at_most here.0.machine) =
+      finishes here.0 (class_of_object setting b o here.0 here.1).0 (has_come b o here.0 here.1 J admissible) in
+      let later = completes-these rest (J ++ ends.more) (admissible-through o here.0 here.1 J ends.more ends.goes_on admissible)
+      (λ q inside. there q (later_in o rest q inside))
       (λ q class is outside.
       ⊎_elim
       (λ same.
-      let one : here.class ≡ class = one_class setting q here.class class (subst (λ p. class_of setting p ≡ Some here.class) same here.class_is) is in
+      let one : here.0 ≡ class = one_class setting q here.0 class (subst (λ p. class_of setting p ≡ Some here.0) same here.1) is in
       subst (λ (k : Class). IsStepFinished k.machine (J ++ ends.more) q) one
-      (subst (IsStepFinished here.class.machine (J ++ ends.more)) same ends.finished))
+      (subst (IsStepFinished here.0.machine (J ++ ends.more)) same ends.finished))
       (λ other.
-      finished-through o here.class q other class.machine J ends.more ends.goes_on
+      finished-through o here.0 q other class.machine J ends.more ends.goes_on
       (finished q class is (λ inside. ⊎_elim (λ first. other (sym first)) outside (in_cases o rest q inside))))
       (known_object o q)) in
       record {
         more = ends.more ++ later.more;
         few =
-            let mine : option_map_or (λ (c : Class). entries_at_most c.machine) (class_of setting o) 0 ≡ entries_at_most here.class.machine =
-            ap (λ c. option_map_or (λ (k : Class). entries_at_most k.machine) c 0) here.class_is in
+            let mine : option_map_or (λ (c : Class). entries_at_most c.machine) (class_of setting o) 0 ≡ entries_at_most here.0.machine =
+            ap (λ c. option_map_or (λ (k : Class). entries_at_most k.machine) c 0) here.1 in
             let sum = sum_by-cons (λ q. option_map_or (λ (c : Class). entries_at_most c.machine) (class_of setting q) 0) o rest in
             let long = length-append ends.more later.more in
             let few = ends.few in
@@ -261,9 +240,14 @@ module _ {setting : Setting} (b : IsWellFormed setting) where
     pub only : (o : ObjectId) → Contains os o → (o.0 < n) × HasOpenStep setting J o
     pub differ : Differ os
 
-  open-below : (J : List Entry) → ((o : ObjectId) → o.0 < length setting.objects → StandsIn J o) → (n : ℕ) → n ≤ length setting.objects
+  -- whether the step of an object is finished is known
+  known-step : (J : List Entry) → IsAdmissibleIn setting J → (o : ObjectId) (class : Class) → class_of setting o ≡ Some class
+      → IsStepFinished class.machine J o ⊎ (IsStepFinished class.machine J o → ⊥)
+  known-step J admissible o class is = step_known class (class_of_object setting b o class is).0 (has_come b o class is J admissible)
+
+  open-below : (J : List Entry) → IsAdmissibleIn setting J → (n : ℕ) → n ≤ length setting.objects
       → (os : List ObjectId) × AreOpenBelow J n os
-  open-below J stand zero le = (
+  open-below J admissible zero le = (
     [],
     record {
       each = λ o lt. absurd (omega arith);
@@ -271,11 +255,10 @@ module _ {setting : Setting} (b : IsWellFormed setting) where
       differ = tt;
     },
   )
-  open-below J stand (suc n) le =
+  open-below J admissible (suc n) le =
       let o : ObjectId = record { 0 = n } in
-      let before = open-below J stand n (omega arith) in
-      let here = stand o (let lt : n < length setting.objects = omega arith in lt) in
-      let formed = (class_of_object setting b o here.class here.class_is).0 in
+      let before = open-below J admissible n (omega arith) in
+      let here = class_exists setting b o (let lt : n < length setting.objects = omega arith in lt) in
       let own : (q : ObjectId) → q.0 ≡ n → q ≡ o = λ q same. ap (λ k. let p : ObjectId = record { 0 = k } in p) same in
       ⊎_elim
       (λ finished. (
@@ -284,9 +267,9 @@ module _ {setting : Setting} (b : IsWellFormed setting) where
           each = λ q lt unfinished.
               ⊎_elim
               (λ same.
-              let one : here.class ≡ unfinished.0 =
-              one_class setting q here.class unfinished.0 (subst (λ p. class_of setting p ≡ Some here.class) (sym (own q same)) here.class_is) unfinished.1 in
-              let done : IsStepFinished here.class.machine J q = subst (IsStepFinished here.class.machine J) (here.object.own ∙ sym (own q same)) finished in
+              let one : here.0 ≡ unfinished.0 =
+              one_class setting q here.0 unfinished.0 (subst (λ p. class_of setting p ≡ Some here.0) (sym (own q same)) here.1) unfinished.1 in
+              let done : IsStepFinished here.0.machine J q = subst (IsStepFinished here.0.machine J) (sym (own q same)) finished in
               absurd (unfinished.2 (subst (λ (k : Class). IsStepFinished k.machine J q) one done)))
               (λ other. before.1.each q (let apart : q.0 ≡ n → ⊥ = other in ⊎_elim (λ (below : q.0 < n). below) (λ (past : n ≤ q.0). absurd (apart (omega arith))) (cases_lt q.0 n)) unfinished)
               (⊎_elim (λ same. inl same.1) (λ other. inr other.1) (eqb_tells q.0 n));
@@ -305,8 +288,7 @@ module _ {setting : Setting} (b : IsWellFormed setting) where
           only = λ q inside.
               ⊎_elim
               (λ first.
-              let has : HasOpenStep setting J o =
-              (here.class, here.class_is, λ finished. unfinished (subst (IsStepFinished here.class.machine J) (sym here.object.own) finished)) in
+              let has : HasOpenStep setting J o = (here.0, here.1, unfinished) in
               let at : q.0 ≡ n = ap (λ (p : ObjectId). p.0) first in
               (omega arith, subst (HasOpenStep setting J) (sym first) has))
               (λ later. let was = before.1.only q later in ((let lt = was.0 in omega arith), was.1))
@@ -317,28 +299,22 @@ module _ {setting : Setting} (b : IsWellFormed setting) where
           );
         },
       ))
-      (step_known here.class formed here.object.stands)
+      (known-step J admissible o here.0 here.1)
 
-  -- A journal after which each object stands somewhere can be completed in time.
-  pub completes : (J : List Entry) → IsAdmissibleIn setting J → ((o : ObjectId) → o.0 < length setting.objects → StandsIn J o) → CompletesInTime setting J
-  completes J admissible stand =
-      let all = open-below J stand (length setting.objects) (omega arith) in (
+  -- Every admissible journal can be completed in time.
+  pub completes : (J : List Entry) → IsAdmissibleIn setting J → CompletesInTime setting J
+  completes J admissible =
+      let all = open-below J admissible (length setting.objects) (omega arith) in (
         all.0,
         record {
           each = λ o open_step. all.1.each o (object_there setting o open_step.0 open_step.1) open_step;
           only = λ o inside. (all.1.only o inside).1;
           once = differ-pairs all.0 all.1.differ;
         },
-        completes-these all.0 J admissible all.1.differ (λ o inside. stand o (all.1.only o inside).0)
+        completes-these all.0 J admissible (λ o inside. class_exists setting b o (all.1.only o inside).0)
             (λ o class is outside.
-            let here = stand o (object_there setting o class is) in
-            let formed = (class_of_object setting b o here.class here.class_is).0 in
-            let one : here.class ≡ class = one_class setting o here.class class here.class_is is in
             ⊎_elim
-            (λ finished.
-            subst (λ (k : Class). IsStepFinished k.machine J o) one (subst (IsStepFinished here.class.machine J) here.object.own finished))
-            (λ unfinished.
-            absurd (outside (all.1.each o (object_there setting o class is)
-            (here.class, here.class_is, λ finished. unfinished (subst (IsStepFinished here.class.machine J) (sym here.object.own) finished)))))
-            (step_known here.class formed here.object.stands)),
+            (λ finished. finished)
+            (λ unfinished. absurd (outside (all.1.each o (object_there setting o class is) (class, is, unfinished))))
+            (known-step J admissible o class is)),
       )

@@ -33,7 +33,8 @@ use Rattle.pssm_system.proofs.Choices.{none-of_all}
 use Rattle.pssm_system.proofs.Completing.{completes}
 use Rattle.pssm_system.proofs.Regions.{keeps_regions, is_run_entry}
 use Rattle.pssm_system.proofs.Members.{IsMember, member}
-use Rattle.pssm_system.proofs.Stepped.{class_exists, told_after, stands_in, stands_unchanged}
+use Rattle.pssm_system.proofs.Coming.{class_exists}
+use Rattle.pssm_system.proofs.Stepped.{told_after, stands_unchanged}
 
 -- what a clause sees of a setting, a journal and what is kept of it
 abbrev pub history_of : Setting → List Entry → Situation → History
@@ -54,12 +55,12 @@ module _ (h : History) (setting : Setting) (J : List Entry) (s : Situation) (k :
   well_formed_seen = seen (λ x js. IsWellFormed x) k.well_formed
 
   pub completes_seen : CompletesInTime h.setting h.journal
-  completes_seen = seen CompletesInTime (completes k.well_formed J k.admissible (stands_in k.well_formed k.stands.objects))
+  completes_seen = seen CompletesInTime (completes k.well_formed J k.admissible)
 
   pub laws_seen : KeepsTakes h.setting h.journal × KeepsRegions h.setting h.journal
   laws_seen = (
     seen KeepsTakes (admissible-keeps_takes setting J k.admissible),
-    seen KeepsRegions (keeps_regions k.well_formed (stands_in k.well_formed k.stands.objects)),
+    seen KeepsRegions (keeps_regions k.well_formed k.admissible),
   )
 
   -- what an entry names is known

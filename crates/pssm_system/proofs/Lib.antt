@@ -7,6 +7,7 @@ pub mod Arriving
 pub mod Signals
 pub mod Judged
 pub mod Nexts
+pub mod Coming
 pub mod Completing
 pub mod Stepped
 pub mod Regions

@@ -1,5 +1,5 @@
--- The laws of all journals of a well-formed setting.
-use Rattle.std.proofs.Common.{refl, ◌≡◌, ◌<◌, ℕ, zero, suc, List, length, Option, Some, None, IsSomeAnd, sym, subst, arith}
+-- The laws of all admissible journals of a well-formed setting: what is active in each region; and the entries that runs have.
+use Rattle.std.proofs.Common.{refl, ◌≡◌, ◌<◌, ℕ, zero, suc, List, Option, Some, None, IsSomeAnd, sym, subst, arith}
 use Rattle.pssm_plan.specs.Steadiness.{IsConsistent}
 use Rattle.pssm_semantics.specs.declared.entry.ObjectId.{ObjectId}
 use Rattle.pssm_semantics.specs.declared.entry.Entry.{Entry}
@@ -11,39 +11,41 @@ use Rattle.pssm_semantics.specs.declared.setting.Setting.{Setting}
 use Rattle.pssm_semantics.specs.Settings.{class_of}
 use Rattle.pssm_semantics.specs.Journal.{object_of, configuration_after}
 use Rattle.pssm_semantics.specs.Pool.{told_by}
-use Rattle.pssm_semantics.specs.Admissible.{MayFollow}
-use Rattle.pssm_semantics.specs.Laws.{KeepsRegions}
+use Rattle.pssm_semantics.specs.Rules.{Holds}
+use Rattle.pssm_semantics.specs.Admissible.{MayFollow, IsAdmissibleIn}
+use Rattle.pssm_semantics.specs.Laws.{IsFront, KeepsRegions}
 use Rattle.pssm_semantics.specs.Proper.{IsWellFormed}
+use Rattle.pssm_semantics_laws.proofs.Admissible.{IsAdmissible-front}
 use Rattle.pssm_semantics_laws.proofs.SettingClasses.{class_of_object}
 use Rattle.pssm_pool.specs.declared.pools.Waiting.{Waiting}
 use Rattle.pssm_object.specs.Following.{IsTold, NamesSignal, stimulus_of, stimulus_for}
-use Rattle.pssm_object.proofs.Regions.{consistent_after, one_becomes}
+use Rattle.pssm_object.proofs.Coming.{come_consistent}
+use Rattle.pssm_object.proofs.Regions.{one_becomes}
 use Rattle.pssm_object.proofs.Forms.{has_form}
 use Rattle.pssm_system.specs.declared.situation.Situation.{Situation}
 use Rattle.pssm_semantics.specs.Forms.{CountsFromOne, IsRunEntry}
 use Rattle.pssm_system.specs.inner.Pooling.{signal_taken}
 use Rattle.pssm_system.specs.inner.Keeping.{StandsSo}
-use Rattle.pssm_system.proofs.Following.{object_there, one_class, names_of}
+use Rattle.pssm_system.proofs.Following.{names_of}
 use Rattle.pssm_system.proofs.Judged.{shown}
-use Rattle.pssm_system.proofs.Completing.{StandsIn}
+use Rattle.pssm_system.proofs.Coming.{has_come}
 use Rattle.pssm_system.proofs.Stepped.{part_here, signal_here}
 
-module _ {setting : Setting} (b : IsWellFormed setting) {J : List Entry} (stand : (o : ObjectId) → o.0 < length setting.objects → StandsIn b J o) where
-  -- what is active for an object lies as it must
-  consistent : (o : ObjectId) (class : Class) → class_of setting o ≡ Some class → IsConsistent class.machine (configuration_after class.machine J o)
-  consistent o class is =
-      let here = stand o (object_there setting o class is) in
-      let one : here.class ≡ class = one_class setting o here.class class here.class_is is in
-      let formed = (class_of_object setting b o here.class here.class_is).0 in
-      subst (λ (k : Class). IsConsistent k.machine (configuration_after k.machine J o)) one
-      (subst (λ q. IsConsistent here.class.machine (configuration_after here.class.machine J q)) here.object.own (consistent_after here.class formed here.object.stands))
+module _ {setting : Setting} (b : IsWellFormed setting) {J : List Entry} (admissible : IsAdmissibleIn setting J) where
+  -- what is active for an object after every entry lies as it must
+  consistent : (front : List Entry) → IsFront front J → (o : ObjectId) (class : Class) → class_of setting o ≡ Some class
+      → IsConsistent class.machine (configuration_after class.machine front o)
+  consistent front (rest, is_front) o class is =
+      let so_far = IsAdmissible-front (Holds setting) front rest (subst (IsAdmissibleIn setting) is_front admissible) in
+      come_consistent (class_of_object setting b o class is).0 (has_come b o class is front so_far)
 
   pub keeps_regions : KeepsRegions setting J
   keeps_regions = record {
-    one_each = λ o class r v w is first second active also.
-        let c = consistent o class is in
+    one_each = λ front o class r v w begins is first second active also.
+        let c = consistent front begins o class is in
         c.one_each r v w (first, c.states v active) (second, c.states w also) active also;
-    owners = λ o class r v is lies active. let c = consistent o class is in c.owners r v (lies, c.states v active) active;
+    owners = λ front o class r v begins is lies active.
+        let c = consistent front begins o class is in c.owners r v (lies, c.states v active) active;
     one_completes = λ before after e o class v w splits is first second.
         one_becomes class.machine before e o v w first second;
   }

@@ -13,7 +13,6 @@ use Rattle.pssm_semantics.specs.declared.entry.Entry.TheVariants.{Post, Start, T
 use Rattle.pssm_semantics.specs.declared.entry.Rule.TheVariants.{A1, A6}
 use Rattle.pssm_semantics.specs.declared.stimulus.Stimulus.{Stimulus}
 use Rattle.pssm_semantics.specs.declared.setting.Class.{Class}
-use Rattle.pssm_semantics.specs.declared.setting.ObjectDecl.{ObjectDecl}
 use Rattle.pssm_semantics.specs.declared.setting.Setting.{Setting}
 use Rattle.pssm_semantics.specs.Settings.{class_of}
 use Rattle.pssm_semantics.specs.Journal.{object_of, IsPost}
@@ -22,7 +21,6 @@ use Rattle.pssm_semantics.specs.Known.{IsOutOf, NamesKnown}
 use Rattle.pssm_semantics.specs.Rules.{KeepsPool, KeepsOwn}
 use Rattle.pssm_semantics.specs.Admissible.{MayFollow}
 use Rattle.pssm_semantics.specs.Proper.{IsWellFormed}
-use Rattle.pssm_semantics_laws.proofs.SettingClasses.{all_there}
 use Rattle.pssm_semantics_laws.proofs.Waiting.{signals_of-append}
 use Rattle.pssm_pool.specs.declared.pools.Waiting.{Waiting}
 use Rattle.pssm_pool.specs.Waits.{held_in}
@@ -37,24 +35,8 @@ use Rattle.pssm_system.proofs.Arriving.{HaveWaiting, HasPool, arrived, left}
 use Rattle.pssm_system.proofs.Signals.{numbered-there}
 use Rattle.pssm_system.proofs.Judged.{TakeOrNot, is_take, no_take, take_or_not, no_signal, IsPart, is_part}
 use Rattle.pssm_system.proofs.Nexts.{HasSignal, no_take-has}
-use Rattle.pssm_system.proofs.Completing.{StandsIn}
+use Rattle.pssm_system.proofs.Coming.{class_exists}
 use Rattle.pssm_object.proofs.Advancing.{other_entries}
-
--- each object of a well-formed setting has a class
-pub class_exists : (setting : Setting) → IsWellFormed setting → (o : ObjectId) → o.0 < length setting.objects → (class : Class) × (class_of setting o ≡ Some class)
-class_exists setting b o lt =
-    let object = some_at setting.objects o.0 lt in
-    let in_range = all_there (λ (d : ObjectDecl). d.class < length setting.classes) setting.objects o.0 object.0 b.proper.objects object.1 in
-    let class = some_at setting.classes object.0.class in_range in
-    (class.0, rw object.1 class.1)
-
--- and stands where it is kept
-pub stands_in : {setting : Setting} (b : IsWellFormed setting) {J : List Entry} {objects : List Standing} → AreObjects setting J objects → (o : ObjectId)
-    → o.0 < length setting.objects → StandsIn b J o
-stands_in {setting = setting} b {objects = objects} are o lt =
-    let class = class_exists setting b o lt in
-    let x = some_at objects o.0 (subst (λ n. o.0 < n) (sym are.count) lt) in
-    record { class = class.0; class_is = class.1; standing = x.0; object = are.each o class.0 x.0 class.1 x.1 }
 
 -- the pools stay as many
 length-delivered : (n : ℕ) (xs : List Stimulus) (pools : List (List Waiting)) → length (delivered n xs pools) ≡ length pools
@@ -146,8 +128,10 @@ module _ {setting : Setting} (b : IsWellFormed setting) {J : List Entry} {s : Si
   has_pool : (q : ObjectId) → q.0 < length setting.objects → HasPool J s.pools.waiting q
   has_pool q lt =
       let at = some_at s.pools.waiting q.0 (subst (λ n. q.0 < n) (sym stands.pools.count) lt) in
-      let is = stands_in b stands.objects q lt in
-      (at, subst (HasSignalsTaken J) is.object.own is.object.stands.told)
+      let class = class_exists setting b q lt in
+      let x = some_at s.objects.items q.0 (subst (λ n. q.0 < n) (sym stands.objects.count) lt) in
+      let is = stands.objects.each q class.0 x.0 class.1 x.1 in
+      (at, subst (HasSignalsTaken J) is.own is.stands.told)
 
   have_waiting : HaveWaiting J s.pools.waiting
   have_waiting q waiting at = stands.pools.each q waiting at

@@ -12,6 +12,7 @@ mod deferring;
 mod entries;
 mod follower;
 mod judging;
+mod laws;
 mod pooling;
 mod situation;
 mod stepping;
@@ -19,4 +20,5 @@ mod system;
 mod tasks;
 
 pub use follower::Follower;
+pub use laws::{every_journal_completes, every_journal_keeps};
 pub use system::System;
