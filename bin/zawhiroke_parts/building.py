@@ -6,12 +6,14 @@ and all of it ends with the script.
 import _signal
 import fcntl
 import os
+import select
 import subprocess
 import time
 
 from places import CRATE, LOG, OUT, PROGRAM, SEAL
 from progress import Progress
-from saying import NO_PROGRAM, NO_RT, Ended, heed_pipe, hold_signals, let_pipe, let_signals, say, write_error
+from saying import (NO_PROGRAM, NO_RT, Ended, Signalled, heed_pipe, hold_signals, let_pipe, let_signals, say,
+                    write_error)
 from sources import digest_now, is_fresh, sum_of_file
 
 PATIENCE = 5  # seconds for rt to end its own children
@@ -86,7 +88,12 @@ class Shown:
         self.is_terminal = os.isatty(2)
 
     def show(self):
-        """Shows it, where it changed."""
+        """Shows it, where it changed. Where nobody reads on, the script ends as by SIGPIPE."""
+        readers = select.poll()
+        for file in (1, 2):
+            readers.register(file, 0)
+        if any(event & select.POLLERR for _, event in readers.poll(0)):
+            raise Signalled(_signal.SIGPIPE)
         head, rest = self.progress.text((time.monotonic() - self.began) // 60)
         if self.is_terminal:
             write_error('\r\033[Kzawhiroke: ' + head + rest)

@@ -5,6 +5,7 @@ import subprocess
 import sys
 import tempfile
 import time
+import unittest
 
 BIN = os.path.dirname(os.path.dirname(os.path.realpath(__file__)))
 ROOT = os.path.dirname(BIN)
@@ -144,3 +145,18 @@ def wait_until(holds, seconds=10):
 
 if sys.version_info < (3, 8):
     raise SystemExit('the tests take Python 3.8 or later')
+
+
+class InRepository(unittest.TestCase):
+    """A test with a repository of its own."""
+
+    def setUp(self):
+        self.repository = Repository()
+        self.addCleanup(self.repository.end)
+        self.run_words = self.repository.run
+
+    def check(self, ran, status, answer, *said):
+        """Checks status and answer of a call, and that standard error has these texts."""
+        self.assertEqual((ran[0], ran[1]), (status, answer), ran[2])
+        for text in said:
+            self.assertIn(text, ran[2])
