@@ -29,7 +29,7 @@ def need_rt():
 
 
 class Rt:
-    """A command of rt that works beside the script, and ends with it. Signals wait until its user lets them come."""
+    """A command of rt that works beside the script, and ends with it. Signals wait until it is waited for."""
 
     def __init__(self, words, out, errors):
         hold_signals()
@@ -37,7 +37,19 @@ class Rt:
                                         start_new_session=True, preexec_fn=let_signals)
 
     def __enter__(self):
-        return self.process
+        return self
+
+    def wait(self, meanwhile):
+        """Waits until it ends, and does something meanwhile, each second; its status."""
+        let_signals()
+        while self.process.poll() is None:
+            heed_readers()
+            meanwhile()
+            try:
+                self.process.wait(1)
+            except subprocess.TimeoutExpired:
+                pass
+        return self.process.returncode
 
     def __exit__(self, *_):
         for number in (_signal.SIGTERM, _signal.SIGKILL):
@@ -78,6 +90,15 @@ def processes_of(session):
     return found
 
 
+def heed_readers():
+    """Ends the script as by SIGPIPE where nobody reads on what it writes."""
+    readers = select.poll()
+    for file in (1, 2):
+        readers.register(file, 0)
+    if any(event & select.POLLERR for _, event in readers.poll(0)):
+        raise Signalled(_signal.SIGPIPE)
+
+
 class Shown:
     """How far the build is: on a terminal in one line that is written anew, elsewhere a line for each crate and each minute."""
 
@@ -88,12 +109,7 @@ class Shown:
         self.is_terminal = os.isatty(2)
 
     def show(self):
-        """Shows it, where it changed. Where nobody reads on, the script ends as by SIGPIPE."""
-        readers = select.poll()
-        for file in (1, 2):
-            readers.register(file, 0)
-        if any(event & select.POLLERR for _, event in readers.poll(0)):
-            raise Signalled(_signal.SIGPIPE)
+        """Shows it, where it changed."""
         head, rest = self.progress.text((time.monotonic() - self.began) // 60)
         if self.is_terminal:
             write_error('\r\033[Kzawhiroke: ' + head + rest)
@@ -121,6 +137,7 @@ def take_lock(log, shown):
             if owner and owner != told:
                 say('%s the program; waiting for it' % owner)
                 told = owner
+            heed_readers()
             shown.show()
             time.sleep(1)
     shown.end()
@@ -135,13 +152,7 @@ def prove(log, shown):
     log.flush()
     with open(os.memfd_create('answer'), 'w+b') as answer, open(LOG, 'ab') as errors:
         with Rt(['run'], answer, errors) as rt:
-            let_signals()
-            while rt.poll() is None:
-                shown.show()
-                try:
-                    rt.wait(1)
-                except subprocess.TimeoutExpired:
-                    pass
+            rt.wait(shown.show)
         shown.end()
         answer.seek(0)
         if answer.read() != b'usage\n':

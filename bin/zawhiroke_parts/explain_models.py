@@ -20,8 +20,8 @@ def names(call, program):
         elif signal not in signals:
             said = ['%s: the model has no signal %s' % (stimulus, signal)]
         elif str(count) != signals[signal]:
-            said = ['%s: the signal %s has %s, and %d given' % (stimulus, signal, of_count(signals[signal]), count) +
-                    (' is' if count == 1 else ' are')]
+            said = ['%s: the signal %s has %s, and %s given' % (
+                stimulus, signal, of_count(signals[signal]), {0: 'none is', 1: '1 is'}.get(count, '%d are' % count))]
         if said:
             break
     return said + ['its objects: ' + (', '.join(objects) or 'none'),

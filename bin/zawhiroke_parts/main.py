@@ -3,8 +3,9 @@ import os
 import sys
 
 if sys.version_info < (3, 8):
-    if os.environ.setdefault('ZAWHIROKE_PYTHON', sys.executable) == sys.executable and sys.executable != 'python3':
-        os.execvp('python3', ['python3', '-IS'] + sys.argv)  # the one on the path may be newer
+    if 'ZAWHIROKE_PYTHON' not in os.environ:  # the Python on the path may be newer
+        os.environ['ZAWHIROKE_PYTHON'] = sys.executable
+        os.execvp('python3', ['python3', '-IS'] + sys.argv)
     os.write(2, b'zawhiroke: this takes Python 3.8 or later, as the Rattle kit does\n')
     os._exit(69)
 sys.path.insert(0, os.path.dirname(os.path.realpath(__file__)))
@@ -61,8 +62,6 @@ def explain(call, status, answer, program):
         elif not isinstance(call, str) and (status != 0 or call.command == 'judge'):
             from explaining import explain_answer
             explain_answer(call, status, answer, program)
-    except Signalled:
-        pass
     except Exception as fault:  # pylint: disable=broad-except
         say('this answer could not be explained: %r' % fault)
 
@@ -118,10 +117,7 @@ def run():
     except Ended as end:
         status = end.status
         if end.why:
-            try:
-                say(end.why)
-            except Signalled:
-                pass
+            say(end.why)
     except Signalled as signal:
         die_of(signal.number)
     os._exit(status)

@@ -25,16 +25,14 @@ class Ended(Exception):
 
 
 def say(text):
-    """Writes a line to standard error. Where its reader is gone the script ends as by SIGPIPE."""
+    """Writes a line to standard error."""
     write_error('zawhiroke: %s\n' % text)
 
 
 def write_error(text):
-    """Writes a text to standard error."""
+    """Writes a text to standard error. Where that cannot be, there is nobody to tell."""
     try:
         write_all(2, text.encode('utf-8', 'surrogateescape'))
-    except BrokenPipeError:
-        raise Signalled(_signal.SIGPIPE) from None
     except OSError:
         pass
 

@@ -6,7 +6,7 @@ import stat
 import tempfile
 
 from building import Rt, need_rt
-from saying import NO_PROGRAM, Ended, heed_pipe, let_pipe, let_signals, say, write_all, write_answer
+from saying import NO_PROGRAM, Ended, heed_pipe, let_pipe, say, write_all, write_answer
 
 MOST = 16777217  # one byte more than a file may have
 USEFUL = 65536  # so many bytes of XMI are read in time
@@ -63,14 +63,13 @@ def run(words, scratch):
     out, errors = os.path.join(scratch, 'out'), os.path.join(scratch, 'said')
     heed_pipe()
     with open(out, 'wb') as into, open(errors, 'wb') as notes, Rt(['try', '--', *words], into, notes) as rt:
-        let_signals()
-        rt.wait()
+        status = rt.wait(lambda: None)
     let_pipe()
     with open(errors, 'rb') as file:
         said = file.read()
     ended = ENDED.match((said.splitlines() or [b''])[-1])
-    if not ended or int(ended[1]) != rt.returncode:
+    if not ended or int(ended[1]) != status:
         write_all(2, said)
         raise Ended(NO_PROGRAM, 'the unproved program gave no answer; the lines above say why')
     with open(out, 'rb') as file:
-        return rt.returncode, file.read()
+        return status, file.read()
