@@ -9,9 +9,12 @@ CAUSES = ('the line is spelled wrong or stands in a wrong place, names something
 
 def why_bad(data, number, line, program):
     """The cause, or the causes that a bad line can have."""
-    before = data.decode('utf-8', 'replace').split('\n')[:number - 1]
-    return (why_bytes(data, number, line) or why_numbers(line.decode('utf-8', 'replace'), before)
-            or why_names(line.decode('utf-8', 'replace'), before) or why_spelled(line, before, program) or CAUSES)
+    why = why_bytes(data, number, line)
+    if why:
+        return [why]
+    before, text = data.decode('utf-8', 'replace').split('\n')[:number - 1], line.decode('utf-8')
+    why = why_numbers(text, before) or why_names(text, before)
+    return [why] if why else why_spelled(text, before, program) or [CAUSES]
 
 
 def why_bytes(data, number, line):
@@ -82,7 +85,7 @@ def block_begin(before, kind):
 
 def why_spelled(line, before, program):
     """Another spelling than the one, which the program itself gives."""
-    kind, _, text = line.decode('utf-8').partition(' ')
+    kind, _, text = line.partition(' ')
     if kind not in ACTS or not text or program is None:
         return None
     from spelling import one_spelling
@@ -90,5 +93,5 @@ def why_spelled(line, before, program):
     if one is None or one == text:
         return None
     if not one:
-        return 'a behaviour without statements has no such line'
-    return 'in the one spelling this line is: %s %s' % (kind, one)
+        return ['a behaviour without statements has no such line']
+    return ['a behaviour or guard has one spelling, and this line is to be', '  %s %s' % (kind, one)]

@@ -78,7 +78,8 @@ def refused_line(path, data, words, program):
     if words[1] == 'shape':
         return ['%s: %s' % (head, shown(line)), '%s (%s)' % (SHAPES[words[2]], FORMATS % '1')]
     from explain_lines import why_bad
-    return ['%s: %s' % (head, shown(line)), '%s (%s)' % (why_bad(data, number, line, program), FORMATS % '1')]
+    why, *more = why_bad(data, number, line, program)
+    return ['%s: %s' % (head, shown(line)), '%s (%s)' % (why, FORMATS % '1'), *more]
 
 
 def broken_rules(data, answer):

@@ -6,13 +6,29 @@ import explain_models
 from saying import say, write_error
 from words import list_unread
 
+WIDTH = 110
+
 
 def explain_answer(call, status, answer, program):
     """Explains the answer, where there is something to say."""
     lines = lines_on(call, status, answer, program)
     if lines:
         say(lines[0])
-        write_error(''.join('  %s\n' % line for line in lines[1:]))
+        write_error(''.join('  %s\n' % part for line in lines[1:] for part in wrapped(line)))
+
+
+def wrapped(line):
+    """The line, in parts where it is long. One that begins with a blank shows a text, and stays whole."""
+    if len(line) <= WIDTH or line[0] == ' ':
+        return [line]
+    parts, part = [], ''
+    for word in line.split(' '):
+        if part and len(part) + 1 + len(word) > WIDTH:
+            parts.append(part)
+            part = '  ' + word
+        else:
+            part = part + ' ' + word if part else word
+    return parts + [part]
 
 
 def lines_on(call, status, answer, program):

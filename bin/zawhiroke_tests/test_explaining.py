@@ -145,7 +145,7 @@ class Models(Explained):
     def test_other_spellings(self):
         spelled = GO.replace('state A', 'state A\nentry n := 1;')
         self.repository.answer(spelled.rstrip('\n'), 0, 'standin/flat')
-        self.checked('flat line 11 bad line', 'in the one spelling this line is: entry n := 1;',
+        self.checked('flat line 11 bad line', 'has one spelling, and this line is to be', '\n    entry n := 1;\n',
                      model=GO.replace('state A', 'state A\nentry n:=1;'))
         self.repository.answer('', 3, 'standin/flat')
         self.checked('flat line 11 bad line', 'its behaviour is not in the one spelling',
