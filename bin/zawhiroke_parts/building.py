@@ -17,6 +17,12 @@ from saying import (NO_PROGRAM, NO_RT, Ended, Signalled, heed_pipe, hold_signals
 from sources import digest_now, is_fresh, sum_of_file
 
 PATIENCE = 5  # seconds for rt to end its own children
+SET_DEATH_SIGNAL = 1  # PR_SET_PDEATHSIG
+try:
+    import ctypes
+    LIBC = ctypes.CDLL(None)
+except (ImportError, OSError):
+    LIBC = None
 
 
 def need_rt():
@@ -34,7 +40,13 @@ class Rt:
     def __init__(self, words, out, errors):
         hold_signals()
         self.process = subprocess.Popen(['rt', *words], cwd=CRATE, stdin=subprocess.DEVNULL, stdout=out, stderr=errors,
-                                        start_new_session=True, preexec_fn=let_signals)
+                                        start_new_session=True, preexec_fn=self.begin)
+
+    def begin(self):
+        """What its process does first: should the script be killed outright, it is told to end too."""
+        let_signals()
+        if LIBC is not None:
+            LIBC.prctl(SET_DEATH_SIGNAL, _signal.SIGTERM)
 
     def __enter__(self):
         return self
@@ -140,16 +152,16 @@ def take_lock(log, shown):
             heed_readers()
             shown.show()
             time.sleep(1)
-    shown.end()
-
-
-def prove(log, shown):
-    """Proves and builds. rt runs the program once, without words: its answer, usage, says that all went well."""
-    digest = digest_now()
-    say('the program is not built of these sources yet; it is proved and built first, which takes a while')
     os.ftruncate(log.fileno(), 0)
     log.write('process %d builds\n' % os.getpid())
     log.flush()
+    shown.end()
+
+
+def prove(shown):
+    """Proves and builds. rt runs the program once, without words: its answer, usage, says that all went well."""
+    digest = digest_now()
+    say('the program is not built of these sources yet; it is proved and built first, which takes a while')
     with open(os.memfd_create('answer'), 'w+b') as answer, open(LOG, 'ab') as errors:
         with Rt(['run'], answer, errors) as rt:
             rt.wait(shown.show)
@@ -180,7 +192,7 @@ def build():
         with open(LOG, 'a', encoding='utf-8') as log:
             take_lock(log, shown)
             if not is_fresh():
-                prove(log, shown)
+                prove(shown)
     except OSError as fault:
         raise Ended(NO_PROGRAM, 'it could not be built: %s' % fault) from None
     finally:

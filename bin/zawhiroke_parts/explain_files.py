@@ -1,6 +1,6 @@
 """What is said of a model file, in XMI, that is refused: the place in the file, and what to change there."""
 from shown import marked, shown
-from texts import ACT_FAULTS, FILE_FAULTS
+from texts import ACT_FAULTS, FILE_FAULTS, REDEFINITIONS
 
 EXPORT = 'README.md, "What your tool must export"'
 
@@ -39,8 +39,9 @@ def file_why(data, fault):
 def refused_body(path, data, answer):
     """The text of a behaviour or guard, with a mark under the byte at which it goes wrong."""
     name, fault, _, byte = answer.decode('utf-8', 'replace')[len('act '):].rstrip('\n').rsplit(' ', 3)
-    lines = ['the text of %s in %s: %s (docs/FORMATS.md, section 4)' % (name, path, ACT_FAULTS.get(fault, fault))]
-    text = body_of(data, name) if data is not None else None
+    found = find_element(data, name)
+    lines = ['the text of %s, %s: %s (docs/FORMATS.md, section 4)' % (name, found.place(path), ACT_FAULTS.get(fault, fault))]
+    text = found.text()
     if text is None or int(byte) > len(text):
         return lines
     begin = text.rfind(b'\n', 0, int(byte)) + 1
@@ -48,29 +49,36 @@ def refused_body(path, data, answer):
     return lines + marked(text[begin:len(text) if end < 0 else end], int(byte) - begin)
 
 
-def body_of(data, name):
-    """The text of the behaviour or guard with this id: the body that stands beside the first language PSSM, or the only one."""
+def refused_redefinition(path, data, answer):
+    """Where the element stands that redefines another against the rules."""
+    fault, name = answer.decode('utf-8', 'replace')[len('redefine '):].rstrip('\n').split(' ', 1)
+    return ['%s, %s: %s (docs/FORMATS.md, section 5.4)' % (
+        name, find_element(data, name).place(path), REDEFINITIONS.get(fault, fault))]
+
+
+def find_element(data, name):
+    """The element with this id, and what it has of bodies."""
     from xml.parsers import expat
-    found = Found(name)
     parser = expat.ParserCreate('UTF-8')
+    found = Found(name, parser)
     parser.buffer_text = True
     parser.StartElementHandler = found.begin
     parser.EndElementHandler = found.end
     parser.CharacterDataHandler = found.add
     try:
-        parser.Parse(data, True)
+        parser.Parse(data or b'', True)
     except expat.ExpatError:
         pass
-    bodies, languages = found.texts['body'], [each.strip(' \t\r\n').lower() for each in found.texts['language']]
-    at = languages.index('pssm') if 'pssm' in languages else 0
-    return bodies[at].encode('utf-8') if at < len(bodies) else None
+    return found
 
 
 class Found:
     """The bodies and languages in the element with an id, as a reader of XML meets them."""
 
-    def __init__(self, name):
+    def __init__(self, name, parser):
         self.name = name
+        self.parser = parser
+        self.line = None
         self.texts = {'body': [], 'language': []}
         self.depth = 0
         self.open = None
@@ -84,6 +92,17 @@ class Found:
                 self.texts[tag].append('')
         elif attributes.get('xmi:id') == self.name:
             self.depth = 1
+            self.line = self.parser.CurrentLineNumber
+
+    def place(self, path):
+        """Where the element stands."""
+        return 'in %s' % path if self.line is None else 'line %d of %s' % (self.line, path)
+
+    def text(self):
+        """The body that stands beside the first language PSSM, or the only one."""
+        bodies, languages = self.texts['body'], [each.strip(' \t\r\n').lower() for each in self.texts['language']]
+        at = languages.index('pssm') if 'pssm' in languages else 0
+        return bodies[at].encode('utf-8') if at < len(bodies) else None
 
     def end(self, _):
         """An element ends."""

@@ -1,7 +1,7 @@
 """What is said of a model that is refused, and of names that it does not have."""
 import flat_text
 from shown import line_at, marked, read, shown
-from texts import ACT_FAULTS, MODEL_RULES, REDEFINITIONS, SHAPES
+from texts import ACT_FAULTS, MODEL_RULES, SHAPES
 
 FORMATS = 'docs/FORMATS.md, section %s'
 
@@ -57,7 +57,8 @@ def refused(call, answer, program):
         from explain_files import refused_body
         return refused_body(call.model, data, answer)
     if words[0] == 'redefine':
-        return ['%s (%s)' % (REDEFINITIONS.get(words[1], words[1]), FORMATS % '5.4')]
+        from explain_files import refused_redefinition
+        return refused_redefinition(call.model, data, answer)
     if words[0] == 'shape':
         return ['the machine of class %s: %s (%s)' % (words[1], SHAPES.get(words[2], words[2]), FORMATS % '1')]
     return broken_rules(data, answer)

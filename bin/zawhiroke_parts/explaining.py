@@ -4,6 +4,7 @@ import os
 import explain_journals
 import explain_models
 from saying import say, write_error
+from shown import clean
 from words import list_unread
 
 WIDTH = 110
@@ -11,7 +12,7 @@ WIDTH = 110
 
 def explain_answer(call, status, answer, program):
     """Explains the answer, where there is something to say."""
-    lines = lines_on(call, status, answer, program)
+    lines = [clean(line) for line in lines_on(call, status, answer, program)]
     if lines:
         say(lines[0])
         write_error(''.join('  %s\n' % part for line in lines[1:] for part in wrapped(line)))

@@ -3,7 +3,7 @@ import _signal
 import os
 
 from running import start, status_of
-from saying import hold_signals, let_signals, say, write_answer
+from saying import Ended, hold_signals, let_signals, say, write_answer
 from words import Call, list_unread
 
 WORDS = {0: 'accepted', 1: 'refused', 3: 'not judged, since the model is refused', 4: 'spelled wrong', 5: 'not read',
@@ -74,6 +74,8 @@ def judge_all(model, journals, is_quiet):
         if not is_quiet:
             say(unread)
         return 5
+    if not os.path.isfile(model):
+        raise Ended(5, 'judge-all reads the model once for each journal, so it takes a plain file')
     from building import need_program
     judging = Judging(need_program(), model)
     counts, of_model = {}, None

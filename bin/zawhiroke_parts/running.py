@@ -8,7 +8,7 @@ program does when it can't write: with status 6, and a front of the answer writt
 import _signal
 import os
 
-from saying import hold_signals, let_signals, write_answer
+from saying import NO_PROGRAM, Ended, hold_signals, let_signals, write_answer
 
 FRONT = 1 << 16  # so much of an answer is kept to be explained
 
@@ -18,8 +18,11 @@ def start(program, words, sink, source=None):
     over = [(os.POSIX_SPAWN_DUP2, sink, 1)]
     if source is not None:
         over.append((os.POSIX_SPAWN_DUP2, source, 0))
-    return os.posix_spawn(program, [program, *words], os.environ, file_actions=over,
-                          setsigmask=[], setsigdef=[_signal.SIGPIPE])
+    try:
+        return os.posix_spawn(program, [program, *words], os.environ, file_actions=over,
+                              setsigmask=[], setsigdef=[_signal.SIGPIPE])
+    except OSError as fault:
+        raise Ended(NO_PROGRAM, 'the program cannot be started: %s' % fault.strerror) from None
 
 
 def status_of(waited):

@@ -46,9 +46,14 @@ def line_at(data, number):
     return None if end < 0 and not line else line
 
 
+def clean(text):
+    """The text as a terminal can show it: what it can't becomes one sign."""
+    return ''.join(sign if sign.isprintable() else '\ufffd' for sign in text)
+
+
 def printable(data):
-    """The bytes as a text that a terminal can show: what it can't becomes one sign."""
-    return ''.join(sign if sign.isprintable() else '\ufffd' for sign in data.decode('utf-8', 'replace'))
+    """The bytes as such a text."""
+    return clean(data.decode('utf-8', 'replace'))
 
 
 def cut(text):

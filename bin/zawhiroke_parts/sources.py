@@ -112,9 +112,9 @@ def is_fresh():
     seal = read_seal()
     if not os.access(PROGRAM, os.X_OK) or not {'sources', 'program'} <= seal.keys():
         return False
-    files, folders = find_sources()
-    paths = [*files, *folders, os.path.relpath(PROGRAM, ROOT), os.path.relpath(SEAL, ROOT)]
     try:
+        files, folders = find_sources()
+        paths = [*files, *folders, os.path.relpath(PROGRAM, ROOT), os.path.relpath(SEAL, ROOT)]
         times = times_of(paths)
         if (digest_of(files), sum_of_file(PROGRAM)) != (seal['sources'], seal['program']):
             return False

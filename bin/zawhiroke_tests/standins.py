@@ -63,6 +63,9 @@ class Repository:
         self.write('standin/path/rt', RT, 0o755)
         self.write('standin/none/nothing', '')
         self.answer('accept 9', 0)
+        if 'TEST_PYTHON' in os.environ:
+            script = self.read('bin/zawhiroke').replace('/usr/bin/python3', os.environ['TEST_PYTHON'])
+            self.write('bin/zawhiroke', script, 0o755)
 
     def path(self, name):
         """The path of a file in it."""

@@ -172,6 +172,15 @@ class Stopped(InRepository):
         call.stderr.close()
         self.nothing_left()
 
+    def test_kill(self):
+        call = self.start_build()
+        rt, prover = self.repository.processes()
+        call.kill()
+        call.communicate(timeout=10)
+        self.assertTrue(wait_until(lambda: not is_alive(rt)))
+        os.kill(prover, signal.SIGKILL)  # (those of the real rt end with it)
+        self.nothing_left()
+
     def test_reader_of_standard_error_goes(self):
         self.reader_goes('stderr')
 

@@ -10,17 +10,17 @@ class Many(InRepository):
     def setUp(self):
         super().setUp()
         self.repository.build()
-        for number in range(60):
+        for number in range(30):
             name = 'many/%d.journal' % number
             self.repository.write(name, 'pssm-journal 1\n')
             if number % 7 == 3:
                 self.repository.answer('refuse %d A9' % number, 1, name + '.answer')
-        self.names = ['many/%d.journal' % number for number in range(60)]
+        self.names = ['many/%d.journal' % number for number in range(30)]
         self.table = ''.join('%s\t%s\n' % (name, 'refuse %d A9' % number if number % 7 == 3 else 'accept 9')
                              for number, name in enumerate(self.names))
 
     def test_names_as_words(self):
-        self.check(self.run_words('judge-all', 'examples/go.flat', *self.names), 1, self.table, '51 accepted; 9 refused')
+        self.check(self.run_words('judge-all', 'examples/go.flat', *self.names), 1, self.table, '26 accepted; 4 refused')
 
     def test_names_on_standard_input(self):
         given = '\n'.join(self.names).encode()
@@ -52,6 +52,9 @@ class Many(InRepository):
         self.repository.write('crates/low/src/lib.rt', '// built anew\n')
         ran = self.run_words('judge-all', 'examples/go.flat', *self.names, variables={'STANDIN_SECONDS': '0'})
         self.check(ran, 0, ''.join('%s\t%s\n' % (name, name) for name in self.names))
+
+    def test_model_that_is_no_plain_file(self):
+        self.check(self.run_words('judge-all', '/dev/stdin', self.names[0], given=b'pssm-flat 1'), 5, '', 'it takes a plain file')
 
     def test_full_device(self):
         with open('/dev/full', 'w') as full:
