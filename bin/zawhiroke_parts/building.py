@@ -1,7 +1,7 @@
 """Proving and building the program, by `rt run` in its folder, one call at a time.
 
-Who builds holds a lock on build.log, which the kernel takes back when its owner ends, however it ends. rt has a session of its own,
-and all of it ends with the script.
+Who builds holds a lock on build.log, which the kernel takes back when its owner ends, however it ends. rt has a
+session of its own, and all of it ends with the script.
 """
 import _signal
 import fcntl
@@ -112,7 +112,9 @@ def heed_readers():
 
 
 class Shown:
-    """How far the build is: on a terminal in one line that is written anew, elsewhere a line for each crate and each minute."""
+    """How far the build is: on a terminal in one line that is written anew, elsewhere in one for each crate and
+    each minute.
+    """
 
     def __init__(self):
         self.began = time.monotonic()

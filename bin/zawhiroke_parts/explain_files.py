@@ -40,7 +40,8 @@ def refused_body(path, data, answer):
     """The text of a behaviour or guard, with a mark under the byte at which it goes wrong."""
     name, fault, _, byte = answer.decode('utf-8', 'replace')[len('act '):].rstrip('\n').rsplit(' ', 3)
     found = find_element(data, name)
-    lines = ['the text of %s, %s: %s (docs/FORMATS.md, section 4)' % (name, found.place(path), ACT_FAULTS.get(fault, fault))]
+    lines = ['the text of %s, %s: %s (docs/FORMATS.md, section 4)' % (
+        name, found.place(path), ACT_FAULTS.get(fault, fault))]
     text = found.text()
     if text is None or int(byte) > len(text):
         return lines

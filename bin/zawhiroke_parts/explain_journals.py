@@ -1,4 +1,4 @@
-"""What is said of a journal: of one that is refused, that is spelled wrong, and that is accepted and looks unfinished."""
+"""What is said of journals: refused ones, ones that are spelled wrong, and accepted ones that look unfinished."""
 import flat_text
 from shown import line_at, marked, read, read_end, shown
 from texts import ENTRY_RULES
@@ -73,7 +73,7 @@ def hint(call, answer):
 
 
 def owed_line(lines):
-    """The first step among these lines that owes a line and is the last one of its object: its place, and what it owes.
+    """The first step that owes a line, among the last ones of each object in these lines: its place, and what it owes.
 
     Each transition of a firing, of an opening and of a pick owes an effect.
     """

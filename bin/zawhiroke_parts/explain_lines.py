@@ -3,8 +3,8 @@ import flat_text
 from words import is_integer, is_name
 
 ACTS = ('entry', 'exit', 'effect', 'step', 'if')
-CAUSES = ('the line is spelled wrong or stands in a wrong place, names something unknown or twice, passes a limit, or its behaviour '
-          'is not in the one spelling')
+CAUSES = ('the line is spelled wrong or stands in a wrong place, names something unknown or twice, passes a limit, or '
+          'its behaviour is not in the one spelling')
 
 
 def why_bad(data, number, line, program):
@@ -48,7 +48,9 @@ def why_numbers(line, before):
         return None
     begin = max((at for at, each in enumerate(before) if each.startswith('machine ')), default=0)
     due = '%s%d' % (letters[words[0]], sum(each.startswith(words[0] + ' ') for each in before[begin:]))
-    return None if words[1] == due else 'the elements of a kind are numbered in the order of their lines: %s is due' % due
+    if words[1] == due:
+        return None
+    return 'the elements of a kind are numbered in the order of their lines: %s is due' % due
 
 
 def why_names(line, before):
@@ -62,7 +64,7 @@ def why_names(line, before):
         last = before[-1].partition(' ')
         order = list(signals)
         if last[0] == kind and last[2] in order and order.index(last[2]) >= order.index(rest):
-            return 'such lines name signals in the order of the lines of these signals, each once: %s stands behind %s' % (
+            return 'such lines name signals in the order in which these stand above, each once: %s stands behind %s' % (
                 last[2], rest)
     if kind in ('signal', 'class', 'object', 'var'):
         if not is_name(words[0]):

@@ -10,7 +10,8 @@ def names(call, program):
     """Which stimulus names what the model does not have, and what it has."""
     lines = flat_text.text_of(call.model, program)
     if lines is None:
-        return ['a stimulus names an object or a signal that the model does not have, or gives it another number of arguments']
+        return ['a stimulus names an object or a signal that the model does not have, or gives it another number of '
+                'arguments']
     objects, signals = flat_text.declared(lines, 'object'), flat_text.declared(lines, 'signal')
     said = []
     for stimulus in call.stimuli:
@@ -24,9 +25,8 @@ def names(call, program):
                 stimulus, signal, of_count(signals[signal]), {0: 'none is', 1: '1 is'}.get(count, '%d are' % count))]
         if said:
             break
-    return said + ['its objects: ' + (', '.join(objects) or 'none'),
-                   'its signals: ' + (', '.join('%s with %s' % (name, of_count(count)) for name, count in signals.items())
-                                      or 'none')]
+    counted = ['%s with %s' % (name, of_count(count)) for name, count in signals.items()]
+    return said + ['its objects: ' + (', '.join(objects) or 'none'), 'its signals: ' + (', '.join(counted) or 'none')]
 
 
 def parts_of(stimulus):

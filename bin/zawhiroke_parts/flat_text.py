@@ -6,8 +6,8 @@ MOST = 1 << 20
 
 
 def text_of(model, program):
-    """The lines of the model's flat text: its own, or those that the program writes of a model file. None where there are none, or
-    too many to look at in a moment.
+    """The lines of the model's flat text: its own, or those that the program writes of a model file. None where there
+    are none, or too many to look at in a moment.
     """
     data = read(model)
     if data is None or len(data) > MOST:
@@ -38,8 +38,8 @@ def block_of(lines, name):
     if 'machine ' + name not in lines:
         return []
     begin = lines.index('machine ' + name) + 1
-    end = next((at for at in range(begin, len(lines)) if lines[at].startswith('machine ') or lines[at] == 'end'), len(lines))
-    return lines[begin:end]
+    ends = (at for at in range(begin, len(lines)) if lines[at].startswith('machine ') or lines[at] == 'end')
+    return lines[begin:next(ends, len(lines))]
 
 
 def names_in(entry, lines):

@@ -12,7 +12,8 @@ UNKNOWN = 'unknown'
 def said_by(*words):
     """What a command says, where there is one and it ends well."""
     try:
-        ran = subprocess.run(words, cwd=ROOT, stdin=subprocess.DEVNULL, stdout=subprocess.PIPE, stderr=subprocess.DEVNULL)
+        ran = subprocess.run(words, cwd=ROOT, stdin=subprocess.DEVNULL, stdout=subprocess.PIPE,
+                             stderr=subprocess.DEVNULL)
     except OSError:
         return None
     return ran.stdout.decode('utf-8', 'replace').strip() if ran.returncode == 0 else None

@@ -15,7 +15,7 @@ from words import call_of, help_text, list_of_words, list_unread, usage  # noqa:
 
 
 def ask_program(words, is_quiet):
-    """Answers by the proved program. What needs no program is answered without one, where it would have to be built first."""
+    """Answers by the proved program. Where it would have to be built first, what needs none comes without it."""
     from places import PROGRAM
     from running import pass_through
     from sources import is_fresh
@@ -107,7 +107,7 @@ def main(words):
 
 def run():
     """Does it, and ends."""
-    for file in (0, 1, 2):  # one that is closed is taken by a file that can't be written, and not by the next that opens
+    for file in (0, 1, 2):  # the number of one that is closed is not for the next file that opens
         try:
             os.fstat(file)
         except OSError:

@@ -89,8 +89,8 @@ def judge_all(model, journals, is_quiet):
     finally:
         judging.end()
     if not is_quiet:
-        say('; '.join('%d %s' % (count, WORDS.get(status, 'of status %d' % status)) for status, count in sorted(counts.items()))
-            or 'no journal was given')
+        said = ['%d %s' % (counts[status], WORDS.get(status, 'of status %d' % status)) for status in sorted(counts)]
+        say('; '.join(said) or 'no journal was given')
         if of_model:
             from explaining import explain_answer
             explain_answer(*of_model, judging.program)

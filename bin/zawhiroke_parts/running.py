@@ -1,8 +1,8 @@
 """Calls of the program.
 
-Its answer goes through a pipe and this script to standard output: what is to be explained must be seen, and by its status alone
-a refusal can't be. The program writes all at once, at its end, so that the way over the pipe costs one copy of the answer (some
-10 ms for the longest journals), and an answer is never asked for twice. Where the copy can't be written, the script ends as the
+Its answer goes through a pipe and this script to standard output: a refusal can't be explained by its status alone.
+The program writes all at once, at its end, so that the way over the pipe costs one copy of the answer (some 20 ms for
+the longest journals), and an answer is never asked for twice. Where the copy can't be written, the script ends as the
 program does when it can't write: with status 6, and a front of the answer written.
 """
 import _signal

@@ -2,10 +2,10 @@
 
 The digest is that of
     find crates.txt crates/*/src crates/*/specs crates/*/proofs -type f -exec sha256sum {} + | LC_ALL=C sort | sha256sum
-The seal is a note of lines `KEY VALUE`: the digest of the sources of which the program was built, that of the program, the
-kit and the commit. To read 2,700 files on each call would be slow. So the names, sizes and times of change of these files and
-their folders, of the program and of the seal are listed where the digests were found to agree. While all of that is as it is
-listed, they agree still. A time of change cannot be set by a program, as one of writing can.
+The seal is a note of lines `KEY VALUE`: the digest of the sources of which the program was built, that of the program,
+the kit and the commit. To read 2,700 files on each call would be slow. So the names, sizes and times of change of these
+files and their folders, of the program and of the seal are listed where the digests were found to agree. While all of
+that is as it is listed, they agree still: a program cannot set a time of change, as it can one of writing.
 """
 import os
 from operator import attrgetter
@@ -54,9 +54,8 @@ def sum_of_file(path):
 def digest_of(files):
     """The digest of sources at these paths."""
     import hashlib
-    lines = sorted(('%s  %s\n' % (sum_of_file(os.path.join(ROOT, path)), path)).encode('utf-8', 'surrogateescape')
-                   for path in files)
-    return hashlib.sha256(b''.join(lines)).hexdigest()
+    lines = sorted('%s  %s\n' % (sum_of_file(os.path.join(ROOT, path)), path) for path in files)
+    return hashlib.sha256(''.join(lines).encode('utf-8', 'surrogateescape')).hexdigest()
 
 
 def digest_now():

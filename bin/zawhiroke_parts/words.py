@@ -1,6 +1,7 @@
-"""What words mean. The program decides that; this page knows it too, so that nothing is built for words that mean nothing.
+"""What words mean. The program decides that; it stands here too, so that nothing is built for words that mean nothing.
 
-A command that the program learns, and what changes in the words of one, is to be told here as well.
+A command that the program learns, and what changes in the words of one, is to be told here as well: in COMMANDS,
+OPTIONS and call_of.
 """
 import os
 
@@ -26,21 +27,23 @@ class Call:
 COMMANDS = (
     ('judge', 'MODEL JOURNAL', 'whether the journal is one of a run of the model',
      'judge examples/go.flat examples/go.journal'),
-    ('run', "[--seed N] [--workers W] [--limit L] MODEL 'OBJECT.SIGNAL(ARGS)' ..", 'the journal of a run on these signals',
-     "run examples/door.flat 'door.Open()' 'door.Close()' 'door.Lock(1234)'"),
+    ('run', "[--seed N] [--workers W] [--limit L] MODEL 'OBJECT.SIGNAL(ARGS)' ..",
+     'the journal of a run on these signals', "run examples/door.flat 'door.Open()' 'door.Close()' 'door.Lock(1234)'"),
     ('check', 'MODEL', 'whether the model is well formed, or what is wrong with it', 'check examples/go.flat'),
     ('flat', 'MODEL', 'the flat text of a model, also of one in XMI', 'flat examples/lamps.xmi'),
 )
 # The same of what the script does itself.
 OWN = (
-    ('judge-all', 'MODEL JOURNAL ..', 'the same for many journals, a line PATH<tab>ANSWER for each; without a JOURNAL their '
-     'names come from standard input', 'judge-all examples/go.flat examples/go.journal examples/go-swapped.journal'),
+    ('judge-all', 'MODEL JOURNAL ..',
+     'judges many, with a line PATH<tab>ANSWER for each; without a JOURNAL their names come from standard input',
+     'judge-all examples/go.flat examples/go.journal examples/go-swapped.journal'),
     ('--try', 'and then one of the first four', 'an unproved answer, in about two minutes',
      '--try check examples/go.flat'),
     ('--quiet', 'and then any of these', 'the answer alone, with no word on standard error to explain it',
      '--quiet judge examples/go.flat examples/go-swapped.journal'),
     ('--program', '', 'the path of the proved program', '--program'),
-    ('--install', 'FOLDER', 'puts the proved program there, with a note of what it was built of', '--install /tmp/zawhiroke'),
+    ('--install', 'FOLDER', 'puts the proved program there, with a note of what it was built of',
+     '--install /tmp/zawhiroke'),
     ('--version', '', 'commit, kit, digest of the sources, and whether the program is built of them', '--version'),
     ('--help', '', 'this text', '--help'),
 )
@@ -74,7 +77,7 @@ def is_name(word):
 
 def is_stimulus(word):
     """Whether the word is spelled as a stimulus, `door.Lock(1234)`."""
-    call, bracket, rest = word.partition('(')
+    call, _, rest = word.partition('(')
     thing, _, signal = call.partition('.')
     args = rest[:-1].split(',') if len(rest) > 1 else []
     return (is_name(thing) and is_name(signal) and rest[-1:] == ')'
@@ -94,14 +97,10 @@ def call_of(words):
     if command not in counts:
         return no_command(command)
     if len(rest) != counts[command]:
-        return '%s takes %s, and %s given' % (command, of_words(counts[command]), 'none is' if not rest else
-                                              'one is' if len(rest) == 1 else '%d are' % len(rest))
+        takes = {1: 'one word, MODEL', 2: 'two words, MODEL and JOURNAL'}[counts[command]]
+        given = {0: 'none is', 1: 'one is'}.get(len(rest), '%d are' % len(rest))
+        return '%s takes %s, and %s given' % (command, takes, given)
     return Call(words, 1, len(rest))
-
-
-def of_words(count):
-    """So many words, in words."""
-    return {1: 'one word, MODEL', 2: 'two words, MODEL and JOURNAL'}[count]
 
 
 def no_command(word):
