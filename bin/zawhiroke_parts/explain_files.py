@@ -7,7 +7,7 @@ EXPORT = 'README.md, "What your tool must export"'
 
 def refused_file(path, data, byte, fault):
     """The line and the column of the byte, the tag there, and what to change."""
-    what = '%s (%s)' % (FILE_FAULTS.get(fault, fault), EXPORT)
+    what = '%s: %s (%s)' % (fault, FILE_FAULTS.get(fault, 'docs/FORMATS.md, section 5.6, has it'), EXPORT)
     if data is None or byte > len(data):
         return [what]
     begin = data.rfind(b'\n', 0, byte) + 1
@@ -40,21 +40,20 @@ def refused_body(path, data, answer):
     """The text of a behaviour or guard, with a mark under the byte at which it goes wrong."""
     name, fault, _, byte = answer.decode('utf-8', 'replace')[len('act '):].rstrip('\n').rsplit(' ', 3)
     found = find_element(data, name)
-    lines = ['the text of %s, %s: %s (docs/FORMATS.md, section 4)' % (
-        name, found.place(path), ACT_FAULTS.get(fault, fault))]
+    lines = ['the text of %s, %s' % (name, found.place(path))]
     text = found.text()
-    if text is None or int(byte) > len(text):
-        return lines
-    begin = text.rfind(b'\n', 0, int(byte)) + 1
-    end = text.find(b'\n', int(byte))
-    return lines + marked(text[begin:len(text) if end < 0 else end], int(byte) - begin)
+    if text is not None and int(byte) <= len(text):
+        begin = text.rfind(b'\n', 0, int(byte)) + 1
+        end = text.find(b'\n', int(byte))
+        lines += marked(text[begin:len(text) if end < 0 else end], int(byte) - begin)
+    return lines + ['%s: %s (docs/FORMATS.md, section 4)' % (fault, ACT_FAULTS.get(fault, fault))]
 
 
 def refused_redefinition(path, data, answer):
     """Where the element stands that redefines another against the rules."""
     fault, name = answer.decode('utf-8', 'replace')[len('redefine '):].rstrip('\n').split(' ', 1)
-    return ['%s, %s: %s (docs/FORMATS.md, section 5.4)' % (
-        name, find_element(data, name).place(path), REDEFINITIONS.get(fault, fault))]
+    return ['the element %s, %s' % (name, find_element(data, name).place(path)),
+            '%s: %s (docs/FORMATS.md, section 5.4)' % (fault, REDEFINITIONS.get(fault, fault))]
 
 
 def find_element(data, name):

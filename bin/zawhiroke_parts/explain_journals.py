@@ -62,7 +62,7 @@ def hint(call, answer):
     """Where an accepted journal shows that it goes on: that it is a beginning."""
     count = int(answer.split()[1])
     if count == 0:
-        return ['a journal without entries is the beginning of every run: ' + BEGINNING]
+        return ['a journal without entries is the beginning of every run', BEGINNING]
     lines = (read_end(call.journal, END) or b'').decode('utf-8', 'replace').split('\n')[:-1]
     owed = owed_line(lines)
     if owed is None:

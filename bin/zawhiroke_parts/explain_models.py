@@ -60,7 +60,8 @@ def refused(call, answer, program):
         from explain_files import refused_redefinition
         return refused_redefinition(call.model, data, answer)
     if words[0] == 'shape':
-        return ['the machine of class %s: %s (%s)' % (words[1], SHAPES.get(words[2], words[2]), FORMATS % '1')]
+        return ['the machine of class %s' % words[1], '%s: %s (%s)' % (
+            words[2], SHAPES.get(words[2], words[2]), FORMATS % '1')]
     return broken_rules(data, answer)
 
 
@@ -75,9 +76,11 @@ def refused_line(path, data, words, program):
         return ['%s ends before its last line, which is `end` (%s)' % (path, FORMATS % '1')]
     if words[1] == 'act':
         begin = line.find(b' ') + 1
-        return ['%s: %s (%s)' % (head, ACT_FAULTS[words[2]], FORMATS % '4'), *marked(line, begin + int(words[4]))]
+        return [head, *marked(line, begin + int(words[4])), '%s: %s (%s)' % (
+            words[2], ACT_FAULTS.get(words[2], words[2]), FORMATS % '4')]
     if words[1] == 'shape':
-        return ['%s: %s' % (head, shown(line)), '%s (%s)' % (SHAPES[words[2]], FORMATS % '1')]
+        return ['%s: %s' % (head, shown(line)), '%s: %s (%s)' % (
+            words[2], SHAPES.get(words[2], words[2]), FORMATS % '1')]
     from explain_lines import why_bad
     why, *more = why_bad(data, number, line, program)
     return ['%s: %s' % (head, shown(line)), '%s (%s)' % (why, FORMATS % '1'), *more]

@@ -1,8 +1,9 @@
 """What a flat text has: its names, and what stands behind the numbers of its elements."""
-from shown import cut, read
+from shown import read
 from running import ask
 
 MOST = 1 << 20
+MOST_NAMES = 8
 
 
 def text_of(model, program):
@@ -60,4 +61,4 @@ def names_in(entry, lines):
             said.append('%s is %s' % (word, labels[word]))
         elif word in ends:
             said.append('%s leads from %s' % (word, ' to '.join(labels.get(end, end) for end in ends[word])))
-    return [cut('in this model ' + ', '.join(said))] if said else []
+    return ['in this model ' + ', '.join(said[:MOST_NAMES])] if said else []

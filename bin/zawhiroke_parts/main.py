@@ -57,7 +57,7 @@ def explain(call, status, answer, program):
     """Explains an answer. Whatever becomes of that, the status stays the program's."""
     try:
         if isinstance(call, str) and status == 2:
-            say('%s; the words are one of these:' % call)
+            say(call)
             write_error(list_of_words())
         elif not isinstance(call, str) and (status != 0 or call.command == 'judge'):
             from explaining import explain_answer

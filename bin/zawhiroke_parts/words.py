@@ -134,7 +134,8 @@ def run_of(words):
 
 def list_of_words():
     """The commands and their words, a line for each."""
-    return ''.join('  %s %s\n' % (name, rest) if rest else '  %s\n' % name for name, rest, _, _ in COMMANDS + OWN)
+    return '  the words are one of these:\n' + ''.join(
+        '    %s\n' % (name + ' ' + rest).rstrip() for name, rest, _, _ in COMMANDS + OWN)
 
 
 def help_text():
@@ -152,7 +153,7 @@ def usage(why, is_quiet):
     """Answers as the program does words that mean nothing."""
     write_answer(b'usage\n')
     if not is_quiet:
-        say('%s; the words are one of these:' % why)
+        say(why)
         write_error(list_of_words())
     return 2
 

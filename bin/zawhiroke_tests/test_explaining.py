@@ -175,11 +175,11 @@ class Models(Explained):
         self.checked('xmi byte 0 Malformed', 'a model begins with pssm-flat, or is XML', model='hello\n')
 
     def test_bodies_of_files(self):
-        self.checked('act _x UnknownName byte 0', 'the text of _x, line 4 of model: ', '\n  n := 1;\n  ^\n', model=FILE)
+        self.checked('act _x UnknownName byte 0', 'the text of _x, line 4 of model\n', '\n  n := 1;\n  ^\n', model=FILE)
         self.checked('act _x Syntax byte 12', '\n  m < 2;\n      ^\n', model=FILE)
-        self.checked('act none Syntax byte 3', 'the text of none, in model: ', model=FILE)
-        self.checked('redefine Leaf _x', '_x, line 4 of model: what has isLeaf="true" is not redefined', model=FILE)
-        self.checked('shape Lamp TooDeep', 'the machine of class Lamp: at most 32 regions', model=FILE)
+        self.checked('act none Syntax byte 3', 'the text of none, in model\n', model=FILE)
+        self.checked('redefine Leaf _x', 'the element _x, line 4 of model\n', 'Leaf: what has isLeaf="true" is not redefined', model=FILE)
+        self.checked('shape Lamp TooDeep', 'the machine of class Lamp\n', 'TooDeep: at most 32 regions', model=FILE)
 
 
 class Names(Explained):

@@ -46,7 +46,7 @@ class AtOnce(InRepository):
         self.assertFalse(os.path.exists(self.repository.out))
 
     def test_wrong_words(self):
-        self.at_once([], 2, 'usage\n', 'there is no command; the words are one of these:', '  judge MODEL JOURNAL')
+        self.at_once([], 2, 'usage\n', 'there is no command\n  the words are one of these:\n    judge MODEL JOURNAL')
         self.at_once(['jugde', 'M', 'J'], 2, 'usage\n', 'there is no command jugde; is it judge')
         self.at_once(['judge', 'M'], 2, 'usage\n', 'judge takes two words, MODEL and JOURNAL, and one is given')
         self.at_once(['check', '--strict', 'M'], 2, 'usage\n')
