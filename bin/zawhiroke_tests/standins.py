@@ -96,7 +96,8 @@ class Repository:
         """Starts the script."""
         path = self.path('standin/path' if has_rt else 'standin/none') + ':/usr/bin:/bin'
         variables = dict(os.environ, PATH=path, STANDIN=self.path('standin'), **how.pop('variables', {}))
-        how = {'stdout': subprocess.PIPE, 'stderr': subprocess.PIPE, 'stdin': subprocess.DEVNULL, 'cwd': self.root, **how}
+        how = {'stdout': subprocess.PIPE, 'stderr': subprocess.PIPE, 'stdin': subprocess.DEVNULL, 'cwd': self.root,
+               **how}
         return subprocess.Popen([self.path(script), *words], env=variables, **how)
 
     def run(self, *words, **how):
@@ -106,7 +107,7 @@ class Repository:
             how['stdin'] = subprocess.PIPE
         process = self.start(*words, **how)
         out, errors = process.communicate(given, timeout=60)
-        return process.returncode, out.decode() if out is not None else '', errors.decode() if errors is not None else ''
+        return process.returncode, (out or b'').decode(), (errors or b'').decode()
 
     def build(self):
         """Lays the program and its seal there, as a build does."""

@@ -50,12 +50,14 @@ class Through(InRepository):
         script = self.repository.path('bin/zawhiroke')
         variables = dict(os.environ, STANDIN=self.repository.path('standin'))
         for closed, status in (('>&-', 6), ('2>&-', 0), ('<&-', 0), ('<&- >&- 2>&-', 6)):
-            ran = subprocess.run('%s check examples/go.flat %s' % (script, closed), shell=True, cwd=self.repository.root,
+            ran = subprocess.run('%s check examples/go.flat %s' % (script, closed), shell=True,
+                                 cwd=self.repository.root,
                                  env=variables, stdout=subprocess.PIPE, stderr=subprocess.PIPE)
             self.assertEqual(ran.returncode, status, closed)
 
     def test_standard_input(self):
-        self.repository.write('standin/program', '#!/bin/sh\n[ $# -gt 0 ] || { echo usage; exit 2; }\ncat "$2"\n', 0o755)
+        self.repository.write('standin/program', '#!/bin/sh\n[ $# -gt 0 ] || { echo usage; exit 2; }\ncat "$2"\n',
+                              0o755)
         self.repository.write('crates/low/src/lib.rt', '// built anew\n')
         self.repository.build()
         self.assertEqual(self.run_words('check', '/dev/stdin', given=b'pssm-flat 1\n')[1], 'pssm-flat 1\n')
@@ -72,7 +74,8 @@ class Through(InRepository):
         self.assertEqual((ran.returncode, ran.stdout), (0, b'accept 9\n'))
 
     def test_program_that_is_killed(self):
-        self.repository.write('standin/program', '#!/bin/sh\n[ $# -gt 0 ] || { echo usage; exit 2; }\nkill -9 $$\n', 0o755)
+        self.repository.write('standin/program', '#!/bin/sh\n[ $# -gt 0 ] || { echo usage; exit 2; }\nkill -9 $$\n',
+                              0o755)
         self.repository.write('crates/low/src/lib.rt', '// built anew\n')
         status, answer, errors = self.run_words('check', 'examples/go.flat', variables={'STANDIN_SECONDS': '0'})
         self.assertEqual((status, answer), (137, ''))
@@ -101,7 +104,8 @@ class Unproved(InRepository):
 
     def test_large_model_file(self):
         self.repository.write('large.xmi', b'<' * 70000)
-        self.check(self.run_words('--try', 'check', 'large.xmi'), 0, 'accept 9\n', 'large.xmi has 70000 bytes: --try is of use up to')
+        self.check(self.run_words('--try', 'check', 'large.xmi'), 0, 'accept 9\n',
+                   'large.xmi has 70000 bytes: --try is of use up to')
         self.repository.write('large.flat', b'pssm-flat 1\n' + b'x' * 70000)
         self.assertNotIn('bytes', self.run_words('--try', 'check', 'large.flat')[2])
 

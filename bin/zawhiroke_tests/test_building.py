@@ -14,7 +14,8 @@ class Fresh(InRepository):
     """A program answers where it was built of the sources that stand, and nowhere else."""
 
     def test_built_once(self):
-        self.check(self.run_words(*CHECK), 0, 'accept 9\n', 'it is proved and built first', 'crate 1 of 2, low, 0 min: 3 of 5')
+        self.check(self.run_words(*CHECK), 0, 'accept 9\n', 'it is proved and built first',
+                   'crate 1 of 2, low, 0 min: 3 of 5')
         self.check(self.run_words(*CHECK), 0, 'accept 9\n')
         self.assertEqual(self.run_words(*CHECK)[2], '')
         self.assertEqual(self.repository.builds(), 1)
@@ -49,7 +50,8 @@ class Fresh(InRepository):
         self.assertEqual(self.built_anew(lambda: write('crates/low/specs/S.antt', '-- s\n')), 1)
         self.assertEqual(self.built_anew(lambda: os.remove(self.repository.path('crates/low/specs/S.antt'))), 1)
         self.assertEqual(self.built_anew(lambda: write('crates.txt', 'low:\nzawhiroke: low\n')), 1)
-        self.assertEqual(self.built_anew(lambda: write('crates/zawhiroke/out/zawhiroke', '#!/bin/sh\necho no\n', 0o755)), 1)
+        other = '#!/bin/sh\necho no\n'
+        self.assertEqual(self.built_anew(lambda: write('crates/zawhiroke/out/zawhiroke', other, 0o755)), 1)
         self.assertEqual(self.built_anew(lambda: os.remove(self.repository.out + '/zawhiroke.sealed')), 1)
         self.assertEqual(self.built_anew(lambda: write('crates/low/README.md', 'nothing\n')), 0)
 
@@ -76,17 +78,21 @@ class Fresh(InRepository):
 
     def test_build_that_fails(self):
         self.repository.write('standin/breaks', '')
-        self.check(self.run_words(*CHECK, variables={'STANDIN_SECONDS': '0'}), 70, '', 'it could not be built', 'build.log')
+        self.check(self.run_words(*CHECK, variables={'STANDIN_SECONDS': '0'}), 70, '', 'it could not be built',
+                   'build.log')
         self.assertIn('a proof is missing', self.repository.read('crates/zawhiroke/out/build.log'))
         self.assertFalse(os.path.exists(self.repository.out + '/zawhiroke.sealed'))
 
     def test_seal_and_version(self):
         self.repository.build()
         note = self.repository.read('crates/zawhiroke/out/zawhiroke.sealed')
-        self.assertRegex(note, r'^sources [0-9a-f]{64}\nprogram [0-9a-f]{64}\nkit rattle-kit-standin logic 0\ncommit unknown\n$')
+        digest = '[0-9a-f]{64}'
+        self.assertRegex(note, r'^sources %s\nprogram %s\nkit rattle-kit-standin logic 0\ncommit unknown\n$' % (
+            digest, digest))
         find = ('find crates.txt crates/*/src crates/*/specs crates/*/proofs -type f -exec sha256sum {} + 2>/dev/null'
                 ' | LC_ALL=C sort | sha256sum')
-        digest = subprocess.run(find, shell=True, cwd=self.repository.root, stdout=subprocess.PIPE).stdout.decode().split()[0]
+        digest = subprocess.run(find, shell=True, cwd=self.repository.root,
+                                stdout=subprocess.PIPE).stdout.decode().split()[0]
         self.assertIn('sources ' + digest, note)
         self.assertIn('program built and proved of these sources', self.run_words('--version')[1])
         self.repository.write('crates/low/src/lib.rt', '// other\n')
@@ -97,7 +103,8 @@ class Fresh(InRepository):
         self.assertEqual((status, path), (0, self.repository.out + '/zawhiroke\n'))
         self.check(self.run_words('--install', 'a/b'), 0, '', 'installed a/b/zawhiroke')
         self.assertTrue(os.access(self.repository.path('a/b/zawhiroke'), os.X_OK))
-        self.assertEqual(self.repository.read('a/b/zawhiroke.sealed'), self.repository.read('crates/zawhiroke/out/zawhiroke.sealed'))
+        self.assertEqual(self.repository.read('a/b/zawhiroke.sealed'),
+                         self.repository.read('crates/zawhiroke/out/zawhiroke.sealed'))
         self.check(self.run_words('--install', 'crates.txt'), 70, '', 'it cannot be installed')
         self.assertEqual(self.repository.builds(), 1)
 

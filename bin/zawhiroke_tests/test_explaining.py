@@ -80,13 +80,17 @@ class Journals(Explained):
         self.judged('refuse 5 A8', 1, 'line 6 of journal, entry 5: enter a v1', 'in this model v1 is A', model=FILE)
 
     def test_spelled_wrong(self):
-        self.judged('journal line 6 byte 11', 4, '\n  enter a v01\n            ^\n', journal=JOURNAL.replace('v1\ntake', 'v01\ntake'))
-        self.judged('journal line 1 byte 15', 4, 'the line ends in CRLF, as 10 lines of the file', journal=JOURNAL.replace('\n', '\r\n'))
+        self.judged('journal line 6 byte 11', 4, '\n  enter a v01\n            ^\n',
+                    journal=JOURNAL.replace('v1\ntake', 'v01\ntake'))
+        self.judged('journal line 1 byte 15', 4, 'the line ends in CRLF, as 10 lines of the file',
+                    journal=JOURNAL.replace('\n', '\r\n'))
         self.judged('journal line 1 byte 1', 4, 'byte order mark', journal='\ufeff' + JOURNAL)
         self.judged('journal line 2 byte 12', 4, 'blanks at its end', journal=JOURNAL.replace('Go()\n', 'Go() \n'))
         self.judged('journal line 2 byte 1', 4, 'the line is empty', journal=JOURNAL.replace('\npost', '\n\npost'))
-        self.judged('journal line 4 byte 5', 4, 'the line ends too early', journal=JOURNAL.replace('open a r0 default by t0', 'open'))
-        self.judged('journal line 10 no end', 4, 'ends within line 10: each line ends with a line feed', journal=JOURNAL[:-1])
+        self.judged('journal line 4 byte 5', 4, 'the line ends too early',
+                    journal=JOURNAL.replace('open a r0 default by t0', 'open'))
+        self.judged('journal line 10 no end', 4, 'ends within line 10: each line ends with a line feed',
+                    journal=JOURNAL[:-1])
         self.judged('journal line 1 no end', 4, 'journal is empty', journal='')
         self.judged('journal line 2 byte 200', 4, '.. xx', ' ..\n', journal='pssm-journal 1\n' + 'x' * 400 + '\n')
 
@@ -97,11 +101,13 @@ class Journals(Explained):
         self.judged('journal line 1 byte 1', 4, 'journal is a model', journal=FILE)
 
     def test_beginnings(self):
-        self.judged('accept 0', 0, 'a journal without entries is the beginning of every run', journal='pssm-journal 1\n')
+        self.judged('accept 0', 0, 'a journal without entries is the beginning of every run',
+                    journal='pssm-journal 1\n')
         self.assertEqual(self.judged('accept 9', 0), '')
         lines = JOURNAL.splitlines(True)
         self.judged('accept 2', 0, 'entry 2, start a: no region of a is opened after it', journal=''.join(lines[:3]))
-        self.judged('accept 3', 0, 'entry 2, start a: the effect of t0 is not logged after it', journal=''.join(lines[:4]))
+        self.judged('accept 3', 0, 'entry 2, start a: the effect of t0 is not logged after it',
+                    journal=''.join(lines[:4]))
         self.assertEqual(self.judged('accept 5', 0, journal=''.join(lines[:6])), '')
         self.judged('accept 7', 0, 'entry 6, take a 1 t1: the effect of t1 is not logged after it; unless a has ended',
                     journal=''.join(lines[:8]))
@@ -138,7 +144,8 @@ class Models(Explained):
         self.bad('on Go', '# on Go', 14, 'there are no comments')
         self.bad('class M', '', 4, 'the line is empty')
         self.bad('class M', 'class M\ufeff', 4, 'a byte order mark')
-        self.checked('flat line 15 bad line', 'model ends before its last line, which is `end`', model=GO.replace('end\n', ''))
+        self.checked('flat line 15 bad line', 'model ends before its last line, which is `end`',
+                     model=GO.replace('end\n', ''))
         self.bad('end\n', 'end', 15, 'the line has no line feed at its end')
         self.bad('region r0 top', 'region r0 up', 8, 'the line is spelled wrong or stands in a wrong place')
 
@@ -152,13 +159,16 @@ class Models(Explained):
                      model=GO.replace('state A', 'state A\nentry n:=1;'))
 
     def test_acts_and_shapes(self):
-        self.checked('flat line 11 act UnknownName byte 5', 'the name is no variable of the class', '\n  entry n := m;\n             ^\n',
+        self.checked('flat line 11 act UnknownName byte 5', 'the name is no variable of the class',
+                     '\n  entry n := m;\n             ^\n',
                      model=GO.replace('state A', 'state A\nentry n := m;'))
         self.checked('flat line 15 act Syntax byte 0', model=GO.replace('on Go', 'on Go\nif '))
-        self.checked('flat line 13 shape BadEnd', 'both ends of a transition are vertices', model=GO.replace('v1 v2', 'v1 v9'))
+        self.checked('flat line 13 shape BadEnd', 'both ends of a transition are vertices',
+                     model=GO.replace('v1 v2', 'v1 v9'))
 
     def test_rules(self):
-        self.checked('E03 M v0\nE10 M t0\nE10 M t1', 'E03: an initial vertex has exactly one transition out', '  vertex v0 r0 initial',
+        self.checked('E03 M v0\nE10 M t0\nE10 M t1', 'E03: an initial vertex has exactly one transition out',
+                     '  vertex v0 r0 initial',
                      'E10: a transition out of a pseudostate', '  transition t0 v0 v1 external')
         self.checked('E01 M top', 'E01: the machine has a top region', model=FILE)
         for rule in range(1, 22):
@@ -178,7 +188,8 @@ class Models(Explained):
         self.checked('act _x UnknownName byte 0', 'the text of _x, line 4 of model\n', '\n  n := 1;\n  ^\n', model=FILE)
         self.checked('act _x Syntax byte 12', '\n  m < 2;\n      ^\n', model=FILE)
         self.checked('act none Syntax byte 3', 'the text of none, in model\n', model=FILE)
-        self.checked('redefine Leaf _x', 'the element _x, line 4 of model\n', 'Leaf: what has isLeaf="true" is not redefined', model=FILE)
+        self.checked('redefine Leaf _x', 'the element _x, line 4 of model\n',
+                     'Leaf: what has isLeaf="true" is not redefined', model=FILE)
         self.checked('shape Lamp TooDeep', 'the machine of class Lamp\n', 'TooDeep: at most 32 regions', model=FILE)
 
 
@@ -198,7 +209,8 @@ class Names(Explained):
 
     def test_model_that_cannot_be_read_twice(self):
         self.repository.answer('usage', 2)
-        self.check(self.run_words('run', '/dev/stdin', 'b.Go()', given=GO.encode()), 2, 'usage\n', 'a stimulus names an object')
+        self.check(self.run_words('run', '/dev/stdin', 'b.Go()', given=GO.encode()), 2, 'usage\n',
+                   'a stimulus names an object')
 
     def test_unreadable(self):
         self.repository.answer('', 5)

@@ -9,7 +9,8 @@ from words import COMMANDS, Call, call_of
 GOOD = ('judge M J', 'judge  J', 'check M', 'check --M', 'flat M', 'run M', 'run M a.Go()', 'run --seed 0 M',
         'run --seed 18446744073709551615 --workers 16 --limit 1000000 M a.Go() b.Set(1,-2,0)', 'run --limit 0 M',
         'run M _a1.B_(-9223372036854775808,9223372036854775807)', 'run M a.Go(1,2,3,4,5,6,7,8)', 'run --workers 1 -M')
-BAD = ('judge', 'judge M', 'judge M J K', 'jugde M J', 'check', 'check M N', 'flat', 'flat M N', 'gen 3', 'Judge M J', ' judge M J',
+BAD = ('judge', 'judge M', 'judge M J K', 'jugde M J', 'check', 'check M N', 'flat', 'flat M N', 'gen 3',
+       'Judge M J', ' judge M J',
        'run', 'run --seed', 'run --seed 1', 'run --seed 01 M', 'run --seed -1 M', 'run --seed 18446744073709551616 M', 'run --seed  M',
        'run --seed +1 M', 'run --workers 0 M', 'run --workers 17 M', 'run --limit 1000001 M', 'run --limit 1 --seed 1 M',
        'run --seed=1 M', 'run --seed 1 --seed 1 M', 'run --help', 'run -- M', 'run M a.Go', 'run M a.Go() ', 'run M Go()',
@@ -52,7 +53,8 @@ class AtOnce(InRepository):
         self.at_once(['check', '--strict', 'M'], 2, 'usage\n')
         self.at_once(['--verbose', 'check', 'M'], 2, 'usage\n', 'there is no option --verbose')
         self.at_once(['run', '--limit', 'x', 'M'], 2, 'usage\n', '--limit takes a number from 0 to 1000000')
-        self.at_once(['run', '--limit', '5', '--seed', '5', 'M'], 2, 'usage\n', 'the order is --seed, --workers, --limit')
+        self.at_once(['run', '--limit', '5', '--seed', '5', 'M'], 2, 'usage\n',
+                     'the order is --seed, --workers, --limit')
         self.at_once(['run', 'M', 'door.Open'], 2, 'usage\n', 'door.Open is no stimulus')
         self.at_once(['check', b'\xff'], 2, 'usage\n', 'a word is not UTF-8')
         self.at_once(['--install'], 2, 'usage\n')
@@ -96,4 +98,5 @@ class AtOnce(InRepository):
     def test_no_rt(self):
         self.check(self.run_words('check', 'examples/go.flat', has_rt=False), 69, '', 'there is no rt on the path')
         self.check(self.run_words('--program', has_rt=False), 69, '', 'there is no rt on the path')
-        self.check(self.run_words('--try', 'check', 'examples/go.flat', has_rt=False), 69, '', 'there is no rt on the path')
+        self.check(self.run_words('--try', 'check', 'examples/go.flat', has_rt=False), 69, '',
+                   'there is no rt on the path')
