@@ -5,18 +5,61 @@ import unittest
 from standins import InRepository
 from words import COMMANDS, Call, call_of
 
-# Words that the program understands, and words to which it answers `usage`.
-GOOD = ('judge M J', 'judge  J', 'check M', 'check --M', 'flat M', 'run M', 'run M a.Go()', 'run --seed 0 M',
-        'run --seed 18446744073709551615 --workers 16 --limit 1000000 M a.Go() b.Set(1,-2,0)', 'run --limit 0 M',
-        'run M _a1.B_(-9223372036854775808,9223372036854775807)', 'run M a.Go(1,2,3,4,5,6,7,8)', 'run --workers 1 -M')
-BAD = ('judge', 'judge M', 'judge M J K', 'jugde M J', 'check', 'check M N', 'flat', 'flat M N', 'gen 3',
-       'Judge M J', ' judge M J',
-       'run', 'run --seed', 'run --seed 1', 'run --seed 01 M', 'run --seed -1 M', 'run --seed 18446744073709551616 M', 'run --seed  M',
-       'run --seed +1 M', 'run --workers 0 M', 'run --workers 17 M', 'run --limit 1000001 M', 'run --limit 1 --seed 1 M',
-       'run --seed=1 M', 'run --seed 1 --seed 1 M', 'run --help', 'run -- M', 'run M a.Go', 'run M a.Go() ', 'run M Go()',
-       'run M a.b.Go()', 'run M a.Go(1,)', 'run M a.Go(-0)', 'run M a.Go(01)', 'run M a.Go(1.5)', 'run M a.Go( 1)',
-       'run M a.Go(1,2,3,4,5,6,7,8,9)', 'run M a.Go(9223372036854775808)', 'run M 1a.Go()', 'run M a.Gö()', 'run M a.Go())',
-       'run M a.%s()' % ('x' * 65), 'run M a.Go(\u0661)', 'run M')
+# Words that the program understands, one call a line, and words to which it answers `usage`.
+GOOD = '''judge M J
+judge  J
+check M
+check --M
+flat M
+run M
+run M a.Go()
+run --seed 0 M
+run --seed 18446744073709551615 --workers 16 --limit 1000000 M a.Go() b.Set(1,-2,0)
+run --limit 0 M
+run M _a1.B_(-9223372036854775808,9223372036854775807)
+run M a.Go(1,2,3,4,5,6,7,8)
+run --workers 1 -M'''.split('\n')
+BAD = '''judge
+judge M
+judge M J K
+jugde M J
+check
+check M N
+flat
+flat M N
+gen 3
+Judge M J
+ judge M J
+run
+run --seed
+run --seed 1
+run --seed 01 M
+run --seed -1 M
+run --seed 18446744073709551616 M
+run --seed  M
+run --seed +1 M
+run --workers 0 M
+run --workers 17 M
+run --limit 1000001 M
+run --limit 1 --seed 1 M
+run --seed=1 M
+run --seed 1 --seed 1 M
+run --help
+run -- M
+run M a.Go
+run M Go()
+run M a.b.Go()
+run M a.Go(1,)
+run M a.Go(-0)
+run M a.Go(01)
+run M a.Go(1.5)
+run M a.Go( 1)
+run M a.Go(1,2,3,4,5,6,7,8,9)
+run M a.Go(9223372036854775808)
+run M 1a.Go()
+run M a.Gö()
+run M a.Go())'''.split('\n')
+BAD += ['run M a.Go() ', 'run M a.%s()' % ('x' * 65), 'run M a.Go(\u0661)']
 
 
 class Understood(unittest.TestCase):
@@ -27,7 +70,7 @@ class Understood(unittest.TestCase):
             self.assertIsInstance(call_of(words.split(' ')), Call, words)
 
     def test_bad_words(self):
-        for words in BAD[:-1]:
+        for words in BAD:
             self.assertIsInstance(call_of(words.split(' ')), str, words)
         self.assertIsInstance(call_of([]), str)
         self.assertIsInstance(call_of(['run', 'M', '']), str)
