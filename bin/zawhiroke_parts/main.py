@@ -10,7 +10,8 @@ if sys.version_info < (3, 8):
     os._exit(69)
 sys.path.insert(0, os.path.dirname(os.path.realpath(__file__)))
 
-from saying import Ended, Signalled, die_of, heed_usual_signals, say, write_answer, write_error  # noqa: E402
+from saying import (  # noqa: E402
+    NO_PROGRAM, Ended, Signalled, die_of, heed_usual_signals, say, write_answer, write_error)
 from words import call_of, help_text, list_of_words, list_unread, usage  # noqa: E402
 
 
@@ -120,6 +121,10 @@ def run():
             say(end.why)
     except Signalled as signal:
         die_of(signal.number)
+    except Exception:  # pylint: disable=broad-except
+        import traceback
+        write_error(traceback.format_exc())
+        status = NO_PROGRAM  # (Python's own, 1, is that of a refused journal)
     os._exit(status)
 
 

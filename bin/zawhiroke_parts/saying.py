@@ -66,6 +66,7 @@ def heed_signals(*numbers):
 
 def heed_usual_signals():
     """Heeds what may end the script at any time. A write to a closed pipe is told by the write itself."""
+    _signal.signal(_signal.SIGCHLD, _signal.SIG_DFL)  # (who calls may ignore it, and then nothing could be waited for)
     heed_signals(*(each for each in ENDING
                    if each != _signal.SIGPIPE and _signal.getsignal(each) != _signal.SIG_IGN))
 

@@ -53,8 +53,8 @@ OPTIONS = (('--seed', 0, MOST - 1), ('--workers', 1, 16), ('--limit', 0, 1000000
 def is_text(word):
     """Whether the word is one of UTF-8."""
     try:
-        word.encode('utf-8')
-    except UnicodeEncodeError:
+        os.fsencode(word).decode('utf-8')
+    except UnicodeDecodeError:
         return False
     return True
 

@@ -1,4 +1,5 @@
 """A small repository with stand-ins for rt and for the program, in which the script is tried."""
+import hashlib
 import os
 import shutil
 import subprocess
@@ -114,6 +115,14 @@ class Repository:
         status, _, errors = self.run('check', 'examples/go.flat', variables={'STANDIN_SECONDS': '0'})
         if status != 0:
             raise AssertionError(errors)
+
+    def seal(self):
+        """Seals what stands there as the program, whatever it is."""
+        with open(self.out + '/zawhiroke', 'rb') as file:
+            digest = hashlib.sha256(file.read()).hexdigest()
+        note = self.read('crates/zawhiroke/out/zawhiroke.sealed').splitlines()
+        note[1] = 'program ' + digest
+        self.write('crates/zawhiroke/out/zawhiroke.sealed', '\n'.join(note) + '\n')
 
     def builds(self):
         """How often rt was asked to build."""

@@ -73,6 +73,17 @@ class Through(InRepository):
                              env=dict(os.environ, STANDIN=self.repository.path('standin')), stdout=subprocess.PIPE)
         self.assertEqual((ran.returncode, ran.stdout), (0, b'accept 9\n'))
 
+    def test_children_that_the_caller_ignores(self):
+        ran = subprocess.run(['sh', '-c', 'trap "" CHLD; exec bin/zawhiroke check examples/go.flat'], stdout=subprocess.PIPE,
+                             cwd=self.repository.root, env=dict(os.environ, STANDIN=self.repository.path('standin')))
+        self.assertEqual((ran.returncode, ran.stdout), (0, b'accept 9\n'))
+
+    def test_program_that_cannot_be_started(self):
+        self.repository.write('standin/program', '#!/none\n', 0o755)
+        self.repository.write('crates/zawhiroke/out/zawhiroke', '#!/none\n', 0o755)
+        self.repository.seal()
+        self.check(self.run_words('check', 'examples/go.flat'), 70, '', 'the program cannot be started')
+
     def test_program_that_is_killed(self):
         self.repository.write('standin/program', '#!/bin/sh\n[ $# -gt 0 ] || { echo usage; exit 2; }\nkill -9 $$\n',
                               0o755)
