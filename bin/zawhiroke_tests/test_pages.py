@@ -46,5 +46,5 @@ class Pages(InRepository):
         self.repository.build()
         for block in blocks_of('README.md'):
             for command, wanted in block:
-                if 'zawhiroke: ' in wanted:
+                if 'zawhiroke: ' in wanted and 'judge-all' not in command:
                     self.shown(command, wanted)
