@@ -34,11 +34,14 @@ def read_end(path, size):
 def line_at(data, number):
     """Line `number` of the bytes, from 1, without its line feed, or None."""
     begin, before, step = 0, number - 1, 1 << 16
-    while before and data.count(b'\n', begin, begin + step) < before:
-        before -= data.count(b'\n', begin, begin + step)
+    while begin < len(data):
+        passed = data.count(b'\n', begin, begin + step)
+        if passed >= before:
+            break
+        before -= passed
         begin += step
-        if begin >= len(data):
-            return None
+    else:
+        return None
     for _ in range(before):
         begin = data.find(b'\n', begin) + 1
     end = data.find(b'\n', begin)
