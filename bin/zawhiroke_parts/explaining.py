@@ -35,7 +35,7 @@ def wrapped(line):
 def lines_on(call, status, answer, program):
     """The lines that explain the answer."""
     if status == 0:
-        return explain_journals.hint(call, answer)
+        return explain_journals.hint(call, answer) if call.command == 'judge' else []
     if status == 1:
         return explain_journals.refused(call, answer, program)
     if status == 2:
