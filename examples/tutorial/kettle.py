@@ -1,0 +1,28 @@
+#!/usr/bin/env python3
+"""A kettle that logs what it does: python3 kettle.py SIGNAL .. writes the journal of a run on these signals."""
+import sys
+
+NUMBERS = {'Off': 'v1', 'Heating': 'v2', 'Warm': 'v3'}  # the States, as kettle.flat counts them
+FIRES = {
+    ('Off', 'Press'): ('t1', 'Heating'),
+    ('Heating', 'Boiled'): ('t2', 'Warm'),
+    ('Heating', 'Press'): ('t3', 'Off'),
+    ('Warm', 'Press'): ('t4', 'Off'),
+}
+state, boilings = 'Off', 0
+
+print('pssm-journal 1')
+print('start kettle', 'open kettle r0 default by t0', 'effect kettle t0', 'enter kettle v1', sep='\n')
+for number, signal in enumerate(sys.argv[1:], 1):
+    print('post kettle.%s()' % signal)
+    if (state, signal) not in FIRES:
+        print('take kettle %d -' % number)
+        continue
+    transition, target = FIRES[state, signal]
+    print('take kettle %d %s' % (number, transition))
+    print('exit kettle', NUMBERS[state], *['!heater(0)'] * (state == 'Heating'))
+    if transition == 't2':
+        boilings += 1
+    print('effect kettle', transition, *['!boiled(%d)' % boilings] * (transition == 't2'))
+    state = target
+    print('enter kettle', NUMBERS[state], *['!heater(1)'] * (state == 'Heating'))
