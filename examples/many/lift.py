@@ -1,9 +1,8 @@
 #!/usr/bin/env python3
 """The lift of lift.flat, written by hand and logging what it does, with its test runs.
 
-    python3 examples/many/lift.py FOLDER
-
-It writes FOLDER/NAME.journal for each test run, and ten more, each of them such a run with one mistake.
+    python3 examples/many/lift.py FOLDER               writes FOLDER/NAME.journal for each test run
+    python3 examples/many/lift.py --mistakes FOLDER    writes ten more, each of them such a run with one mistake
 """
 import os
 import sys
@@ -212,13 +211,16 @@ def planted(run, entry, was, instead):
 
 
 def main():
-    if len(sys.argv) != 2:
+    words = sys.argv[1:]
+    wrong = words[:1] == ['--mistakes']
+    if len(words) != 1 + wrong:
         sys.exit(__doc__)
-    os.makedirs(sys.argv[1], exist_ok=True)
-    journals = {name: journal(run) for name, run in RUNS.items()}
-    journals.update((name, planted(*mistake)) for name, mistake in MISTAKES.items())
+    folder = words[-1]
+    journals = {name: planted(*mistake) for name, mistake in MISTAKES.items()} if wrong else {
+        name: journal(run) for name, run in RUNS.items()}
+    os.makedirs(folder, exist_ok=True)
     for name, lines in journals.items():
-        with open(os.path.join(sys.argv[1], name + '.journal'), 'w', newline='\n') as file:
+        with open(os.path.join(folder, name + '.journal'), 'w', newline='\n') as file:
             file.write('\n'.join(lines) + '\n')
 
 
