@@ -36,11 +36,13 @@ class Lift:
     def log(self, *words):
         self.lines.append(' '.join(words))
 
-    def enter(self, state, *outputs):
+    def enter(self, state):
+        outputs = ['!opened(%d)' % self.floor] if state == OPEN else []
         self.log('enter lift', state, *outputs)
         self.state, self.steps = state, 0
 
-    def exit(self, *outputs):
+    def exit(self):
+        outputs = ['!shut(%d)' % self.floor] if self.state == OPEN else []
         self.log('exit lift', self.state, *outputs)
         self.remembered = self.state
 
@@ -79,7 +81,7 @@ class Lift:
         self.log('done lift', ARRIVING, 't8')
         self.exit()
         self.log('effect lift t8')
-        self.enter(OPEN, '!opened(%d)' % self.floor)
+        self.enter(OPEN)
 
     def take(self, number, signal):
         name, argument = signal.rstrip(')').split('(')
@@ -103,12 +105,12 @@ class Lift:
             self.where_now()
         elif name == 'Shut' and self.state == OPEN:
             self.fire(number, 't9')
-            self.exit('!shut(%d)' % self.floor)
+            self.exit()
             self.log('effect lift t9')
             self.enter(WAITING)
         elif name == 'Stop' and self.state != STOPPED:
             self.fire(number, 't10')
-            self.exit(*['!shut(%d)' % self.floor] * (self.state == OPEN))
+            self.exit()
             self.log('exit lift', IN_SERVICE)
             self.log('effect lift t10 !braked(%d)' % self.floor)
             self.enter(STOPPED)
@@ -119,7 +121,7 @@ class Lift:
             self.log('effect lift t11')
             self.log('enter lift', IN_SERVICE)
             self.log('open lift r1 shallow state', back)
-            self.enter(back, *['!opened(%d)' % self.floor] * (back == OPEN))
+            self.enter(back)
         elif name == 'Retire' and self.state == STOPPED:
             self.fire(number, 't12')
             self.log('exit lift', STOPPED)

@@ -9,6 +9,8 @@ FIRES = {
     ('Heating', 'Press'): ('t3', 'Off'),
     ('Warm', 'Press'): ('t4', 'Off'),
 }
+ENTRY_MARKS = {'Heating': ' !heater(1)'}
+EXIT_MARKS = {'Heating': ' !heater(0)'}
 state, boilings = 'Off', 0
 
 print('pssm-journal 1')
@@ -20,9 +22,11 @@ for number, signal in enumerate(sys.argv[1:], 1):
         continue
     transition, target = FIRES[state, signal]
     print('take kettle %d %s' % (number, transition))
-    print('exit kettle', NUMBERS[state], *['!heater(0)'] * (state == 'Heating'))
+    print('exit kettle ' + NUMBERS[state] + EXIT_MARKS.get(state, ''))
+    effect_mark = ''
     if transition == 't2':
         boilings += 1
-    print('effect kettle', transition, *['!boiled(%d)' % boilings] * (transition == 't2'))
+        effect_mark = ' !boiled(%d)' % boilings
+    print('effect kettle ' + transition + effect_mark)
     state = target
-    print('enter kettle', NUMBERS[state], *['!heater(1)'] * (state == 'Heating'))
+    print('enter kettle ' + NUMBERS[state] + ENTRY_MARKS.get(state, ''))

@@ -27,8 +27,8 @@ def names_of(model):
 def shown(line, objects):
     words = line.split(' ')
     names = objects.get(words[1], {}) if len(words) > 2 else {}
-    elements = [element for word in words[2:] if word[0] not in '!>' for element in re.findall(r'[vt]\d+', word)]
-    return ('%-34s %s' % (line, ', '.join(names.get(element, '?') for element in elements))).rstrip()
+    elements = [each for word in words[2:] if not word.startswith(('!', '>')) for each in re.findall(r'[vt]\d+', word)]
+    return ('%-34s %s' % (line, ', '.join(names.get(each, '?') for each in elements))).rstrip()
 
 
 def main():
