@@ -1,4 +1,5 @@
 //! Judges the journal of a vector over `pssm`.
+ghost use Rattle.std.specs.Prelude.{◌↔◌, ◌≡◌, IfOk, IsNone};
 
 use crate::index::Vector;
 use pssm_base::{Gate, MemInputs, MemSink};
@@ -42,8 +43,16 @@ pub fn failure_of(
             Err(_) => return Ok(Some(format!(in alloc; "`{name}` cannot be read")?)),
         }
     }
-    let answer = answer_of(rt, files, vector)?;
-    failure_on(alloc, vector.owed, &answer)
+    let given = answer_of(rt, files, vector)?;
+    failure_on(alloc, &owed_of(alloc, vector.owed)?, &given)
+}
+
+// The answer that is owed.
+fn owed_of(alloc: Global, owed: &str) -> Result<Answer, NoMemory> {
+    let mut text = owed.as_bytes().to_vec(alloc)?;
+    text.push(b'\n')?;
+    let code = if owed.starts_with("accept ") { 0 } else { 1 };
+    Ok(Answer { code, text })
 }
 
 // The answer to `judge` with the files of a vector.
@@ -59,7 +68,14 @@ fn answer_of(
     }
     let mut inputs = MemInputs::new(files, Vec::new(alloc), MOST);
     let mut out = MemSink::new(alloc, ROOM, Vec::new(alloc), MOST)?;
-    let status = pssm(rt, alloc, words.as_slice(), &mut inputs, &mut out, &OpenGate);
+    let status = pssm(
+        rt,
+        alloc,
+        words.as_slice(),
+        &mut inputs,
+        &mut out,
+        &OpenGate,
+    );
     let text = out.bytes().to_vec(alloc);
     drop(out);
     Ok(Answer {
@@ -69,14 +85,15 @@ fn answer_of(
 }
 
 // Why an answer is not the one that is owed; nothing where it is.
-fn failure_on(alloc: Global, owed: &str, answer: &Answer) -> Result<Option<String>, NoMemory> {
-    let code = answer.code;
-    let text = str::from_utf8(answer.text.as_slice()).unwrap_or("no text");
-    let status = if owed.starts_with("accept ") { 0 } else { 1 };
-    if code == status && text.strip_suffix('\n') == Some(owed) {
+fn failure_on(alloc: Global, owed: &Answer, given: &Answer) -> Result<Option<String>, NoMemory>
+    ensures { IfOk result (λ failure. IsNone failure
+        ↔ ((given.now.code ≡ owed.now.code) × (given.now.text.items ≡ owed.now.text.items))) }
+{
+    if given.code == owed.code && given.text.as_slice() == owed.text.as_slice() {
         return Ok(None);
     }
-    Ok(Some(format!(in alloc;
-        "`{owed}` is owed, and `judge` gives status {code} and {text:?}"
-    )?))
+    let wanted = str::from_utf8(owed.text.as_slice()).unwrap_or("no text");
+    let text = str::from_utf8(given.text.as_slice()).unwrap_or("no text");
+    let code = given.code;
+    Ok(Some(format!(in alloc; "{wanted:?} is owed, and `judge` gives status {code} and {text:?}")?))
 }

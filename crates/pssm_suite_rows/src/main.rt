@@ -57,7 +57,10 @@ fn tallies_of(rt: &HostRuntime, folder: &str, vectors: &[Vector<'_>]) -> io::Res
     let mut tallies = Vec::new(rt.alloc());
     for name in groups_of(rt, folder, vectors)? {
         let mut outcomes = Vec::new(rt.alloc());
-        for vector in vectors.iter().filter(|vector| vector.group == name.as_str()) {
+        for vector in vectors
+            .iter()
+            .filter(|vector| vector.group == name.as_str())
+        {
             outcomes.push(outcome_of(rt, folder, vector)?)?;
         }
         put_strays(rt, folder, name.as_str(), vectors, &mut outcomes)?;
@@ -101,11 +104,24 @@ fn put_strays(
 ) -> Result<(), NoMemory> {
     let path = format!(in rt.alloc(); "{folder}/{group}")?;
     let Ok(files) = names_in(rt, path.as_str(), "") else {
-        return put_stray(rt.alloc(), group, "this is no folder that can be read", outcomes);
+        return put_stray(
+            rt.alloc(),
+            group,
+            "this is no folder that can be read",
+            outcomes,
+        );
     };
     for file in files {
-        if !vectors.iter().any(|vector| vector.names(group, file.as_str())) {
-            put_stray(rt.alloc(), file.as_str(), "no line of the index names it", outcomes)?;
+        if !vectors
+            .iter()
+            .any(|vector| vector.names(group, file.as_str()))
+        {
+            put_stray(
+                rt.alloc(),
+                file.as_str(),
+                "no line of the index names it",
+                outcomes,
+            )?;
         }
     }
     Ok(())
