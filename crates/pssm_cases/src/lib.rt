@@ -1,7 +1,8 @@
 //! What programs share that run cases which stand in files.
 //!
-//! [`folder_of`] tells the folder of the cases, [`names_in`] finds the files of a folder, [`put_spelled`] and [`put_line`] read the escapes of a text, and a [`Tally`] keeps what became of
-//! the cases of a file, which [`report`] writes and [`all_hold`] asks. This crate knows nothing of what a case shows.
+//! [`folder_of`] tells the folder of the cases, and [`names_in`] finds its files. [`put_spelled`] and [`put_line`] read
+//! the escapes of a text, and a [`Tally`] keeps what became of the cases of a file, which [`report`] writes and
+//! [`all_hold`] asks. This crate knows nothing of what a case shows.
 #![tactic(auto)]
 
 mod folder;

@@ -1,11 +1,13 @@
-//! Judges the vectors of the suite over `pssm`, and says which of them hold. The suite is the folder that its word names, or the one that it runs in.
+//! Judges the vectors of the suite over `pssm`, and says which of them hold. The suite is the folder that its word
+//! names, or the one that it runs in.
 //!
-//! It has a folder for each group, with models and journals, a page for the reader, and the file `INDEX` with a line for each vector. Such a line has six
-//! parts with a tab between: group, model, journal, the answer that is owed, what the vector shows, and the section of a standard behind it. A vector holds
-//! where the words `judge`, its model and its journal give this answer and a line feed, and status 0 with `accept`, and 1 with `refuse`.
+//! It has a folder for each group, with models and journals, a page for the reader, and the file `INDEX` with a line
+//! for each vector. Such a line has six parts with a tab between: group, model, journal, the answer that is owed, what
+//! the vector shows, and the section of a standard behind it. A vector holds where the words `judge`, its model and its
+//! journal give this answer and a line feed, and status 0 with `accept`, and 1 with `refuse`.
 //!
-//! A vector whose files cannot be read does not hold, and as one that does not hold counts also a line that is none of an index, a file of a group that no
-//! line names, and a file beside the groups.
+//! A vector whose files cannot be read does not hold, and as one that does not hold counts also a line that is none of
+//! an index, a file of a group that no line names, and a file beside the groups.
 #![tactic(auto)]
 
 mod index;
@@ -69,7 +71,8 @@ fn tallies_of(rt: &HostRuntime, folder: &str, vectors: &[Vector<'_>]) -> io::Res
     Ok(tallies)
 }
 
-// The names of the groups: whatever lies in the folder, but for the index and the page, and the groups of vectors that do not.
+// The names of the groups: whatever lies in the folder, but for the index and the page, and the groups of vectors that
+// do not lie there.
 fn groups_of(rt: &HostRuntime, folder: &str, vectors: &[Vector<'_>]) -> io::Result<Vec<String>> {
     let mut groups = Vec::new(rt.alloc());
     for name in names_in(rt, folder, "")? {
