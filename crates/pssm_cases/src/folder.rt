@@ -1,7 +1,15 @@
 //! The files of a folder.
 
 use std::rt::Files;
-use std::{fs, io};
+use std::{env, fs, io};
+
+/// The folder that the first word of a program names, or the one that it runs in where there is no word.
+pub fn folder_of(rt: &HostRuntime) -> io::Result<String> {
+    match env::args(rt)?.nth(1) {
+        Some(folder) => Ok(folder),
+        None => Ok(String::from_str(rt.alloc(), ".")?),
+    }
+}
 
 /// The names in a folder that end with `ending`, in order.
 pub fn names_in<R: Files + AllocGlobal + Clone + Drop>(

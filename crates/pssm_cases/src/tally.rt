@@ -61,6 +61,11 @@ pub fn all_hold(tallies: &[Tally]) -> bool
 /// The text of the tallies: a line for each file, with how many cases it has and how many hold, and behind it one for each
 /// case that does not hold; and a last line with the sums.
 pub fn report(alloc: Global, tallies: &[Tally]) -> Result<String, AllocError> {
+    report_of(alloc, "files", tallies)
+}
+
+/// The same of tallies that are not those of files: `kind` is the word that the last line has for them.
+pub fn report_of(alloc: Global, kind: &str, tallies: &[Tally]) -> Result<String, AllocError> {
     let mut text = String::new(alloc);
     let mut cases = 0usize;
     let mut held = 0usize;
@@ -69,8 +74,8 @@ pub fn report(alloc: Global, tallies: &[Tally]) -> Result<String, AllocError> {
         cases = cases.saturating_add(tally.outcomes.len());
         held = held.saturating_add(tally.held());
     }
-    let files = tallies.len();
-    writeln!(text, "{files} files: {cases} cases, {held} hold")?;
+    let count = tallies.len();
+    writeln!(text, "{count} {kind}: {cases} cases, {held} hold")?;
     Ok(text)
 }
 

@@ -37,10 +37,10 @@ mod running;
 
 use crate::reading::cases_of;
 use crate::running::failure_of;
-use pssm_cases::{Outcome, Tally, all_hold, names_in, report};
+use pssm_cases::{Outcome, Tally, all_hold, folder_of, names_in, report};
 use std::alloc::{AllocError as NoMemory, Global};
 use std::process::ExitCode;
-use std::{env, fs, io};
+use std::{fs, io};
 
 fn main(rt: HostRuntime) -> io::Result<ExitCode> {
     let folder = folder_of(&rt)?;
@@ -53,14 +53,6 @@ fn main(rt: HostRuntime) -> io::Result<ExitCode> {
         Ok(ExitCode::SUCCESS)
     } else {
         Ok(ExitCode::FAILURE)
-    }
-}
-
-// The folder of the files of cases.
-fn folder_of(rt: &HostRuntime) -> io::Result<String> {
-    match env::args(rt)?.nth(1) {
-        Some(folder) => Ok(folder),
-        None => Ok(String::from_str(rt.alloc(), ".")?),
     }
 }
 
