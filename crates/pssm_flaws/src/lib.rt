@@ -2,7 +2,7 @@
 //! of a file comes.
 //!
 //! The flaws and their order stand in `pssm_profile`. Whether the name and the number of an element
-//! are flaws is told by who counts (`specs/Told`). `checked` asks every element of a file, and has a
+//! are flaws is told by who counts (`specs/inner/Told`). `checked` asks every element of a file, and has a
 //! tally count.
 #![tactic(auto)]
 
