@@ -15,6 +15,16 @@ from saying import (  # noqa: E402
 from words import call_of, help_text, list_of_words, list_unread, usage  # noqa: E402
 
 
+def answer_at_once(call, is_quiet):
+    """Gives the answer that needs no program, and its status; None where a program has to be asked."""
+    if isinstance(call, str):
+        return usage(call, is_quiet)
+    unread = list_unread(call.paths)
+    if unread and not is_quiet:
+        say(unread)
+    return 5 if unread else None
+
+
 def ask_program(words, is_quiet):
     """Answers by the proved program. Where it would have to be built first, what needs none comes without it."""
     from places import PROGRAM
@@ -22,35 +32,26 @@ def ask_program(words, is_quiet):
     from sources import is_fresh
     call = call_of(words)
     if not is_fresh():
-        if isinstance(call, str):
-            return usage(call, is_quiet)
-        unread = list_unread(call.paths)
-        if unread:
-            if not is_quiet:
-                say(unread)
-            return 5
+        status = answer_at_once(call, is_quiet)
+        if status is not None:
+            return status
         from building import need_program
         need_program()
-    status, front = pass_through(PROGRAM, words)
+    status, answer = pass_through(PROGRAM, words)
     if not is_quiet:
-        explain(call, status, front, PROGRAM)
+        explain(call, status, answer, PROGRAM)
     return status
 
 
 def ask_unproved(words, is_quiet):
     """Answers by the unproved program."""
     call = call_of(words)
-    if isinstance(call, str):
-        return usage(call, is_quiet)
-    unread = list_unread(call.paths)
-    if unread:
+    status = answer_at_once(call, is_quiet)
+    if status is None:
+        import trying
+        status, answer = trying.answer(call)
         if not is_quiet:
-            say(unread)
-        return 5
-    from trying import answer
-    status, said = answer(call)
-    if not is_quiet:
-        explain(call, status, said, None)
+            explain(call, status, answer, None)
     return status
 
 

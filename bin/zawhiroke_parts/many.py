@@ -70,12 +70,10 @@ def names_given():
 def judge_all(model, journals, is_quiet):
     """Writes a line for each journal; the highest status."""
     unread = list_unread([model])
+    if not unread and not os.path.isfile(model):
+        unread = 'judge-all reads the model once for each journal, so it takes a plain file'
     if unread:
-        if not is_quiet:
-            say(unread)
-        return 5
-    if not os.path.isfile(model):
-        raise Ended(5, 'judge-all reads the model once for each journal, so it takes a plain file')
+        raise Ended(5, unread)
     from building import need_program
     judging = Judging(need_program(), model)
     counts, of_model = {}, None

@@ -107,7 +107,7 @@ class Repository:
         if given is not None:
             how['stdin'] = subprocess.PIPE
         process = self.start(*words, **how)
-        out, errors = process.communicate(given, timeout=60)
+        out, errors = process.communicate(given, timeout=180)
         return process.returncode, (out or b'').decode(), (errors or b'').decode()
 
     def build(self):
