@@ -27,8 +27,8 @@ use Rattle.pssm_journal.specs.Entries.{◌>>=◌, IsEntryOf, KeepsNames, BreaksN
 use Rattle.pssm_journal.proofs.LineLengths.{short_line}
 use Rattle.pssm_tool.specs.inner.Calls.{post_text, IsPost, ShowsCall}
 use Rattle.pssm_tool.specs.Words.{lent, IsCall, IsStimulusText}
-use Rattle.pssm_tool.specs.inner.Running.{IsKnown, NameNoStimuli}
-use Rattle.pssm_tool.specs.Stimuli.{post_of, Names, AreStimuli}
+use Rattle.pssm_tool.specs.inner.Running.{NameNoStimuli}
+use Rattle.pssm_tool.specs.Stimuli.{post_of, IsKnown, Names, AreStimuli}
 
 -- ---- one word
 

@@ -1,6 +1,9 @@
 -- What the program owes for its words and files: first the words decide, then the model, then the stimuli, and then the journal or the run.
-use Rattle.std.specs.Prelude.{◌≡◌, ◌⊎◌, ℕ, List, [], Option, IsSome}
+-- A model stands in a file, or is the generated one of a number.
+use Rattle.std.specs.Prelude.{◌≡◌, ◌⊎◌, ℕ, List, [], length, Option, IsSome}
+use Rattle.std.specs.List.{AllByRecursion}
 use Rattle.std.specs.Io.KnownBytes.{Appends}
+use Rattle.sha2.specs.Sha256.{sha256}
 use Rattle.pssm_base.specs.Faults.{Rose}
 use Rattle.pssm_base.specs.Reading.{Contents, ReadsWhole, HoldsMore}
 use Rattle.pssm_semantics.specs.declared.setting.Setting.{Setting}
@@ -11,31 +14,43 @@ use Rattle.pssm_lines.specs.declared.fault.LineFault.TheVariants as faults
 use Rattle.pssm_journal.specs.Judged.{Judged, Accepted, Refused, Limited, BadText, IsJudged}
 use Rattle.pssm_load.specs.declared.fault.LoadFault.{LoadFault}
 use Rattle.pssm_load.specs.Loads.{ReadsSetting, IsLoadFault}
+use Rattle.pssm_suite.specs.Generated.{generated_text, generated_stimuli}
 use Rattle.pssm_tool.specs.declared.run_words.Options.{Options}
 use Rattle.pssm_tool.specs.declared.answer.Answer.{Answer}
-use Rattle.pssm_tool.specs.declared.answer.Answer.TheVariants.{Accept, Refuse, Limit, WellFormed, Usage, BadLine, NoEnd, TooLarge, Journal, Flat, BadModel}
+use Rattle.pssm_tool.specs.declared.answer.Answer.TheVariants.{Accept, Refuse, Limit, WellFormed, Usage, BadLine, NoEnd, TooLarge, Journal, Flat, Generated, BadModel}
 use Rattle.pssm_tool.specs.declared.run.Ended.{Ended}
-use Rattle.pssm_tool.specs.Words.{Meaning, Judges, Runs, Checks, Prints, Means, IsUsage}
-use Rattle.pssm_tool.specs.Stimuli.{AreStimuli}
-use Rattle.pssm_tool.specs.RunTexts.{IsRunText}
+use Rattle.pssm_tool.specs.declared.run.Ended.TheVariants as ends
+use Rattle.pssm_tool.specs.Words.{Meaning, Judges, Runs, Checks, Prints, Generates, Means, IsUsage}
+use Rattle.pssm_tool.specs.Stimuli.{IsKnown, AreStimuli}
+use Rattle.pssm_tool.specs.RunTexts.{IsRunText, take_count}
 use Rattle.pssm_tool.specs.Answers.{text_of}
 
 -- the most bytes that a model or a journal may have
 abbrev pub most_bytes : ℕ
 most_bytes = 16777216
 
+-- the most entries that the journal of a generated model's run may have
+abbrev pub most_entries : ℕ
+most_entries = 1000000
+
 -- ---- the paths that the words name
 
--- the path of the model
-abbrev pub model_of : Meaning → List ℕ
-model_of (Judges model journal) = model
-model_of (Runs options model stimuli) = model
-model_of (Checks model) = model
-model_of (Prints model) = model
+-- where a model comes from: the file at a path, or the generator of models
+pub data Source : Type 0 where
+  File : (path : List ℕ) → Source
+  Generator : (n : ℕ) → Source
+
+-- where the model comes from
+abbrev pub source_of : Meaning → Source
+source_of (Judges model journal) = File model
+source_of (Runs options model stimuli) = File model
+source_of (Checks model) = File model
+source_of (Prints model) = File model
+source_of (Generates n) = Generator n
 
 -- The words name the path: it is the model's, or the journal's of a judgement.
 abbrev pub NamePath : List (List ℕ) → List ℕ → Type 0
-NamePath words path = (meaning : Meaning) × Means words meaning × ((path ≡ model_of meaning) ⊎ ((model : List ℕ) × (meaning ≡ Judges model path)))
+NamePath words path = (meaning : Meaning) × Means words meaning × ((source_of meaning ≡ File path) ⊎ ((model : List ℕ) × (meaning ≡ Judges model path)))
 
 -- It is told what the paths hold that the words name.
 abbrev pub IsTold : List (List ℕ) → Contents → Type 0
@@ -47,10 +62,20 @@ ReadFailed words before after = (path : List ℕ) × NamePath words path × Rose
 
 -- ---- the model
 
--- The path has a model, in the flat form or as a model file, with this setting, which breaks no rule of models.
-pub record HasModel (contents : Contents) (path : List ℕ) (setting : Setting) : Type 0 where
+-- The model has more bytes than it may have. (A generated one never has.)
+abbrev pub IsLarge : Contents → Source → Type 0
+IsLarge contents (File path) = HoldsMore contents path most_bytes
+IsLarge contents (Generator n) = ⊥
+
+-- These are the model's bytes: all that the file holds, or the generated text.
+abbrev pub HasBytes : Contents → Source → List ℕ → Type 0
+HasBytes contents (File path) bytes = ReadsWhole contents path most_bytes bytes
+HasBytes contents (Generator n) bytes = bytes ≡ generated_text n
+
+-- There is a model, in the flat form or as a model file, with this setting, which breaks no rule of models.
+pub record HasModel (contents : Contents) (source : Source) (setting : Setting) : Type 0 where
   pub bytes : List ℕ
-  pub reads : ReadsWhole contents path most_bytes bytes
+  pub reads : HasBytes contents source bytes
   pub loads : ReadsSetting bytes setting []
 
 -- ---- the answer
@@ -80,22 +105,47 @@ pub data IsDueForRun (setting : Setting) (options : Options) (names : List (List
   ran : (stimuli : List Stimulus) (text : List ℕ) (ended : Ended) → AreStimuli setting names stimuli → IsRunText setting stimuli options.limit text ended
       → answer ≡ Journal text ended → IsDueForRun setting options names answer
 
+-- The answer is owed for a run of a generated model with the stimuli for it, and with the limit of a million entries: the line on its journal.
+-- (That the stimuli fit, and that the journal is never full, is not proved yet: until then the first two cases say what came if it were otherwise.)
+pub data IsDueForGenerated (setting : Setting) (n : ℕ) (answer : Answer) : Type 0 where
+  unfit : (AllByRecursion (IsKnown setting) (generated_stimuli n) → ⊥) → answer ≡ Usage → IsDueForGenerated setting n answer
+  full : (text : List ℕ) → IsRunText setting (generated_stimuli n) most_entries text ends.Limit → answer ≡ Journal text ends.Limit
+      → IsDueForGenerated setting n answer
+  quiet : (text : List ℕ) (run : IsRunText setting (generated_stimuli n) most_entries text ends.Quiet)
+      → answer ≡ Generated n (length run.journal) (take_count run.journal) (sha256 text) → IsDueForGenerated setting n answer
+
 -- The answer is owed for a command on a model that breaks no rule.
 abbrev pub IsDueForModel : Contents → Setting → Meaning → Answer → Type 0
 IsDueForModel contents setting (Judges model journal) answer = IsDueForJournal contents setting journal answer
 IsDueForModel contents setting (Runs options model names) answer = IsDueForRun setting options names answer
 IsDueForModel contents setting (Checks model) answer = answer ≡ WellFormed
 IsDueForModel contents setting (Prints model) answer = answer ≡ Flat (flat_text setting)
+IsDueForModel contents setting (Generates n) answer = IsDueForGenerated setting n answer
 
 -- The answer is owed for the words and the files.
 pub data IsOwed (words : List (List ℕ)) (contents : Contents) (answer : Answer) : Type 0 where
   usage : IsUsage words → answer ≡ Usage → IsOwed words contents answer
-  large_model : (meaning : Meaning) → Means words meaning → HoldsMore contents (model_of meaning) most_bytes → answer ≡ TooLarge → IsOwed words contents answer
-  bad_model : (meaning : Meaning) (bytes : List ℕ) (fault : LoadFault) → Means words meaning → ReadsWhole contents (model_of meaning) most_bytes bytes
+  large_model : (meaning : Meaning) → Means words meaning → IsLarge contents (source_of meaning) → answer ≡ TooLarge → IsOwed words contents answer
+  bad_model : (meaning : Meaning) (bytes : List ℕ) (fault : LoadFault) → Means words meaning → HasBytes contents (source_of meaning) bytes
       → IsLoadFault bytes fault → answer ≡ BadModel fault → IsOwed words contents answer
-  on_model : (meaning : Meaning) (setting : Setting) → Means words meaning → HasModel contents (model_of meaning) setting → IsDueForModel contents setting meaning answer
+  on_model : (meaning : Meaning) (setting : Setting) → Means words meaning → HasModel contents (source_of meaning) setting → IsDueForModel contents setting meaning answer
       → IsOwed words contents answer
 
 -- The answer is owed, and its text was written.
 abbrev pub Gives : List (List ℕ) → Contents → Option (List ℕ) → Option (List ℕ) → Answer → Type 0
 Gives words contents before after answer = IsOwed words contents answer × Appends before after (text_of answer)
+
+-- ---- runs
+
+-- A run of the setting with the stimuli is owed: of the model and the stimuli that the words name, or of a generated model with the stimuli for it.
+pub data IsRunOwed (words : List (List ℕ)) (contents : Contents) (setting : Setting) (stimuli : List Stimulus) : Type 0 where
+  named : (options : Options) (model : List ℕ) (names : List (List ℕ)) → Means words (Runs options model names) → HasModel contents (File model) setting
+      → AreStimuli setting names stimuli → IsRunOwed words contents setting stimuli
+  generated : (n : ℕ) → Means words (Generates n) → HasModel contents (Generator n) setting → stimuli ≡ generated_stimuli n
+      → AllByRecursion (IsKnown setting) stimuli → IsRunOwed words contents setting stimuli
+
+-- The answer is what a run came to: its journal, or the line on it. (Which of the runs that may be it was, the words do not tell.)
+abbrev pub IsOfRun : Answer → Type 0
+IsOfRun (Journal text ended) = Unit {0}
+IsOfRun (Generated n entries takes digest) = Unit {0}
+IsOfRun _ = ⊥

@@ -14,7 +14,7 @@ use Rattle.pssm_journal.specs.Entries.{AreEntries}
 use Rattle.pssm_journal.specs.Judged.{Accepted, IsJudged}
 use Rattle.pssm_tool.specs.Words.{Judges, Means}
 use Rattle.pssm_tool.specs.Answers.{IsFailure}
-use Rattle.pssm_tool.specs.Due.{most_bytes, HasModel}
+use Rattle.pssm_tool.specs.Due.{most_bytes, File, HasModel}
 
 -- The path has the text of a journal of these entries, whose names are the setting's, within the limits.
 pub record HoldsJournal (contents : Contents) (path : List ℕ) (setting : Setting) (J : List Entry) : Type 0 where
@@ -33,14 +33,14 @@ HoldsPrefix contents path setting = (J : List Entry) × HoldsJournal contents pa
 -- The journal is accepted exactly where its path has the text of a prefix of a complete run of the model, unless reading, writing or memory failed.
 abbrev pub AcceptsPrefixes : List (List ℕ) → Contents → ℕ → Type 0
 AcceptsPrefixes words contents code =
-    (model journal : List ℕ) (setting : Setting) → Means words (Judges model journal) → HasModel contents model setting
+    (model journal : List ℕ) (setting : Setting) → Means words (Judges model journal) → HasModel contents (File model) setting
     → (code ≡ 0 → HoldsPrefix contents journal setting) × (HoldsPrefix contents journal setting → (code ≡ 0) ⊎ IsFailure code)
 
 -- The journal is a prefix of a complete run of the model, which no more further entries reach than its open steps need at most.
 pub record IsContinued (contents : Contents) (model journal : List ℕ) : Type 0 where
   pub setting : Setting
   pub entries : List Entry
-  pub model_is : HasModel contents model setting
+  pub model_is : HasModel contents (File model) setting
   pub holds : HoldsJournal contents journal setting entries
   pub completes : CompletesInTime setting entries
 
@@ -48,6 +48,6 @@ pub record IsContinued (contents : Contents) (model journal : List ℕ) : Type 0
 pub record IsAcceptedText (contents : Contents) (model : List ℕ) (before after : Option (List ℕ)) : Type 0 where
   pub setting : Setting
   pub text : List ℕ
-  pub model_is : HasModel contents model setting
+  pub model_is : HasModel contents (File model) setting
   pub written : Appends before after text
   pub accepted : (entries : ℕ) × IsJudged setting text (Accepted entries)

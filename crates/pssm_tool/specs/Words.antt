@@ -82,19 +82,27 @@ pub record IsRun (words : List (List ℕ)) (options : Options) (model : List ℕ
 
 -- ---- all commands
 
--- what words can mean: to judge a journal of a model, to run a model with stimuli, to check a model, or to print its flat text
+-- `gen` and a number from 1 to 4000
+pub record IsGen (words : List (List ℕ)) (n : ℕ) : Type 0 where
+  pub word : List ℕ
+  pub two : words ≡ codes "gen" ∷ word ∷ []
+  pub number : IsNumber word 1 4000 n
+
+-- what words can mean: to judge a journal of a model, to run a model with stimuli, to check a model, to print its flat text, or to run a generated model
 pub data Meaning : Type 0 where
   Judges : (model journal : List ℕ) → Meaning
   Runs : (options : Options) (model : List ℕ) (stimuli : List (List ℕ)) → Meaning
   Checks : (model : List ℕ) → Meaning
   Prints : (model : List ℕ) → Meaning
+  Generates : (n : ℕ) → Meaning
 
--- `judge MODEL JOURNAL`, the words of a run, `check MODEL` or `flat MODEL`
+-- `judge MODEL JOURNAL`, the words of a run, `check MODEL`, `flat MODEL` or `gen N`
 abbrev pub Means : List (List ℕ) → Meaning → Type 0
 Means words (Judges model journal) = words ≡ codes "judge" ∷ model ∷ journal ∷ []
 Means words (Runs options model stimuli) = IsRun words options model stimuli
 Means words (Checks model) = words ≡ codes "check" ∷ model ∷ []
 Means words (Prints model) = words ≡ codes "flat" ∷ model ∷ []
+Means words (Generates n) = IsGen words n
 
 -- The words mean nothing.
 abbrev pub IsUsage : List (List ℕ) → Type 0

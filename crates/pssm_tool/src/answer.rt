@@ -3,7 +3,7 @@ ghost use Rattle.std.specs.Prelude.{◌≡◌, ◌++◌, IfOk, codes, string_byt
 ghost use Rattle.std.specs.Fmt.{decimal};
 ghost use Rattle.pssm_semantics.specs.Verdict.{number_of};
 ghost use Rattle.pssm_flat.specs.Text.{line};
-ghost use Rattle.pssm_tool.specs.Answers.{text_of, code_of};
+ghost use Rattle.pssm_tool.specs.Answers.{text_of, code_of, generated_line as line_on_generated};
 
 use crate::refusal::fault_text;
 use crate::run::Ended;
@@ -39,6 +39,14 @@ pub enum Answer {
     Journal { text: Text, ended: Ended },
     /// The flat text of a model.
     Flat(Text),
+    /// What is said of the journal of a generated model's run, by the model's number: how many entries it has, how many
+    /// of them take a signal, and the SHA-256 digest of its text.
+    Generated {
+        number: u16,
+        entries: usize,
+        takes: usize,
+        digest: [u8; 32],
+    },
     /// Why the model is refused.
     BadModel(LoadFault),
 }
@@ -49,7 +57,10 @@ impl Answer {
         ensures { result.code ≡ code_of self.now }
     {
         let code = match self {
-            Answer::Accept { .. } | Answer::WellFormed | Answer::Flat(_) => 0,
+            Answer::Accept { .. }
+            | Answer::WellFormed
+            | Answer::Flat(_)
+            | Answer::Generated { .. } => 0,
             Answer::Journal {
                 ended: Ended::Quiet,
                 ..
@@ -82,6 +93,12 @@ impl Answer {
             Answer::NoEnd { line } => Ok(bytes_of(no_end(alloc, line)?)),
             Answer::TooLarge => Ok(Text::from_vec(b"too large\n".to_vec(alloc)?)),
             Answer::Journal { text, .. } | Answer::Flat(text) => Ok(text),
+            Answer::Generated {
+                number,
+                entries,
+                takes,
+                digest,
+            } => Ok(bytes_of(generated_line(alloc, number, entries, takes, &digest)?)),
             Answer::BadModel(fault) => fault_text(alloc, &fault),
         }
     }
@@ -116,6 +133,22 @@ fn no_end(alloc: Global, number: u32) -> Result<String, NoMemory>
         ≡ line (codes "journal line " ++ decimal number ++ codes " no end")) }
 {
     format!(in alloc; "journal line {number} no end\n")
+}
+
+// The line on the journal of a generated model's run.
+fn generated_line(
+    alloc: Global,
+    number: u16,
+    entries: usize,
+    takes: usize,
+    digest: &[u8],
+) -> Result<String, NoMemory>
+    ensures { IfOk result (λ text. string_bytes text ≡ line_on_generated number entries takes digest.now) }
+{
+    let digits = hex::encode(alloc, digest)?;
+    let text = format!(in alloc; "gen {number} entries {entries} takes {takes} sha256 {digits}\n");
+    drop(digits);
+    text
 }
 
 // The number in a rule's name.

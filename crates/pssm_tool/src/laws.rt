@@ -4,10 +4,7 @@ ghost use Rattle.pssm_base.specs.Reading.{Contents};
 ghost use Rattle.pssm_semantics.specs.declared.setting.Setting.{Setting};
 ghost use Rattle.pssm_semantics.specs.declared.stimulus.Stimulus.{Stimulus};
 ghost use Rattle.pssm_tool.specs.declared.answer.Answer.{Answer};
-ghost use Rattle.pssm_tool.specs.declared.run_words.Options.{Options};
-ghost use Rattle.pssm_tool.specs.Words.{Means, Runs};
-ghost use Rattle.pssm_tool.specs.Stimuli.{AreStimuli};
-ghost use Rattle.pssm_tool.specs.Due.{HasModel, IsOwed, IsTold};
+ghost use Rattle.pssm_tool.specs.Due.{IsOwed, IsRunOwed, IsTold};
 
 use pssm_load::some_load;
 
@@ -17,9 +14,7 @@ use pssm_load::some_load;
 pub fn always_due()
     ensures { (words : List (List ℕ)) (contents : Contents) → IsTold words contents
         → ((answer : Answer) → IsOwed words contents answer → ⊥)
-        → ((options : Options) (model : List ℕ) (names : List (List ℕ)) (setting : Setting) (stimuli : List Stimulus)
-        → Means words (Runs options model names) → HasModel contents model setting
-        → AreStimuli setting names stimuli → ⊥) → ⊥ }
+        → ((setting : Setting) (stimuli : List Stimulus) → IsRunOwed words contents setting stimuli → ⊥) → ⊥ }
 {
     some_load();
 }

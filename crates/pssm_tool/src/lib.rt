@@ -1,8 +1,8 @@
 //! The call that does what the words of the program say.
 //!
 //! `judge MODEL JOURNAL` says whether a journal of a state machine's run is what UML says, `run MODEL STIMULUS*` runs a
-//! state machine and writes the journal, `check MODEL` says what is wrong with a model, and `flat MODEL` writes its
-//! flat text. A model is in the flat form, or a model file as an editor writes it. [`pssm`] does all of it, over inputs
+//! state machine and writes the journal, `check MODEL` says what is wrong with a model, `flat MODEL` writes its flat
+//! text, and `gen N` runs a generated model. A model is in the flat form, or a model file as an editor writes it. [`pssm`] does all of it, over inputs
 //! and a sink that it is handed; its clauses are what the program promises.
 #![tactic(auto)]
 

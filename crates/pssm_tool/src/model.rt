@@ -4,7 +4,7 @@ ghost use Rattle.pssm_base.specs.Faults.{NoneFell};
 ghost use Rattle.pssm_base.specs.Reading.{SameContent};
 ghost use Rattle.pssm_semantics.specs.Names.{HasSpelledNames};
 ghost use Rattle.pssm_semantics.specs.Proper.{IsWellFormed};
-ghost use Rattle.pssm_tool.specs.Due.{HasModel};
+ghost use Rattle.pssm_tool.specs.Due.{File, HasModel};
 ghost use Rattle.pssm_tool.specs.inner.Failures.{LacksModel, FailedAt, IsFound, TellsFault};
 
 use crate::answer::Answer;
@@ -23,10 +23,10 @@ pub fn model<I: Inputs>(
     inputs: &mut I,
     path: &str,
 ) -> Result<Result<Setting, Answer>, Failure>
-    ensures loads { IfOk result (λ found. IfOk found (HasModel (I.content inputs.old) path.now)) }
+    ensures loads { IfOk result (λ found. IfOk found (HasModel (I.content inputs.old) (File path.now))) }
     ensures well_formed { IfOk result (λ found. IfOk found IsWellFormed) }
     ensures spelled { IfOk result (λ found. IfOk found HasSpelledNames) }
-    ensures lacks { IfOk result (λ found. IfErr found (LacksModel (I.content inputs.old) path.now)) }
+    ensures lacks { IfOk result (λ found. IfErr found (LacksModel (I.content inputs.old) (File path.now))) }
     ensures failed { IfErr result (FailedAt (I.faults inputs.old path.now) (I.faults inputs.new path.now)) }
     ensures counts { NoneFell (I.faults inputs.old) (I.faults inputs.new) }
     ensures same { SameContent (I.content inputs.old) (I.content inputs.new) }
@@ -42,8 +42,8 @@ pub fn model<I: Inputs>(
     found(loaded)
 }
 
-// The setting, or what comes of the fault.
-fn found(loaded: Result<Setting, LoadFault>) -> Result<Result<Setting, Answer>, Failure>
+/// The setting, or what comes of the fault.
+pub fn found(loaded: Result<Setting, LoadFault>) -> Result<Result<Setting, Answer>, Failure>
     ensures { IsFound loaded result }
 {
     match loaded {

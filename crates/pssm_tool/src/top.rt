@@ -11,14 +11,13 @@ ghost use Rattle.pssm_tool.specs.declared.run_words.Options.{Options};
 ghost use Rattle.pssm_base.specs.Faults.{Rose};
 ghost use Rattle.pssm_base.specs.Putting.{TookPart};
 ghost use Rattle.pssm_tool.specs.Words.{texts, Means, Judges, Runs};
-ghost use Rattle.pssm_tool.specs.Stimuli.{AreStimuli};
 ghost use Rattle.pssm_tool.specs.Answers.{text_of, code_of, IsFailure};
-ghost use Rattle.pssm_tool.specs.Due.{HasModel, IsOwed, IsTold, Gives, ReadFailed};
+ghost use Rattle.pssm_tool.specs.Due.{IsOwed, IsTold, Gives, ReadFailed, IsRunOwed, IsOfRun};
 ghost use Rattle.pssm_tool.specs.Headline.{AcceptsPrefixes, IsContinued, IsAcceptedText};
 ghost use Rattle.pssm_tool.specs.inner.Failures.{FailedFor, GoesOn};
 
 use crate::answer::Answer;
-use crate::commands::{check_model, judge_journal, print_model, run_model};
+use crate::commands::{check_model, generate_and_run, judge_journal, print_model, run_model};
 use crate::failure::Failure;
 use crate::status::Status;
 use crate::words::{Command, command_of};
@@ -31,9 +30,10 @@ use std::alloc::Global;
 ///
 /// `judge MODEL JOURNAL` judges a journal of a run of the model, and writes one line.
 /// `run [--seed N] [--workers W] [--limit L] MODEL STIMULUS*` runs the model and writes the journal. `check MODEL` says
-/// whether the model is well formed, and `flat MODEL` writes its flat text. A model is in the flat form, where its
-/// bytes begin with `pssm-flat`, and otherwise a model file as an editor writes it. What is written goes to `out` at
-/// once, after all else is done; before that nothing is written. `rt` and `gate` are for commands
+/// whether the model is well formed, and `flat MODEL` writes its flat text. `gen N` runs the generated model of a
+/// number from 1 to 4000, and writes a line with the counts and the digest of its journal. A model is in the flat form,
+/// where its bytes begin with `pssm-flat`, and otherwise a model file as an editor writes it. What is written goes to
+/// `out` at once, after all else is done; before that nothing is written. `rt` and `gate` are for commands
 /// that start workers, of which there is none.
 pub fn pssm<R, I: Inputs, S: Sink, G: Gate + Sync>(
     _rt: &R,
@@ -63,7 +63,7 @@ pub fn pssm<R, I: Inputs, S: Sink, G: Gate + Sync>(
 
     // 0: the journal is admissible, and `accept N` says how many entries it has; or the journal was written of a run
     // that ended where nothing more can happen; or the model, of either form, keeps the rules of models, and
-    // `well formed` or its flat text was written.
+    // `well formed` or its flat text was written; or the line was written on a generated model's run, which ended so.
     ensures accepted { result.code ≡ 0
         → ((n : ℕ) × Gives (texts words.now) (I.content inputs.old)
         (S.taken out.old) (S.taken out.new) (Answer.Accept n))
@@ -72,7 +72,9 @@ pub fn pssm<R, I: Inputs, S: Sink, G: Gate + Sync>(
         ⊎ Gives (texts words.now) (I.content inputs.old)
         (S.taken out.old) (S.taken out.new) Answer.WellFormed
         ⊎ ((text : List ℕ) × Gives (texts words.now) (I.content inputs.old)
-        (S.taken out.old) (S.taken out.new) (Answer.Flat text)) }
+        (S.taken out.old) (S.taken out.new) (Answer.Flat text))
+        ⊎ ((n entries takes : ℕ) × (digest : List ℕ) × Gives (texts words.now) (I.content inputs.old)
+        (S.taken out.old) (S.taken out.new) (Answer.Generated n entries takes digest)) }
 
     // 1: `refuse N An` names the first entry that breaks a rule, and the first rule that it breaks.
     ensures refused { result.code ≡ 1 → (n : ℕ) × (rule : Rule) × Gives (texts words.now) (I.content inputs.old)
@@ -109,16 +111,14 @@ pub fn pssm<R, I: Inputs, S: Sink, G: Gate + Sync>(
 
     // ---- What is owed is written, unless reading, writing or memory failed (5, 6, 7).
 
-    // Where it is told what the files hold, and an answer is owed that is no journal of a run, its status comes.
+    // Where it is told what the files hold, and an answer is owed that is not of a run, its status comes.
     ensures exactly { (answer : Answer) → IsTold (texts words.now) (I.content inputs.old)
         → IsOwed (texts words.now) (I.content inputs.old) answer
-        → (result.code ≡ code_of answer) ⊎ IsFailure result.code
-        ⊎ ((text : List ℕ) × (ended : Ended) × (answer ≡ Answer.Journal text ended)) }
+        → (result.code ≡ code_of answer) ⊎ IsFailure result.code ⊎ IsOfRun answer }
 
-    // Where a run is owed, its journal comes with one of its two ends.
-    ensures runs { (options : Options) (model : List ℕ) (names : List (List ℕ)) (setting : Setting) (stimuli : List Stimulus)
-        → IsTold (texts words.now) (I.content inputs.old) → Means (texts words.now) (Runs options model names)
-        → HasModel (I.content inputs.old) model setting → AreStimuli setting names stimuli
+    // Where a run is owed, what it came to is written, with one of its two ends.
+    ensures runs { (setting : Setting) (stimuli : List Stimulus) → IsTold (texts words.now) (I.content inputs.old)
+        → IsRunOwed (texts words.now) (I.content inputs.old) setting stimuli
         → (result.code ≡ 0) ⊎ (result.code ≡ 8) ⊎ IsFailure result.code }
 
     // ---- What a failure leaves, and that there is no other status.
@@ -188,6 +188,7 @@ fn answer<I: Inputs>(alloc: Global, words: &[String], inputs: &mut I) -> Result<
         Some(Command::Run(asked)) => run_model(alloc, inputs, &asked),
         Some(Command::Check { model }) => check_model(alloc, inputs, model),
         Some(Command::Flat { model }) => print_model(alloc, inputs, model),
+        Some(Command::Generate { number }) => generate_and_run(alloc, number),
         None => Ok(Answer::Usage),
     }
 }

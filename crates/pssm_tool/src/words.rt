@@ -1,9 +1,11 @@
 //! The words of the command line.
-ghost use Rattle.std.specs.Prelude.{◌≡◌, codes, IfOk, IfSome, IfNone};
-ghost use Rattle.pssm_tool.specs.Words.{texts, BeginWith, Meaning, Means, IsUsage};
+ghost use Rattle.std.specs.Prelude.{◌≡◌, ℕ, codes, IfOk, IfSome, IfNone};
+ghost use Rattle.pssm_spelling.specs.Numbers.{IsNumber};
+ghost use Rattle.pssm_tool.specs.Words.{texts, BeginWith, Meaning, Generates, Means, IsUsage};
 ghost use Rattle.pssm_tool.specs.inner.Commands.{meaning_of};
 
 use crate::run_words::{RunWords, run_of};
+use pssm_spelling::number_of;
 use std::alloc::{AllocError as NoMemory, Global};
 
 /// A command, with the words that it needs.
@@ -17,6 +19,8 @@ pub enum Command<'a> {
     Check { model: &'a str },
     /// Print the flat text of the model.
     Flat { model: &'a str },
+    /// Run the generated model of this number, 1 to 4,000.
+    Generate { number: u16 },
 }
 
 /// The command that the words mean, if they mean one. They mean no more than one.
@@ -37,8 +41,20 @@ pub fn command_of(alloc: Global, words: &[String]) -> Result<Option<Command<'_>>
         [verb, model] if verb.as_str() == "flat" => Ok(Some(Command::Flat {
             model: model.as_str(),
         })),
+        [verb, number] if verb.as_str() == "gen" => Ok(generated(number.as_str())),
         _ => Ok(None),
     }
+}
+
+// The command to run the generated model of the number that the word spells.
+fn generated<'a>(word: &str) -> Option<Command<'a>>
+    ensures reads { IfSome result (λ command. (n : ℕ) × (meaning_of command ≡ Generates n) × IsNumber word.now 1 4000 n) }
+    ensures none { IfNone result ((n : ℕ) → IsNumber word.now 1 4000 n → ⊥) }
+{
+    let number = number_of(word, 1, 4000)?;
+    Some(Command::Generate {
+        number: number as u16,
+    })
 }
 
 // The command of words that begin with `run`.

@@ -1,8 +1,8 @@
 -- Commands that were read.
 use Rattle.pssm_tool.specs.declared.run_words.RunWords.{RunWords}
 use Rattle.pssm_tool.specs.declared.words.Command.{Command}
-use Rattle.pssm_tool.specs.declared.words.Command.TheVariants.{Judge, Run, Check, Flat}
-use Rattle.pssm_tool.specs.Words.{lent, Meaning, Judges, Runs, Checks, Prints}
+use Rattle.pssm_tool.specs.declared.words.Command.TheVariants.{Judge, Run, Check, Flat, Generate}
+use Rattle.pssm_tool.specs.Words.{lent, Meaning, Judges, Runs, Checks, Prints, Generates}
 
 -- what the words of a run that were read mean
 abbrev pub meaning_of_run : RunWords → Meaning
@@ -14,3 +14,4 @@ meaning_of (Judge model journal) = Judges model.now journal.now
 meaning_of (Run run) = meaning_of_run run
 meaning_of (Check model) = Checks model.now
 meaning_of (Flat model) = Prints model.now
+meaning_of (Generate n) = Generates n
