@@ -11,16 +11,15 @@ use Rattle.pssm_journal.specs.Judged.{Judged, Accepted, Refused, Limited, BadTex
 use Rattle.pssm_load.specs.declared.fault.LoadFault.{LoadFault}
 use Rattle.pssm_tool.specs.declared.run_words.Options.{Options}
 use Rattle.pssm_tool.specs.declared.answer.Answer.{Answer}
-use Rattle.pssm_tool.specs.declared.answer.Answer.TheVariants.{Accept, Refuse, Limit, WellFormed, Usage, BadLine, NoEnd, TooLarge, Journal, Flat, BadModel}
+use Rattle.pssm_tool.specs.declared.answer.Answer.TheVariants.{Accept, Refuse, Limit, WellFormed, Usage, BadLine, NoEnd, TooLarge, Journal, Flat, Generated, BadModel}
 use Rattle.pssm_tool.specs.declared.run.Ended.TheVariants as ends
 use Rattle.pssm_tool.specs.Words.{Meaning, Judges, Runs, Means}
-use Rattle.pssm_tool.specs.Stimuli.{AreStimuli}
 use Rattle.pssm_tool.specs.Answers.{code_of, text_of, IsFailure}
-use Rattle.pssm_tool.specs.Due.{model_of, HasModel, answer_to, IsDueForJournal, large_journal, judged, IsDueForRun, unfit, ran, IsDueForModel, IsOwed, usage, large_model, bad_model, on_model, IsTold, Gives}
+use Rattle.pssm_tool.specs.Due.{File, source_of, HasModel, answer_to, IsDueForJournal, large_journal, judged, IsDueForRun, unfit, ran, IsDueForModel, IsOwed, usage, large_model, bad_model, on_model, IsTold, Gives, IsRunOwed, IsOfRun}
 use Rattle.pssm_tool.specs.Headline.{IsContinued, IsAcceptedText}
 use Rattle.pssm_tool.specs.inner.Failures.{GoesOn}
 use Rattle.pssm_tool.proofs.WordLaws.{one_meaning}
-use Rattle.pssm_tool.proofs.DueOnce.{IsJournal, HasOneLoad, owed_once, run_answered}
+use Rattle.pssm_tool.proofs.DueOnce.{HasOneLoad, owed_once, run_answered}
 
 -- ---- the answer of a status
 
@@ -57,17 +56,19 @@ too_large_from_code (Journal text ends.Quiet) e = absurd (omega arith)
 too_large_from_code (Journal text ends.Limit) e = absurd (omega arith)
 too_large_from_code _ e = absurd (omega arith)
 
--- an acceptance, the journal of a run that ended quietly, or a model that keeps the rules
+-- an acceptance, the journal of a run that ended quietly, a model that keeps the rules, or the line on a generated model's run
 data IsGood (a : Answer) : Type 0 where
   accepts : (n : ℕ) → a ≡ Accept n → IsGood a
   quiet : (text : List ℕ) → a ≡ Journal text ends.Quiet → IsGood a
   well : a ≡ WellFormed → IsGood a
   printed : (text : List ℕ) → a ≡ Flat text → IsGood a
+  line_on : (n entries takes : ℕ) (digest : List ℕ) → a ≡ Generated n entries takes digest → IsGood a
 
 good_from_code : (a : Answer) → code_of a ≡ 0 → IsGood a
 good_from_code (Accept n) e = accepts n refl
 good_from_code WellFormed e = well refl
 good_from_code (Flat text) e = printed text refl
+good_from_code (Generated n entries takes digest) e = line_on n entries takes digest refl
 good_from_code (Journal text ends.Quiet) e = quiet text refl
 good_from_code (Journal text ends.Limit) e = absurd (omega arith)
 good_from_code _ e = absurd (omega arith)
@@ -96,13 +97,16 @@ module _ (words : List (List ℕ)) (contents : Contents) (before after : Option 
 
   pub gives_good : code_of a ≡ 0 → ((n : ℕ) × Gives words contents before after (Accept n)) ⊎ ((text : List ℕ) × Gives words contents before after (Journal text ends.Quiet))
       ⊎ Gives words contents before after WellFormed ⊎ ((text : List ℕ) × Gives words contents before after (Flat text))
+      ⊎ ((n entries takes : ℕ) × (digest : List ℕ) × Gives words contents before after (Generated n entries takes digest))
   gives_good e = told (good_from_code a e) where
     told : IsGood a → ((n : ℕ) × Gives words contents before after (Accept n)) ⊎ ((text : List ℕ) × Gives words contents before after (Journal text ends.Quiet))
         ⊎ Gives words contents before after WellFormed ⊎ ((text : List ℕ) × Gives words contents before after (Flat text))
+      ⊎ ((n entries takes : ℕ) × (digest : List ℕ) × Gives words contents before after (Generated n entries takes digest))
     told (accepts n same) = inl (n, given_as (Accept n) same)
     told (quiet text same) = inr (inl (text, given_as (Journal text ends.Quiet) same))
     told (well same) = inr (inr (inl (given_as WellFormed same)))
-    told (printed text same) = inr (inr (inr (text, given_as (Flat text) same)))
+    told (printed text same) = inr (inr (inr (inl (text, given_as (Flat text) same))))
+    told (line_on n entries takes digest same) = inr (inr (inr (inr (n, entries, takes, digest, given_as (Generated n entries takes digest) same))))
 
   pub gives_limit : code_of a ≡ 8 → ((n : ℕ) × Gives words contents before after (Limit n)) ⊎ ((text : List ℕ) × Gives words contents before after (Journal text ends.Limit))
   gives_limit e = told (limit_from_code a e) where
@@ -152,8 +156,8 @@ run_accepted words contents before after a options model names (bad_model m byte
     no_end a (BadModel fault) code e (λ ended. elim ended [ inl zero ↦ omega arith | inr eight ↦ omega arith ])
 run_accepted words contents before after a options model names (on_model m s also has due) written is code =
     by_run (moved words contents (Runs options model names) is (λ x. IsDueForModel contents s x a) m also due) where
-      model_is : HasModel contents model s
-      model_is = moved words contents (Runs options model names) is (λ x. HasModel contents (model_of x) s) m also has
+      model_is : HasModel contents (File model) s
+      model_is = moved words contents (Runs options model names) is (λ x. HasModel contents (source_of x) s) m also has
 
       by_run : IsDueForRun s options names a → IsAcceptedText contents model before after
       by_run (unfit none e) = no_end a Usage code e (λ ended. elim ended [ inl zero ↦ omega arith | inr eight ↦ omega arith ])
@@ -204,9 +208,9 @@ answer_or_failure code n told = elim (eqb_tells code 6) [
   ]
 ]
 
--- An answer that is owed is the one that comes, but for the journal of a run.
+-- An answer that is owed is the one that comes, but for what a run comes to.
 pub exactly_owed : {P : Type 0} (law : HasOneLoad) (words : List (List ℕ)) (contents : Contents) (code : ℕ) (came a : Answer) → IsTold words contents → IsOwed words contents came
-    → (code ≢ 6 → code ≢ 7 → (code ≡ code_of came) × P) → IsOwed words contents a → (code ≡ code_of a) ⊎ IsFailure code ⊎ IsJournal a
+    → (code ≢ 6 → code ≢ 7 → (code ≡ code_of came) × P) → IsOwed words contents a → (code ≡ code_of a) ⊎ IsFailure code ⊎ IsOfRun a
 exactly_owed law words contents code came a known owed told due = elim (owed_once law words contents known came a owed due) [
   | inl same ↦ elim (answer_or_failure code (code_of came) told) [
     | inl is ↦ inl (is ∙ same)
@@ -215,17 +219,19 @@ exactly_owed law words contents code came a known owed told due = elim (owed_onc
   | inr both ↦ inr (inr both.1)
 ]
 
--- A journal comes with one of two statuses.
-journal_code : (a : Answer) → IsJournal a → IsEnd a
-journal_code a (text, ends.Quiet, e) = inl (ap code_of e)
-journal_code a (text, ends.Limit, e) = inr (ap code_of e)
+-- What a run comes to has one of two statuses.
+run_code : (a : Answer) → IsOfRun a → IsEnd a
+run_code (Journal text ends.Quiet) run = inl refl
+run_code (Journal text ends.Limit) run = inr refl
+run_code (Generated n entries takes digest) run = inl refl
+run_code _ run = absurd run
 
 -- A run that is owed is what comes, with one of its ends.
-pub runs_owed : {P : Type 0} (law : HasOneLoad) (words : List (List ℕ)) (contents : Contents) (code : ℕ) (came : Answer) (options : Options) (model : List ℕ) (names : List (List ℕ)) (setting : Setting) (stimuli : List Stimulus)
-    → IsTold words contents → IsOwed words contents came → (code ≢ 6 → code ≢ 7 → (code ≡ code_of came) × P)
-    → Means words (Runs options model names) → HasModel contents model setting → AreStimuli setting names stimuli → (code ≡ 0) ⊎ (code ≡ 8) ⊎ IsFailure code
-runs_owed law words contents code came options model names setting stimuli known owed told is has are = elim (answer_or_failure code (code_of came) told) [
-  | inl same ↦ elim (journal_code came (run_answered law words contents known came options model names setting stimuli owed is has are)) [
+pub runs_owed : {P : Type 0} (law : HasOneLoad) (words : List (List ℕ)) (contents : Contents) (code : ℕ) (came : Answer) (setting : Setting) (stimuli : List Stimulus)
+    → IsTold words contents → IsOwed words contents came → (code ≢ 6 → code ≢ 7 → (code ≡ code_of came) × P) → IsRunOwed words contents setting stimuli
+    → (code ≡ 0) ⊎ (code ≡ 8) ⊎ IsFailure code
+runs_owed law words contents code came setting stimuli known owed told run = elim (answer_or_failure code (code_of came) told) [
+  | inl same ↦ elim (run_code came (run_answered law words contents known came setting stimuli owed run)) [
     | inl zero ↦ inl (same ∙ zero)
     | inr eight ↦ inr (inl (same ∙ eight))
   ]

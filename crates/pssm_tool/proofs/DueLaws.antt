@@ -14,15 +14,15 @@ use Rattle.pssm_tool.specs.declared.answer.Answer.{Answer}
 use Rattle.pssm_tool.specs.declared.failure.Failure.{Failure}
 use Rattle.pssm_tool.specs.declared.failure.Failure.TheVariants.{ReadFault, NoMemory}
 use Rattle.pssm_tool.specs.Words.{Meaning, Judges, Means}
-use Rattle.pssm_tool.specs.Due.{model_of, NamePath, HasModel, large_journal, judged, IsOwed, large_model, bad_model, on_model}
+use Rattle.pssm_tool.specs.Due.{File, source_of, NamePath, HasModel, large_journal, judged, IsOwed, large_model, bad_model, on_model}
 use Rattle.pssm_tool.specs.Headline.{IsContinued}
 use Rattle.pssm_tool.specs.inner.Verdicts.{said}
 use Rattle.pssm_tool.specs.inner.Failures.{LacksModel, holds_more, has_fault, FailedAt, FailedFor, GoesOn}
 
 -- ---- the model
 
-pub model_named : (words : List (List ℕ)) (meaning : Meaning) → Means words meaning → NamePath words (model_of meaning)
-model_named words meaning means = (meaning, means, inl refl)
+pub model_named : (words : List (List ℕ)) (meaning : Meaning) (path : List ℕ) → Means words meaning → source_of meaning ≡ File path → NamePath words path
+model_named words meaning path means is = (meaning, means, inl is)
 
 pub journal_named : (words : List (List ℕ)) (model journal : List ℕ) → Means words (Judges model journal) → NamePath words journal
 journal_named words model journal is = (Judges model journal, is, inr (model, refl))
@@ -32,16 +32,16 @@ abbrev pub IsGiven : List (List ℕ) → Contents → Answer → Type 0
 IsGiven words contents answer = IsOwed words contents answer × GoesOn words contents answer
 
 -- What is answered where there is no model is owed.
-pub lacks_owed : (words : List (List ℕ)) (meaning : Meaning) (contents : Contents) (answer : Answer) → Means words meaning → LacksModel contents (model_of meaning) answer → IsGiven words contents answer
+pub lacks_owed : (words : List (List ℕ)) (meaning : Meaning) (contents : Contents) (answer : Answer) → Means words meaning → LacksModel contents (source_of meaning) answer → IsGiven words contents answer
 lacks_owed words meaning contents answer means (holds_more more is) = subst (λ (a : Answer). IsGiven words contents a) (sym is) (large_model meaning means more refl, tt)
 lacks_owed words meaning contents answer means (has_fault bytes fault reads wrong is) =
     subst (λ (a : Answer). IsGiven words contents a) (sym is) (bad_model meaning bytes fault means reads wrong refl, tt)
 
 -- Reading the model failed.
-pub failed_at_model : (words : List (List ℕ)) (meaning : Meaning) (before after : List ℕ → ℕ) (failure : Failure) → Means words meaning
-    → FailedAt (before (model_of meaning)) (after (model_of meaning)) failure → FailedFor words before after failure
-failed_at_model words meaning before after ReadFault means rose = (model_of meaning, model_named words meaning means, rose)
-failed_at_model words meaning before after NoMemory means none = tt
+pub failed_at_model : (words : List (List ℕ)) (meaning : Meaning) (path : List ℕ) (before after : List ℕ → ℕ) (failure : Failure) → Means words meaning → source_of meaning ≡ File path
+    → FailedAt (before path) (after path) failure → FailedFor words before after failure
+failed_at_model words meaning path before after ReadFault means is rose = (path, model_named words meaning path means is, rose)
+failed_at_model words meaning path before after NoMemory means is none = tt
 
 -- ---- the journal
 
@@ -58,7 +58,7 @@ rose_after : (a b c : ℕ) → a ≤ b → Rose b c → Rose a c
 rose_after a b c fell rose below = let up : b < c = rose below in omega arith
 
 -- the model that was read, and what the judge said of the journal
-module _ (contents then : Contents) (before mid after : List ℕ → ℕ) (model journal : List ℕ) (setting : Setting) (has : HasModel contents model setting) (same : SameContent contents then) (fell : NoneFell before mid) where
+module _ (contents then : Contents) (before mid after : List ℕ → ℕ) (model journal : List ℕ) (setting : Setting) (has : HasModel contents (File model) setting) (same : SameContent contents then) (fell : NoneFell before mid) where
   -- The answer is owed.
   owed_said : (r : Result Verdict JudgeFault) → IfOk r (IsVerdictFor setting then journal) → IfErr r (IsFaultFor setting then (mid journal) (after journal) journal)
       → IfOk (said r) (λ answer. (words : List (List ℕ)) → Means words (Judges model journal) → IsOwed words contents answer)
@@ -134,3 +134,13 @@ module _ (contents then : Contents) (before mid after : List ℕ → ℕ) (model
 pub at_words : {X E : Type 0} (r : Result X E) (Q : List (List ℕ) → X → Type 0) (words : List (List ℕ)) (meaning : Meaning) → IfOk r (λ x. (w : List (List ℕ)) → Means w meaning → Q w x) → Means words meaning → IfOk r (Q words)
 at_words (Ok x) Q words meaning holds means = holds words means
 at_words (Err e) Q words meaning holds means = tt
+
+-- What holds for all of a kind holds for this one.
+pub at_any : {X E A : Type 0} (r : Result X E) (Q : A → X → Type 0) (a : A) → IfOk r (λ x. (b : A) → Q b x) → IfOk r (Q a)
+at_any (Ok x) Q a holds = holds a
+at_any (Err e) Q a holds = tt
+
+-- Want of memory is a failure for all words.
+pub no_memory_failed : {X : Type 0} (r : Result X Failure) (words : List (List ℕ)) (before after : List ℕ → ℕ) → IfErr r (λ f. f ≡ NoMemory) → IfErr r (FailedFor words before after)
+no_memory_failed (Ok x) words before after is = tt
+no_memory_failed (Err f) words before after is = subst (λ (x : Failure). FailedFor words before after x) (sym is) tt

@@ -1,7 +1,8 @@
--- One answer is owed for the words and what the files hold, but for the journal of a run and the order of its choices.
+-- One answer is owed for the words and what the files hold, but for what a run comes to by the order of its choices.
 use Rattle.std.proofs.Common.{◌≡◌, ◌⊎◌, ◌<◌, ℕ, List, [], length, refl, sym, ap, subst, ◌∙◌, inl, inr, arith}
 use Rattle.std.specs.Prelude.{Option, Some, None, IsSome, IfSome}
 use Rattle.pssm_base.specs.Reading.{Contents, ReadsWhole, HoldsMore}
+use Rattle.pssm_semantics.specs.declared.entry.Entry.{Entry}
 use Rattle.pssm_semantics.specs.declared.setting.Setting.{Setting}
 use Rattle.pssm_semantics.specs.declared.stimulus.Stimulus.{Stimulus}
 use Rattle.pssm_flat.specs.Text.{flat_text}
@@ -9,14 +10,16 @@ use Rattle.pssm_journal.specs.Judged.{IsJudged}
 use Rattle.pssm_journal.proofs.Judgements.{judged_once}
 use Rattle.pssm_load.specs.declared.fault.LoadFault.{LoadFault}
 use Rattle.pssm_load.specs.Loads.{Reads, ReadsSetting, IsLoadFault}
+use Rattle.pssm_suite.specs.Generated.{generated_stimuli}
 use Rattle.pssm_tool.specs.declared.run_words.Options.{Options}
 use Rattle.pssm_tool.specs.declared.answer.Answer.{Answer}
 use Rattle.pssm_tool.specs.declared.answer.Answer.TheVariants.{WellFormed, Usage, TooLarge, Journal, Flat, BadModel}
 use Rattle.pssm_tool.specs.declared.run.Ended.{Ended}
-use Rattle.pssm_tool.specs.Words.{Meaning, Judges, Runs, Checks, Prints, Means}
-use Rattle.pssm_tool.specs.Stimuli.{AreStimuli}
+use Rattle.pssm_tool.specs.declared.run.Ended.TheVariants as ends
+use Rattle.pssm_tool.specs.Words.{Meaning, Judges, Runs, Checks, Prints, Generates, Means}
+use Rattle.pssm_tool.specs.Stimuli.{AreKnown, AreStimuli}
 use Rattle.pssm_tool.specs.Answers.{code_of}
-use Rattle.pssm_tool.specs.Due.{model_of, HasModel, answer_to, IsDueForJournal, large_journal, judged, IsDueForRun, unfit, ran, IsDueForModel, IsOwed, usage, large_model, bad_model, on_model, IsTold}
+use Rattle.pssm_tool.specs.Due.{Source, File, Generator, source_of, IsLarge, HasBytes, HasModel, answer_to, IsDueForJournal, large_journal, judged, IsDueForRun, unfit, ran, answer_to_run, IsDueForGenerated, unknown, counted, IsDueForModel, IsOwed, usage, large_model, bad_model, on_model, IsTold, IsRunOwed, named, generated, IsOfRun}
 use Rattle.pssm_tool.proofs.WordLaws.{one_meaning}
 use Rattle.pssm_tool.proofs.DueLaws.{model_named, journal_named}
 
@@ -56,43 +59,73 @@ pub record HasOneLoad : Type 0 where
   pub setting : (bytes : List ℕ) (a b : Setting) → Reads bytes a → Reads bytes b → a ≡ b
   pub apart : (bytes : List ℕ) (setting : Setting) (fault : LoadFault) → ReadsSetting bytes setting [] → IsLoadFault bytes fault → ⊥
 
--- what is told of the model's path
-module _ (law : HasOneLoad) (contents : Contents) (model held : List ℕ) (told : contents model ≡ Some held) where
-  -- Two readings of a model's path give one setting.
-  pub model_once : (s t : Setting) → HasModel contents model s → HasModel contents model t → s ≡ t
+-- what is told of where a model comes from
+abbrev pub IsSourceTold : Contents → Source → Type 0
+IsSourceTold contents (File path) = (held : List ℕ) × (contents path ≡ Some held)
+IsSourceTold contents (Generator n) = Unit {0}
+
+-- A model's bytes are one.
+same_model : (contents : Contents) (source : Source) (bytes others : List ℕ) → IsSourceTold contents source → HasBytes contents source bytes → HasBytes contents source others → others ≡ bytes
+same_model contents (File path) bytes others told read also = same_read contents path told.0 bytes others told.1 read also
+same_model contents (Generator n) bytes others told read also = also ∙ sym read
+
+-- A model that has bytes is not too large.
+fits_model : (contents : Contents) (source : Source) (bytes : List ℕ) → IsSourceTold contents source → HasBytes contents source bytes → IsLarge contents source → ⊥
+fits_model contents (File path) bytes told read large = not_large contents path bytes told.0 told.1 read large
+fits_model contents (Generator n) bytes told read large = large
+
+module _ (law : HasOneLoad) (contents : Contents) (source : Source) (told : IsSourceTold contents source) where
+  -- A model has one setting.
+  pub model_once : (s t : Setting) → HasModel contents source s → HasModel contents source t → s ≡ t
   model_once s t p q =
-      let same : q.bytes ≡ p.bytes = same_read contents model held p.bytes q.bytes told p.reads q.reads in
+      let same : q.bytes ≡ p.bytes = same_model contents source p.bytes q.bytes told p.reads q.reads in
       law.setting p.bytes s t p.loads.reads (subst (λ (bytes : List ℕ). Reads bytes t) same q.loads.reads)
 
   -- Nothing is wrong with a model that loads.
-  fault_or_loads : (bytes : List ℕ) (fault : LoadFault) (s : Setting) → ReadsWhole contents model 16777216 bytes → IsLoadFault bytes fault → HasModel contents model s → ⊥
+  fault_or_loads : (bytes : List ℕ) (fault : LoadFault) (s : Setting) → HasBytes contents source bytes → IsLoadFault bytes fault → HasModel contents source s → ⊥
   fault_or_loads bytes fault s reads wrong has =
-      let same : has.bytes ≡ bytes = same_read contents model held bytes has.bytes told reads has.reads in
+      let same : has.bytes ≡ bytes = same_model contents source bytes has.bytes told reads has.reads in
       law.apart bytes s fault (subst (λ (read : List ℕ). ReadsSetting read s []) same has.loads) wrong
 
 -- ---- two answers
 
-abbrev pub IsJournal : Answer → Type 0
-IsJournal a = (text : List ℕ) × (ended : Ended) × (a ≡ Journal text ended)
-
--- Two answers have one status, or both are journals.
+-- Two answers have one status, or both are of runs.
 abbrev pub AreAlike : Answer → Answer → Type 0
-AreAlike a b = (code_of a ≡ code_of b) ⊎ (IsJournal a × IsJournal b)
+AreAlike a b = (code_of a ≡ code_of b) ⊎ (IsOfRun a × IsOfRun b)
 
 same_code : (a b x y : Answer) → code_of x ≡ code_of y → a ≡ x → b ≡ y → AreAlike a b
 same_code a b x y same e f = inl (ap code_of e ∙ same ∙ sym (ap code_of f))
+
+of_run : (a b : Answer) → a ≡ b → IsOfRun b → IsOfRun a
+of_run a b e run = subst IsOfRun (sym e) run
+
+-- What is said of a generated model's run is of a run.
+generated_of_run : (n : ℕ) (J : List Entry) (text : List ℕ) (ended : Ended) → IsOfRun (answer_to_run n J text ended)
+generated_of_run n J text ends.Quiet = tt
+generated_of_run n J text ends.Limit = tt
 
 run_once : (s : Setting) (options : Options) (names : List (List ℕ)) (a b : Answer) → IsDueForRun s options names a → IsDueForRun s options names b → AreAlike a b
 run_once s options names a b (unfit none e) (unfit also f) = same_code a b Usage Usage refl e f
 run_once s options names a b (unfit none e) (ran stimuli text ended are is f) = absurd (none stimuli are)
 run_once s options names a b (ran stimuli text ended are is e) (unfit none f) = absurd (none stimuli are)
-run_once s options names a b (ran stimuli text ended are is e) (ran others also ends they so f) = inr ((text, ended, e), (also, ends, f))
+run_once s options names a b (ran stimuli text ended are is e) (ran others also ends they so f) = inr (of_run a (Journal text ended) e tt, of_run b (Journal also ends) f tt)
+
+generated_once : (s : Setting) (n : ℕ) (a b : Answer) → IsDueForGenerated s n a → IsDueForGenerated s n b → AreAlike a b
+generated_once s n a b (unknown not e) (unknown also f) = same_code a b Usage Usage refl e f
+generated_once s n a b (unknown not e) (counted text ended known run f) = absurd (not known)
+generated_once s n a b (counted text ended known run e) (unknown not f) = absurd (not known)
+generated_once s n a b (counted text ended known run e) (counted also ends they so f) =
+    inr (of_run a (answer_to_run n run.journal text ended) e (generated_of_run n run.journal text ended), of_run b (answer_to_run n so.journal also ends) f (generated_of_run n so.journal also ends))
 
 -- ---- the words
 
 module _ (law : HasOneLoad) (words : List (List ℕ)) (contents : Contents) (told : IsTold words contents) where
-  model_told : (meaning : Meaning) → Means words meaning → (held : List ℕ) × (contents (model_of meaning) ≡ Some held)
-  model_told meaning means = told_bytes (contents (model_of meaning)) (told (model_of meaning) (model_named words meaning means))
+  source_told : (meaning : Meaning) → Means words meaning → (source : Source) → source_of meaning ≡ source → IsSourceTold contents source
+  source_told meaning means (File path) is = told_bytes (contents path) (told path (model_named words meaning path means is))
+  source_told meaning means (Generator n) is = tt
+
+  model_told : (meaning : Meaning) → Means words meaning → IsSourceTold contents (source_of meaning)
+  model_told meaning means = source_told meaning means (source_of meaning) refl
 
   -- the same of what is told for the other reading of the words
   moved : (P : Meaning → Type 0) (a b : Meaning) → Means words a → Means words b → P b → P a
@@ -107,27 +140,25 @@ module _ (law : HasOneLoad) (words : List (List ℕ)) (contents : Contents) (tol
   model_answer_once (Runs o m names) s a b means p d = run_once s o names a b p d
   model_answer_once (Checks m) s a b means p d = same_code a b WellFormed WellFormed refl p d
   model_answer_once (Prints m) s a b means p d = same_code a b (Flat (flat_text s)) (Flat (flat_text s)) refl p d
+  model_answer_once (Generates n) s a b means p d = generated_once s n a b p d
 
-  size_or_fault : (a b : Meaning) (bytes : List ℕ) → Means words a → Means words b → HoldsMore contents (model_of a) 16777216 → ReadsWhole contents (model_of b) 16777216 bytes → ⊥
+  size_or_fault : (a b : Meaning) (bytes : List ℕ) → Means words a → Means words b → IsLarge contents (source_of a) → HasBytes contents (source_of b) bytes → ⊥
   size_or_fault a b bytes p q more reads =
-      let model = model_told a p in
-      not_large contents (model_of a) bytes model.0 model.1 (moved (λ m. ReadsWhole contents (model_of m) 16777216 bytes) a b p q reads) more
+      fits_model contents (source_of a) bytes (model_told a p) (moved (λ m. HasBytes contents (source_of m) bytes) a b p q reads) more
 
-  size_or_loads : (a b : Meaning) (s : Setting) → Means words a → Means words b → HoldsMore contents (model_of a) 16777216 → HasModel contents (model_of b) s → ⊥
+  size_or_loads : (a b : Meaning) (s : Setting) → Means words a → Means words b → IsLarge contents (source_of a) → HasModel contents (source_of b) s → ⊥
   size_or_loads a b s p q more has = size_or_fault a b has.bytes p q more has.reads
 
-  faults_or_loads : (a b : Meaning) (bytes : List ℕ) (fault : LoadFault) (s : Setting) → Means words a → Means words b → ReadsWhole contents (model_of a) 16777216 bytes → IsLoadFault bytes fault
-      → HasModel contents (model_of b) s → ⊥
+  faults_or_loads : (a b : Meaning) (bytes : List ℕ) (fault : LoadFault) (s : Setting) → Means words a → Means words b → HasBytes contents (source_of a) bytes → IsLoadFault bytes fault
+      → HasModel contents (source_of b) s → ⊥
   faults_or_loads a b bytes fault s p q reads wrong has =
-      let model = model_told a p in
-      fault_or_loads law contents (model_of a) model.0 model.1 bytes fault s reads wrong (moved (λ m. HasModel contents (model_of m) s) a b p q has)
+      fault_or_loads law contents (source_of a) (model_told a p) bytes fault s reads wrong (moved (λ m. HasModel contents (source_of m) s) a b p q has)
 
-  model_or_model : (a b : Meaning) (s t : Setting) (r q : Answer) → Means words a → Means words b → HasModel contents (model_of a) s → HasModel contents (model_of b) t
+  model_or_model : (a b : Meaning) (s t : Setting) (r q : Answer) → Means words a → Means words b → HasModel contents (source_of a) s → HasModel contents (source_of b) t
       → IsDueForModel contents s a r → IsDueForModel contents t b q → AreAlike r q
   model_or_model a b s t r q p o has also due done =
-      let model = model_told a p in
-      let here = moved (λ m. HasModel contents (model_of m) t) a b p o also in
-      let same = model_once law contents (model_of a) model.0 model.1 t s here has in
+      let here = moved (λ m. HasModel contents (source_of m) t) a b p o also in
+      let same = model_once law contents (source_of a) (model_told a p) t s here has in
       model_answer_once a s r q p due (subst (λ (x : Setting). IsDueForModel contents x a q) same (moved (λ m. IsDueForModel contents t m q) a b p o done))
 
   -- Two answers that are owed are alike.
@@ -149,16 +180,24 @@ module _ (law : HasOneLoad) (words : List (List ℕ)) (contents : Contents) (tol
   owed_once r q (on_model a s p has due) (bad_model b bytes fault o reads wrong f) = absurd (faults_or_loads b a bytes fault s o p reads wrong has)
   owed_once r q (on_model a s p has due) (on_model b t o also done) = model_or_model a b s t r q p o has also due done
 
-  -- Where a run is owed, a journal comes.
-  pub run_answered : (a : Answer) (options : Options) (model : List ℕ) (names : List (List ℕ)) (s : Setting) (stimuli : List Stimulus) → IsOwed words contents a → Means words (Runs options model names)
-      → HasModel contents model s → AreStimuli s names stimuli → IsJournal a
-  run_answered a options model names s stimuli (usage none e) is has are = absurd (none (Runs options model names) is)
-  run_answered a options model names s stimuli (large_model b o more e) is has are = absurd (size_or_loads b (Runs options model names) s o is more has)
-  run_answered a options model names s stimuli (bad_model b bytes fault o reads wrong e) is has are = absurd (faults_or_loads b (Runs options model names) bytes fault s o is reads wrong has)
-  run_answered a options model names s stimuli (on_model b t o also due) is has are =
-      let model_is = model_told (Runs options model names) is in
-      let same = model_once law contents model model_is.0 model_is.1 t s (moved (λ m. HasModel contents (model_of m) t) (Runs options model names) b is o also) has in
-      by_run (subst (λ (x : Setting). IsDueForModel contents x (Runs options model names) a) same (moved (λ m. IsDueForModel contents t m a) (Runs options model names) b is o due)) where
-        by_run : IsDueForRun s options names a → IsJournal a
-        by_run (unfit none e) = absurd (none stimuli are)
-        by_run (ran others text ended they so e) = (text, ended, e)
+  -- On a model that breaks no rule, what is owed is what its command owes.
+  due_for : (m : Meaning) (s : Setting) (a : Answer) → Means words m → HasModel contents (source_of m) s → IsOwed words contents a → IsDueForModel contents s m a
+  due_for m s a is has (usage none e) = absurd (none m is)
+  due_for m s a is has (large_model b o more e) = absurd (size_or_loads b m s o is more has)
+  due_for m s a is has (bad_model b bytes fault o reads wrong e) = absurd (faults_or_loads b m bytes fault s o is reads wrong has)
+  due_for m s a is has (on_model b t o also due) =
+      let same = model_once law contents (source_of m) (model_told m is) t s (moved (λ x. HasModel contents (source_of x) t) m b is o also) has in
+      subst (λ (x : Setting). IsDueForModel contents x m a) same (moved (λ x. IsDueForModel contents t x a) m b is o due)
+
+  named_answered : (s : Setting) (options : Options) (names : List (List ℕ)) (stimuli : List Stimulus) (a : Answer) → AreStimuli s names stimuli → IsDueForRun s options names a → IsOfRun a
+  named_answered s options names stimuli a are (unfit none e) = absurd (none stimuli are)
+  named_answered s options names stimuli a are (ran others text ended they so e) = of_run a (Journal text ended) e tt
+
+  generated_answered : (s : Setting) (n : ℕ) (stimuli : List Stimulus) (a : Answer) → stimuli ≡ generated_stimuli n → AreKnown s stimuli → IsDueForGenerated s n a → IsOfRun a
+  generated_answered s n stimuli a are known (unknown not e) = absurd (not (subst (λ (t : List Stimulus). AreKnown s t) are known))
+  generated_answered s n stimuli a are known (counted text ended they run e) = of_run a (answer_to_run n run.journal text ended) e (generated_of_run n run.journal text ended)
+
+  -- Where a run is owed, what it came to is what comes.
+  pub run_answered : (a : Answer) (s : Setting) (stimuli : List Stimulus) → IsOwed words contents a → IsRunOwed words contents s stimuli → IsOfRun a
+  run_answered a s stimuli owed (named options model names is has are) = named_answered s options names stimuli a are (due_for (Runs options model names) s a is has owed)
+  run_answered a s stimuli owed (generated n is has are known) = generated_answered s n stimuli a are known (due_for (Generates n) s a is has owed)

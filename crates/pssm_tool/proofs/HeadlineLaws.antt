@@ -11,10 +11,10 @@ use Rattle.pssm_tool.specs.declared.answer.Answer.{Answer}
 use Rattle.pssm_tool.specs.declared.answer.Answer.TheVariants.{Accept}
 use Rattle.pssm_tool.specs.Words.{Judges, Means}
 use Rattle.pssm_tool.specs.Answers.{code_of, IsFailure}
-use Rattle.pssm_tool.specs.Due.{HasModel, judged, IsOwed, on_model, IsTold}
+use Rattle.pssm_tool.specs.Due.{File, HasModel, judged, IsOwed, on_model, IsTold, IsOfRun}
 use Rattle.pssm_tool.specs.Headline.{HoldsPrefix, AcceptsPrefixes, IsContinued}
 use Rattle.pssm_tool.proofs.DueLaws.{model_named}
-use Rattle.pssm_tool.proofs.DueOnce.{IsJournal, told_bytes, HasOneLoad, model_once}
+use Rattle.pssm_tool.proofs.DueOnce.{told_bytes, HasOneLoad, model_once}
 use Rattle.pssm_tool.proofs.AnswerLaws.{exactly_owed}
 
 -- A journal that continues to a complete run is admissible.
@@ -22,12 +22,12 @@ pub prefix_admissible : (setting : Setting) (J : List Entry) → IsPrefixOfRun s
 prefix_admissible setting J (more, run) = IsAdmissible-front (Holds setting) J more run.admissible
 
 module _ (law : HasOneLoad) (words : List (List ℕ)) (contents : Contents) (known : IsTold words contents) (model journal : List ℕ) (setting : Setting)
-    (is : Means words (Judges model journal)) (has : HasModel contents model setting) where
+    (is : Means words (Judges model journal)) (has : HasModel contents (File model) setting) where
   -- An accepted journal is a prefix of a complete run.
   continued_is_prefix : IsContinued contents model journal → HoldsPrefix contents journal setting
   continued_is_prefix h =
-      let held = told_bytes (contents model) (known model (model_named words (Judges model journal) is)) in
-      let same : h.setting ≡ setting = model_once law contents model held.0 held.1 h.setting setting h.model_is has in
+      let held = told_bytes (contents model) (known model (model_named words (Judges model journal) model is refl)) in
+      let same : h.setting ≡ setting = model_once law contents (File model) held h.setting setting h.model_is has in
       subst (λ s. HoldsPrefix contents journal s) same (h.entries, h.holds, (h.completes.2.more, h.completes.2.run))
 
   -- A prefix of a complete run is owed its acceptance.
@@ -47,11 +47,11 @@ module _ (law : HasOneLoad) (words : List (List ℕ)) (contents : Contents) (kno
       } in
       on_model (Judges model journal) setting is has (judged h.1.bytes (Accepted (length h.0)) h.1.reads accepted refl)
 
--- An acceptance is no journal of a run.
-no_journal : (n code : ℕ) → (code ≡ 0) ⊎ IsFailure code ⊎ IsJournal (Accept n) → (code ≡ 0) ⊎ IsFailure code
-no_journal n code (inl zero) = inl zero
-no_journal n code (inr (inl failure)) = inr failure
-no_journal n code (inr (inr journal)) = let e = journal.2 in absurd cc
+-- An acceptance is not of a run.
+no_run : (n code : ℕ) → (code ≡ 0) ⊎ IsFailure code ⊎ IsOfRun (Accept n) → (code ≡ 0) ⊎ IsFailure code
+no_run n code (inl zero) = inl zero
+no_run n code (inr (inl failure)) = inr failure
+no_run n code (inr (inr run)) = absurd run
 
 -- What comes is exact in both directions.
 pub accepts_prefixes : {P : Type 0} (law : HasOneLoad) (words : List (List ℕ)) (contents : Contents) (code : ℕ) (came : Answer) → IsTold words contents → IsOwed words contents came
@@ -59,5 +59,5 @@ pub accepts_prefixes : {P : Type 0} (law : HasOneLoad) (words : List (List ℕ))
     → (code ≡ 0 → (model journal : List ℕ) → Means words (Judges model journal) → IsContinued contents model journal) → AcceptsPrefixes words contents code
 accepts_prefixes law words contents code came known owed told continued model journal setting is has = (
   λ zero. continued_is_prefix law words contents known model journal setting is has (continued zero model journal is),
-  λ h. no_journal (length h.0) code (exactly_owed law words contents code came (Accept (length h.0)) known owed told (prefix_is_owed law words contents known model journal setting is has h)),
+  λ h. no_run (length h.0) code (exactly_owed law words contents code came (Accept (length h.0)) known owed told (prefix_is_owed law words contents known model journal setting is has h)),
 )

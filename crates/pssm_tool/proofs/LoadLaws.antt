@@ -1,6 +1,6 @@
 -- How a model that is not there is told.
 use Rattle.std.proofs.Common.{◌≡◌, ◌≢◌, ◌⊎◌, ℕ, List, [], Result, Ok, Err, IfOk, IfErr, refl, sym, subst, inl, inr}
-use Rattle.pssm_base.specs.Reading.{Contents, ReadsWhole}
+use Rattle.pssm_base.specs.Reading.{Contents}
 use Rattle.pssm_semantics.specs.declared.setting.Setting.{Setting}
 use Rattle.pssm_load.specs.declared.fault.LoadFault.{LoadFault}
 use Rattle.pssm_load.specs.declared.fault.LoadFault.TheVariants.{NoMemory}
@@ -9,19 +9,19 @@ use Rattle.pssm_tool.specs.declared.answer.Answer.{Answer}
 use Rattle.pssm_tool.specs.declared.answer.Answer.TheVariants.{BadModel}
 use Rattle.pssm_tool.specs.declared.failure.Failure.{Failure}
 use Rattle.pssm_tool.specs.declared.failure.Failure.TheVariants as failures
-use Rattle.pssm_tool.specs.Due.{HasModel}
+use Rattle.pssm_tool.specs.Due.{Source, HasBytes, HasModel}
 use Rattle.pssm_tool.specs.inner.Failures.{LacksModel, has_fault, FailedAt, IsFound}
 
 -- What is wrong with bytes.
 abbrev pub IsWrong : List ℕ → LoadFault → Type 0
 IsWrong bytes fault = (fault ≡ NoMemory) ⊎ IsLoadFault bytes fault
 
--- ---- the path
+-- ---- the model
 
--- What is wrong with the bytes of the path, where it is not want of memory.
-pub lacks_by_fault : (contents : Contents) (path bytes : List ℕ) (fault : LoadFault) → ReadsWhole contents path 16777216 bytes → IsWrong bytes fault → fault ≢ NoMemory → LacksModel contents path (BadModel fault)
-lacks_by_fault contents path bytes fault reads (inl none) other = absurd (other none)
-lacks_by_fault contents path bytes fault reads (inr wrong) other = has_fault bytes fault reads wrong refl
+-- What is wrong with the bytes of a model, where it is not want of memory.
+pub lacks_by_fault : (contents : Contents) (source : Source) (bytes : List ℕ) (fault : LoadFault) → HasBytes contents source bytes → IsWrong bytes fault → fault ≢ NoMemory → LacksModel contents source (BadModel fault)
+lacks_by_fault contents source bytes fault reads (inl none) other = absurd (other none)
+lacks_by_fault contents source bytes fault reads (inr wrong) other = has_fault bytes fault reads wrong refl
 
 -- what comes of a setting that was loaded, of want of memory, and of any other fault
 by_found : (P : Result (Result Setting Answer) Failure → Type 0) (loaded : Result Setting LoadFault) (told : Result (Result Setting Answer) Failure) → IfOk loaded (λ s. P (Ok (Ok s)))
@@ -60,11 +60,11 @@ pub found_failed : (before after : ℕ) (loaded : Result Setting LoadFault) (tol
 found_failed before after loaded told is =
     by_found (λ r. IfErr r (FailedAt before after)) loaded told (if_ok loaded (λ s u. tt) (no_setting loaded)) (if_err loaded (λ e u. λ other. tt) (no_fault loaded)) tt is
 
--- ---- what the functions say of a path
+-- ---- what the functions say of a model
 
-pub path_loads : (contents : Contents) (path bytes : List ℕ) (loaded : Result Setting LoadFault) → ReadsWhole contents path 16777216 bytes → IfOk loaded (λ s. ReadsSetting bytes s []) → IfOk loaded (HasModel contents path)
-path_loads contents path bytes loaded reads loads = if_ok loaded (λ s p. let has : HasModel contents path s = record { bytes = bytes; reads = reads; loads = p } in has) loads
+pub model_loads : (contents : Contents) (source : Source) (bytes : List ℕ) (loaded : Result Setting LoadFault) → HasBytes contents source bytes → IfOk loaded (λ s. ReadsSetting bytes s []) → IfOk loaded (HasModel contents source)
+model_loads contents source bytes loaded reads loads = if_ok loaded (λ s p. let has : HasModel contents source s = record { bytes = bytes; reads = reads; loads = p } in has) loads
 
-pub path_lacks : (contents : Contents) (path bytes : List ℕ) (loaded : Result Setting LoadFault) → ReadsWhole contents path 16777216 bytes → IfErr loaded (IsWrong bytes)
-    → IfErr loaded (λ fault. fault ≢ NoMemory → LacksModel contents path (BadModel fault))
-path_lacks contents path bytes loaded reads wrong = if_err loaded (λ fault w. lacks_by_fault contents path bytes fault reads w) wrong
+pub model_lacks : (contents : Contents) (source : Source) (bytes : List ℕ) (loaded : Result Setting LoadFault) → HasBytes contents source bytes → IfErr loaded (IsWrong bytes)
+    → IfErr loaded (λ fault. fault ≢ NoMemory → LacksModel contents source (BadModel fault))
+model_lacks contents source bytes loaded reads wrong = if_err loaded (λ fault w. lacks_by_fault contents source bytes fault reads w) wrong

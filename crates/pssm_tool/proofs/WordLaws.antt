@@ -1,9 +1,10 @@
 -- That words mean one thing at most.
-use Rattle.std.proofs.Common.{◌≡◌, ◌<◌, ◌≤◌, ◌-◌, ◌^◌, ℕ, get_or, List, [], ◌∷◌, length, take, drop, codes, refl, sym, ap, ◌∙◌, arith, String, string_bytes, Bool, true, false, Option, Some, None}
+use Rattle.std.proofs.Common.{◌≡◌, ◌<◌, ◌≤◌, ◌-◌, ◌^◌, ℕ, get_or, List, [], ◌∷◌, length, take, drop, codes, refl, sym, ap, subst, ◌∙◌, arith, String, string_bytes, Bool, true, false, Option, Some, None}
 use Rattle.std.specs.declared.alloc.Global.{Global}
 use Rattle.pssm_tool.specs.declared.run_words.Options.{Options}
 use Rattle.clap.specs.Words.{Row, first_of, matches_of}
-use Rattle.pssm_tool.specs.Words.{texts, BeginWith, HasNumber, HasOptions, IsRun, run_command, Meaning, Judges, Runs, Checks, Prints, Means, IsUsage}
+use Rattle.pssm_spelling.specs.Numbers.{IsNumber}
+use Rattle.pssm_tool.specs.Words.{texts, BeginWith, HasNumber, HasOptions, IsRun, IsGen, run_command, Meaning, Judges, Runs, Checks, Prints, Generates, Means, IsUsage}
 use Rattle.pssm_spelling.proofs.WordNumbers.{one_number}
 
 all_taken : {X : Type 0} (xs : List X) → take (length xs) xs ≡ xs
@@ -59,6 +60,10 @@ pub limit_low : (words : List (List ℕ)) (options : Options) (model : List ℕ)
 limit_low words options model stimuli run =
     low_number 0 1000000 10000 (first_of (codes "limit") (matches_of run_command words)) options.limit (omega arith) run.asks.numbers.limit
 
+-- The number of `gen` is in its range.
+pub gen_in_range : (words : List (List ℕ)) (n : ℕ) → IsGen words n → (1 ≤ n) × (n ≤ 4000)
+gen_in_range words n gen = (gen.number.low, gen.number.high)
+
 -- ---- one meaning
 
 -- the word that says which command it is
@@ -67,12 +72,14 @@ verb_of (Judges model journal) = codes "judge"
 verb_of (Runs options model stimuli) = codes "run"
 verb_of (Checks model) = codes "check"
 verb_of (Prints model) = codes "flat"
+verb_of (Generates n) = codes "gen"
 
 begins : (words : List (List ℕ)) (meaning : Meaning) → Means words meaning → BeginWith words (verb_of meaning)
 begins words (Judges model journal) is = (model ∷ journal ∷ [], is)
 begins words (Runs options model stimuli) is = is.verb
 begins words (Checks model) is = (model ∷ [], is)
 begins words (Prints model) is = (model ∷ [], is)
+begins words (Generates n) is = (is.word ∷ [], is.two)
 
 one_begin : (words : List (List ℕ)) (v w : List ℕ) → BeginWith words v → BeginWith words w → v ≡ w
 one_begin words v w p q = let e : v ∷ p.0 ≡ w ∷ q.0 = sym p.1 ∙ q.1 in cc
@@ -88,6 +95,14 @@ no_run words run none (Runs options model stimuli) is = none options model stimu
 no_run words run none (Judges model journal) is = let e : codes "run" ≡ codes "judge" = one_begin words (codes "run") (codes "judge") run (model ∷ journal ∷ [], is) in cc
 no_run words run none (Checks model) is = let e : codes "run" ≡ codes "check" = one_begin words (codes "run") (codes "check") run (model ∷ [], is) in cc
 no_run words run none (Prints model) is = let e : codes "run" ≡ codes "flat" = one_begin words (codes "run") (codes "flat") run (model ∷ [], is) in cc
+no_run words run none (Generates n) is = let e : codes "run" ≡ codes "gen" = one_begin words (codes "run") (codes "gen") run (is.word ∷ [], is.two) in cc
+
+-- Words spell one number.
+one_gen : (words : List (List ℕ)) (k n : ℕ) → IsGen words k → IsGen words n → Generates k ≡ Generates n
+one_gen words k n p q =
+    let both : codes "gen" ∷ p.word ∷ [] ≡ codes "gen" ∷ q.word ∷ [] = sym p.two ∙ q.two in
+    let same : p.word ≡ q.word = cc in
+    ap Generates (one_number q.word 1 4000 k n (omega arith) (subst (λ (w : List ℕ). IsNumber w 1 4000 k) same p.number) q.number)
 
 -- Words mean one thing at most.
 pub one_meaning : (words : List (List ℕ)) (a b : Meaning) → Means words a → Means words b → a ≡ b
@@ -95,6 +110,7 @@ one_meaning words (Judges m j) (Judges n k) p q = let e : codes "judge" ∷ m �
 one_meaning words (Runs o m s) (Runs k n t) p q = one_run words o k m n s t p q
 one_meaning words (Checks m) (Checks n) p q = let e : codes "check" ∷ m ∷ [] ≡ codes "check" ∷ n ∷ [] = sym p ∙ q in cc
 one_meaning words (Prints m) (Prints n) p q = let e : codes "flat" ∷ m ∷ [] ≡ codes "flat" ∷ n ∷ [] = sym p ∙ q in cc
+one_meaning words (Generates k) (Generates n) p q = one_gen words k n p q
 one_meaning words (Judges m j) (Runs o n s) p q = let e : codes "judge" ≡ codes "run" = one_verb words (Judges m j) (Runs o n s) p q in cc
 one_meaning words (Judges m j) (Checks n) p q = let e : codes "judge" ≡ codes "check" = one_verb words (Judges m j) (Checks n) p q in cc
 one_meaning words (Judges m j) (Prints n) p q = let e : codes "judge" ≡ codes "flat" = one_verb words (Judges m j) (Prints n) p q in cc
@@ -107,3 +123,11 @@ one_meaning words (Checks m) (Prints n) p q = let e : codes "check" ≡ codes "f
 one_meaning words (Prints m) (Judges n j) p q = let e : codes "flat" ≡ codes "judge" = one_verb words (Prints m) (Judges n j) p q in cc
 one_meaning words (Prints m) (Runs o n s) p q = let e : codes "flat" ≡ codes "run" = one_verb words (Prints m) (Runs o n s) p q in cc
 one_meaning words (Prints m) (Checks n) p q = let e : codes "flat" ≡ codes "check" = one_verb words (Prints m) (Checks n) p q in cc
+one_meaning words (Judges m j) (Generates k) p q = let e : codes "judge" ≡ codes "gen" = one_verb words (Judges m j) (Generates k) p q in cc
+one_meaning words (Runs o m s) (Generates k) p q = let e : codes "run" ≡ codes "gen" = one_verb words (Runs o m s) (Generates k) p q in cc
+one_meaning words (Checks m) (Generates k) p q = let e : codes "check" ≡ codes "gen" = one_verb words (Checks m) (Generates k) p q in cc
+one_meaning words (Prints m) (Generates k) p q = let e : codes "flat" ≡ codes "gen" = one_verb words (Prints m) (Generates k) p q in cc
+one_meaning words (Generates k) (Judges n j) p q = let e : codes "gen" ≡ codes "judge" = one_verb words (Generates k) (Judges n j) p q in cc
+one_meaning words (Generates k) (Runs o n s) p q = let e : codes "gen" ≡ codes "run" = one_verb words (Generates k) (Runs o n s) p q in cc
+one_meaning words (Generates k) (Checks n) p q = let e : codes "gen" ≡ codes "check" = one_verb words (Generates k) (Checks n) p q in cc
+one_meaning words (Generates k) (Prints n) p q = let e : codes "gen" ≡ codes "flat" = one_verb words (Generates k) (Prints n) p q in cc

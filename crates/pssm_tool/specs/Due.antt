@@ -1,11 +1,11 @@
 -- What the program owes for its words and files: first the words decide, then the model, then the stimuli, and then the journal or the run.
 -- A model stands in a file, or is the generated one of a number.
 use Rattle.std.specs.Prelude.{◌≡◌, ◌⊎◌, ℕ, List, [], length, Option, IsSome}
-use Rattle.std.specs.List.{AllByRecursion}
 use Rattle.std.specs.Io.KnownBytes.{Appends}
 use Rattle.sha2.specs.Sha256.{sha256}
 use Rattle.pssm_base.specs.Faults.{Rose}
 use Rattle.pssm_base.specs.Reading.{Contents, ReadsWhole, HoldsMore}
+use Rattle.pssm_semantics.specs.declared.entry.Entry.{Entry}
 use Rattle.pssm_semantics.specs.declared.setting.Setting.{Setting}
 use Rattle.pssm_semantics.specs.declared.stimulus.Stimulus.{Stimulus}
 use Rattle.pssm_flat.specs.Text.{flat_text}
@@ -21,7 +21,7 @@ use Rattle.pssm_tool.specs.declared.answer.Answer.TheVariants.{Accept, Refuse, L
 use Rattle.pssm_tool.specs.declared.run.Ended.{Ended}
 use Rattle.pssm_tool.specs.declared.run.Ended.TheVariants as ends
 use Rattle.pssm_tool.specs.Words.{Meaning, Judges, Runs, Checks, Prints, Generates, Means, IsUsage}
-use Rattle.pssm_tool.specs.Stimuli.{IsKnown, AreStimuli}
+use Rattle.pssm_tool.specs.Stimuli.{AreKnown, AreStimuli}
 use Rattle.pssm_tool.specs.RunTexts.{IsRunText, take_count}
 use Rattle.pssm_tool.specs.Answers.{text_of}
 
@@ -105,14 +105,18 @@ pub data IsDueForRun (setting : Setting) (options : Options) (names : List (List
   ran : (stimuli : List Stimulus) (text : List ℕ) (ended : Ended) → AreStimuli setting names stimuli → IsRunText setting stimuli options.limit text ended
       → answer ≡ Journal text ended → IsDueForRun setting options names answer
 
--- The answer is owed for a run of a generated model with the stimuli for it, and with the limit of a million entries: the line on its journal.
--- (That the stimuli fit, and that the journal is never full, is not proved yet: until then the first two cases say what came if it were otherwise.)
+-- what is said of the run of a generated model: the line on its journal
+-- (That the journal is never full is not proved yet: one that is full would be written itself.)
+abbrev pub answer_to_run : ℕ → List Entry → List ℕ → Ended → Answer
+answer_to_run n J text ends.Quiet = Generated n (length J) (take_count J) (sha256 text)
+answer_to_run n J text ends.Limit = Journal text ends.Limit
+
+-- The answer is owed for a run of a generated model with the stimuli for it, and with a limit of a million entries.
+-- (That the stimuli fit the model is not proved yet.)
 pub data IsDueForGenerated (setting : Setting) (n : ℕ) (answer : Answer) : Type 0 where
-  unfit : (AllByRecursion (IsKnown setting) (generated_stimuli n) → ⊥) → answer ≡ Usage → IsDueForGenerated setting n answer
-  full : (text : List ℕ) → IsRunText setting (generated_stimuli n) most_entries text ends.Limit → answer ≡ Journal text ends.Limit
-      → IsDueForGenerated setting n answer
-  quiet : (text : List ℕ) (run : IsRunText setting (generated_stimuli n) most_entries text ends.Quiet)
-      → answer ≡ Generated n (length run.journal) (take_count run.journal) (sha256 text) → IsDueForGenerated setting n answer
+  unknown : (AreKnown setting (generated_stimuli n) → ⊥) → answer ≡ Usage → IsDueForGenerated setting n answer
+  counted : (text : List ℕ) (ended : Ended) → AreKnown setting (generated_stimuli n)
+      → (run : IsRunText setting (generated_stimuli n) most_entries text ended) → answer ≡ answer_to_run n run.journal text ended → IsDueForGenerated setting n answer
 
 -- The answer is owed for a command on a model that breaks no rule.
 abbrev pub IsDueForModel : Contents → Setting → Meaning → Answer → Type 0
@@ -142,7 +146,7 @@ pub data IsRunOwed (words : List (List ℕ)) (contents : Contents) (setting : Se
   named : (options : Options) (model : List ℕ) (names : List (List ℕ)) → Means words (Runs options model names) → HasModel contents (File model) setting
       → AreStimuli setting names stimuli → IsRunOwed words contents setting stimuli
   generated : (n : ℕ) → Means words (Generates n) → HasModel contents (Generator n) setting → stimuli ≡ generated_stimuli n
-      → AllByRecursion (IsKnown setting) stimuli → IsRunOwed words contents setting stimuli
+      → AreKnown setting stimuli → IsRunOwed words contents setting stimuli
 
 -- The answer is what a run came to: its journal, or the line on it. (Which of the runs that may be it was, the words do not tell.)
 abbrev pub IsOfRun : Answer → Type 0

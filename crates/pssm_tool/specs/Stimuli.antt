@@ -1,5 +1,6 @@
 -- The stimuli that words name in a setting.
 use Rattle.std.specs.Prelude.{ℕ, ℤ, List, [], ◌∷◌}
+use Rattle.std.specs.List.{AllByRecursion}
 use Rattle.pssm_semantics.specs.declared.entry.Entry.{Entry}
 use Rattle.pssm_semantics.specs.declared.entry.Entry.TheVariants.{Post}
 use Rattle.pssm_semantics.specs.declared.line.Line.TheVariants as lines
@@ -15,6 +16,10 @@ post_of x = Post x.object x.signal x.args
 -- What the stimulus names is the setting's, and its signal has as many parameters as it has arguments.
 abbrev pub IsKnown : Setting → Stimulus → Type 0
 IsKnown setting x = KeepsNames setting (post_of x)
+
+-- All are known.
+abbrev pub AreKnown : Setting → List Stimulus → Type 0
+AreKnown setting stimuli = AllByRecursion (IsKnown setting) stimuli
 
 -- The line that has the word after `post` writes the entry that posts the stimulus, and all that it names is the setting's;
 -- the signal has as many parameters as the word has numbers.

@@ -151,8 +151,8 @@ const MOST_ENTRIES: u32 = 1_000_000;
 pub fn generate_and_run(alloc: Global, number: u16) -> Result<Answer, Failure>
     requires some { 1 ≤ number }
     requires few { number ≤ 4000 }
-    ensures owed { IfOk result (λ answer. (words : List (List ℕ)) (contents : Contents) → Means words (Generates number)
-        → IsOwed words contents answer) }
+    ensures owed { IfOk result (λ answer. (words : List (List ℕ)) → Means words (Generates number)
+        → (contents : Contents) → IsOwed words contents answer) }
     ensures goes_on { IfOk result (λ answer. (words : List (List ℕ)) (contents : Contents) → GoesOn words contents answer) }
     ensures failed { IfErr result (λ failure. failure ≡ Failure.NoMemory) }
 {

@@ -2,8 +2,9 @@
 //!
 //! `judge MODEL JOURNAL` says whether a journal of a state machine's run is what UML says, `run MODEL STIMULUS*` runs a
 //! state machine and writes the journal, `check MODEL` says what is wrong with a model, `flat MODEL` writes its flat
-//! text, and `gen N` runs a generated model. A model is in the flat form, or a model file as an editor writes it. [`pssm`] does all of it, over inputs
-//! and a sink that it is handed; its clauses are what the program promises.
+//! text, and `gen N` runs a generated model and says what its journal comes to. A model is in the flat form, or a model
+//! file as an editor writes it. [`pssm`] does all of it, over inputs and a sink that it is handed; its clauses are what
+//! the program promises.
 #![tactic(auto)]
 
 mod answer;

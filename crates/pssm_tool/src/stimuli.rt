@@ -5,7 +5,7 @@ ghost use Rattle.pssm_semantics.specs.declared.stimulus.Stimulus.{Stimulus};
 ghost use Rattle.pssm_semantics.specs.Pool.{posts_of_entry};
 ghost use Rattle.pssm_semantics.specs.Settings.{class_of, HasCount};
 ghost use Rattle.pssm_tool.specs.Words.{lent, IsStimulusText};
-ghost use Rattle.pssm_tool.specs.Stimuli.{IsKnown, Names, AreStimuli};
+ghost use Rattle.pssm_tool.specs.Stimuli.{IsKnown, AreKnown, Names, AreStimuli};
 ghost use Rattle.pssm_tool.specs.inner.Calls.{post_text as post_text_of, IsPost, ShowsCall};
 ghost use Rattle.pssm_tool.specs.inner.Running.{NameNoStimuli};
 
@@ -16,7 +16,7 @@ use std::alloc::{AllocError as NoMemory, Global};
 
 /// Whether what the stimuli name is the setting's, and each has as many arguments as its signal has parameters.
 pub fn are_known(setting: &Setting, stimuli: &[Stimulus]) -> bool
-    ensures { IsTrue result ↔ AllByRecursion (IsKnown setting.now) stimuli.now }
+    ensures { IsTrue result ↔ AreKnown setting.now stimuli.now }
 {
     stimuli.iter().all(|x| is_known(setting, x))
 }

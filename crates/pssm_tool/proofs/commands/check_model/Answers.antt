@@ -1,6 +1,6 @@
 use Rattle.std.proofs.Common.{refl}
 use Rattle.pssm_tool.specs.Words.{Checks}
-use Rattle.pssm_tool.specs.Due.{HasModel, on_model}
+use Rattle.pssm_tool.specs.Due.{File, HasModel, on_model}
 use Rattle.pssm_tool.specs.inner.Failures.{LacksModel}
 use Rattle.pssm_tool.proofs.DueLaws.{lacks_owed, failed_at_model}
 use Rattle.pssm_tool.proofs.commands.check_model.Goals as goal
@@ -8,15 +8,15 @@ use Rattle.pssm_tool.proofs.commands.check_model.Goals as goal
 -- There is no model.
 pub returns-in-Ok-Err-clause-owed : goal.returns-in-Ok-Err-clause-owed
 returns-in-Ok-Err-clause-owed g c = λ words is.
-    let lacks : LacksModel (g.I.Inputs.content c.args.inputs.now) c.args.path.now c.in-Ok-Err.answer = (rw c.in-Ok-Err.field-0-is at c.in-Ok-Err.ensures.lacks) in
+    let lacks : LacksModel (g.I.Inputs.content c.args.inputs.now) (File c.args.path.now) c.in-Ok-Err.answer = (rw c.in-Ok-Err.field-0-is at c.in-Ok-Err.ensures.lacks) in
     (lacks_owed words (Checks c.args.path.now) (g.I.Inputs.content c.args.inputs.now) c.in-Ok-Err.answer is lacks).0
 
 -- Reading the model failed.
 pub returns-in-Err-clause-failed : goal.returns-in-Err-clause-failed
 returns-in-Err-clause-failed g c = λ words is.
-    failed_at_model words (Checks c.args.path.now) (g.I.Inputs.faults c.args.inputs.now) (g.I.Inputs.faults c.model.new.inputs) c.in-Err.failure is c.in-Err.ensures.failed
+    failed_at_model words (Checks c.args.path.now) c.args.path.now (g.I.Inputs.faults c.args.inputs.now) (g.I.Inputs.faults c.model.new.inputs) c.in-Err.failure is refl c.in-Err.ensures.failed
 
 pub returns-in-Ok-Ok-clause-owed : goal.returns-in-Ok-Ok-clause-owed
 returns-in-Ok-Ok-clause-owed g c = λ words is.
-    let has : HasModel (g.I.Inputs.content c.args.inputs.now) c.args.path.now c.in-Ok-Ok._setting = (rw c.in-Ok-Ok.field-0-is at c.in-Ok-Ok.ensures.loads) in
+    let has : HasModel (g.I.Inputs.content c.args.inputs.now) (File c.args.path.now) c.in-Ok-Ok._setting = (rw c.in-Ok-Ok.field-0-is at c.in-Ok-Ok.ensures.loads) in
     on_model (Checks c.args.path.now) c.in-Ok-Ok._setting is has refl

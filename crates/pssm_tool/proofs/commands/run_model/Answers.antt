@@ -7,7 +7,7 @@ use Rattle.pssm_semantics.specs.Names.{HasSpelledNames}
 use Rattle.pssm_semantics.specs.Proper.{IsWellFormed}
 use Rattle.pssm_tool.specs.Words.{lent}
 use Rattle.pssm_tool.specs.inner.Commands.{meaning_of_run}
-use Rattle.pssm_tool.specs.Due.{HasModel, unfit, ran, on_model}
+use Rattle.pssm_tool.specs.Due.{File, HasModel, unfit, ran, on_model}
 use Rattle.pssm_tool.specs.Stimuli.{IsKnown, AreStimuli}
 use Rattle.pssm_tool.specs.inner.Running.{NameNoStimuli}
 use Rattle.pssm_tool.specs.inner.Failures.{LacksModel}
@@ -19,18 +19,18 @@ use Rattle.pssm_tool.proofs.commands.run_model.Goals as goal
 -- There is no model.
 pub returns-in-Ok-Err-clause-owed : goal.returns-in-Ok-Err-clause-owed
 returns-in-Ok-Err-clause-owed g c = λ words is.
-    let lacks : LacksModel (g.I.Inputs.content c.args.inputs.now) c.args.asked.now.model.now c.in-Ok-Err.answer = (rw c.in-Ok-Err.field-0-is at c.in-Ok-Err.ensures.lacks) in
+    let lacks : LacksModel (g.I.Inputs.content c.args.inputs.now) (File c.args.asked.now.model.now) c.in-Ok-Err.answer = (rw c.in-Ok-Err.field-0-is at c.in-Ok-Err.ensures.lacks) in
     (lacks_owed words (meaning_of_run c.args.asked.now) (g.I.Inputs.content c.args.inputs.now) c.in-Ok-Err.answer is lacks).0
 
 -- Reading the model failed.
 pub returns-in-Err-clause-failed : goal.returns-in-Err-clause-failed
 returns-in-Err-clause-failed g c = λ words is.
-    failed_at_model words (meaning_of_run c.args.asked.now) (g.I.Inputs.faults c.args.inputs.now) (g.I.Inputs.faults c.model.new.inputs) c.in-Err.failure is c.in-Err.ensures.failed
+    failed_at_model words (meaning_of_run c.args.asked.now) c.args.asked.now.model.now (g.I.Inputs.faults c.args.inputs.now) (g.I.Inputs.faults c.model.new.inputs) c.in-Err.failure is refl c.in-Err.ensures.failed
 
 -- A stimulus does not fit the model.
 pub returns-in_default-clause-owed : goal.returns-in_default-clause-owed
 returns-in_default-clause-owed g c = λ words is.
-    let has : HasModel (g.I.Inputs.content c.args.inputs.now) c.args.asked.now.model.now c.in-Ok-Ok.setting = (rw c.in-Ok-Ok.field-0-is at c.in-Ok-Ok.ensures.loads) in
+    let has : HasModel (g.I.Inputs.content c.args.inputs.now) (File c.args.asked.now.model.now) c.in-Ok-Ok.setting = (rw c.in-Ok-Ok.field-0-is at c.in-Ok-Ok.ensures.loads) in
     on_model (meaning_of_run c.args.asked.now) c.in-Ok-Ok.setting is has
     (unfit (subst (λ (t : List (Bor (List ℕ))). NameNoStimuli c.in-Ok-Ok.setting (lent t)) c.deref.ensures.value (rw c.in_default.is at c.in_ok-stimuli.ensures.none)) refl)
 
@@ -52,7 +52,7 @@ text_of-text-requires g c =
 
 pub returns-clause-owed : goal.returns-clause-owed
 returns-clause-owed g c = λ words is.
-    let has : HasModel (g.I.Inputs.content c.args.inputs.now) c.args.asked.now.model.now c.in-Ok-Ok.setting = (rw c.in-Ok-Ok.field-0-is at c.in-Ok-Ok.ensures.loads) in
+    let has : HasModel (g.I.Inputs.content c.args.inputs.now) (File c.args.asked.now.model.now) c.in-Ok-Ok.setting = (rw c.in-Ok-Ok.field-0-is at c.in-Ok-Ok.ensures.loads) in
     let named = subst (λ (t : List (Bor (List ℕ))). AreStimuli c.in-Ok-Ok.setting (lent t) c.in-Some.stimuli.items) c.deref.ensures.value (rw c.in-Some.is at c.in_ok-stimuli.ensures.name) in
     let text = run_text c.in-Ok-Ok.setting c.in_ok-system.system.setting c.in-Some.stimuli.items c.as_slice.result.now c.args.asked.now.options.limit c.in_ok-system.system.journal c.in_ok-text.field-0 c.in_ok-system.ended
     c.in_ok-system.ensures.setting c.as_slice.ensures.value (c.in_ok-text.ensures {u = tt}) c.in_ok-system.ensures.ends in

@@ -1,9 +1,11 @@
 use Rattle.std.proofs.Common.{IfSome, subst}
-use Rattle.pssm_tool.specs.Words.{texts, lent, Means, Judges, Checks, Prints}
+use Rattle.pssm_base.specs.Reading.{Contents}
+use Rattle.pssm_tool.specs.Words.{texts, lent, Means, Judges, Checks, Prints, Generates}
 use Rattle.pssm_tool.specs.inner.Commands.{meaning_of, meaning_of_run}
 use Rattle.pssm_tool.specs.Due.{IsOwed}
-use Rattle.pssm_tool.proofs.DueLaws.{at_words}
-use Rattle.pssm_tool.proofs.WordLaws.{limit_low}
+use Rattle.pssm_tool.specs.inner.Failures.{GoesOn}
+use Rattle.pssm_tool.proofs.DueLaws.{at_words, at_any, no_memory_failed}
+use Rattle.pssm_tool.proofs.WordLaws.{limit_low, gen_in_range}
 use Rattle.pssm_tool.proofs.top.answer.Goals as goal
 
 pub returns-in-Some-Judge-clause-owed : goal.returns-in-Some-Judge-clause-owed
@@ -31,3 +33,26 @@ pub returns-in-Some-Flat-clause-owed : goal.returns-in-Some-Flat-clause-owed
 returns-in-Some-Flat-clause-owed g c =
     at_words c.print_model.result (λ w a. IsOwed w (g.I.Inputs.content c.args.inputs.now) a) (texts c.args.words.now) (Prints c.in-Some-Flat.model.now) c.print_model.ensures.owed
     (subst (λ command. Means (texts c.args.words.now) (meaning_of command)) (rw c.in-Some-Flat.is at c.in-Some-Flat.field-0-is) (subst (λ o. IfSome o (λ command. Means (texts c.args.words.now) (meaning_of command))) c.in-Some-Flat.is c.in_ok-command.ensures.reads))
+
+-- The number is in its range.
+pub generate_and_run-requires-clause-some : goal.generate_and_run-requires-clause-some
+generate_and_run-requires-clause-some g c = (gen_in_range (texts c.args.words.now) c.in-Some-Generate.number
+    (subst (λ command. Means (texts c.args.words.now) (meaning_of command)) (rw c.in-Some-Generate.is at c.in-Some-Generate.field-0-is) (subst (λ o. IfSome o (λ command. Means (texts c.args.words.now) (meaning_of command))) c.in-Some-Generate.is c.in_ok-command.ensures.reads))).0
+
+pub generate_and_run-requires-clause-few : goal.generate_and_run-requires-clause-few
+generate_and_run-requires-clause-few g c = (gen_in_range (texts c.args.words.now) c.in-Some-Generate.number
+    (subst (λ command. Means (texts c.args.words.now) (meaning_of command)) (rw c.in-Some-Generate.is at c.in-Some-Generate.field-0-is) (subst (λ o. IfSome o (λ command. Means (texts c.args.words.now) (meaning_of command))) c.in-Some-Generate.is c.in_ok-command.ensures.reads))).1
+
+pub returns-in-Some-Generate-clause-owed : goal.returns-in-Some-Generate-clause-owed
+returns-in-Some-Generate-clause-owed g c =
+    at_any c.generate_and_run.result (λ contents a. IsOwed (texts c.args.words.now) contents a) (g.I.Inputs.content c.args.inputs.now)
+    (at_words c.generate_and_run.result (λ w a. (contents : Contents) → IsOwed w contents a) (texts c.args.words.now) (Generates c.in-Some-Generate.number) c.generate_and_run.ensures.owed
+    (subst (λ command. Means (texts c.args.words.now) (meaning_of command)) (rw c.in-Some-Generate.is at c.in-Some-Generate.field-0-is) (subst (λ o. IfSome o (λ command. Means (texts c.args.words.now) (meaning_of command))) c.in-Some-Generate.is c.in_ok-command.ensures.reads)))
+
+pub returns-in-Some-Generate-clause-goes_on : goal.returns-in-Some-Generate-clause-goes_on
+returns-in-Some-Generate-clause-goes_on g c =
+    at_any c.generate_and_run.result (λ contents a. GoesOn (texts c.args.words.now) contents a) (g.I.Inputs.content c.args.inputs.now)
+    (at_any c.generate_and_run.result (λ w a. (contents : Contents) → GoesOn w contents a) (texts c.args.words.now) c.generate_and_run.ensures.goes_on)
+
+pub returns-in-Some-Generate-clause-failed : goal.returns-in-Some-Generate-clause-failed
+returns-in-Some-Generate-clause-failed g c = no_memory_failed c.generate_and_run.result (texts c.args.words.now) _ _ c.generate_and_run.ensures.failed

@@ -68,9 +68,9 @@ returns-in-Ok-clause-exactly g c answer known due =
 
 -- The run that is owed comes.
 pub returns-in-Ok-clause-runs : goal.returns-in-Ok-clause-runs
-returns-in-Ok-clause-runs g c options model names setting stimuli known is has are =
+returns-in-Ok-clause-runs g c setting stimuli known run =
     let law : HasOneLoad = record { setting = c.one_load.ensures.setting; apart = c.one_load.ensures.apart } in
-    runs_owed law (texts c.args.words.now) (g.I.Inputs.content c.args.inputs.now) c.tell.result.code c.in-Ok.answer options model names setting stimuli known c.in-Ok.ensures.owed c.tell.ensures.told is has are
+    runs_owed law (texts c.args.words.now) (g.I.Inputs.content c.args.inputs.now) c.tell.result.code c.in-Ok.answer setting stimuli known c.in-Ok.ensures.owed c.tell.ensures.told run
 
 -- The journal that was accepted goes on to a complete run.
 pub returns-in-Ok-clause-continued : goal.returns-in-Ok-clause-continued
