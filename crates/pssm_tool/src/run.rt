@@ -5,7 +5,7 @@ ghost use Rattle.std.specs.Option.{option_copied};
 ghost use Rattle.pssm_semantics.specs.Proper.{IsWellFormed};
 ghost use Rattle.pssm_semantics.specs.Pool.{posts_of_entry, outs_of};
 ghost use Rattle.pssm_tool.specs.RunTexts.{EndsRun};
-ghost use Rattle.pssm_tool.specs.Stimuli.{post_of, AreKnown};
+ghost use Rattle.pssm_tool.specs.Stimuli.{post_of, IsKnown, AreKnown};
 ghost use Rattle.pssm_tool.specs.inner.Running.{IsNext, IsOver, IsFullAt};
 
 use pssm_semantics::{Entry, Setting, Stimulus};
