@@ -1,5 +1,5 @@
 -- Something is owed for all words and files.
-use Rattle.std.proofs.Common.{◌≡◌, ◌<◌, ◌≤◌, ℕ, List, [], ◌∷◌, length, refl, sym, subst, inl, inr}
+use Rattle.std.proofs.Common.{◌≡◌, ◌<◌, ◌≤◌, ℕ, List, [], ◌∷◌, length, refl, sym, subst, inl, inr, arith}
 use Rattle.std.specs.Prelude.{Option, Some, IfSome}
 use Rattle.std.proofs.lemmas.Bool.{cases_lt}
 use Rattle.pssm_base.specs.Reading.{Contents, ReadsWhole, HoldsMore}
@@ -15,7 +15,7 @@ use Rattle.pssm_suite.specs.Generated.{generated_text, generated_stimuli}
 use Rattle.pssm_tool.specs.declared.answer.Answer.{Answer}
 use Rattle.pssm_tool.specs.declared.answer.Answer.TheVariants.{WellFormed, Usage, TooLarge, Flat, BadModel}
 use Rattle.pssm_tool.specs.Words.{Meaning, Judges, Runs, Checks, Prints, Generates, Means}
-use Rattle.pssm_tool.specs.Due.{most_bytes, Source, File, Generator, source_of, IsLarge, HasBytes, HasModel, answer_to, large_journal, judged, unfit, unknown, IsOwed, usage, large_model, bad_model, on_model, IsTold, IsRunOwed, named, generated}
+use Rattle.pssm_tool.specs.Due.{most_bytes, Source, File, Generator, source_of, IsLarge, HasBytes, HasModel, answer_to, large_journal, judged, unfit, IsOwed, usage, large_model, bad_model, on_model, IsTold, IsRunOwed, named, generated}
 use Rattle.pssm_tool.proofs.DueLaws.{model_named, journal_named}
 use Rattle.pssm_tool.proofs.DueOnce.{told_bytes}
 use Rattle.pssm_tool.proofs.GeneratedSize.{generated_small}
@@ -56,8 +56,7 @@ module _ (words : List (List ℕ)) (contents : Contents) (told : IsTold words co
   never_loaded (Judges model journal) is setting has = never_judged model journal setting is has
   never_loaded (Runs options model names) is setting has =
       no_answer Usage (on_model (Runs options model names) setting is has (unfit (λ stimuli are. no_run setting stimuli (named options model names is has are)) refl))
-  never_loaded (Generates n) is setting has =
-      no_answer Usage (on_model (Generates n) setting is has (unknown (λ known. no_run setting (generated_stimuli n) (generated n is has refl known)) refl))
+  never_loaded (Generates n) is setting has = no_run setting (generated_stimuli n) (generated n is has refl)
 
   -- A model that was read, with the rules that its machines break.
   never_read : (meaning : Meaning) → Means words meaning → (bytes : List ℕ) → HasBytes contents (source_of meaning) bytes → (setting : Setting) (list : List ClassFault) → ReadsSetting bytes setting list → ⊥

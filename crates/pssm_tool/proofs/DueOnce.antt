@@ -10,16 +10,15 @@ use Rattle.pssm_journal.specs.Judged.{IsJudged}
 use Rattle.pssm_journal.proofs.Judgements.{judged_once}
 use Rattle.pssm_load.specs.declared.fault.LoadFault.{LoadFault}
 use Rattle.pssm_load.specs.Loads.{Reads, ReadsSetting, IsLoadFault}
-use Rattle.pssm_suite.specs.Generated.{generated_stimuli}
 use Rattle.pssm_tool.specs.declared.run_words.Options.{Options}
 use Rattle.pssm_tool.specs.declared.answer.Answer.{Answer}
 use Rattle.pssm_tool.specs.declared.answer.Answer.TheVariants.{WellFormed, Usage, TooLarge, Journal, Flat, BadModel}
 use Rattle.pssm_tool.specs.declared.run.Ended.{Ended}
 use Rattle.pssm_tool.specs.declared.run.Ended.TheVariants as ends
 use Rattle.pssm_tool.specs.Words.{Meaning, Judges, Runs, Checks, Prints, Generates, Means}
-use Rattle.pssm_tool.specs.Stimuli.{AreKnown, AreStimuli}
+use Rattle.pssm_tool.specs.Stimuli.{AreStimuli}
 use Rattle.pssm_tool.specs.Answers.{code_of}
-use Rattle.pssm_tool.specs.Due.{Source, File, Generator, source_of, IsLarge, HasBytes, HasModel, answer_to, IsDueForJournal, large_journal, judged, IsDueForRun, unfit, ran, answer_to_run, IsDueForGenerated, unknown, counted, IsDueForModel, IsOwed, usage, large_model, bad_model, on_model, IsTold, IsRunOwed, named, generated, IsOfRun}
+use Rattle.pssm_tool.specs.Due.{Source, File, Generator, source_of, IsLarge, HasBytes, HasModel, answer_to, IsDueForJournal, large_journal, judged, IsDueForRun, unfit, ran, answer_to_run, IsDueForGenerated, IsDueForModel, IsOwed, usage, large_model, bad_model, on_model, IsTold, IsRunOwed, named, generated, IsOfRun}
 use Rattle.pssm_tool.proofs.WordLaws.{one_meaning}
 use Rattle.pssm_tool.proofs.DueLaws.{model_named, journal_named}
 
@@ -104,6 +103,9 @@ generated_of_run : (n : ℕ) (J : List Entry) (text : List ℕ) (ended : Ended) 
 generated_of_run n J text ends.Quiet = tt
 generated_of_run n J text ends.Limit = tt
 
+generated_answered : (s : Setting) (n : ℕ) (a : Answer) → IsDueForGenerated s n a → IsOfRun a
+generated_answered s n a p = of_run a (answer_to_run n p.run.journal p.text p.ended) p.answered (generated_of_run n p.run.journal p.text p.ended)
+
 run_once : (s : Setting) (options : Options) (names : List (List ℕ)) (a b : Answer) → IsDueForRun s options names a → IsDueForRun s options names b → AreAlike a b
 run_once s options names a b (unfit none e) (unfit also f) = same_code a b Usage Usage refl e f
 run_once s options names a b (unfit none e) (ran stimuli text ended are is f) = absurd (none stimuli are)
@@ -111,11 +113,7 @@ run_once s options names a b (ran stimuli text ended are is e) (unfit none f) = 
 run_once s options names a b (ran stimuli text ended are is e) (ran others also ends they so f) = inr (of_run a (Journal text ended) e tt, of_run b (Journal also ends) f tt)
 
 generated_once : (s : Setting) (n : ℕ) (a b : Answer) → IsDueForGenerated s n a → IsDueForGenerated s n b → AreAlike a b
-generated_once s n a b (unknown not e) (unknown also f) = same_code a b Usage Usage refl e f
-generated_once s n a b (unknown not e) (counted text ended known run f) = absurd (not known)
-generated_once s n a b (counted text ended known run e) (unknown not f) = absurd (not known)
-generated_once s n a b (counted text ended known run e) (counted also ends they so f) =
-    inr (of_run a (answer_to_run n run.journal text ended) e (generated_of_run n run.journal text ended), of_run b (answer_to_run n so.journal also ends) f (generated_of_run n so.journal also ends))
+generated_once s n a b p q = inr (generated_answered s n a p, generated_answered s n b q)
 
 -- ---- the words
 
@@ -193,11 +191,7 @@ module _ (law : HasOneLoad) (words : List (List ℕ)) (contents : Contents) (tol
   named_answered s options names stimuli a are (unfit none e) = absurd (none stimuli are)
   named_answered s options names stimuli a are (ran others text ended they so e) = of_run a (Journal text ended) e tt
 
-  generated_answered : (s : Setting) (n : ℕ) (stimuli : List Stimulus) (a : Answer) → stimuli ≡ generated_stimuli n → AreKnown s stimuli → IsDueForGenerated s n a → IsOfRun a
-  generated_answered s n stimuli a are known (unknown not e) = absurd (not (subst (λ (t : List Stimulus). AreKnown s t) are known))
-  generated_answered s n stimuli a are known (counted text ended they run e) = of_run a (answer_to_run n run.journal text ended) e (generated_of_run n run.journal text ended)
-
   -- Where a run is owed, what it came to is what comes.
   pub run_answered : (a : Answer) (s : Setting) (stimuli : List Stimulus) → IsOwed words contents a → IsRunOwed words contents s stimuli → IsOfRun a
   run_answered a s stimuli owed (named options model names is has are) = named_answered s options names stimuli a are (due_for (Runs options model names) s a is has owed)
-  run_answered a s stimuli owed (generated n is has are known) = generated_answered s n stimuli a are known (due_for (Generates n) s a is has owed)
+  run_answered a s stimuli owed (generated n is has are) = generated_answered s n a (due_for (Generates n) s a is has owed)

@@ -7,7 +7,7 @@ use Rattle.pssm_semantics.specs.declared.setting.Setting.{Setting}
 use Rattle.pssm_semantics.specs.declared.stimulus.Stimulus.{Stimulus}
 use Rattle.pssm_semantics.specs.Rules.{Holds}
 use Rattle.pssm_system.specs.History.{History}
-use Rattle.pssm_tool.specs.inner.Running.{IsNext}
+use Rattle.pssm_tool.specs.inner.Running.{IsKnown, IsNext}
 use Rattle.pssm_tool.specs.Stimuli.{post_of}
 
 post_follows : (setting : Setting) (J : List Entry) (x : Stimulus) → IsKnown setting x → (rule : Rule) → Holds setting rule J (post_of x)

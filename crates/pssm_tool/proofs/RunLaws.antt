@@ -21,8 +21,7 @@ use Rattle.pssm_semantics_laws.proofs.Outcomes.{few_outs}
 use Rattle.pssm_system.specs.History.{History}
 use Rattle.pssm_tool.specs.declared.run.Ended.TheVariants.{Quiet, Limit}
 use Rattle.pssm_tool.specs.RunTexts.{EndsRun}
-use Rattle.pssm_tool.specs.Stimuli.{IsKnown}
-use Rattle.pssm_tool.specs.inner.Running.{IsFullAt, PostsNext, IsNext, IsOver, IsRunning}
+use Rattle.pssm_tool.specs.inner.Running.{IsKnown, IsFullAt, PostsNext, IsNext, IsOver, IsRunning}
 
 -- An entry that may follow has at most 64 sends and marks.
 few_made : (setting : Setting) (J : List Entry) (e : Entry) → IsWellFormed setting → MayFollow setting J e → length (outs_of e) ≤ 64

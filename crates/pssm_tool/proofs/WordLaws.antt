@@ -88,6 +88,9 @@ one_begin words v w p q = let e : v ∷ p.0 ≡ w ∷ q.0 = sym p.1 ∙ q.1 in c
 one_verb : (words : List (List ℕ)) (a b : Meaning) → Means words a → Means words b → verb_of a ≡ verb_of b
 one_verb words a b p q = one_begin words (verb_of a) (verb_of b) (begins words a p) (begins words b q)
 
+run_is_not_gen : codes "run" ≡ codes "gen" → ⊥
+run_is_not_gen e = let first : 114 ≡ 103 = ap (λ (word : List ℕ). get_or word 0 0) e in omega (arith, first)
+
 -- Words that begin with `run` and are no run mean nothing.
 pub no_run : (words : List (List ℕ)) → BeginWith words (codes "run") → ((options : Options) (model : List ℕ) (stimuli : List (List ℕ)) → IsRun words options model stimuli → ⊥)
     → IsUsage words
@@ -95,7 +98,7 @@ no_run words run none (Runs options model stimuli) is = none options model stimu
 no_run words run none (Judges model journal) is = let e : codes "run" ≡ codes "judge" = one_begin words (codes "run") (codes "judge") run (model ∷ journal ∷ [], is) in cc
 no_run words run none (Checks model) is = let e : codes "run" ≡ codes "check" = one_begin words (codes "run") (codes "check") run (model ∷ [], is) in cc
 no_run words run none (Prints model) is = let e : codes "run" ≡ codes "flat" = one_begin words (codes "run") (codes "flat") run (model ∷ [], is) in cc
-no_run words run none (Generates n) is = let e : codes "run" ≡ codes "gen" = one_begin words (codes "run") (codes "gen") run (is.word ∷ [], is.two) in cc
+no_run words run none (Generates n) is = run_is_not_gen (one_begin words (codes "run") (codes "gen") run (is.word ∷ [], is.two))
 
 -- Words spell one number.
 one_gen : (words : List (List ℕ)) (k n : ℕ) → IsGen words k → IsGen words n → Generates k ≡ Generates n
@@ -124,10 +127,10 @@ one_meaning words (Prints m) (Judges n j) p q = let e : codes "flat" ≡ codes "
 one_meaning words (Prints m) (Runs o n s) p q = let e : codes "flat" ≡ codes "run" = one_verb words (Prints m) (Runs o n s) p q in cc
 one_meaning words (Prints m) (Checks n) p q = let e : codes "flat" ≡ codes "check" = one_verb words (Prints m) (Checks n) p q in cc
 one_meaning words (Judges m j) (Generates k) p q = let e : codes "judge" ≡ codes "gen" = one_verb words (Judges m j) (Generates k) p q in cc
-one_meaning words (Runs o m s) (Generates k) p q = let e : codes "run" ≡ codes "gen" = one_verb words (Runs o m s) (Generates k) p q in cc
+one_meaning words (Runs o m s) (Generates k) p q = absurd (run_is_not_gen (one_verb words (Runs o m s) (Generates k) p q))
 one_meaning words (Checks m) (Generates k) p q = let e : codes "check" ≡ codes "gen" = one_verb words (Checks m) (Generates k) p q in cc
 one_meaning words (Prints m) (Generates k) p q = let e : codes "flat" ≡ codes "gen" = one_verb words (Prints m) (Generates k) p q in cc
 one_meaning words (Generates k) (Judges n j) p q = let e : codes "gen" ≡ codes "judge" = one_verb words (Generates k) (Judges n j) p q in cc
-one_meaning words (Generates k) (Runs o n s) p q = let e : codes "gen" ≡ codes "run" = one_verb words (Generates k) (Runs o n s) p q in cc
+one_meaning words (Generates k) (Runs o n s) p q = absurd (run_is_not_gen (sym (one_verb words (Generates k) (Runs o n s) p q)))
 one_meaning words (Generates k) (Checks n) p q = let e : codes "gen" ≡ codes "check" = one_verb words (Generates k) (Checks n) p q in cc
 one_meaning words (Generates k) (Prints n) p q = let e : codes "gen" ≡ codes "flat" = one_verb words (Generates k) (Prints n) p q in cc

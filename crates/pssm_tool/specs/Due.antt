@@ -21,7 +21,7 @@ use Rattle.pssm_tool.specs.declared.answer.Answer.TheVariants.{Accept, Refuse, L
 use Rattle.pssm_tool.specs.declared.run.Ended.{Ended}
 use Rattle.pssm_tool.specs.declared.run.Ended.TheVariants as ends
 use Rattle.pssm_tool.specs.Words.{Meaning, Judges, Runs, Checks, Prints, Generates, Means, IsUsage}
-use Rattle.pssm_tool.specs.Stimuli.{AreKnown, AreStimuli}
+use Rattle.pssm_tool.specs.Stimuli.{AreStimuli}
 use Rattle.pssm_tool.specs.RunTexts.{IsRunText, take_count}
 use Rattle.pssm_tool.specs.Answers.{text_of}
 
@@ -112,11 +112,11 @@ answer_to_run n J text ends.Quiet = Generated n (length J) (take_count J) (sha25
 answer_to_run n J text ends.Limit = Journal text ends.Limit
 
 -- The answer is owed for a run of a generated model with the stimuli for it, and with a limit of a million entries.
--- (That the stimuli fit the model is not proved yet.)
-pub data IsDueForGenerated (setting : Setting) (n : ℕ) (answer : Answer) : Type 0 where
-  unknown : (AreKnown setting (generated_stimuli n) → ⊥) → answer ≡ Usage → IsDueForGenerated setting n answer
-  counted : (text : List ℕ) (ended : Ended) → AreKnown setting (generated_stimuli n)
-      → (run : IsRunText setting (generated_stimuli n) most_entries text ended) → answer ≡ answer_to_run n run.journal text ended → IsDueForGenerated setting n answer
+pub record IsDueForGenerated (setting : Setting) (n : ℕ) (answer : Answer) : Type 0 where
+  pub text : List ℕ
+  pub ended : Ended
+  pub run : IsRunText setting (generated_stimuli n) most_entries text ended
+  pub answered : answer ≡ answer_to_run n run.journal text ended
 
 -- The answer is owed for a command on a model that breaks no rule.
 abbrev pub IsDueForModel : Contents → Setting → Meaning → Answer → Type 0
@@ -145,8 +145,7 @@ Gives words contents before after answer = IsOwed words contents answer × Appen
 pub data IsRunOwed (words : List (List ℕ)) (contents : Contents) (setting : Setting) (stimuli : List Stimulus) : Type 0 where
   named : (options : Options) (model : List ℕ) (names : List (List ℕ)) → Means words (Runs options model names) → HasModel contents (File model) setting
       → AreStimuli setting names stimuli → IsRunOwed words contents setting stimuli
-  generated : (n : ℕ) → Means words (Generates n) → HasModel contents (Generator n) setting → stimuli ≡ generated_stimuli n
-      → AreKnown setting stimuli → IsRunOwed words contents setting stimuli
+  generated : (n : ℕ) → Means words (Generates n) → HasModel contents (Generator n) setting → stimuli ≡ generated_stimuli n → IsRunOwed words contents setting stimuli
 
 -- The answer is what a run came to: its journal, or the line on it. (Which of the runs that may be it was, the words do not tell.)
 abbrev pub IsOfRun : Answer → Type 0

@@ -1,6 +1,5 @@
 -- The stimuli that words name in a setting.
 use Rattle.std.specs.Prelude.{ℕ, ℤ, List, [], ◌∷◌}
-use Rattle.std.specs.List.{AllByRecursion}
 use Rattle.pssm_semantics.specs.declared.entry.Entry.{Entry}
 use Rattle.pssm_semantics.specs.declared.entry.Entry.TheVariants.{Post}
 use Rattle.pssm_semantics.specs.declared.line.Line.TheVariants as lines
@@ -13,14 +12,6 @@ use Rattle.pssm_tool.specs.Words.{IsCall}
 abbrev pub post_of : Stimulus → Entry
 post_of x = Post x.object x.signal x.args
 
--- What the stimulus names is the setting's, and its signal has as many parameters as it has arguments.
-abbrev pub IsKnown : Setting → Stimulus → Type 0
-IsKnown setting x = KeepsNames setting (post_of x)
-
--- All are known.
-abbrev pub AreKnown : Setting → List Stimulus → Type 0
-AreKnown setting stimuli = AllByRecursion (IsKnown setting) stimuli
-
 -- The line that has the word after `post` writes the entry that posts the stimulus, and all that it names is the setting's;
 -- the signal has as many parameters as the word has numbers.
 pub record Names (setting : Setting) (word : List ℕ) (x : Stimulus) : Type 0 where
@@ -29,7 +20,7 @@ pub record Names (setting : Setting) (word : List ℕ) (x : Stimulus) : Type 0 w
   pub args : List ℤ
   pub call : IsCall word object signal args
   pub writes : IsEntryOf setting (lines.Post object signal args) (post_of x)
-  pub known : IsKnown setting x
+  pub known : KeepsNames setting (post_of x)
 
 -- The words name these stimuli, one each.
 abbrev pub AreStimuli : Setting → List (List ℕ) → List Stimulus → Type 0

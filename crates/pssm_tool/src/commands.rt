@@ -1,14 +1,16 @@
 //! What each command does, up to its answer.
 ghost use Rattle.std.specs.Prelude.{◌≡◌, ◌≤◌, List, ℕ, IfOk, IfErr};
+ghost use Rattle.std.specs.List.{AllByRecursion};
 ghost use Rattle.pssm_base.specs.Reading.{Contents};
 ghost use Rattle.pssm_semantics.specs.Names.{HasSpelledNames};
 ghost use Rattle.pssm_semantics.specs.Proper.{IsWellFormed};
 ghost use Rattle.pssm_suite.specs.Generated.{generated_stimuli};
 ghost use Rattle.pssm_tool.specs.Words.{Means, Judges, Checks, Prints, Generates};
-ghost use Rattle.pssm_tool.specs.RunTexts.{take_count, takes_signal as takes_a_signal};
+ghost use Rattle.pssm_tool.specs.RunTexts.{take_count};
 ghost use Rattle.pssm_tool.specs.inner.Commands.{meaning_of_run};
 ghost use Rattle.pssm_tool.specs.Due.{IsOwed, IsDueForGenerated, answer_to_fault};
 ghost use Rattle.pssm_tool.specs.inner.Verdicts.{said};
+ghost use Rattle.pssm_tool.specs.inner.Running.{IsKnown};
 ghost use Rattle.pssm_tool.specs.inner.Failures.{FailedFor, GoesOn};
 
 use crate::answer::Answer;
@@ -16,15 +18,15 @@ use crate::failure::Failure;
 use crate::model::{found, model};
 use crate::run::{Ended, run};
 use crate::run_words::RunWords;
-use crate::stimuli::{are_known, stimuli_of};
+use crate::stimuli::stimuli_of;
 use crate::text::text_of;
 use pssm_base::Inputs;
 use pssm_flat::write_flat;
 use pssm_judge::{JudgeFault, LineFault, Verdict, judge};
-use pssm_load::load;
+use pssm_load::{load, one_load};
 use pssm_model::Text;
 use pssm_semantics::{Entry, Setting, Stimulus};
-use pssm_suite::generate;
+use pssm_suite::{generate, generated_settings, generated_texts};
 use sha2::{Digest, Sha256};
 use std::alloc::Global;
 
@@ -153,9 +155,13 @@ pub fn generate_and_run(alloc: Global, number: u16) -> Result<Answer, Failure>
     requires few { number ≤ 4000 }
     ensures owed { IfOk result (λ answer. (words : List (List ℕ)) → Means words (Generates number)
         → (contents : Contents) → IsOwed words contents answer) }
-    ensures goes_on { IfOk result (λ answer. (words : List (List ℕ)) (contents : Contents) → GoesOn words contents answer) }
+    ensures goes_on { IfOk result (λ answer. (words : List (List ℕ)) (contents : Contents)
+        → GoesOn words contents answer) }
     ensures failed { IfErr result (λ failure. failure ≡ Failure.NoMemory) }
 {
+    one_load();
+    generated_texts();
+    generated_settings();
     let (text, stimuli) = generate(alloc, number)?;
     let loaded = load(alloc, text.as_slice());
     drop(text);
@@ -175,14 +181,13 @@ fn run_generated(
 ) -> Result<Answer, Failure>
     requires well_formed { IsWellFormed setting }
     requires spelled { HasSpelledNames setting }
+    requires known { AllByRecursion (IsKnown setting) stimuli.now }
     requires stimuli { stimuli.now ≡ generated_stimuli number }
     ensures owed { IfOk result (IsDueForGenerated setting number) }
-    ensures goes_on { IfOk result (λ answer. (words : List (List ℕ)) (contents : Contents) → GoesOn words contents answer) }
+    ensures goes_on { IfOk result (λ answer. (words : List (List ℕ)) (contents : Contents)
+        → GoesOn words contents answer) }
     ensures failed { IfErr result (λ failure. failure ≡ Failure.NoMemory) }
 {
-    if !are_known(&setting, stimuli) {
-        return Ok(Answer::Usage);
-    }
     let (system, ended) = run(alloc, setting, stimuli, u64::from(number), MOST_ENTRIES)?;
     let text = text_of(alloc, &system)?;
     match ended {
@@ -200,12 +205,8 @@ fn run_generated(
 fn take_count_of(entries: &[Entry]) -> usize
     ensures { result ≡ take_count entries.now }
 {
-    entries.iter().filter(|e| takes_signal(e)).count()
-}
-
-// Whether the entry takes a signal.
-fn takes_signal(entry: &Entry) -> bool
-    ensures { result ≡ takes_a_signal entry.now }
-{
-    matches!(entry, Entry::Take { .. })
+    entries
+        .iter()
+        .filter(|e| matches!(**e, Entry::Take { .. }))
+        .count()
 }

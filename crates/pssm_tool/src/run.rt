@@ -5,8 +5,8 @@ ghost use Rattle.std.specs.Option.{option_copied};
 ghost use Rattle.pssm_semantics.specs.Proper.{IsWellFormed};
 ghost use Rattle.pssm_semantics.specs.Pool.{posts_of_entry, outs_of};
 ghost use Rattle.pssm_tool.specs.RunTexts.{EndsRun};
-ghost use Rattle.pssm_tool.specs.Stimuli.{post_of, IsKnown, AreKnown};
-ghost use Rattle.pssm_tool.specs.inner.Running.{IsNext, IsOver, IsFullAt};
+ghost use Rattle.pssm_tool.specs.Stimuli.{post_of};
+ghost use Rattle.pssm_tool.specs.inner.Running.{IsNext, IsOver, IsKnown, IsFullAt};
 
 use pssm_semantics::{Entry, Setting, Stimulus};
 use pssm_system::System;
@@ -36,7 +36,7 @@ pub fn run(
     limit: u32,
 ) -> Result<(System, Ended), NoMemory>
     requires well_formed { IsWellFormed setting }
-    requires known { AreKnown setting stimuli.now }
+    requires known { AllByRecursion (IsKnown setting) stimuli.now }
     requires limit { limit ≤ 1000000 }
     ensures setting { IfOk result (λ run. run.0.setting ≡ setting) }
     ensures ends { IfOk result (λ run. EndsRun setting stimuli.now limit run.0.journal run.1) }

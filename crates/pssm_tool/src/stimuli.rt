@@ -1,53 +1,16 @@
 //! Stimuli among the words.
-ghost use Rattle.std.specs.Prelude.{◌≡◌, ◌↔◌, [], slice_get, IfOk, IfSome, IfNone, IsSome, IsTrue, List, ℕ};
+ghost use Rattle.std.specs.Prelude.{◌≡◌, ◌↔◌, [], slice_get, IfOk, IfSome, IfNone, IsTrue, List, ℕ};
 ghost use Rattle.std.specs.List.{AllByRecursion};
 ghost use Rattle.pssm_semantics.specs.declared.stimulus.Stimulus.{Stimulus};
 ghost use Rattle.pssm_semantics.specs.Pool.{posts_of_entry};
-ghost use Rattle.pssm_semantics.specs.Settings.{class_of, HasCount};
 ghost use Rattle.pssm_tool.specs.Words.{lent, IsStimulusText};
-ghost use Rattle.pssm_tool.specs.Stimuli.{IsKnown, AreKnown, Names, AreStimuli};
+ghost use Rattle.pssm_tool.specs.Stimuli.{Names, AreStimuli};
 ghost use Rattle.pssm_tool.specs.inner.Calls.{post_text as post_text_of, IsPost, ShowsCall};
 ghost use Rattle.pssm_tool.specs.inner.Running.{NameNoStimuli};
 
 use pssm_journal::{Front, LineParts, Namespace, entry_of_parts, front_of};
-use pssm_model::SignalId;
-use pssm_semantics::{Entry, ObjectId, Setting, Stimulus};
+use pssm_semantics::{Entry, Setting, Stimulus};
 use std::alloc::{AllocError as NoMemory, Global};
-
-/// Whether what the stimuli name is the setting's, and each has as many arguments as its signal has parameters.
-pub fn are_known(setting: &Setting, stimuli: &[Stimulus]) -> bool
-    ensures { IsTrue result ↔ AreKnown setting.now stimuli.now }
-{
-    stimuli.iter().all(|x| is_known(setting, x))
-}
-
-// Whether what the stimulus names is the setting's, and it has as many arguments as its signal has parameters.
-fn is_known(setting: &Setting, stimulus: &Stimulus) -> bool
-    ensures { IsTrue result ↔ IsKnown setting.now stimulus.now }
-{
-    has_class(setting, stimulus.object)
-        && has_count(setting, stimulus.signal, stimulus.args.as_slice().len())
-}
-
-// Whether the setting has the object, with its class.
-fn has_class(setting: &Setting, object: ObjectId) -> bool
-    ensures { IsTrue result ↔ IsSome (class_of setting.now object) }
-{
-    match setting.objects.as_slice().get(object.0 as usize) {
-        Some(declared) => (declared.class as usize) < setting.classes.as_slice().len(),
-        None => false,
-    }
-}
-
-// Whether the setting has the signal, with so many parameters.
-fn has_count(setting: &Setting, signal: SignalId, count: usize) -> bool
-    ensures { IsTrue result ↔ HasCount setting.now signal count }
-{
-    match setting.signals.as_slice().get(signal.0 as usize) {
-        Some(declared) => declared.count as usize == count,
-        None => false,
-    }
-}
 
 /// Whether each word is spelled as a stimulus, `OBJ.SIG(1,-2)`.
 pub fn are_spelled(alloc: Global, words: &[&str]) -> Result<bool, NoMemory>

@@ -8,8 +8,8 @@ use Rattle.pssm_semantics.specs.Proper.{IsWellFormed}
 use Rattle.pssm_tool.specs.Words.{lent}
 use Rattle.pssm_tool.specs.inner.Commands.{meaning_of_run}
 use Rattle.pssm_tool.specs.Due.{File, HasModel, unfit, ran, on_model}
-use Rattle.pssm_tool.specs.Stimuli.{IsKnown, AreStimuli}
-use Rattle.pssm_tool.specs.inner.Running.{NameNoStimuli}
+use Rattle.pssm_tool.specs.Stimuli.{AreStimuli}
+use Rattle.pssm_tool.specs.inner.Running.{IsKnown, NameNoStimuli}
 use Rattle.pssm_tool.specs.inner.Failures.{LacksModel}
 use Rattle.pssm_tool.proofs.CallLaws.{all_known}
 use Rattle.pssm_tool.proofs.DueLaws.{lacks_owed, failed_at_model}

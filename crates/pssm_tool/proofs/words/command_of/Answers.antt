@@ -19,7 +19,7 @@ returns-in-len1-up-clause-once c = one_meaning (texts c.args.words.now)
 pub returns-in-len3-clause-reads : goal.returns-in-len3-clause-reads
 returns-in-len3-clause-reads c =
     let all = three_items c.args.words.now c.verb-item-then-words-lt4.result c.model-item-then-words-lt4.result c.journal-item.result c.in-len3.len_at_least c.in-len3.len_below c.verb-item-then-words-lt4.is c.model-item-then-words-lt4.is c.journal-item.is in
-    let verb = (bytes_eq-Decides c.as_str-then-words-lt4.result.now (codes "judge")).0 (sym (c.if-eq-4.ensures {u = tt})) in
+    let verb = (bytes_eq-Decides c.as_str-then-words-lt4.result.now (codes "judge")).0 (sym (c.if-eq-5.ensures {u = tt})) in
     let read = ap texts all in
     cc (read, verb, c.as_str-then-words-lt4.ensures.value, c.as_str-in-len3.ensures.value, c.as_str-in-len3-2.ensures.value)
 
