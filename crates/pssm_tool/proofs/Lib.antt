@@ -12,4 +12,5 @@ pub mod DueOnce
 pub mod AnswerLaws
 pub mod HeadlineLaws
 pub mod GeneratedSize
+pub mod GeneratedLaws
 pub mod AlwaysDue

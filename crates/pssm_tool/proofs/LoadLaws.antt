@@ -10,7 +10,7 @@ use Rattle.pssm_tool.specs.declared.answer.Answer.TheVariants.{BadModel}
 use Rattle.pssm_tool.specs.declared.failure.Failure.{Failure}
 use Rattle.pssm_tool.specs.declared.failure.Failure.TheVariants as failures
 use Rattle.pssm_tool.specs.Due.{Source, HasBytes, HasModel}
-use Rattle.pssm_tool.specs.inner.Failures.{LacksModel, has_fault, FailedAt, IsFound}
+use Rattle.pssm_tool.specs.inner.Failures.{LacksModel, has_fault, FailedAt, IsFound, IsRefusedFor}
 
 -- What is wrong with bytes.
 abbrev pub IsWrong : List ℕ → LoadFault → Type 0
@@ -60,6 +60,10 @@ pub found_failed : (before after : ℕ) (loaded : Result Setting LoadFault) (tol
 found_failed before after loaded told is =
     by_found (λ r. IfErr r (FailedAt before after)) loaded told (if_ok loaded (λ s u. tt) (no_setting loaded)) (if_err loaded (λ e u. λ other. tt) (no_fault loaded)) tt is
 
+pub found_no_memory : (loaded : Result Setting LoadFault) (told : Result (Result Setting Answer) Failure) → IsFound loaded told → IfErr told (λ failure. failure ≡ failures.NoMemory)
+found_no_memory loaded told is =
+    by_found (λ r. IfErr r (λ failure. failure ≡ failures.NoMemory)) loaded told (if_ok loaded (λ s u. tt) (no_setting loaded)) (if_err loaded (λ e u. λ other. tt) (no_fault loaded)) refl is
+
 -- ---- what the functions say of a model
 
 pub model_loads : (contents : Contents) (source : Source) (bytes : List ℕ) (loaded : Result Setting LoadFault) → HasBytes contents source bytes → IfOk loaded (λ s. ReadsSetting bytes s []) → IfOk loaded (HasModel contents source)
@@ -68,3 +72,10 @@ model_loads contents source bytes loaded reads loads = if_ok loaded (λ s p. let
 pub model_lacks : (contents : Contents) (source : Source) (bytes : List ℕ) (loaded : Result Setting LoadFault) → HasBytes contents source bytes → IfErr loaded (IsWrong bytes)
     → IfErr loaded (λ fault. fault ≢ NoMemory → LacksModel contents source (BadModel fault))
 model_lacks contents source bytes loaded reads wrong = if_err loaded (λ fault w. lacks_by_fault contents source bytes fault reads w) wrong
+
+-- What is wrong with bytes, where it is not want of memory.
+pub bytes_lack : (bytes : List ℕ) (loaded : Result Setting LoadFault) → IfErr loaded (IsWrong bytes) → IfErr loaded (λ fault. fault ≢ NoMemory → IsRefusedFor bytes (BadModel fault))
+bytes_lack bytes loaded wrong = if_err loaded (λ fault w other. lacks fault w other) wrong where
+  lacks : (fault : LoadFault) → IsWrong bytes fault → fault ≢ NoMemory → IsRefusedFor bytes (BadModel fault)
+  lacks fault (inl none) other = absurd (other none)
+  lacks fault (inr is) other = (fault, is, refl)

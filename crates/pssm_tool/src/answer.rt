@@ -3,7 +3,7 @@ ghost use Rattle.std.specs.Prelude.{◌≡◌, ◌++◌, IfOk, codes, string_byt
 ghost use Rattle.std.specs.Fmt.{decimal};
 ghost use Rattle.pssm_semantics.specs.Verdict.{number_of};
 ghost use Rattle.pssm_flat.specs.Text.{line};
-ghost use Rattle.pssm_tool.specs.Answers.{text_of, code_of, generated_line as line_on_generated};
+ghost use Rattle.pssm_tool.specs.Answers.{text_of, code_of, generated_line};
 
 use crate::refusal::fault_text;
 use crate::run::Ended;
@@ -98,7 +98,7 @@ impl Answer {
                 entries,
                 takes,
                 digest,
-            } => Ok(bytes_of(generated_line(alloc, number, entries, takes, &digest)?)),
+            } => Ok(bytes_of(counted(alloc, number, entries, takes, &digest)?)),
             Answer::BadModel(fault) => fault_text(alloc, &fault),
         }
     }
@@ -136,19 +136,33 @@ fn no_end(alloc: Global, number: u32) -> Result<String, NoMemory>
 }
 
 // The line on the journal of a generated model's run.
-fn generated_line(
+fn counted(
     alloc: Global,
     number: u16,
     entries: usize,
     takes: usize,
     digest: &[u8],
 ) -> Result<String, NoMemory>
-    ensures { IfOk result (λ text. string_bytes text ≡ line_on_generated number entries takes digest.now) }
+    ensures { IfOk result (λ text. string_bytes text ≡ generated_line number entries takes digest.now) }
 {
     let digits = hex::encode(alloc, digest)?;
-    let text = format!(in alloc; "gen {number} entries {entries} takes {takes} sha256 {digits}\n");
+    let text = counted_line(alloc, number, entries, takes, digits.as_str());
     drop(digits);
     text
+}
+
+// The same, with the digits of the digest.
+fn counted_line(
+    alloc: Global,
+    number: u16,
+    entries: usize,
+    takes: usize,
+    digits: &str,
+) -> Result<String, NoMemory>
+    ensures { IfOk result (λ text. string_bytes text ≡ line (codes "gen " ++ decimal number ++ codes " entries " ++ decimal entries
+        ++ codes " takes " ++ decimal takes ++ codes " sha256 " ++ digits.now)) }
+{
+    format!(in alloc; "gen {number} entries {entries} takes {takes} sha256 {digits}\n")
 }
 
 // The number in a rule's name.

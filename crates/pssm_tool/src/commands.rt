@@ -15,7 +15,7 @@ ghost use Rattle.pssm_tool.specs.inner.Failures.{FailedFor, GoesOn};
 
 use crate::answer::Answer;
 use crate::failure::Failure;
-use crate::model::{found, model};
+use crate::model::{model, setting_of};
 use crate::run::{Ended, run};
 use crate::run_words::RunWords;
 use crate::stimuli::stimuli_of;
@@ -23,7 +23,7 @@ use crate::text::text_of;
 use pssm_base::Inputs;
 use pssm_flat::write_flat;
 use pssm_judge::{JudgeFault, LineFault, Verdict, judge};
-use pssm_load::{load, one_load};
+use pssm_load::one_load;
 use pssm_model::Text;
 use pssm_semantics::{Entry, Setting, Stimulus};
 use pssm_suite::{generate, generated_settings, generated_texts};
@@ -163,9 +163,9 @@ pub fn generate_and_run(alloc: Global, number: u16) -> Result<Answer, Failure>
     generated_texts();
     generated_settings();
     let (text, stimuli) = generate(alloc, number)?;
-    let loaded = load(alloc, text.as_slice());
+    let found = setting_of(alloc, text.as_slice());
     drop(text);
-    match found(loaded) {
+    match found {
         Ok(Ok(setting)) => run_generated(alloc, setting, stimuli.as_slice(), number),
         Ok(Err(answer)) => Ok(answer),
         Err(failure) => Err(failure),

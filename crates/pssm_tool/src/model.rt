@@ -1,11 +1,12 @@
 //! The model that the words name.
-ghost use Rattle.std.specs.Prelude.{IfOk, IfErr};
+ghost use Rattle.std.specs.Prelude.{◌≡◌, ◌≤◌, [], length, IfOk, IfErr};
 ghost use Rattle.pssm_base.specs.Faults.{NoneFell};
 ghost use Rattle.pssm_base.specs.Reading.{SameContent};
 ghost use Rattle.pssm_semantics.specs.Names.{HasSpelledNames};
 ghost use Rattle.pssm_semantics.specs.Proper.{IsWellFormed};
+ghost use Rattle.pssm_load.specs.Loads.{ReadsSetting};
 ghost use Rattle.pssm_tool.specs.Due.{File, HasModel};
-ghost use Rattle.pssm_tool.specs.inner.Failures.{LacksModel, FailedAt, IsFound, TellsFault};
+ghost use Rattle.pssm_tool.specs.inner.Failures.{LacksModel, FailedAt, IsFound, IsRefusedFor, TellsFault};
 
 use crate::answer::Answer;
 use crate::failure::Failure;
@@ -42,8 +43,21 @@ pub fn model<I: Inputs>(
     found(loaded)
 }
 
-/// The setting, or what comes of the fault.
-pub fn found(loaded: Result<Setting, LoadFault>) -> Result<Result<Setting, Answer>, Failure>
+/// The setting that the bytes of a model have; or the answer that they have none.
+pub fn setting_of(alloc: Global, bytes: &[u8]) -> Result<Result<Setting, Answer>, Failure>
+    requires { length bytes.now ≤ 16777216 }
+    ensures loads { IfOk result (λ found. IfOk found (λ setting. ReadsSetting bytes.now setting [])) }
+    ensures well_formed { IfOk result (λ found. IfOk found IsWellFormed) }
+    ensures spelled { IfOk result (λ found. IfOk found HasSpelledNames) }
+    ensures lacks { IfOk result (λ found. IfErr found (IsRefusedFor bytes.now)) }
+    ensures failed { IfErr result (λ failure. failure ≡ Failure.NoMemory) }
+{
+    let loaded = load(alloc, bytes);
+    found(loaded)
+}
+
+// The setting, or what comes of the fault.
+fn found(loaded: Result<Setting, LoadFault>) -> Result<Result<Setting, Answer>, Failure>
     ensures { IsFound loaded result }
 {
     match loaded {

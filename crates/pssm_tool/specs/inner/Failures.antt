@@ -20,6 +20,10 @@ pub data LacksModel (contents : Contents) (source : Source) (answer : Answer) : 
   has_fault : (bytes : List ℕ) (fault : LoadFault) → HasBytes contents source bytes → IsLoadFault bytes fault → answer ≡ BadModel fault
       → LacksModel contents source answer
 
+-- This is wrong with the bytes of a model, and is answered.
+abbrev pub IsRefusedFor : List ℕ → Answer → Type 0
+IsRefusedFor bytes answer = (fault : LoadFault) × IsLoadFault bytes fault × (answer ≡ BadModel fault)
+
 -- Reading a path failed: its count rose; or there was no memory.
 abbrev pub FailedAt : ℕ → ℕ → Failure → Type 0
 FailedAt before after ReadFault = Rose before after

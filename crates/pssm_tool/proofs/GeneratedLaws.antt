@@ -1,0 +1,40 @@
+-- The generated setting is what the generated text is read as, and its stimuli are known.
+use Rattle.std.proofs.Common.{◌≡◌, ℕ, List, [], ◌∷◌, Result, Ok, Err, IfOk, refl, sym, subst}
+use Rattle.std.specs.List.{AllByRecursion}
+use Rattle.pssm_base.specs.Reading.{Contents}
+use Rattle.pssm_semantics.specs.declared.setting.Setting.{Setting}
+use Rattle.pssm_semantics.specs.declared.stimulus.Stimulus.{Stimulus}
+use Rattle.pssm_load.specs.Loads.{Reads, ReadsSetting}
+use Rattle.pssm_suite.specs.Generated.{generated_text, generated_stimuli}
+use Rattle.pssm_suite.specs.GeneratedSetting.{IsStimulusFor}
+use Rattle.pssm_suite.specs.GeneratedSetting.{generated as generated_setting}
+use Rattle.pssm_tool.specs.declared.answer.Answer.{Answer}
+use Rattle.pssm_tool.specs.declared.failure.Failure.{Failure}
+use Rattle.pssm_tool.specs.Words.{Generates, Means}
+use Rattle.pssm_tool.specs.Due.{IsDueForGenerated, IsOwed, bad_model, on_model}
+use Rattle.pssm_tool.specs.inner.Failures.{IsRefusedFor}
+use Rattle.pssm_tool.specs.inner.Running.{IsKnown}
+
+-- Stimuli for a setting are known.
+all_known : (s : Setting) (stimuli : List Stimulus) → AllByRecursion (IsStimulusFor s) stimuli → AllByRecursion (IsKnown s) stimuli
+all_known s [] all = tt
+all_known s (x ∷ stimuli) all = ((λ J. (all.0.class, all.0.object, all.0.signal)), all_known s stimuli all.1)
+
+-- The stimuli for a generated model are known to the setting that its text is read as.
+pub generated_known : ((bytes : List ℕ) (a b : Setting) → Reads bytes a → Reads bytes b → a ≡ b) → (n : ℕ) (s : Setting) (stimuli : List Stimulus) → ReadsSetting (generated_text n) s []
+    → ReadsSetting (generated_text n) (generated_setting n) [] → AllByRecursion (IsStimulusFor (generated_setting n)) (generated_stimuli n) → stimuli ≡ generated_stimuli n
+    → AllByRecursion (IsKnown s) stimuli
+generated_known one n s stimuli reads is for same =
+    let here : generated_setting n ≡ s = one (generated_text n) (generated_setting n) s is.reads reads.reads in
+    subst (λ (t : List Stimulus). AllByRecursion (IsKnown s) t) (sym same)
+    (subst (λ (t : Setting). AllByRecursion (IsKnown t) (generated_stimuli n)) here (all_known (generated_setting n) (generated_stimuli n) for))
+
+-- What is owed for the run of a generated model is owed for the words.
+pub generated_owed : (r : Result Answer Failure) (n : ℕ) (s : Setting) → ReadsSetting (generated_text n) s [] → IfOk r (IsDueForGenerated s n)
+    → IfOk r (λ a. (words : List (List ℕ)) → Means words (Generates n) → (contents : Contents) → IsOwed words contents a)
+generated_owed (Ok a) n s loads due = λ words is contents. on_model (Generates n) s is (record { bytes = generated_text n; reads = refl; loads = loads }) due
+generated_owed (Err e) n s loads due = tt
+
+-- A refusal of the text is owed.
+pub refusal_owed : (n : ℕ) (a : Answer) → IsRefusedFor (generated_text n) a → (words : List (List ℕ)) → Means words (Generates n) → (contents : Contents) → IsOwed words contents a
+refusal_owed n a (fault, wrong, e) words is contents = bad_model (Generates n) (generated_text n) fault is refl wrong e
