@@ -18,7 +18,7 @@ class Call:
         self.command = words[0]
         self.places = places
         self.paths = [words[place] for place in places]
-        self.model = self.paths[0]
+        self.model = self.paths[0] if self.paths else None
         self.journal = self.paths[1] if self.command == 'judge' else None
         self.stimuli = stimuli
 
@@ -31,13 +31,14 @@ COMMANDS = (
      'the journal of a run on these signals', "run examples/door.flat 'door.Open()' 'door.Close()' 'door.Lock(1234)'"),
     ('check', 'MODEL', 'whether the model is well formed, or what is wrong with it', 'check examples/go.flat'),
     ('flat', 'MODEL', 'the flat text of a model, also of one in XMI', 'flat examples/lamps.xmi'),
+    ('gen', 'N', 'the counts and the digest of a generated model\'s run, N from 1 to 4000', 'gen 1'),
 )
 # The same of what the script does itself.
 OWN = (
     ('judge-all', 'MODEL JOURNAL ..',
      'judges many, with a line PATH<tab>ANSWER for each; without a JOURNAL their names come from standard input',
      'judge-all examples/go.flat examples/go.journal examples/go-swapped.journal'),
-    ('--try', 'and then one of the first four', 'an unproved answer, in about two minutes',
+    ('--try', 'and then one of the first five', 'an unproved answer, in about two minutes',
      '--try check examples/go.flat'),
     ('--quiet', 'and then any of these', 'the answer alone, with no word on standard error to explain it',
      '--quiet judge examples/go.flat examples/go-swapped.journal'),
@@ -95,6 +96,10 @@ def call_of(words):
     counts = {'judge': 2, 'check': 1, 'flat': 1}
     if command == 'run':
         return run_of(words)
+    if command == 'gen':
+        if len(rest) != 1 or not is_number(rest[0]) or not 1 <= int(rest[0][:5]) <= 4000:
+            return 'gen takes one word, a number from 1 to 4000'
+        return Call(words, [], [])
     if command not in counts:
         return no_command(command)
     if len(rest) != counts[command]:

@@ -1,7 +1,9 @@
 -- The generated setting is what the generated text is read as, and its stimuli are known.
-use Rattle.std.proofs.Common.{◌≡◌, ℕ, List, [], ◌∷◌, Result, Ok, Err, IfOk, refl, sym, subst}
+use Rattle.std.proofs.Common.{◌≡◌, ℕ, List, [], ◌∷◌, length, Result, Ok, Err, IfOk, refl, sym, subst}
 use Rattle.std.specs.List.{AllByRecursion}
+use Rattle.sha2.specs.Sha256.{sha256}
 use Rattle.pssm_base.specs.Reading.{Contents}
+use Rattle.pssm_semantics.specs.declared.entry.Entry.{Entry}
 use Rattle.pssm_semantics.specs.declared.setting.Setting.{Setting}
 use Rattle.pssm_semantics.specs.declared.stimulus.Stimulus.{Stimulus}
 use Rattle.pssm_load.specs.Loads.{Reads, ReadsSetting}
@@ -9,11 +11,15 @@ use Rattle.pssm_suite.specs.Generated.{generated_text, generated_stimuli}
 use Rattle.pssm_suite.specs.GeneratedSetting.{IsStimulusFor}
 use Rattle.pssm_suite.specs.GeneratedSetting.{generated as generated_setting}
 use Rattle.pssm_tool.specs.declared.answer.Answer.{Answer}
+use Rattle.pssm_tool.specs.declared.answer.Answer.TheVariants.{Journal, Generated}
+use Rattle.pssm_tool.specs.declared.run.Ended.{Ended}
+use Rattle.pssm_tool.specs.declared.run.Ended.TheVariants.{Quiet, Limit}
+use Rattle.pssm_tool.specs.RunTexts.{EndsRun, take_count}
 use Rattle.pssm_tool.specs.declared.failure.Failure.{Failure}
 use Rattle.pssm_tool.specs.Words.{Generates, Means}
 use Rattle.pssm_tool.specs.Due.{IsDueForGenerated, IsOwed, bad_model, on_model}
 use Rattle.pssm_tool.specs.inner.Failures.{IsRefusedFor}
-use Rattle.pssm_tool.specs.inner.Running.{IsKnown}
+use Rattle.pssm_tool.specs.inner.Running.{IsKnown, IsTextOf}
 
 -- Stimuli for a setting are known.
 all_known : (s : Setting) (stimuli : List Stimulus) → AllByRecursion (IsStimulusFor s) stimuli → AllByRecursion (IsKnown s) stimuli
@@ -38,3 +44,29 @@ generated_owed (Err e) n s loads due = tt
 -- A refusal of the text is owed.
 pub refusal_owed : (n : ℕ) (a : Answer) → IsRefusedFor (generated_text n) a → (words : List (List ℕ)) → Means words (Generates n) → (contents : Contents) → IsOwed words contents a
 refusal_owed n a (fault, wrong, e) words is contents = bad_model (Generates n) (generated_text n) fault is refl wrong e
+
+-- ---- the run
+
+module _ (s own : Setting) (n : ℕ) (given : List Stimulus) (J : List Entry) (bytes : List ℕ) (same : own ≡ s) (are : given ≡ generated_stimuli n) (text : IsTextOf own J bytes) where
+  here : IsTextOf s J bytes
+  here = subst (λ (t : Setting). IsTextOf t J bytes) same text
+
+  -- The journal is full.
+  pub full_due : (ended : Ended) → EndsRun s given 1000000 J ended → ended ≡ Limit → (a : Answer) → a ≡ Journal bytes ended → IsDueForGenerated s n a
+  full_due Quiet run is a e = absurd cc
+  full_due Limit run is a e = record {
+    text = bytes;
+    ended = Limit;
+    run = record { journal = J; lines = here.lines; text = here.text; kept = here.kept; run = subst (λ (t : List Stimulus). EndsRun s t 1000000 J Limit) are run };
+    answered = e;
+  }
+
+  -- The run ended quietly.
+  pub quiet_due : (ended : Ended) → EndsRun s given 1000000 J ended → ended ≡ Quiet → (a : Answer) → a ≡ Generated n (length J) (take_count J) (sha256 bytes) → IsDueForGenerated s n a
+  quiet_due Limit run is a e = absurd cc
+  quiet_due Quiet run is a e = record {
+    text = bytes;
+    ended = Quiet;
+    run = record { journal = J; lines = here.lines; text = here.text; kept = here.kept; run = subst (λ (t : List Stimulus). EndsRun s t 1000000 J Quiet) are run };
+    answered = e;
+  }

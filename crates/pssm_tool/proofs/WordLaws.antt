@@ -1,10 +1,12 @@
 -- That words mean one thing at most.
-use Rattle.std.proofs.Common.{◌≡◌, ◌<◌, ◌≤◌, ◌-◌, ◌^◌, ℕ, get_or, List, [], ◌∷◌, length, take, drop, codes, refl, sym, ap, subst, ◌∙◌, arith, String, string_bytes, Bool, true, false, Option, Some, None}
+use Rattle.std.proofs.Common.{◌≡◌, ◌<◌, ◌≤◌, ◌-◌, ◌^◌, ℕ, get_or, List, [], ◌∷◌, length, take, drop, codes, refl, sym, ap, subst, ◌∙◌, arith, String, string_bytes, Bool, true, false, Option, Some, None, IfSome}
 use Rattle.std.specs.declared.alloc.Global.{Global}
 use Rattle.pssm_tool.specs.declared.run_words.Options.{Options}
+use Rattle.pssm_tool.specs.declared.words.Command.{Command}
 use Rattle.clap.specs.Words.{Row, first_of, matches_of}
 use Rattle.pssm_spelling.specs.Numbers.{IsNumber}
 use Rattle.pssm_tool.specs.Words.{texts, BeginWith, HasNumber, HasOptions, IsRun, IsGen, run_command, Meaning, Judges, Runs, Checks, Prints, Generates, Means, IsUsage}
+use Rattle.pssm_tool.specs.inner.Commands.{meaning_of}
 use Rattle.pssm_spelling.proofs.WordNumbers.{one_number}
 
 all_taken : {X : Type 0} (xs : List X) → take (length xs) xs ≡ xs
@@ -59,6 +61,12 @@ low_number low high other None n below p = omega arith
 pub limit_low : (words : List (List ℕ)) (options : Options) (model : List ℕ) (stimuli : List (List ℕ)) → IsRun words options model stimuli → options.limit ≤ 1000000
 limit_low words options model stimuli run =
     low_number 0 1000000 10000 (first_of (codes "limit") (matches_of run_command words)) options.limit (omega arith) run.asks.numbers.limit
+
+-- The words `gen` and a number mean what was read.
+pub gen_read : (read : Option Command) (words : List (List ℕ)) (word : List ℕ) → words ≡ codes "gen" ∷ word ∷ []
+    → IfSome read (λ command. (n : ℕ) × (meaning_of command ≡ Generates n) × IsNumber word 1 4000 n) → IfSome read (λ command. Means words (meaning_of command))
+gen_read None words word two is = tt
+gen_read (Some command) words word two (n, same, number) = subst (λ (m : Meaning). Means words m) (sym same) (record { word = word; two = two; number = number })
 
 -- The number of `gen` is in its range.
 pub gen_in_range : (words : List (List ℕ)) (n : ℕ) → IsGen words n → (1 ≤ n) × (n ≤ 4000)

@@ -2,7 +2,7 @@ use Rattle.std.proofs.Common.{◌∙◌, codes, ap, sym}
 use Rattle.std.proofs.lemmas.Slice.Eq.{bytes_eq-Decides}
 use Rattle.pssm_tool.specs.Words.{texts}
 use Rattle.pssm_tool.proofs.Three.{two_items, three_items}
-use Rattle.pssm_tool.proofs.WordLaws.{first_and_rest, words_first, one_meaning}
+use Rattle.pssm_tool.proofs.WordLaws.{first_and_rest, words_first, one_meaning, gen_read}
 use Rattle.pssm_tool.proofs.words.command_of.Goals as goal
 
 -- The first word is `run`.
@@ -37,3 +37,15 @@ returns-in-len2-2-clause-reads c =
     let verb = (bytes_eq-Decides c.as_str-then-words-lt3-2.result.now (codes "flat")).0 (sym (c.if-eq-3.ensures {u = tt})) in
     let read = ap texts all in
     cc (read, verb, c.as_str-then-words-lt3-2.ensures.value, c.as_str-in-len2-2.ensures.value)
+
+-- The two words are the verb and a number.
+pub returns-in-len2-3-clause-reads : goal.returns-in-len2-3-clause-reads
+returns-in-len2-3-clause-reads c =
+    let all = two_items c.args.words.now c.verb-item-then-words-lt3-3.result c.number-item.result c.in-len2.len_at_least c.in-len2.len_below c.verb-item-then-words-lt3-3.is c.number-item.is in
+    let verb = (bytes_eq-Decides c.as_str-then-words-lt3-3.result.now (codes "gen")).0 (sym (c.if-eq-4.ensures {u = tt})) in
+    let read = ap texts all in
+    gen_read c.generated.result (texts c.args.words.now) c.as_str-in-len2-3.result.now (cc (read, verb, c.as_str-then-words-lt3-3.ensures.value, c.as_str-in-len2-3.ensures.value))
+    c.generated.ensures.reads
+
+pub returns-in-len2-3-clause-once : goal.returns-in-len2-3-clause-once
+returns-in-len2-3-clause-once c = one_meaning (texts c.args.words.now)
