@@ -50,7 +50,8 @@ def answer(call):
     try:
         for place in call.places:
             words[place] = path_for(words[place], scratch)
-        warn_of_size(words[call.places[0]])
+        if call.places:
+            warn_of_size(words[call.places[0]])
         status, said = run(words, scratch)
     finally:
         shutil.rmtree(scratch, ignore_errors=True)
