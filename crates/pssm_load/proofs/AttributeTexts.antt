@@ -1,6 +1,6 @@
 -- The values of attributes in a text are UTF-8, and so are labels that are made of them.
-use Rattle.std.proofs.Common.{◌≡◌, ◌≢◌, ◌<◌, ◌⊎◌, inl, inr, ℕ, ◌+◌, zero, suc, Bool, true, false, cond, eqb, ltb, leb, ◌&&◌, ◌||◌, List, [], ◌∷◌, ◌++◌, take, drop, length, get_or, map, Option, Some, None, refl, sym, ◌∙◌, ap, subst, arith, append_assoc, length-append, codes, IsTrue}
-use Rattle.std.specs.Prelude.{encode_utf8, encode_utf8_all, find, slice_get, not}
+use Rattle.std.proofs.Common.{◌≡◌, ◌<◌, ℕ, ◌+◌, zero, suc, Bool, true, false, cond, eqb, ltb, leb, ◌||◌, List, [], ◌∷◌, ◌++◌, drop, length, get_or, map, Option, Some, None, refl, sym, ◌∙◌, ap, subst, arith, append_assoc, length-append, codes, IsTrue}
+use Rattle.std.specs.Prelude.{encode_utf8, find, slice_get, not}
 use Rattle.std.specs.Str.{IsUtf8, all_scalars, bytes_eq}
 use Rattle.std.specs.List.{AllByRecursion, list_all}
 use Rattle.std.specs.Option.{option_map, option_and_then}
@@ -11,9 +11,9 @@ use Rattle.std.proofs.lemmas.Str.{encode_ascii, IsUtf8-nil, IsUtf8-append, IsUtf
 use lib.Utf8.{scalar}
 use Rattle.pssm_values.specs.Labels.{label_byte, label_said}
 use Rattle.pssm_values.proofs.LabelLaws.{by_characters}
-use Rattle.pssm_xml.specs.Characters.{IsCharacter, AreCharacters}
-use Rattle.pssm_xml.specs.Pieces.{Attribute, SpellsEscape, less, greater, ampersand, apostrophe, quotation, decimal, hexadecimal, IsQuote, SpellsValue, SpellsAttribute, SpellsAttributes, AreAttributes, Piece, Start, Empty, End, Aside, Escaped, Plain, SpellsPiece, IsPiece}
-use Rattle.pssm_xml.specs.Documents.{Placed, IsCutInto, IsFileCut, byte_order_mark, Element, IsContent, IsRootElement, IsDocument}
+use Rattle.pssm_xml.specs.Characters.{IsCharacter}
+use Rattle.pssm_xml.specs.Pieces.{Attribute, SpellsEscape, less, greater, ampersand, apostrophe, quotation, decimal, hexadecimal, IsQuote, SpellsValue, SpellsAttribute, SpellsAttributes, Piece, Start, Empty, SpellsPiece}
+use Rattle.pssm_xml.specs.Documents.{Placed, IsCutInto, IsFileCut, Element, IsContent, IsRootElement}
 use Rattle.pssm_xml.specs.Elements.{attribute_value}
 use Rattle.pssm_xml.specs.TextFaults.{HasElements}
 use Rattle.pssm_xml.proofs.EscapeLaws.{character_from, has_inner}

@@ -1,8 +1,8 @@
 -- The parts of the draft of a model file: labels are texts, only States behave, triggers ascend, and first values have 64 bits.
-use Rattle.std.proofs.Common.{◌≡◌, ◌<◌, ◌≤◌, ◌+◌, ◌==◌, ◌^◌, ℕ, zero, suc, ℤ, pos, negsuc, Bool, true, false, cond, eqb, List, [], ◌∷◌, ◌++◌, filter, length, map, get_or, Option, Some, None, refl, sym, ap, ◌∙◌, subst, arith, append_assoc, length-append, codes, slice_get, IsTrue}
+use Rattle.std.proofs.Common.{◌≡◌, ◌<◌, ◌≤◌, ◌+◌, ◌==◌, ℕ, ℤ, pos, Bool, true, false, cond, eqb, List, [], ◌∷◌, ◌++◌, filter, length, map, get_or, Option, Some, None, refl, sym, subst, arith, append_assoc, length-append, codes, IsTrue}
 use Rattle.std.specs.List.{AllByRecursion}
 use Rattle.std.specs.Option.{option_map_or}
-use Rattle.std.specs.Prelude.{AllPairs, IfSome}
+use Rattle.std.specs.Prelude.{IfSome}
 use Rattle.std.proofs.Math.Seq.{get_or-append_seam}
 use Rattle.std.proofs.lemmas.List.Sums.{position_or_len_is}
 use Rattle.pssm_spelling.specs.Numbers.{SpellsNumber, natural, negative}
@@ -26,7 +26,7 @@ use Rattle.pssm_profile.specs.Kinds.{IsVariable}
 use Rattle.pssm_numbering.specs.Numbering.{ModelFile, role_at, own_with, children_with, child_named, place_in, signals, machines, classes, is_signal, is_vertex, is_transition, is_attribute}
 use Rattle.pssm_numbering.specs.Kinds.{is_any_state}
 use Rattle.pssm_numbering.specs.Meanings.{value, waits_for, is_variable, variables}
-use Rattle.pssm_parts.specs.Elements.{kind_of, is_state, label_of, state_at, pseudostate_at, vertex_at, transition_at, signals_at}
+use Rattle.pssm_parts.specs.Elements.{kind_of, is_state, label_of, state_at, pseudostate_at, vertex_at, transition_at}
 use Rattle.pssm_drafting.specs.Drafts.{draft_of, parts_at, class_at, variable_at}
 use Rattle.pssm_parts.specs.FirstValues.{integer_spelled, first_value}
 use Rattle.pssm_parts.proofs.SayingLaws.{is_said}

@@ -1,5 +1,5 @@
 -- The elements of a flat draft: labels are texts, what is no State is quiet, and signals ascend.
-use Rattle.std.proofs.Common.{◌≡◌, ◌<◌, ◌≤◌, ◌+◌, ◌*◌, ◌==◌, ℕ, zero, suc, Bool, true, false, cond, List, [], ◌∷◌, ◌++◌, filter, map, length, Option, Some, None, refl, sym, ap, ◌∙◌, subst, arith, slice_get, Contains}
+use Rattle.std.proofs.Common.{◌≡◌, ◌<◌, ◌≤◌, ◌+◌, ◌*◌, ◌==◌, ℕ, zero, suc, Bool, true, false, cond, List, [], ◌∷◌, filter, map, length, Option, Some, None, refl, sym, ap, ◌∙◌, subst, arith, slice_get, Contains}
 use Rattle.std.specs.List.{AllByRecursion, flat_map, filter_map, cons_option}
 use Rattle.std.specs.Option.{option_and_then, option_map, option_map_or, option_or}
 use Rattle.std.specs.Prelude.{AllPairs, unwrap_or}
@@ -9,7 +9,6 @@ use Rattle.pssm_model.specs.declared.ids.SignalId.{SignalId}
 use Rattle.pssm_model.specs.declared.elements.Owner.{Owner}
 use Rattle.pssm_model.specs.declared.elements.Vertex.{Vertex}
 use Rattle.pssm_model.specs.declared.elements.Transition.{Transition}
-use Rattle.pssm_model.specs.declared.elements.VertexKind.{VertexKind}
 use Rattle.pssm_model.specs.declared.elements.VertexKind.TheVariants as kinds
 use Rattle.pssm_model.specs.declared.draft_setting.Body.{Body}
 use Rattle.pssm_model.specs.declared.draft_setting.Draft.{Draft}
@@ -30,7 +29,7 @@ use Rattle.pssm_redefine.specs.Flattening.{Flattens}
 use Rattle.pssm_redefine.specs.Forms.{last_given, given_label, given_entry, given_exit, given_steps, deferred}
 use Rattle.pssm_redefine.specs.Gathering.{with_number, numbered_of}
 use Rattle.pssm_redefine.specs.Groups.{forms_of, list_at}
-use Rattle.pssm_redefine.specs.Merging.{first_kind, steps_numbered, AreUnited, first_triggers, vertex_slots, transition_slots, slots_of, IsMergedVertex}
+use Rattle.pssm_redefine.specs.Merging.{first_kind, steps_numbered, first_triggers, vertex_slots, transition_slots, slots_of, IsMergedVertex}
 use Rattle.pssm_redefine.proofs.FlatLaws.{owners_all, ends_all}
 use Rattle.pssm_redefine.proofs.SumLaws.{added_is}
 use Rattle.pssm_settings.proofs.FlatLists.{each_at, each_from, each_append}
@@ -39,7 +38,7 @@ use Rattle.pssm_settings.proofs.OncePlaces.{Place, at_slot, times, Agrees, Fits,
 use Rattle.pssm_settings.proofs.OnceSlots.{fits_front, fits_each}
 use Rattle.pssm_flat.specs.Flat.{IsLabel}
 use Rattle.pssm_load.proofs.AttributeTexts.{no_label}
-use Rattle.pssm_load.proofs.DraftParts.{is_state_kind, IsQuiet, IsWrittenPart, AreAbove, AreWrittenParts, HasWrittenParts}
+use Rattle.pssm_load.proofs.DraftParts.{is_state_kind, IsWrittenPart, AreAbove, AreWrittenParts, HasWrittenParts}
 
 -- a vertex of a flat draft without behaviours and deferred signals
 pub record IsStill (x : Vertex) : Type 0 where

@@ -34,7 +34,7 @@ use Rattle.pssm_bodies.specs.Readings.{is_empty, first_program, number_of, with_
 use Rattle.pssm_bodies.specs.Programs.{NumbersAct, AreNumbered, NumbersSteps, without, NumbersGuard, always, otherwise, when, NumbersVertex, NumbersTransition, AllNumbered, IsProgrammed}
 use Rattle.pssm_bodies.specs.Programs.{steps as numbers_steps}
 use Rattle.pssm_bodies.proofs.FitSound.{with_act_marks}
-use Rattle.pssm_flat.specs.Flat.{IsLineText, Leads, IsNextAct, LeadsAct, IsNextGuard, LeadsGuard, LeadsVertex, LeadsTransition, IsNumbered}
+use Rattle.pssm_flat.specs.Flat.{IsLineText, Leads, IsNextAct, LeadsAct, LeadsGuard, LeadsVertex, LeadsTransition, IsNumbered}
 use Rattle.pssm_load.proofs.FreeNames.{FreeWords, free_parts, tokens_free, guard_plain, stmts_plain, stmts_same}
 use Rattle.pssm_load.proofs.ReadAgain.{HaveNames, spelled_again, written_same, guard_again}
 use Rattle.pssm_load.proofs.PlainBytes.{guard_line, act_line}

@@ -1,9 +1,9 @@
 -- The setting of a model file whose behaviours and guards are short enough has a flat text that reads again.
-use Rattle.std.proofs.Common.{◌≡◌, ◌≢◌, ◌≤◌, ◌<◌, ◌+◌, ◌-◌, ◌⊎◌, inl, inr, ℕ, zero, suc, Bool, false, List, [], ◌∷◌, ◌++◌, length, map, Option, Some, None, refl, sym, ap, ◌∙◌, subst, arith, slice_get, append_assoc, length-append, codes}
+use Rattle.std.proofs.Common.{◌≡◌, ◌≢◌, ◌≤◌, ◌<◌, ◌+◌, ◌-◌, ◌⊎◌, inl, inr, ℕ, zero, suc, false, List, [], ◌∷◌, ◌++◌, length, map, Option, Some, None, refl, sym, ap, ◌∙◌, subst, arith, slice_get, length-append}
 use Rattle.std.specs.Prelude.{All, AllPairs, IsSomeAnd}
 use Rattle.std.specs.List.{AllByRecursion, flat_map}
 use Rattle.std.specs.Option.{option_map, option_map_or}
-use Rattle.std.proofs.lemmas.List.Elements.{All-from_recursion, recursion_from_All}
+use Rattle.std.proofs.lemmas.List.Elements.{recursion_from_All}
 use Rattle.std.proofs.lemmas.Option.{slice_get_within, get_or_from_slice_get}
 use Rattle.pssm_spelling.specs.Spelling.{IsName}
 use Rattle.pssm_model.specs.declared.ids.ActId.{ActId}
@@ -42,22 +42,20 @@ use Rattle.pssm_semantics.specs.declared.setting.Setting.{Setting}
 use Rattle.pssm_semantics.specs.declared.setting.SignalDecl.{SignalDecl}
 use Rattle.pssm_semantics.specs.declared.setting.VarDecl.{VarDecl}
 use Rattle.pssm_semantics.specs.declared.tree.Act.{Act}
-use Rattle.pssm_semantics.specs.declared.tree.Cond.{Cond}
 use Rattle.pssm_semantics.specs.declared.tree.Stmt.{Stmt}
-use Rattle.pssm_semantics.specs.Fits.{ActFits, CondFits}
-use Rattle.pssm_semantics.specs.Proper.{HasSignal, IsProper}
+use Rattle.pssm_semantics.specs.Fits.{ActFits}
+use Rattle.pssm_semantics.specs.Proper.{HasSignal}
 use Rattle.pssm_acts.specs.ActGrammar.{SpellsAct}
 use Rattle.pssm_acts.specs.ReadBack.{AreNames as AreFreeNames}
 use Rattle.pssm_acts.specs.Vocabularies.{vocabulary}
 use Rattle.pssm_acts.proofs.Unchanged.{act_alone}
 use Rattle.pssm_bodies.specs.Slots.{text_at, guard_slots}
-use Rattle.pssm_bodies.specs.Readings.{is_empty, first_program, number_of}
-use Rattle.pssm_bodies.specs.Programs.{NumbersAct, NumbersSteps, without, NumbersVertex, NumbersTransition, AllNumbered, IsProgrammed}
+use Rattle.pssm_bodies.specs.Readings.{first_program, number_of}
+use Rattle.pssm_bodies.specs.Programs.{NumbersAct, NumbersSteps, without, NumbersVertex, NumbersTransition, AllNumbered}
 use Rattle.pssm_bodies.specs.Programs.{steps as numbers_steps}
 use Rattle.pssm_bodies.specs.inner.Through.{guards_count}
 use Rattle.pssm_bodies.proofs.FitLaws.{program_sound}
 use Rattle.pssm_bodies.proofs.GuardCounts.{vertices_guards, transitions_guards}
-use Rattle.pssm_redefine.specs.Flattening.{Flattens}
 use Rattle.pssm_settings.specs.Names.{AreDistinctNames, HasNames}
 use Rattle.pssm_settings.specs.Settings.{signal_of, var_of, object_of, IsLoadedClass, IsSettingOf}
 use Rattle.pssm_settings.specs.Settings.{names_of as draft_names}
@@ -68,8 +66,8 @@ use Rattle.pssm_settings.proofs.OnceWhole.{each_once}
 use Rattle.pssm_settings.proofs.ProperClasses.{class_fits}
 use Rattle.pssm_settings.proofs.ProperLists.{map_map, same_told, after_numbered}
 use Rattle.pssm_settings.proofs.ProperSettings.{setting_proper}
-use Rattle.pssm_flat.specs.Text.{names_of, line, text_of, flat_lines, flat_text}
-use Rattle.pssm_flat.specs.Flat.{AllBehind, IsNewName, AreNames, next_number, IsNextSignal, AreAscending, IsInteger, IsLabel, IsRegionOwner, IsVertexOwner, IsPassive, IsWrittenVertex, IsWrittenTransition, IsWrittenMachine, IsNumbered, IsWrittenClass, IsWritten, IsFlat}
+use Rattle.pssm_flat.specs.Text.{names_of}
+use Rattle.pssm_flat.specs.Flat.{AllBehind, IsNewName, AreNames, next_number, IsNextSignal, AreAscending, IsInteger, IsLabel, IsRegionOwner, IsVertexOwner, IsPassive, IsWrittenVertex, IsWrittenTransition, IsWrittenMachine, IsNumbered, IsWrittenClass, IsFlat}
 use Rattle.pssm_flat.proofs.NumberLaws.{spells_nothing}
 use Rattle.pssm_load.specs.ReadBack.{ActIsShort, GuardIsShort, ClassIsShort, SpellsShort}
 use Rattle.pssm_load.proofs.DraftParts.{is_state_kind, AreAbove, HasWrittenParts}

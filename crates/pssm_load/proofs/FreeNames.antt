@@ -1,7 +1,7 @@
 -- The names in what a text spells are no words of the language, its numbers have 64 bits, and behaviours keep the numbers of their marks.
-use Rattle.std.proofs.Common.{◌≡◌, ◌≢◌, ◌<◌, ◌-◌, ◌^◌, ℕ, suc, zero, ℤ, Bool, true, false, eqb, ◌&&◌, List, [], ◌∷◌, ◌++◌, length, take, All, Option, Some, None, refl, sym, ap, subst, ◌∙◌, arith, position, bytes_eq, length-append, if◌then◌else◌}
+use Rattle.std.proofs.Common.{◌≡◌, ◌≢◌, ◌<◌, ◌-◌, ℕ, suc, zero, ℤ, Bool, true, false, eqb, ◌&&◌, List, [], ◌∷◌, ◌++◌, length, take, All, Option, Some, None, refl, sym, ap, subst, ◌∙◌, arith, position, bytes_eq, length-append, if◌then◌else◌}
 use Rattle.std.specs.Option.{option_map_or}
-use Rattle.std.specs.Prelude.{slice_get, slice_index_or}
+use Rattle.std.specs.Prelude.{slice_index_or}
 use Rattle.std.proofs.Math.Seq.{get_or-append_seam}
 use Rattle.std.proofs.lemmas.List.{get_or-take}
 use Rattle.std.proofs.lemmas.List.Elements.{All-nil, All-head, All-tail, All-push}
@@ -13,7 +13,6 @@ use Rattle.pssm_model.specs.declared.ids.SignalId.{SignalId}
 use Rattle.pssm_semantics.specs.declared.entry.ObjectId.{ObjectId}
 use Rattle.pssm_semantics.specs.declared.setting.Names.{Names}
 use Rattle.pssm_semantics.specs.declared.setting.SignalDecl.{SignalDecl}
-use Rattle.pssm_semantics.specs.declared.tree.Act.{Act}
 use Rattle.pssm_semantics.specs.declared.tree.Cond.{Cond}
 use Rattle.pssm_semantics.specs.declared.tree.Expr.{Expr}
 use Rattle.pssm_semantics.specs.declared.tree.Rel.TheVariants.{Eq, Ne, Le, Ge}

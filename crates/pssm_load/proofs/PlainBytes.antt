@@ -1,7 +1,7 @@
 -- Behaviours and guards are written in ASCII, without a line feed.
-use Rattle.std.proofs.Common.{◌≡◌, ◌<◌, ◌≤◌, ◌⊎◌, ◌^◌, length, subst, inl, inr, ℕ, zero, suc, ℤ, pos, negsuc, Bool, true, false, eqb, ltb, leb, ◌&&◌, ◌||◌, List, [], ◌∷◌, ◌++◌, All, Option, Some, None, refl, sym, ap, ◌∙◌, arith, codes}
+use Rattle.std.proofs.Common.{◌≡◌, ◌<◌, ◌≤◌, ◌⊎◌, ◌^◌, length, subst, inl, inr, ℕ, zero, suc, pos, negsuc, Bool, true, false, eqb, ltb, leb, ◌&&◌, ◌||◌, List, [], ◌∷◌, ◌++◌, All, Option, Some, None, refl, ◌∙◌, arith, codes}
 use Rattle.std.specs.List.{list_all, AllByRecursion}
-use Rattle.std.specs.Fmt.{decimal, signed_decimal}
+use Rattle.std.specs.Fmt.{decimal}
 use Rattle.std.specs.Option.{option_map_or}
 use Rattle.std.specs.Prelude.{slice_get, not}
 use Rattle.std.proofs.lemmas.Bool.{and_parts, and_from, leb-true, eqb-true, lt-ltb}
@@ -11,7 +11,6 @@ use Rattle.std.proofs.lemmas.List.Folds.{list_all-append}
 use Rattle.pssm_spelling.specs.Spelling.{IsName, begins_name, continues_name}
 use Rattle.pssm_spelling.specs.SpellingReading.{is_digit}
 use Rattle.pssm_spelling.proofs.SpellingLaws.{name_goes_on, digits_model}
-use Rattle.pssm_model.specs.declared.ids.SignalId.{SignalId}
 use Rattle.pssm_semantics.specs.declared.entry.ObjectId.{ObjectId}
 use Rattle.pssm_semantics.specs.declared.setting.Names.{Names}
 use Rattle.pssm_semantics.specs.declared.setting.SignalDecl.{SignalDecl}

@@ -9,8 +9,8 @@ use Rattle.pssm_acts.specs.ActGrammar.{SpellsBehaviour, SpellsAct}
 use Rattle.pssm_acts.specs.ActText.{act_text, cond_text}
 use Rattle.pssm_acts.specs.Grammar.{SpellsCond}
 use Rattle.pssm_acts.specs.Marks.{KeepsMarks}
-use Rattle.pssm_acts.specs.ReadBack.{AreNames, cond_levels, stmts_levels, GuardCanBeReadBack, CanBeReadBack}
-use Rattle.pssm_acts.specs.Tokens.{Token, tokens_of}
+use Rattle.pssm_acts.specs.ReadBack.{AreNames, cond_levels, stmts_levels, CanBeReadBack}
+use Rattle.pssm_acts.specs.Tokens.{Token}
 use Rattle.pssm_acts.specs.Vocabularies.{vocabulary}
 use Rattle.pssm_acts.proofs.AnswerLaws.{same_kept}
 use Rattle.pssm_acts.proofs.BlockBack.{act_read_back}
