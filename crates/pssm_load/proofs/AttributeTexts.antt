@@ -18,6 +18,7 @@ use Rattle.pssm_xml.specs.Elements.{attribute_value}
 use Rattle.pssm_xml.specs.TextFaults.{HasElements}
 use Rattle.pssm_xml.proofs.EscapeLaws.{character_from, has_inner}
 use Rattle.pssm_xml.proofs.GoodLaws.{characters_utf8}
+use Rattle.pssm_semantics.proofs.Appended.{AllByRecursion-append, AllByRecursion-back, AllByRecursion-front}
 use Rattle.pssm_flat.specs.Flat.{is_label_byte, IsLabel}
 
 -- ---- UTF-8 is cut beside ASCII
@@ -75,7 +76,8 @@ low_quote c is = go (eqb c 34) refl is where
   go true e is = (let same : c ≡ 34 = eqb-true c 34 e in omega arith)
   go false e is = (let same : c ≡ 39 = eqb-true c 39 is in omega arith)
 
-attribute_utf8 : (bytes : List ℕ) (a : Attribute) → SpellsAttribute bytes a → (front more : List ℕ) → IsUtf8 (front ++ (bytes ++ more)) → IsUtf8 a.value × IsUtf8 more
+attribute_utf8 : (bytes : List ℕ) (a : Attribute) → SpellsAttribute bytes a → (front more : List ℕ) → IsUtf8 (front ++ (bytes ++ more))
+    → IsUtf8 a.value × IsUtf8 more
 attribute_utf8 bytes a spells front more utf8 =
     let q = spells.quote in
     let end : List ℕ = q ∷ (spells.inner ++ q ∷ []) in
@@ -91,7 +93,8 @@ attribute_utf8 bytes a spells front more utf8 =
 abbrev pub AreTexts : List Attribute → Type 0
 AreTexts attributes = AllByRecursion (λ (a : Attribute). IsUtf8 a.value) attributes
 
-attributes_utf8 : {given : List ℕ} {attributes : List Attribute} → SpellsAttributes given attributes → (front behind : List ℕ) → IsUtf8 (front ++ (given ++ behind)) → AreTexts attributes
+attributes_utf8 : {given : List ℕ} {attributes : List Attribute} → SpellsAttributes given attributes → (front behind : List ℕ)
+    → IsUtf8 (front ++ (given ++ behind)) → AreTexts attributes
 attributes_utf8 SpellsAttributes.nothing front behind utf8 = tt
 attributes_utf8 (SpellsAttributes.further {bytes} {more} {attribute} {rest} one others) front behind utf8 =
     let both = attribute_utf8 bytes attribute one front (more ++ behind) (subst (λ (b : List ℕ). IsUtf8 (front ++ b)) (append_assoc bytes more behind) utf8) in
@@ -132,18 +135,6 @@ file_utf8 bytes rest ps (IsFileCut.bare none cut) = cut_utf8 cut
 
 -- ---- elements
 
-all_front : {X : Type 0} (P : X → Type 0) (xs ys : List X) → AllByRecursion P (xs ++ ys) → AllByRecursion P xs
-all_front P [] ys a = tt
-all_front P (x ∷ xs) ys a = (a.0, all_front P xs ys a.1)
-
-all_back : {X : Type 0} (P : X → Type 0) (xs ys : List X) → AllByRecursion P (xs ++ ys) → AllByRecursion P ys
-all_back P [] ys a = a
-all_back P (x ∷ xs) ys a = all_back P xs ys a.1
-
-all_joined : {X : Type 0} (P : X → Type 0) (xs ys : List X) → AllByRecursion P xs → AllByRecursion P ys → AllByRecursion P (xs ++ ys)
-all_joined P [] ys a b = b
-all_joined P (x ∷ xs) ys a b = (a.0, all_joined P xs ys a.1 b)
-
 abbrev OfPlaced : Placed → Type 0
 OfPlaced p = HasTexts p.piece
 
@@ -160,22 +151,23 @@ content_utf8 (IsContent.aside is more) all = content_utf8 more all.1
 content_utf8 (IsContent.text first is more) all = content_utf8 more all.1
 content_utf8 (IsContent.empty is more) all = (subst HasTexts is all.0, content_utf8 more all.1)
 content_utf8 (IsContent.nested {parent} {next} {p} q {ps} {inner} {name} {text} {inner_text} {attributes} {es} {inner_es} is within ends more) all =
-    let front = all_front OfPlaced inner (q ∷ ps) all.1 in
-    let back = all_back OfPlaced inner (q ∷ ps) all.1 in
-    (subst HasTexts is all.0, all_joined OfElement inner_es es (content_utf8 within front) (content_utf8 more back.1))
+    let front = AllByRecursion-front OfPlaced inner (q ∷ ps) all.1 in
+    let back = AllByRecursion-back OfPlaced inner (q ∷ ps) all.1 in
+    (subst HasTexts is all.0, AllByRecursion-append OfElement inner_es es (content_utf8 within front) (content_utf8 more back.1))
 
 root_utf8 : {ps : List Placed} {es : List Element} → IsRootElement ps es → PlacedTexts ps → ElementTexts es
 root_utf8 (IsRootElement.empty is) all = (subst HasTexts is all.0, tt)
-root_utf8 (IsRootElement.nested {p} q {inner} {name} {text} {attributes} {es} is within ends) all = (subst HasTexts is all.0, content_utf8 within (all_front OfPlaced inner (q ∷ []) all.1))
+root_utf8 (IsRootElement.nested {p} q {inner} {name} {text} {attributes} {es} is within ends) all = (subst HasTexts is all.0, content_utf8 within (AllByRecursion-front OfPlaced inner (q ∷ []) all.1))
 
 -- The values of the attributes of a text are UTF-8.
 pub elements_utf8 : (bytes : List ℕ) (elements : List Element) → HasElements bytes elements → ElementTexts elements
 elements_utf8 bytes elements has =
     let all = subst PlacedTexts has.document.parts (file_utf8 bytes [] has.pieces has.cut) in
     let root = has.document.root in
-    root_utf8 has.document.root_is (all_back OfPlaced has.document.before root (all_front OfPlaced (has.document.before ++ root) has.document.behind all))
+    root_utf8 has.document.root_is (AllByRecursion-back OfPlaced has.document.before root (AllByRecursion-front OfPlaced (has.document.before ++ root) has.document.behind all))
 
-found_utf8 : (p : Attribute → Bool) (attributes : List Attribute) (v : List ℕ) → AreTexts attributes → option_map (λ (a : Attribute). a.value) (find p attributes) ≡ Some v → IsUtf8 v
+found_utf8 : (p : Attribute → Bool) (attributes : List Attribute) (v : List ℕ) → AreTexts attributes
+    → option_map (λ (a : Attribute). a.value) (find p attributes) ≡ Some v → IsUtf8 v
 found_utf8 p [] v all e = absurd cc
 found_utf8 p (a ∷ rest) v all e = go (p a) e (λ later. found_utf8 p rest v all.1 later) where
   go : (b : Bool) → option_map (λ (x : Attribute). x.value) (cond b (Some a) (find p rest)) ≡ Some v
@@ -184,7 +176,8 @@ found_utf8 p (a ∷ rest) v all e = go (p a) e (λ later. found_utf8 p rest v al
   go false e others = others e
 
 -- So is each value that is asked for.
-pub value_texts : (doc : List Element) (n : ℕ) (name v : List ℕ) → ElementTexts doc → option_and_then (attribute_value name) (slice_get doc n) ≡ Some v → IsUtf8 v
+pub value_texts : (doc : List Element) (n : ℕ) (name v : List ℕ) → ElementTexts doc → option_and_then (attribute_value name) (slice_get doc n) ≡ Some v
+    → IsUtf8 v
 value_texts [] n name v all e = absurd cc
 value_texts (x ∷ doc) zero name v all e = found_utf8 (λ (a : Attribute). bytes_eq a.name name) x.attributes v all.0 e
 value_texts (x ∷ doc) (suc n) name v all e = value_texts doc n name v all.1 e

@@ -87,7 +87,8 @@ place_behind front x rest rise =
     (λ within. let same : eqb (get_or whole (length front) 0) x ≡ true = grind (arith, here) in same)
 
 -- The places of what is kept of numbers that rise ascend.
-places_above : (p : ℕ → Bool) (front rest : List ℕ) → Rise (front ++ rest) → AreAbove (length front) (map (λ s. signal_of_place (place_in (front ++ rest) s)) (filter p rest))
+places_above : (p : ℕ → Bool) (front rest : List ℕ) → Rise (front ++ rest)
+    → AreAbove (length front) (map (λ s. signal_of_place (place_in (front ++ rest) s)) (filter p rest))
 places_above p front [] rise = tt
 places_above p front (x ∷ rest) rise =
     let one : List ℕ = x ∷ [] in
@@ -97,7 +98,8 @@ places_above p front (x ∷ rest) rise =
     let behind = subst (λ (whole : List ℕ). AreAbove (length (front ++ one)) (map (λ s. signal_of_place (place_in whole s)) (filter p rest))) same later in
     let next = subst (λ n. AreAbove n (map (λ s. signal_of_place (place_in (front ++ x ∷ rest) s)) (filter p rest))) size behind in
     go (p x) (place_behind front x rest rise) next where
-      go : (b : Bool) → place_in (front ++ x ∷ rest) x ≡ length front → AreAbove (length front + 1) (map (λ s. signal_of_place (place_in (front ++ x ∷ rest) s)) (filter p rest))
+      go : (b : Bool) → place_in (front ++ x ∷ rest) x ≡ length front
+          → AreAbove (length front + 1) (map (λ s. signal_of_place (place_in (front ++ x ∷ rest) s)) (filter p rest))
           → AreAbove (length front) (map (λ s. signal_of_place (place_in (front ++ x ∷ rest) s)) (cond b (x ∷ filter p rest) (filter p rest)))
       go true place next = (omega (arith, place), subst (λ n. AreAbove (n + 1) (map (λ s. signal_of_place (place_in (front ++ x ∷ rest) s)) (filter p rest))) (sym place) next)
       go false place next = above_weak (length front) (length front + 1) (map (λ s. signal_of_place (place_in (front ++ x ∷ rest) s)) (filter p rest)) (omega arith) next
@@ -148,7 +150,8 @@ module _ (bytes : List ℕ) (file : ModelFile) (text : HasElements bytes file.do
   first_written c v there =
       let is = (passing (is_variable file) v (children_with is_attribute file c) there).0 in
       go (child_named (codes "defaultValue") file v) (integer_first file.doc none v (variable v is) (child_named (codes "defaultValue") file v) refl) where
-        go : (found : Option ℕ) → IfSome found (λ d. (i : ℤ) × SaysInteger (said file.doc d (codes "value")) i) → IsInteger (option_map_or (λ d. option_map_or integer_spelled (value (codes "value") file d) (pos 0)) found (pos 0))
+        go : (found : Option ℕ) → IfSome found (λ d. (i : ℤ) × SaysInteger (said file.doc d (codes "value")) i)
+            → IsInteger (option_map_or (λ d. option_map_or integer_spelled (value (codes "value") file d) (pos 0)) found (pos 0))
         go None says = omega arith
         go (Some d) says = subst IsInteger (sym (is_said (value (codes "value") file d) says.0 says.1)) (said_integer (value (codes "value") file d) says.0 says.1)
 

@@ -4,6 +4,7 @@ use Rattle.std.specs.List.{AllByRecursion, flat_map, filter_map, cons_option}
 use Rattle.std.specs.Option.{option_and_then, option_map, option_map_or, option_or}
 use Rattle.std.specs.Prelude.{AllPairs, unwrap_or}
 use Rattle.std.proofs.lemmas.Bool.{eqb-true}
+use Rattle.std.proofs.lemmas.Option.{slice_get_within}
 use Rattle.std.proofs.lemmas.List.Sorted.{sum_by-IsPermutation}
 use Rattle.pssm_model.specs.declared.ids.SignalId.{SignalId}
 use Rattle.pssm_model.specs.declared.elements.Owner.{Owner}
@@ -32,25 +33,18 @@ use Rattle.pssm_redefine.specs.Groups.{forms_of, list_at}
 use Rattle.pssm_redefine.specs.Merging.{first_kind, steps_numbered, first_triggers, vertex_slots, transition_slots, slots_of, IsMergedVertex}
 use Rattle.pssm_redefine.proofs.FlatLaws.{owners_all, ends_all}
 use Rattle.pssm_redefine.proofs.SumLaws.{added_is}
-use Rattle.pssm_settings.proofs.FlatLists.{each_at, each_from, each_append}
+use Rattle.pssm_settings.proofs.FlatLists.{each_at, each_from, each_with, each_append}
 use Rattle.pssm_model.proofs.ElementLaws.{some_at as some_there}
 use Rattle.pssm_settings.proofs.OncePlaces.{Place, at_slot, times, Agrees, Fits, fits}
 use Rattle.pssm_settings.proofs.OnceSlots.{fits_front, fits_each}
-use Rattle.pssm_flat.specs.Flat.{IsLabel}
+use Rattle.pssm_flat.specs.Flat.{IsLabel, IsPassive}
 use Rattle.pssm_load.proofs.AttributeTexts.{no_label}
 use Rattle.pssm_load.proofs.DraftParts.{is_state_kind, IsWrittenPart, AreAbove, AreWrittenParts, HasWrittenParts}
-
--- a vertex of a flat draft without behaviours and deferred signals
-pub record IsStill (x : Vertex) : Type 0 where
-  pub entry : x.entry.0 ≡ 0
-  pub exit : x.exit.0 ≡ 0
-  pub steps : x.steps ≡ []
-  pub defers : x.defers ≡ []
 
 -- what is known of a vertex of a flat draft
 pub record IsFlatVertex (x : Vertex) : Type 0 where
   pub label : IsLabel x.label
-  pub still : is_state_kind x.kind ≡ false → IsStill x
+  pub still : is_state_kind x.kind ≡ false → IsPassive x
   pub ascending : AreAbove 0 x.defers
 
 -- the type of the elements of a list
@@ -72,14 +66,9 @@ stable false false h = refl
 stable true false h = absurd (h (λ e. absurd cc))
 stable false true h = absurd (h (λ e. absurd cc))
 
-within : {X : Type 0} (xs : List X) (k : ℕ) (x : X) → slice_get xs k ≡ Some x → k < length xs
-within [] k x at = absurd cc
-within (y ∷ xs) zero x at = omega arith
-within (y ∷ xs) (suc k) x at = let less = within xs k x at in omega (arith, less)
-
 -- Another list that is as long has an element at the place.
 other_at : {X Y : Type 0} (xs : List X) (ys : List Y) (k : ℕ) (x : X) → length xs ≡ length ys → slice_get xs k ≡ Some x → (y : Y) × (slice_get ys k ≡ Some y)
-other_at xs ys k x same at = some_there ys k (let less = within xs k x at in omega (arith, less, same))
+other_at xs ys k x same at = some_there ys k (let less = slice_get_within xs k x at in omega (arith, less, same))
 
 none_contained : {X : Type 0} (xs : List X) → ((x : X) → Contains xs x → ⊥) → xs ≡ []
 none_contained [] none = refl
@@ -95,7 +84,8 @@ no_flat f (x ∷ xs) all = rw all.0 (no_flat f xs all.1)
 pairs_tail : (g : SignalId) (gs : List SignalId) → AllPairs (λ (a b : SignalId). a.0 < b.0) (g ∷ gs) → AllPairs (λ (a b : SignalId). a.0 < b.0) gs
 pairs_tail g gs pairs = λ i j d before within. pairs (suc i) (suc j) d (omega (arith, before)) (omega (arith, within))
 
-above_from : (low : ℕ) (gs : List SignalId) → AllPairs (λ (a b : SignalId). a.0 < b.0) gs → ((g : SignalId) → slice_get gs 0 ≡ Some g → low ≤ g.0) → AreAbove low gs
+above_from : (low : ℕ) (gs : List SignalId) → AllPairs (λ (a b : SignalId). a.0 < b.0) gs → ((g : SignalId) → slice_get gs 0 ≡ Some g → low ≤ g.0)
+    → AreAbove low gs
 above_from low [] pairs first = tt
 above_from low (g ∷ gs) pairs first = (first g refl, above_from (g.0 + 1) gs (pairs_tail g gs pairs) (next gs pairs)) where
   next : (gs : List SignalId) → AllPairs (λ (a b : SignalId). a.0 < b.0) (g ∷ gs) → (h : SignalId) → slice_get gs 0 ≡ Some h → g.0 + 1 ≤ h.0
@@ -119,13 +109,15 @@ above_on draft m a b (extended first) far = extended (far_far draft m a b first 
 module _ (draft : Draft) (parts : HasWrittenParts draft) where
   vertex_written : (e : ElementRef) (v : PartVertex) → vertex_of draft e ≡ Some v → IsWrittenPart v
   vertex_written e v at = by_machine (slice_get draft.machines e.machine) refl at where
-    by_machine : (o : Option DraftParts) → slice_get draft.machines e.machine ≡ o → option_and_then (λ (p : DraftParts). slice_get p.vertices e.element) o ≡ Some v → IsWrittenPart v
+    by_machine : (o : Option DraftParts) → slice_get draft.machines e.machine ≡ o
+        → option_and_then (λ (p : DraftParts). slice_get p.vertices e.element) o ≡ Some v → IsWrittenPart v
     by_machine None is at = absurd cc
     by_machine (Some p) is at = each_at IsWrittenPart p.vertices e.element v (each_at AreWrittenParts draft.machines e.machine p parts.machines is).0 at
 
   transition_written : (e : ElementRef) (t : PartTransition) → transition_of draft e ≡ Some t → AreAbove 0 t.triggers
   transition_written e t at = by_machine (slice_get draft.machines e.machine) refl at where
-    by_machine : (o : Option DraftParts) → slice_get draft.machines e.machine ≡ o → option_and_then (λ (p : DraftParts). slice_get p.transitions e.element) o ≡ Some t → AreAbove 0 t.triggers
+    by_machine : (o : Option DraftParts) → slice_get draft.machines e.machine ≡ o
+        → option_and_then (λ (p : DraftParts). slice_get p.transitions e.element) o ≡ Some t → AreAbove 0 t.triggers
     by_machine None is at = absurd cc
     by_machine (Some p) is at = each_at (λ (x : PartTransition). AreAbove 0 x.triggers) p.transitions e.element t (each_at AreWrittenParts draft.machines e.machine p parts.machines is).1 at
 
@@ -163,7 +155,8 @@ module _ (draft : Draft) (parts : HasWrittenParts draft) where
       ∙ sym (ap (λ (o : Option PartVertex). option_map_or (λ (v : PartVertex). is_state_kind v.kind) o true) same.is_other)
 
   -- An element is a State where the one is that it has become.
-  became_state : (m : ℕ) → BreaksNothing draft m → {e o : ElementRef} → Became draft elements.Vertex e o → IsOrExtends draft m e.machine → is_state_at e ≡ is_state_at o
+  became_state : (m : ℕ) → BreaksNothing draft m → {e o : ElementRef} → Became draft elements.Vertex e o → IsOrExtends draft m e.machine
+      → is_state_at e ≡ is_state_at o
   became_state m keeps (new none) within = refl
   became_state m keeps {e} (redefining f above became) within =
       stable (is_state_at e) (is_state_at f)
@@ -188,7 +181,8 @@ module _ (draft : Draft) (parts : HasWrittenParts draft) where
 
   first_is : (forms : List ElementRef) (e : ElementRef) → slice_get forms 0 ≡ Some e → is_state_kind (first_kind draft forms) ≡ is_state_at e
   first_is forms e at = ap (λ (o : Option ElementRef). is_state_kind (option_map_or (λ (v : PartVertex). v.kind) (option_and_then (vertex_of draft) o) kinds.State)) at ∙ go (vertex_of draft e) where
-    go : (o : Option PartVertex) → is_state_kind (option_map_or (λ (v : PartVertex). v.kind) o kinds.State) ≡ option_map_or (λ (v : PartVertex). is_state_kind v.kind) o true
+    go : (o : Option PartVertex)
+        → is_state_kind (option_map_or (λ (v : PartVertex). v.kind) o kinds.State) ≡ option_map_or (λ (v : PartVertex). is_state_kind v.kind) o true
     go None = refl
     go (Some v) = refl
 
@@ -212,17 +206,14 @@ module _ (draft : Draft) (parts : HasWrittenParts draft) where
       each_append (HasItsNumber numbering) (filter_map (with_number numbering) (own_elements draft elements.Vertex m)) (numbered_of draft elements.Vertex numbering machines)
       (own_numbered numbering (own_elements draft elements.Vertex m)) (all_numbered numbering machines)
 
-  forms_numbered : (numbering : Numbering) (k : ℕ) (ns : List Numbered) → AllByRecursion (HasItsNumber numbering) ns → AllByRecursion (λ (e : ElementRef). number_in numbering e ≡ Some k) (forms_of ns k)
+  forms_numbered : (numbering : Numbering) (k : ℕ) (ns : List Numbered) → AllByRecursion (HasItsNumber numbering) ns
+      → AllByRecursion (λ (e : ElementRef). number_in numbering e ≡ Some k) (forms_of ns k)
   forms_numbered numbering k [] all = tt
   forms_numbered numbering k (n ∷ ns) all = go (n.number == k) refl (forms_numbered numbering k ns all.1) where
     go : (b : Bool) → (n.number == k) ≡ b → AllByRecursion (λ (e : ElementRef). number_in numbering e ≡ Some k) (forms_of ns k)
         → AllByRecursion (λ (e : ElementRef). number_in numbering e ≡ Some k) (map (λ (x : Numbered). x.element) (cond b (n ∷ filter (λ (x : Numbered). x.number == k) ns) (filter (λ (x : Numbered). x.number == k) ns)))
     go true e others = (all.0 ∙ ap Some (eqb-true n.number k e), others)
     go false e others = others
-
-  each_listed : {X : Type 0} (P Q : X → Type 0) (xs : List X) → ((x : X) → P x → Q x) → AllByRecursion P xs → AllByRecursion Q xs
-  each_listed P Q [] f all = tt
-  each_listed P Q (x ∷ xs) f all = (f x all.0, each_listed P Q xs f all.1)
 
   some_at : (lists : List (List ElementRef)) (k : ℕ) (forms : List ElementRef) → slice_get lists k ≡ Some forms → list_at lists k ≡ forms
   some_at [] k forms at = absurd cc
@@ -238,13 +229,14 @@ module _ (draft : Draft) (parts : HasWrittenParts draft) where
         let numbering = whole.lineage.vertices in
         let groups = whole.gathers.vertices in
         let size = groups.all in
-        let less = within whole.gathered.vertices k forms at in
+        let less = slice_get_within whole.gathered.vertices k forms at in
         let same = sym (groups.forms k (omega (arith, less, size))) ∙ some_at whole.gathered.vertices k forms at in
         subst (AllByRecursion (λ (e : ElementRef). number_in numbering e ≡ Some k)) same
         (forms_numbered numbering k (numbered_of draft elements.Vertex numbering whole.lineage.machines) (all_numbered numbering whole.lineage.machines))
 
     -- Where one of two elements of a number is a State the other is.
-    two_forms : (k : ℕ) (e f : ElementRef) → number_in flattens.flattened.lineage.vertices e ≡ Some k → number_in flattens.flattened.lineage.vertices f ≡ Some k → is_state_at e ≡ is_state_at f
+    two_forms : (k : ℕ) (e f : ElementRef) → number_in flattens.flattened.lineage.vertices e ≡ Some k
+        → number_in flattens.flattened.lineage.vertices f ≡ Some k → is_state_at e ≡ is_state_at f
     two_forms k e f one two =
         let numbers = flattens.flattened.inherits.vertices in
         let first = numbers.sound e k one in
@@ -254,20 +246,22 @@ module _ (draft : Draft) (parts : HasWrittenParts draft) where
         became_state flattens.of.machine flattens.keeps first.2.2 first.0 ∙ ap is_state_at origin ∙ sym (became_state flattens.of.machine flattens.keeps second.2.2 second.0)
 
     -- Where the first form is no State none is.
-    no_states : (k : ℕ) (forms : List ElementRef) → slice_get flattens.flattened.gathered.vertices k ≡ Some forms → is_state_kind (first_kind draft forms) ≡ false
+    no_states : (k : ℕ) (forms : List ElementRef) → slice_get flattens.flattened.gathered.vertices k ≡ Some forms
+        → is_state_kind (first_kind draft forms) ≡ false
         → AllByRecursion (λ (e : ElementRef). is_state_at e ≡ false) forms
     no_states k [] at passive = tt
     no_states k (e ∷ forms) at passive =
         let all = numbers k (e ∷ forms) at in
         let first : is_state_at e ≡ false = sym (first_is (e ∷ forms) e refl) ∙ passive in
-        each_listed (λ (f : ElementRef). number_in flattens.flattened.lineage.vertices f ≡ Some k) (λ (f : ElementRef). is_state_at f ≡ false) (e ∷ forms)
+        each_with (λ (f : ElementRef). number_in flattens.flattened.lineage.vertices f ≡ Some k) (λ (f : ElementRef). is_state_at f ≡ false) (e ∷ forms)
         (λ f has. sym (two_forms k e f all.0 has) ∙ first) all
 
     times_same : (slots : List (Option Body)) (order : List Place) → IsOrder slots order → (s : ℕ) → times s order ≡ times s (places_from 0 slots)
     times_same slots order h s =
         added_is (at_slot s) order ∙ sum_by-IsPermutation (at_slot s) (places_from 0 slots) order h.same ∙ sym (added_is (at_slot s) (places_from 0 slots))
 
-    vertex_fits : (k : ℕ) (forms : List ElementRef) → slice_get flattens.flattened.gathered.vertices k ≡ Some forms → Fits (number_from 1 flattens.flattened.merged.order) (3 * k) (vertex_slots draft forms)
+    vertex_fits : (k : ℕ) (forms : List ElementRef) → slice_get flattens.flattened.gathered.vertices k ≡ Some forms
+        → Fits (number_from 1 flattens.flattened.merged.order) (3 * k) (vertex_slots draft forms)
     vertex_fits k forms at =
         let from = flattens.flattened.gathered in
         let order = flattens.flattened.merged.order in
@@ -278,15 +272,15 @@ module _ (draft : Draft) (parts : HasWrittenParts draft) where
 
     still_vertex : (k : ℕ) (forms : List ElementRef) (x : Vertex) (owner : Owner) → slice_get flattens.flattened.gathered.vertices k ≡ Some forms
         → IsMergedVertex draft owner (number_from 1 flattens.flattened.merged.order (3 * k)) (number_from 1 flattens.flattened.merged.order (3 * k + 1)) (number_from 1 flattens.flattened.merged.order (3 * k + 2)) forms x
-        → is_state_kind x.kind ≡ false → IsStill x
+        → is_state_kind x.kind ≡ false → IsPassive x
     still_vertex k forms x owner at merged passive =
         let f = number_from 1 flattens.flattened.merged.order in
         let none = no_states k forms at (ap is_state_kind (sym merged.kind) ∙ passive) in
-        let quiet = each_listed (λ (e : ElementRef). is_state_at e ≡ false) Quiet forms quiet_form none in
-        let entry = none_given (given_entry draft) forms (each_listed Quiet (λ e. given_entry draft e ≡ None) forms (λ e q. q.0) quiet) in
-        let exit = none_given (given_exit draft) forms (each_listed Quiet (λ e. given_exit draft e ≡ None) forms (λ e q. q.1) quiet) in
-        let steps = none_given (given_steps draft) forms (each_listed Quiet (λ e. given_steps draft e ≡ None) forms (λ e q. q.2) quiet) in
-        let defers = no_flat (deferred draft) forms (each_listed Quiet (λ e. deferred draft e ≡ []) forms (λ e q. q.3) quiet) in
+        let quiet = each_with (λ (e : ElementRef). is_state_at e ≡ false) Quiet forms quiet_form none in
+        let entry = none_given (given_entry draft) forms (each_with Quiet (λ e. given_entry draft e ≡ None) forms (λ e q. q.0) quiet) in
+        let exit = none_given (given_exit draft) forms (each_with Quiet (λ e. given_exit draft e ≡ None) forms (λ e q. q.1) quiet) in
+        let steps = none_given (given_steps draft) forms (each_with Quiet (λ e. given_steps draft e ≡ None) forms (λ e q. q.2) quiet) in
+        let defers = no_flat (deferred draft) forms (each_with Quiet (λ e. deferred draft e ≡ []) forms (λ e q. q.3) quiet) in
         let fit = vertex_fits k forms at in
         let next : 3 * k + 1 + 1 ≡ 3 * k + 2 = omega arith in
         let one : f (3 * k) ≡ 0 = agrees (f (3 * k)) (last_given (given_entry draft) forms) entry fit.0 in

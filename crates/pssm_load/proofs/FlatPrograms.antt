@@ -93,11 +93,13 @@ record IsFront (p final : Program) : Type 0 where
   guards : Front p.guards final.guards
   marks : KeepsMarks p.marks final.marks
 
-named_each : (signals : List SignalDecl) → AllByRecursion IsName (map (λ (d : SignalDecl). d.name) signals) → AllByRecursion (λ (d : SignalDecl). IsName d.name) signals
+named_each : (signals : List SignalDecl) → AllByRecursion IsName (map (λ (d : SignalDecl). d.name) signals)
+    → AllByRecursion (λ (d : SignalDecl). IsName d.name) signals
 named_each [] all = tt
 named_each (d ∷ signals) all = (all.0, named_each signals all.1)
 
-nothing_noted : (last marks noted : List (List ℕ)) (stmts : List Stmt) → is_empty stmts ≡ true → stmts_renumbered last marks stmts ≡ (stmts, noted) → marks ≡ noted
+nothing_noted : (last marks noted : List (List ℕ)) (stmts : List Stmt) → is_empty stmts ≡ true → stmts_renumbered last marks stmts ≡ (stmts, noted)
+    → marks ≡ noted
 nothing_noted last marks noted [] e same = ap (λ (pair : List Stmt × List (List ℕ)). pair.1) same
 nothing_noted last marks noted (s ∷ rest) e same = absurd cc
 
@@ -170,17 +172,20 @@ numbered_guards p (act ∷ acts) (a ∷ more) q n = numbered_guards (with_act p 
 numbered_guards p [] (a ∷ more) q n = absurd n
 numbered_guards p (act ∷ acts) [] q n = absurd n
 
-numbered_front : (p : Program) (acts : List Act) (to : List ActId) (q : Program) (all : List Act) → AreNumbered p acts to q → Front q.acts all → Front p.acts all
+numbered_front : (p : Program) (acts : List Act) (to : List ActId) (q : Program) (all : List Act) → AreNumbered p acts to q → Front q.acts all
+    → Front p.acts all
 numbered_front p [] [] q all e front = subst (λ (r : Program). Front r.acts all) (sym e) front
 numbered_front p (act ∷ acts) (a ∷ more) q all n front = act_front p act all (numbered_front (with_act p act) acts more q all n.1 front)
 numbered_front p [] (a ∷ more) q all n front = absurd n
 numbered_front p (act ∷ acts) [] q all n front = absurd n
 
-leads_push : {S X : Type 0} (Step : S → X → S → Type 0) (a : S) (xs : List X) (b : S) (x : X) (c : S) → Leads Step a xs b → Step b x c → Leads Step a (xs ++ x ∷ []) c
+leads_push : {S X : Type 0} (Step : S → X → S → Type 0) (a : S) (xs : List X) (b : S) (x : X) (c : S) → Leads Step a xs b → Step b x c
+    → Leads Step a (xs ++ x ∷ []) c
 leads_push Step a [] b x c e one = (c, subst (λ s. Step s x c) (sym e) one, refl)
 leads_push Step a (y ∷ xs) b x c leads one = (leads.0, leads.1, leads_push Step leads.0 xs b x c leads.2 one)
 
-behaviours_keep : {names : Names} {marks noted : List (List ℕ)} {ts : List Token} {acts : List Act} → SpellsBehaviours names marks ts acts noted → KeepsMarks marks noted
+behaviours_keep : {names : Names} {marks noted : List (List ℕ)} {ts : List Token} {acts : List Act} → SpellsBehaviours names marks ts acts noted
+    → KeepsMarks marks noted
 behaviours_keep (first spelled) = stmts_keep spelled.spelled
 behaviours_keep (step {ts} {us} step' semicolon {acts} {act} {marks} {noted} {more} before is ends spelled) = kept_on marks noted more (behaviours_keep before) (stmts_keep spelled.spelled)
 
@@ -201,7 +206,8 @@ module _ (names : Names) (have : HaveNames names) (final : Program) (can : CanBe
 
   -- ---- behaviours
 
-  next_act : (p : Program) (ts : List Token) (act : Act) (noted : List (List ℕ)) → FreeWords ts → SpellsBehaviour names p.marks ts act noted → KeepsMarks noted final.marks → act.stmts ≢ []
+  next_act : (p : Program) (ts : List Token) (act : Act) (noted : List (List ℕ)) → FreeWords ts → SpellsBehaviour names p.marks ts act noted
+      → KeepsMarks noted final.marks → act.stmts ≢ []
       → Front (p.acts ++ act ∷ []) final.acts → IsNextAct names p (record { 0 = length p.acts }) (record { acts = p.acts ++ act ∷ []; guards = p.guards; marks = noted })
   next_act p ts act noted free spells kept some front =
       let holds = last_of_front (ActHolds names final.marks) p.acts final.acts act can.acts front in
@@ -220,7 +226,8 @@ module _ (names : Names) (have : HaveNames names) (final : Program) (can : CanBe
         few_marks = (let less = kept_grow noted final.marks kept in let few = can.few_marks in omega (arith, less, few));
       }
 
-  act_leads : (p : Program) (ts : List Token) (act : Act) (noted : List (List ℕ)) → FreeWords ts → SpellsBehaviour names p.marks ts act noted → KeepsMarks noted final.marks
+  act_leads : (p : Program) (ts : List Token) (act : Act) (noted : List (List ℕ)) → FreeWords ts → SpellsBehaviour names p.marks ts act noted
+      → KeepsMarks noted final.marks
       → Front (with_act (with_marks p noted) act).acts final.acts → LeadsAct names p (number_of p act) (with_act (with_marks p noted) act)
   act_leads p ts act noted free spells kept = go (is_empty act.stmts) refl where
     go : (b : Bool) → is_empty act.stmts ≡ b → Front (if b then with_marks p noted else record { acts = p.acts ++ act ∷ []; guards = p.guards; marks = noted }).acts final.acts
@@ -246,8 +253,10 @@ module _ (names : Names) (have : HaveNames names) (final : Program) (can : CanBe
 
   -- ---- do steps
 
-  one_step : (p : Program) (marks last : List (List ℕ)) (act : Act) (noted : List (List ℕ)) (ts : List Token) (to : List ActId) (q : Program) → p.marks ≡ marks → FreeWords ts → SpellsBehaviour names marks ts act noted
-      → AreNumbered (with_marks p last) (act ∷ []) to q → KeepsMarks noted final.marks → Front q.acts final.acts → Leads (LeadsAct names) p to (with_marks q noted)
+  one_step : (p : Program) (marks last : List (List ℕ)) (act : Act) (noted : List (List ℕ)) (ts : List Token) (to : List ActId) (q : Program)
+      → p.marks ≡ marks → FreeWords ts → SpellsBehaviour names marks ts act noted
+      → AreNumbered (with_marks p last) (act ∷ []) to q → KeepsMarks noted final.marks → Front q.acts final.acts
+      → Leads (LeadsAct names) p to (with_marks q noted)
   one_step p marks last act noted ts [] q own free spelled n kept front = absurd n
   one_step p marks last act noted ts (a ∷ b ∷ more) q own free spelled n kept front = absurd n.1
   one_step p marks last act noted ts (a ∷ []) q own free spelled n kept front =
@@ -259,7 +268,8 @@ module _ (names : Names) (have : HaveNames names) (final : Program) (can : CanBe
       let leads = act_leads p ts act noted free spelled' kept there in
       (with_marks q noted, subst (λ (x : ActId). LeadsAct names p x (with_marks q noted)) (sym n.0) (subst (λ (r : Program). LeadsAct names p (number_of p act) r) same leads), refl)
 
-  steps_lead : {marks noted : List (List ℕ)} {ts : List Token} {acts : List Act} → SpellsBehaviours names marks ts acts noted → FreeWords ts → (p : Program) → p.marks ≡ marks → (last : List (List ℕ)) (to : List ActId) (q : Program)
+  steps_lead : {marks noted : List (List ℕ)} {ts : List Token} {acts : List Act} → SpellsBehaviours names marks ts acts noted → FreeWords ts → (p : Program)
+      → p.marks ≡ marks → (last : List (List ℕ)) (to : List ActId) (q : Program)
       → AreNumbered (with_marks p last) acts to q → KeepsMarks noted final.marks → Front q.acts final.acts → Leads (LeadsAct names) p to (with_marks q noted)
   steps_lead (first {ts} {act} {marks} {noted} spelled) free p own last to q n kept front = one_step p marks last act noted ts to q own free spelled n kept front
   steps_lead (step {ts} {us} step' semicolon {acts} {act} {marks} {noted} {more} before is ends spelled) free p own last to q n kept front =
@@ -277,7 +287,8 @@ module _ (names : Names) (have : HaveNames names) (final : Program) (can : CanBe
       (leads_push (LeadsAct names) p parts.front (with_marks r noted) parts.last (with_marks q more) lead last_one)
 
   module _ (bodies : List Body) where
-    steps_back : (p : Program) (from to : List ActId) (q : Program) → NumbersSteps names bodies p from to q → IsFront q final → Leads (LeadsAct names) p to q × IsFront p final
+    steps_back : (p : Program) (from to : List ActId) (q : Program) → NumbersSteps names bodies p from to q → IsFront q final
+        → Leads (LeadsAct names) p to q × IsFront p final
     steps_back p from to q without front = (refl, front)
     steps_back p from to q (numbers_steps {from = body} acts noted spelled numbered) front =
         let same = numbered_marks (with_marks p noted) acts to q numbered in
@@ -293,7 +304,8 @@ module _ (names : Names) (have : HaveNames names) (final : Program) (can : CanBe
 
     -- ---- guards
 
-    guard_back : (p : Program) (from to : Guard) (q : Program) → NumbersGuard names bodies p from to q → IsFront q final → LeadsGuard names p to q × IsFront p final
+    guard_back : (p : Program) (from to : Guard) (q : Program) → NumbersGuard names bodies p from to q → IsFront q final
+        → LeadsGuard names p to q × IsFront p final
     guard_back p from to q always front = (refl, front)
     guard_back p from to q otherwise front = (refl, front)
     guard_back p from to q (when {from = body} cond spelled number leads) front =
@@ -315,20 +327,23 @@ module _ (names : Names) (have : HaveNames names) (final : Program) (can : CanBe
 
     -- ---- elements
 
-    vertex_back : (p : Program) (from to : Vertex) (q : Program) → NumbersVertex names bodies p from to q → IsFront q final → LeadsVertex names p to q × IsFront p final
+    vertex_back : (p : Program) (from to : Vertex) (q : Program) → NumbersVertex names bodies p from to q → IsFront q final
+        → LeadsVertex names p to q × IsFront p final
     vertex_back p from to q n front =
         let third = steps_back n.left from.steps to.steps q n.doing front in
         let second = act_back bodies n.entered from.exit to.exit n.left n.exit third.1 in
         let one = act_back bodies p from.entry to.entry n.entered n.entry second.1 in
         (record { entered = n.entered; left = n.left; entry = one.0; exit = second.0; steps = third.0 }, one.1)
 
-    transition_back : (p : Program) (from to : Transition) (q : Program) → NumbersTransition names bodies p from to q → IsFront q final → LeadsTransition names p to q × IsFront p final
+    transition_back : (p : Program) (from to : Transition) (q : Program) → NumbersTransition names bodies p from to q → IsFront q final
+        → LeadsTransition names p to q × IsFront p final
     transition_back p from to q n front =
         let second = act_back bodies n.guarded from.effect to.effect q n.effect front in
         let one = guard_back p from.guard to.guard n.guarded n.guard second.1 in
         (record { guarded = n.guarded; guard = one.0; effect = second.0 }, one.1)
 
-    all_back : {E : Type 0} (Step : Program → E → E → Program → Type 0) (Lead : Program → E → Program → Type 0) → ((p : Program) (x y : E) (q : Program) → Step p x y q → IsFront q final → Lead p y q × IsFront p final)
+    all_back : {E : Type 0} (Step : Program → E → E → Program → Type 0) (Lead : Program → E → Program → Type 0)
+        → ((p : Program) (x y : E) (q : Program) → Step p x y q → IsFront q final → Lead p y q × IsFront p final)
         → (p : Program) (xs ys : List E) (q : Program) → AllNumbered Step p xs ys q → IsFront q final → Leads Lead p ys q × IsFront p final
     all_back Step Lead back p [] [] q e front = (e, subst (λ (r : Program). IsFront r final) (sym e) front)
     all_back Step Lead back p (x ∷ xs) (y ∷ ys) q n front =

@@ -59,7 +59,7 @@ use Rattle.pssm_bodies.proofs.GuardCounts.{vertices_guards, transitions_guards}
 use Rattle.pssm_settings.specs.Names.{AreDistinctNames, HasNames}
 use Rattle.pssm_settings.specs.Settings.{signal_of, var_of, object_of, IsLoadedClass, IsSettingOf}
 use Rattle.pssm_settings.specs.Settings.{names_of as draft_names}
-use Rattle.pssm_settings.proofs.FlatLists.{each_at, each_from, each_mapped, each_with}
+use Rattle.pssm_settings.proofs.FlatLists.{each_append, each_at, each_from, each_mapped, each_with}
 use Rattle.pssm_settings.proofs.FlatNames.{flat_names}
 use Rattle.pssm_settings.proofs.FlatVars.{vars_all}
 use Rattle.pssm_settings.proofs.OnceWhole.{each_once}
@@ -71,7 +71,7 @@ use Rattle.pssm_flat.specs.Flat.{AllBehind, IsNewName, AreNames, next_number, Is
 use Rattle.pssm_flat.proofs.NumberLaws.{spells_nothing}
 use Rattle.pssm_load.specs.ReadBack.{ActIsShort, GuardIsShort, ClassIsShort, SpellsShort}
 use Rattle.pssm_load.proofs.DraftParts.{is_state_kind, AreAbove, HasWrittenParts}
-use Rattle.pssm_load.proofs.FlatElements.{IsStill, IsFlatVertex, flat_vertices, flat_triggers_ascend}
+use Rattle.pssm_load.proofs.FlatElements.{IsFlatVertex, flat_vertices, flat_triggers_ascend}
 use Rattle.pssm_load.proofs.FlatPrograms.{ActHolds, GuardHolds, CanBeNumbered, is_numbered}
 use Rattle.pssm_load.proofs.ReadAgain.{HaveNames}
 
@@ -80,10 +80,6 @@ use Rattle.pssm_load.proofs.ReadAgain.{HaveNames}
 both_each : {X : Type 0} (P Q R : X → Type 0) (xs : List X) → ((x : X) → P x → Q x → R x) → AllByRecursion P xs → AllByRecursion Q xs → AllByRecursion R xs
 both_each P Q R [] f ps qs = tt
 both_each P Q R (x ∷ xs) f ps qs = (f x ps.0 qs.0, both_each P Q R xs f ps.1 qs.1)
-
-pushed : {X : Type 0} (P : X → Type 0) (xs : List X) (x : X) → AllByRecursion P xs → P x → AllByRecursion P (xs ++ x ∷ [])
-pushed P [] x all here = (here, tt)
-pushed P (y ∷ xs) x all here = (all.0, pushed P xs x all.1 here)
 
 seam_at : {X : Type 0} (xs : List X) (x : X) (rest : List X) → slice_get (xs ++ x ∷ rest) (length xs) ≡ Some x
 seam_at [] x rest = refl
@@ -108,14 +104,15 @@ apart_from (x ∷ xs) pairs = (
       let found = get_or_from_slice_get xs k y [] at in
       subst (λ (z : List ℕ). x ≢ z) found (pairs 0 (suc k) [] (omega arith) (omega (arith, less)))
 
-names_behind : (before names : List (List ℕ)) → AllByRecursion (λ (n : List ℕ). AllByRecursion (λ (other : List ℕ). other ≢ n) before) names → Apart names → AllByRecursion IsName names
+names_behind : (before names : List (List ℕ)) → AllByRecursion (λ (n : List ℕ). AllByRecursion (λ (other : List ℕ). other ≢ n) before) names → Apart names
+    → AllByRecursion IsName names
     → AllBehind IsNewName before names
 names_behind before [] new apart named = tt
 names_behind before (x ∷ xs) new apart named = (
   record { name_is = named.0; new = new.0 },
   names_behind (before ++ x ∷ []) xs
       (both_each (λ (n : List ℕ). AllByRecursion (λ (other : List ℕ). other ≢ n) before) (λ (n : List ℕ). x ≢ n) (λ (n : List ℕ). AllByRecursion (λ (other : List ℕ). other ≢ n) (before ++ x ∷ [])) xs
-      (λ n old other. pushed (λ (o : List ℕ). o ≢ n) before x old other) new.1 apart.0)
+      (λ n old other. each_append (λ (o : List ℕ). o ≢ n) before (x ∷ []) old (other, tt)) new.1 apart.0)
       apart.1 named.1,
 )
 
@@ -138,7 +135,8 @@ next_after before g =
     ap (λ n. option_map_or (λ (x : SignalId). x.0 + 1) (slice_get (before ++ g ∷ []) n) 0) size
     ∙ ap (λ (o : Option SignalId). option_map_or (λ (x : SignalId). x.0 + 1) o 0) (seam_at before g [])
 
-ascend_behind : (count : ℕ) (before gs : List SignalId) → AreAbove (next_number before) gs → AllByRecursion (λ (g : SignalId). g.0 < count) gs → AllBehind (IsNextSignal count) before gs
+ascend_behind : (count : ℕ) (before gs : List SignalId) → AreAbove (next_number before) gs → AllByRecursion (λ (g : SignalId). g.0 < count) gs
+    → AllBehind (IsNextSignal count) before gs
 ascend_behind count before [] above known = tt
 ascend_behind count before (g ∷ gs) above known =
     (record { above = above.0; known = known.0 }, ascend_behind count (before ++ g ∷ []) gs (subst (λ n. AreAbove n gs) (sym (next_after before g)) above.1) known.1)
@@ -178,7 +176,8 @@ module _ (names : Names) (bodies : List Body) (none : text_at bodies 0 ≡ []) w
     ascending = subst (AreAbove 0) (sym n.defers) is.ascending;
   }
 
-  numbered_transition : (p : Program) (from to : Transition) (q : Program) → NumbersTransition names bodies p from to q → AreAbove 0 from.triggers → AreAbove 0 to.triggers
+  numbered_transition : (p : Program) (from to : Transition) (q : Program) → NumbersTransition names bodies p from to q → AreAbove 0 from.triggers
+      → AreAbove 0 to.triggers
   numbered_transition p from to q n is = subst (AreAbove 0) (sym n.triggers) is
 
 -- ---- counts of guards
@@ -195,7 +194,8 @@ few_guards (t ∷ ts) =
       at_most_one Otherwise = omega arith
       at_most_one (When g) = omega arith
 
-same_count : {E : Type 0} (Step : Program → E → E → Program → Type 0) (p : Program) (xs ys : List E) (q : Program) → AllNumbered Step p xs ys q → length xs ≡ length ys
+same_count : {E : Type 0} (Step : Program → E → E → Program → Type 0) (p : Program) (xs ys : List E) (q : Program) → AllNumbered Step p xs ys q
+    → length xs ≡ length ys
 same_count Step p [] [] q n = refl
 same_count Step p (x ∷ xs) (y ∷ ys) q n = ap suc (same_count Step n.0 xs ys q n.2)
 same_count Step p [] (y ∷ ys) q n = absurd n
@@ -243,10 +243,11 @@ module _ (m : DraftMachine) (keeps : KeepsModelRules m) where
   has_region [] none = absurd (keeps places.Top 1 (E01_top (λ r at. no_owner r at none)))
   has_region (r ∷ rest) some = omega arith
 
-  as_state_or_passive : (v : VertexId) (x : Vertex) → vertex_at m v ≡ Some x → (is_state_kind x.kind ≡ false → IsStill x) → (kind : VertexKind) → x.kind ≡ kind → (x.kind ≡ kinds.State) ⊎ IsPassive x
+  as_state_or_passive : (v : VertexId) (x : Vertex) → vertex_at m v ≡ Some x → (is_state_kind x.kind ≡ false → IsPassive x) → (kind : VertexKind)
+      → x.kind ≡ kind → (x.kind ≡ kinds.State) ⊎ IsPassive x
   as_state_or_passive v x at still kinds.State e = inl e
   as_state_or_passive v x at still kinds.Final e = inr (final_passive v x at e)
-  as_state_or_passive v x at still _ e = let quiet = still (ap is_state_kind e) in inr (record { entry = quiet.entry; exit = quiet.exit; steps = quiet.steps; defers = quiet.defers })
+  as_state_or_passive v x at still _ e = inr (still (ap is_state_kind e))
 
 few_when : (x : Vertex) → (x.kind ≡ kinds.State → length x.steps ≤ 64) → (x.kind ≡ kinds.State) ⊎ IsPassive x → length x.steps ≤ 64
 few_when x few (inl is) = few is

@@ -123,7 +123,8 @@ named_free : (names : List (List ℕ)) (word : List ℕ) (k : ℕ) → position 
 named_free names word k found free =
     let at = position-Some (λ name. bytes_eq name word) names k [] found in subst IsFree (sym ((bytes_eq-Decides (name_at names k) word).0 at.1)) free
 
-signal_free : (names : Names) (word : List ℕ) (g : SignalId) → position (λ d. bytes_eq d.name word) names.signals ≡ Some g.0 → IsFree word → IsFree (signal_name names g)
+signal_free : (names : Names) (word : List ℕ) (g : SignalId) → position (λ d. bytes_eq d.name word) names.signals ≡ Some g.0 → IsFree word
+    → IsFree (signal_name names g)
 signal_free names word g found free =
     let nobody : SignalDecl = record { name = []; count = 0 } in
     let at = position-Some (λ d. bytes_eq d.name word) names.signals g.0 nobody found in
@@ -165,13 +166,15 @@ name_kept marks more k within kept = sym (get_or-take (length marks) more k [] w
 -- A mark that has been named keeps its name.
 mark_named : (marks more : List (List ℕ)) (word : List ℕ) → KeepsMarks (with_mark marks word) more → name_at more (mark_number marks word) ≡ word
 mark_named marks more word kept = go (position (λ m. bytes_eq m word) marks) refl kept where
-  go : (found : Option ℕ) → position (λ m. bytes_eq m word) marks ≡ found → KeepsMarks (grown found marks word) more → name_at more (number_or found (length marks)) ≡ word
+  go : (found : Option ℕ) → position (λ m. bytes_eq m word) marks ≡ found → KeepsMarks (grown found marks word) more
+      → name_at more (number_or found (length marks)) ≡ word
   go (Some k) e kept =
       let at = position-Some (λ m. bytes_eq m word) marks k [] e in
       name_kept marks more k at.0 kept ∙ (bytes_eq-Decides (name_at marks k) word).0 at.1
   go None e kept = name_kept (marks ++ word ∷ []) more (length marks) (omega (arith, length-append marks (word ∷ []))) kept ∙ get_or-append_seam marks word [] []
 
-phrase_keeps : {names : Names} {marks noted : List (List ℕ)} {l : ℕ} {ts : List Token} {s : Stmt} → SpellsPhrase names marks l ts s noted → KeepsMarks marks noted
+phrase_keeps : {names : Names} {marks noted : List (List ℕ)} {l : ℕ} {ts : List Token} {s : Stmt} → SpellsPhrase names marks l ts s noted
+    → KeepsMarks marks noted
 phrase_keeps {names} {marks} (assignment semicolon is found becomes spelled ends) = same_kept marks marks refl
 phrase_keeps {names} {marks} (sending semicolon is receives dots named found spelled few ends) = same_kept marks marks refl
 phrase_keeps {names} {marks} (bare_mark {l} {mark} {name} is named ends) = mark_kept marks (with_mark marks name.word) name.word refl
@@ -192,7 +195,8 @@ receiver_free : {names : Names} {t : Token} {to : Option ObjectId} → NamesRece
 receiver_free {names} {t} (object {o} is found) h = named_free names.objects t.word o.0 found (h is)
 receiver_free (running is) h = tt
 
-phrase_plain : {names : Names} {marks noted : List (List ℕ)} {l : ℕ} {ts : List Token} {s : Stmt} (more : List (List ℕ)) → SpellsPhrase names marks l ts s noted → FreeWords ts → KeepsMarks noted more → StmtIsPlain names more s
+phrase_plain : {names : Names} {marks noted : List (List ℕ)} {l : ℕ} {ts : List Token} {s : Stmt} (more : List (List ℕ))
+    → SpellsPhrase names marks l ts s noted → FreeWords ts → KeepsMarks noted more → StmtIsPlain names more s
 phrase_plain {names} more (assignment {l} {variable} {becomes} semicolon {ts} {x} {e} is found assigns spelled ends) h kept =
     (named_free names.vars variable.word x found (h.0 is), expr_plain spelled (free_parts ts (semicolon ∷ []) h.1.1).0)
 phrase_plain {names} more (sending {l} {send} {receiver} {dot} {name} semicolon {ts} {to} {signal} {args} is receives dots named found spelled few ends) h kept =
@@ -202,19 +206,23 @@ phrase_plain {names} {marks} more (bare_mark {l} {mark} {name} is named ends) h 
 phrase_plain {names} {marks} more (marking {l} {mark} {name} semicolon {ts} {args} is named spelled few ends) h kept =
     (subst IsFree (sym (mark_named marks more name.word kept)) (h.1.0 named), arguments_plain spelled (free_parts ts (semicolon ∷ []) h.1.1).0)
 
-block_plain : (names : Names) (marks : List (List ℕ)) (body : List Stmt) → All (StmtIsPlain names marks) body → BlockIsPlain names marks (hidden-the_row-Stmt-0 body)
+block_plain : (names : Names) (marks : List (List ℕ)) (body : List Stmt) → All (StmtIsPlain names marks) body
+    → BlockIsPlain names marks (hidden-the_row-Stmt-0 body)
 unfolding shape-the_row-Stmt-0 hidden-the_row-Stmt-0 hidden
 block_plain names marks [] all = tt
 block_plain names marks (s ∷ rest) all = (All-head (StmtIsPlain names marks) s rest all, block_plain names marks rest (All-tail (StmtIsPlain names marks) s rest all))
 
-choice_plain : (names : Names) (marks : List (List ℕ)) (c : Cond) (body : List Stmt) → GuardIsPlain names c → All (StmtIsPlain names marks) body → StmtIsPlain names marks (stmts.Choose c body None)
+choice_plain : (names : Names) (marks : List (List ℕ)) (c : Cond) (body : List Stmt) → GuardIsPlain names c → All (StmtIsPlain names marks) body
+    → StmtIsPlain names marks (stmts.Choose c body None)
 choice_plain names marks c body cond all = (cond, block_plain names marks body all, tt)
 
-alternative_plain : (names : Names) (marks : List (List ℕ)) (c : Cond) (body rest : List Stmt) → GuardIsPlain names c → All (StmtIsPlain names marks) body → All (StmtIsPlain names marks) rest
+alternative_plain : (names : Names) (marks : List (List ℕ)) (c : Cond) (body rest : List Stmt) → GuardIsPlain names c → All (StmtIsPlain names marks) body
+    → All (StmtIsPlain names marks) rest
     → StmtIsPlain names marks (stmts.Choose c body (Some rest))
 alternative_plain names marks c body rest cond all others = (cond, block_plain names marks body all, block_plain names marks rest others)
 
-pub stmts_plain : {names : Names} {marks noted : List (List ℕ)} {l : ℕ} {ts : List Token} {block : List Stmt} (last : List (List ℕ)) → SpellsStmts names marks l ts block noted → FreeWords ts → KeepsMarks noted last
+pub stmts_plain : {names : Names} {marks noted : List (List ℕ)} {l : ℕ} {ts : List Token} {block : List Stmt} (last : List (List ℕ))
+    → SpellsStmts names marks l ts block noted → FreeWords ts → KeepsMarks noted last
     → All (StmtIsPlain names last) block
 stmts_plain {names} last nothing h kept = All-nil (StmtIsPlain names last)
 stmts_plain {names} last (phrase {l} {ts} {us} {block} {s} {marks} {noted} {more} before spelled) h kept =
@@ -238,7 +246,8 @@ stmts_plain {names} last (alternative {l} {ts} {cs} {us} {vs} if' opening closin
 
 -- ---- numbers of marks
 
-phrase_same : {names : Names} {marks noted : List (List ℕ)} {l : ℕ} {ts : List Token} {s : Stmt} (more : List (List ℕ)) → SpellsPhrase names marks l ts s noted → KeepsMarks noted more → stmt_renumbered more marks s ≡ (s, noted)
+phrase_same : {names : Names} {marks noted : List (List ℕ)} {l : ℕ} {ts : List Token} {s : Stmt} (more : List (List ℕ))
+    → SpellsPhrase names marks l ts s noted → KeepsMarks noted more → stmt_renumbered more marks s ≡ (s, noted)
 phrase_same more (assignment semicolon is found becomes spelled ends) kept = refl
 phrase_same more (sending semicolon is receives dots named found spelled few ends) kept = refl
 phrase_same {names} {marks} more (bare_mark {l} {mark} {name} is named ends) kept =
@@ -247,7 +256,8 @@ phrase_same {names} {marks} more (marking {l} {mark} {name} semicolon {ts} {args
     ap (λ (word : List ℕ). (Mark (mark_of marks word) args, with_mark marks word)) (mark_named marks more name.word kept)
 
 -- With the marks that were there when they were read statements have the numbers of marks that they have.
-pub stmts_same : {names : Names} {marks noted : List (List ℕ)} {l : ℕ} {ts : List Token} {block : List Stmt} (last : List (List ℕ)) → SpellsStmts names marks l ts block noted → KeepsMarks noted last
+pub stmts_same : {names : Names} {marks noted : List (List ℕ)} {l : ℕ} {ts : List Token} {block : List Stmt} (last : List (List ℕ))
+    → SpellsStmts names marks l ts block noted → KeepsMarks noted last
     → stmts_renumbered last marks block ≡ (block, noted)
 stmts_same last nothing kept = refl
 stmts_same last (phrase {l} {ts} {us} {block} {s} {marks} {noted} {more} before spelled) kept =

@@ -87,7 +87,8 @@ named_plain [] k all = refl
 named_plain (name ∷ names) zero all = name_plain name all.0
 named_plain (name ∷ names) (suc k) all = named_plain names k all.1
 
-signals_plain : (signals : List SignalDecl) (k : ℕ) → AllByRecursion (λ (d : SignalDecl). IsName d.name) signals → ArePlain (option_map_or (λ (d : SignalDecl). d.name) (slice_get signals k) [])
+signals_plain : (signals : List SignalDecl) (k : ℕ) → AllByRecursion (λ (d : SignalDecl). IsName d.name) signals
+    → ArePlain (option_map_or (λ (d : SignalDecl). d.name) (slice_get signals k) [])
 signals_plain [] k all = refl
 signals_plain (d ∷ signals) zero all = name_plain d.name all.0
 signals_plain (d ∷ signals) (suc k) all = signals_plain signals k all.1
@@ -202,7 +203,8 @@ module _ (names : Names) (vars : AllByRecursion IsName names.vars) where
       row_bytes (more_of-Stmt stmt rest) fits plain =
           around (codes " ") (stmt_text names marks stmt) (row_text names marks rest) refl (stmt_bytes stmt fits.0 plain.0) (row_bytes rest fits.1 plain.1)
 
-      otherwise_bytes : (otherwise : Held-Stmt-Choose-2) → OtherwiseFits v otherwise → OtherwiseIsPlain names marks otherwise → ArePlain (otherwise_text names marks otherwise)
+      otherwise_bytes : (otherwise : Held-Stmt-Choose-2) → OtherwiseFits v otherwise → OtherwiseIsPlain names marks otherwise
+          → ArePlain (otherwise_text names marks otherwise)
       otherwise_bytes None' fits plain = refl
       otherwise_bytes (Some' shape block) fits plain = around (codes " else {") (row_text names marks block) (codes " }") refl (row_bytes block fits plain) refl
 

@@ -28,8 +28,10 @@ pub record HaveNames (names : Names) : Type 0 where
 
 module _ (names : Names) (have : HaveNames names) where
   -- The behaviour is spelled again, as it is written with marks that are noted later.
-  pub spelled_again : (marks : List (List ℕ)) (ts : List Token) (act : Act) (noted more : List (List ℕ)) → FreeWords ts → SpellsBehaviour names marks ts act noted → KeepsMarks noted more → AreNames more
-      → ActFits (vocabulary names more) act → length (act_text names more act) ≤ 4096 → stmts_levels act.stmts ≤ 16 → SpellsAct names marks (act_text names more act) act noted
+  pub spelled_again : (marks : List (List ℕ)) (ts : List Token) (act : Act) (noted more : List (List ℕ)) → FreeWords ts
+      → SpellsBehaviour names marks ts act noted → KeepsMarks noted more → AreNames more
+      → ActFits (vocabulary names more) act → length (act_text names more act) ≤ 4096 → stmts_levels act.stmts ≤ 16
+      → SpellsAct names marks (act_text names more act) act noted
   spelled_again marks ts act noted more free spells kept known fits short shallow =
       let can : CanBeReadBack names more act = record {
         vars = have.vars;
@@ -48,11 +50,13 @@ module _ (names : Names) (have : HaveNames names) where
       subst (λ (pair : List Stmt × List (List ℕ)). SpellsAct names marks text (record { stmts = pair.0 }) pair.1) same two.spelled
 
   -- It is so as it is written with its own marks, and both are written alike.
-  pub written_same : (marks : List (List ℕ)) (text : List ℕ) (act : Act) (noted more : List (List ℕ)) → SpellsAct names marks text act noted → KeepsMarks noted more → act_text names more act ≡ act_text names noted act
+  pub written_same : (marks : List (List ℕ)) (text : List ℕ) (act : Act) (noted more : List (List ℕ)) → SpellsAct names marks text act noted
+      → KeepsMarks noted more → act_text names more act ≡ act_text names noted act
   written_same marks text act noted more spells kept = written_alike names marks marks text act act noted noted noted more spells spells (same_kept noted noted refl) kept
 
   -- So is a guard.
-  pub guard_again : (text : List ℕ) (c : Cond) → SpellsCond names text c → length (cond_text names c) ≤ 4096 → cond_levels c ≤ 16 → SpellsCond names (cond_text names c) c
+  pub guard_again : (text : List ℕ) (c : Cond) → SpellsCond names text c → length (cond_text names c) ≤ 4096 → cond_levels c ≤ 16
+      → SpellsCond names (cond_text names c) c
   guard_again text c spells short shallow =
       guard_read_back names c [] (cond_text names c) refl refl (record {
         vars = have.vars;

@@ -1,5 +1,5 @@
 -- What `flat` writes of a setting that was loaded is read as this setting again.
-use Rattle.std.proofs.Common.{◌≡◌, ◌↔◌, ℕ, List, [], ◌∷◌, ◌++◌, map, refl, sym, subst, codes, IsTrue}
+use Rattle.std.proofs.Common.{◌≡◌, ◌↔◌, ℕ, List, [], ◌∷◌, ◌++◌, map, inl, inr, refl, sym, subst, codes, IsTrue}
 use Rattle.std.specs.List.{flat_map}
 use Rattle.pssm_model.specs.declared.draft_setting.Draft.{Draft}
 use Rattle.pssm_semantics.specs.declared.setting.Setting.{Setting}
@@ -13,10 +13,13 @@ use Rattle.pssm_xmi.specs.Faults.{ReadsDraft}
 use Rattle.pssm_xmi.proofs.Known.{OneRole}
 use Rattle.pssm_settings.specs.Names.{HasNames}
 use Rattle.pssm_flat.specs.Text.{text_of, signal_line, class_line, object_line, machine_lines, flat_lines, flat_text}
+use Rattle.pssm_flat.specs.declared.fault.FlatFault.{FlatFault}
 use Rattle.pssm_flat.specs.Flat.{IsFlat}
+use Rattle.pssm_flat.specs.Faults.{IsFlatFault}
 use Rattle.pssm_load.specs.declared.fault.ClassFault.{ClassFault}
-use Rattle.pssm_load.specs.Loads.{BeginsFlat, Reads, flat, model_file, ReadsSetting}
-use Rattle.pssm_load.specs.ReadBack.{SpellsShort}
+use Rattle.pssm_load.specs.declared.fault.LoadFault.{LoadFault}
+use Rattle.pssm_load.specs.Loads.{BeginsFlat, Reads, flat, model_file, ReadsSetting, IsLoadFault}
+use Rattle.pssm_load.specs.ReadBack.{FlatOrShort, IsFlatTextOf, IsLoadedAs}
 use Rattle.pssm_load.proofs.DraftParts.{HasWrittenParts, parts_written}
 use Rattle.pssm_load.proofs.FlatSettings.{setting_flat}
 use Rattle.pssm_load.proofs.LoadFaults.{rules_kept}
@@ -44,17 +47,40 @@ module _ (of : OfFiles) (bytes : List ℕ) where
       subst HasWrittenParts (sym reads.is_draft) (parts_written bytes file reads.is_file.text reads.none_first (λ n test. (of.variable file roles n).0 test))
 
   -- A setting that was loaded has a flat text, where its spellings are short enough.
-  pub loaded_flat : (setting : Setting) → ReadsSetting bytes setting [] → SpellsShort setting → IsFlat setting
-  loaded_flat setting loads short = go loads.reads where
-    go : Reads bytes setting → IsFlat setting
-    go (flat begins is text) = is
-    go (model_file draft not_flat reads set) =
+  loaded_flat : (setting : Setting) → ReadsSetting bytes setting [] → FlatOrShort bytes setting → IsFlat setting
+  loaded_flat setting loads can = go loads.reads can where
+    go : Reads bytes setting → FlatOrShort bytes setting → IsFlat setting
+    go (flat begins is text) can = is
+    go (model_file draft not_flat reads set) (inl begins) = absurd (not_flat begins)
+    go (model_file draft not_flat reads set) (inr short) =
         setting_flat draft setting (draft_in_range of.one_role bytes draft reads) (names_read bytes draft reads of.named) set (written draft reads)
         (rules_kept setting.classes loads.faults) short
 
-  -- Its flat text is read as it.
-  pub read_again : (setting : Setting) → ReadsSetting bytes setting [] → SpellsShort setting → ReadsSetting (flat_text setting) setting []
-  read_again setting loads short = record { reads = flat (flat_begins setting) (loaded_flat setting loads short) refl; faults = loads.faults }
+-- The flat form reads the text as this setting alone.
+pub flat_again : OfFiles → ((a b : Setting) → IsFlat a → IsFlat b → flat_text a ≡ flat_text b → a ≡ b)
+    → ((s : Setting) (f : FlatFault) → IsFlat s → IsFlatFault (flat_text s) f → ⊥)
+    → (bytes : List ℕ) (setting : Setting) → ReadsSetting bytes setting [] → FlatOrShort bytes setting → IsFlatTextOf (flat_text setting) setting
+flat_again of one none bytes setting loads can =
+    let is = loaded_flat of bytes setting loads can in
+    record {
+      flat = is;
+      is = refl;
+      alone = λ other also text. one other setting also is (sym text);
+      faultless = λ fault wrong. none setting fault is wrong;
+    }
+
+-- So do those who load it.
+pub loaded_again : OfFiles → ((bytes : List ℕ) (a b : Setting) → Reads bytes a → Reads bytes b → a ≡ b)
+    → ((bytes : List ℕ) (s : Setting) (f : LoadFault) → ReadsSetting bytes s [] → IsLoadFault bytes f → ⊥)
+    → (bytes : List ℕ) (setting : Setting) → ReadsSetting bytes setting [] → FlatOrShort bytes setting → IsLoadedAs (flat_text setting) setting
+loaded_again of one none bytes setting loads can =
+    let text = flat_text setting in
+    let reads : ReadsSetting text setting [] = record { reads = flat (flat_begins setting) (loaded_flat of bytes setting loads can) refl; faults = loads.faults } in
+    record {
+      reads = reads;
+      alone = λ other also. one text other setting also.reads reads.reads;
+      faultless = λ fault wrong. none text setting fault reads wrong;
+    }
 
 -- A text of the flat form is that of its setting.
 pub own_text : (bytes : List ℕ) (setting : Setting) (list : List ClassFault) → BeginsFlat bytes → ReadsSetting bytes setting list → bytes ≡ flat_text setting
