@@ -83,7 +83,7 @@ def judge_all(model, journals, is_quiet):
             write_answer(b''.join(os.fsencode(journal) + b'\t' + line + b'\n' for line in lines))
             counts[status] = counts.get(status, 0) + 1
             if status == 3:
-                of_model = of_model or (Call(['judge', model, journal], 1, 2), status, answer)
+                of_model = of_model or (Call(['judge', model, journal], [1, 2], []), status, answer)
     finally:
         judging.end()
     if not is_quiet:

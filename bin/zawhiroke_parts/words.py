@@ -13,14 +13,14 @@ MOST = 1 << 64
 class Call:
     """Words that the program understands: where among them the paths stand, and, of a run, the stimuli."""
 
-    def __init__(self, words, first, last):
+    def __init__(self, words, places, stimuli):
         self.words = words
         self.command = words[0]
-        self.places = range(first, last + 1)
-        self.paths = words[first:last + 1]
-        self.model = words[first]
-        self.journal = words[last] if self.command == 'judge' else None
-        self.stimuli = words[last + 1:]
+        self.places = places
+        self.paths = [words[place] for place in places]
+        self.model = self.paths[0]
+        self.journal = self.paths[1] if self.command == 'judge' else None
+        self.stimuli = stimuli
 
 
 # Each command of the program, its words, what it does, and an example.
@@ -47,7 +47,8 @@ OWN = (
     ('--version', '', 'commit, kit, digest of the sources, and whether the program is built of them', '--version'),
     ('--help', '', 'this text', '--help'),
 )
-OPTIONS = (('--seed', 0, MOST - 1), ('--workers', 1, 16), ('--limit', 0, 1000000))
+# The options of a run: the least and the greatest number of each.
+OPTIONS = {'--seed': (0, MOST - 1), '--workers': (1, 16), '--limit': (0, 1000000)}
 
 
 def is_text(word):
@@ -100,7 +101,7 @@ def call_of(words):
         takes = {1: 'one word, MODEL', 2: 'two words, MODEL and JOURNAL'}[counts[command]]
         given = {0: 'none is', 1: 'one is'}.get(len(rest), '%d are' % len(rest))
         return '%s takes %s, and %s given' % (command, takes, given)
-    return Call(words, 1, len(rest))
+    return Call(words, range(1, len(words)), [])
 
 
 def no_command(word):
@@ -113,23 +114,44 @@ def no_command(word):
 
 def run_of(words):
     """The call of a run, or why the words after `run` are none."""
-    rest = words[1:]
-    for option, least, greatest in OPTIONS:
-        if rest[:1] == [option]:
-            if len(rest) < 2 or not is_number(rest[1]) or not least <= int(rest[1][:21]) <= greatest:
-                return '%s takes a number from %d to %d' % (option, least, greatest)
-            rest = rest[2:]
-    if not rest:
+    given, places, at = set(), [], 1
+    while at < len(words):
+        word, at = words[at], at + 1
+        if word == '--':
+            places += range(at, len(words))
+            break
+        if word == '-' or not word.startswith('-'):
+            places.append(at - 1)
+            continue
+        option, sign, value = word.partition('=')
+        if option not in OPTIONS:
+            return 'run has no option %s' % option
+        if not sign:
+            value, at = ''.join(words[at:at + 1]), at + 1
+        why = 'stands twice' if option in given else no_value(option, value)
+        if why:
+            return '%s %s' % (option, why)
+        given.add(option)
+    return run_on(words, places)
+
+
+def no_value(option, value):
+    """Why the value is none of the option, or nothing."""
+    least, greatest = OPTIONS[option]
+    if is_number(value) and least <= int(value[:21]) <= greatest:
+        return None
+    return 'takes a number from %d to %d' % (least, greatest)
+
+
+def run_on(words, places):
+    """The call of a run whose model and stimuli stand at these places, or why they are none."""
+    if not places:
         return 'run takes a MODEL'
-    if rest[0].startswith('--'):
-        if any(rest[0] == option for option, _, _ in OPTIONS):
-            return '%s stands twice, or in a wrong place: the order is --seed, --workers, --limit' % rest[0]
-        return 'run has no option %s' % rest[0]
-    for word in rest[1:]:
+    stimuli = [words[place] for place in places[1:]]
+    for word in stimuli:
         if not is_stimulus(word):
             return "%s is no stimulus: one is spelled OBJECT.SIGNAL(ARGS), as 'door.Lock(1234)', without blanks" % word
-    model = len(words) - len(rest)
-    return Call(words, model, model)
+    return Call(words, places[:1], stimuli)
 
 
 def list_of_words():

@@ -109,6 +109,9 @@ class Unproved(InRepository):
         words = self.repository.read('standin/words').splitlines()
         self.assertEqual(words[:3] + words[4:], ['run', '--seed', '3', 'a.Go()'])
         self.assertRegex(words[3], '^/.*zawhiroke-try-')
+        self.run_words('--try', 'run', '--limit=9', '--', 'examples/go.flat', 'a.Go()')
+        words = self.repository.read('standin/words').splitlines()
+        self.assertEqual(words, ['run', '--limit=9', '--', self.repository.path('examples/go.flat'), 'a.Go()'])
         self.run_words('--try', 'check', 'go.flat', cwd=self.repository.path('examples'))
         self.assertEqual(self.repository.read('standin/words'), 'check\n%s/go.flat\n' % os.path.realpath(
             self.repository.path('examples')))

@@ -29,7 +29,7 @@ class Rows(InRepository):
             call.words[place] = self.repository.path('files/' + name)
             if name in run.files:
                 self.repository.write('files/' + name, run.files[name])
-        lines = lines_on(Call(call.words, call.places[0], call.places[-1]), run.status, run.answer, None)
+        lines = lines_on(Call(call.words, call.places, call.stimuli), run.status, run.answer, None)
         if run.status != 0:
             self.assertTrue(lines, (run.words, run.answer))
         if run.status == 1:

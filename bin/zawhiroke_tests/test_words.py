@@ -18,7 +18,16 @@ run --seed 18446744073709551615 --workers 16 --limit 1000000 M a.Go() b.Set(1,-2
 run --limit 0 M
 run M _a1.B_(-9223372036854775808,9223372036854775807)
 run M a.Go(1,2,3,4,5,6,7,8)
-run --workers 1 -M'''.split('\n')
+run --limit 1 --seed 1 M
+run --seed=1 M
+run M --limit=9
+run M a.Go() --workers 2 a.Go() --seed=0
+run -
+run --limit 9 - a.Go()
+run -- M a.Go()
+run M -- a.Go()
+run --limit=9 -- --limit a.Go()
+run M --'''.split('\n')
 BAD = '''judge
 judge M
 judge M J K
@@ -41,11 +50,26 @@ run --seed +1 M
 run --workers 0 M
 run --workers 17 M
 run --limit 1000001 M
-run --limit 1 --seed 1 M
-run --seed=1 M
+run --seed= M
+run --seed=01 M
+run --seed=1=1 M
+run --seed -- M
+run --seed - M
 run --seed 1 --seed 1 M
+run --seed=1 M --seed=1
+run M --limit
+run --lim=9 M
+run -limit=9 M
+run --=9 M
 run --help
-run -- M
+run -h M
+run -V M
+run M --version
+run -5 M
+run --workers 1 -M
+run --
+run M -- --limit=9
+run -- M -- a.Go()
 run M a.Go
 run M Go()
 run M a.b.Go()
@@ -78,6 +102,10 @@ class Understood(unittest.TestCase):
     def test_places_of_paths(self):
         call = call_of('run --seed 3 --limit 5 3 a.Go()'.split(' '))
         self.assertEqual((list(call.places), call.paths, call.stimuli), ([5], ['3'], ['a.Go()']))
+        call = call_of('run --seed=3 M a.Go() --limit 5 -- b.Go()'.split(' '))
+        self.assertEqual((list(call.places), call.paths, call.stimuli), ([2], ['M'], ['a.Go()', 'b.Go()']))
+        call = call_of('run --limit 5 -- --seed a.Go()'.split(' '))
+        self.assertEqual((list(call.places), call.paths, call.stimuli), ([4], ['--seed'], ['a.Go()']))
         self.assertEqual(call_of(['judge', 'M', 'J']).paths, ['M', 'J'])
 
 
@@ -96,8 +124,9 @@ class AtOnce(InRepository):
         self.at_once(['check', '--strict', 'M'], 2, 'usage\n')
         self.at_once(['--verbose', 'check', 'M'], 2, 'usage\n', 'there is no option --verbose')
         self.at_once(['run', '--limit', 'x', 'M'], 2, 'usage\n', '--limit takes a number from 0 to 1000000')
-        self.at_once(['run', '--limit', '5', '--seed', '5', 'M'], 2, 'usage\n',
-                     'the order is --seed, --workers, --limit')
+        self.at_once(['run', '--limit=5', 'M', '--limit=5'], 2, 'usage\n', '--limit stands twice')
+        self.at_once(['run', '--lim=5', 'M'], 2, 'usage\n', 'run has no option --lim')
+        self.at_once(['run', '--seed', '5'], 2, 'usage\n', 'run takes a MODEL')
         self.at_once(['run', 'M', 'door.Open'], 2, 'usage\n', 'door.Open is no stimulus')
         self.at_once(['check', b'\xff'], 2, 'usage\n', 'a word is not UTF-8')
         self.at_once(['--install'], 2, 'usage\n')

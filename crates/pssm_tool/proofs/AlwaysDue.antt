@@ -11,7 +11,7 @@ use Rattle.pssm_load.specs.declared.fault.ClassFault.{ClassFault}
 use Rattle.pssm_load.specs.declared.fault.LoadFault.{LoadFault}
 use Rattle.pssm_load.specs.declared.fault.LoadFault.TheVariants as faults
 use Rattle.pssm_load.specs.Loads.{ReadsSetting, IsLoadFault, rules}
-use Rattle.pssm_tool.specs.declared.words.Options.{Options}
+use Rattle.pssm_tool.specs.declared.run_words.Options.{Options}
 use Rattle.pssm_tool.specs.declared.answer.Answer.{Answer}
 use Rattle.pssm_tool.specs.declared.answer.Answer.TheVariants.{WellFormed, Usage, TooLarge, Flat, BadModel}
 use Rattle.pssm_tool.specs.Words.{Meaning, Judges, Runs, Checks, Prints, Means}

@@ -9,7 +9,7 @@ use Rattle.pssm_semantics.specs.declared.stimulus.Stimulus.{Stimulus}
 use Rattle.pssm_lines.specs.declared.fault.LineFault.TheVariants as lines
 use Rattle.pssm_journal.specs.Judged.{Judged, Accepted, Refused, Limited, BadText}
 use Rattle.pssm_load.specs.declared.fault.LoadFault.{LoadFault}
-use Rattle.pssm_tool.specs.declared.words.Options.{Options}
+use Rattle.pssm_tool.specs.declared.run_words.Options.{Options}
 use Rattle.pssm_tool.specs.declared.answer.Answer.{Answer}
 use Rattle.pssm_tool.specs.declared.answer.Answer.TheVariants.{Accept, Refuse, Limit, WellFormed, Usage, BadLine, NoEnd, TooLarge, Journal, Flat, BadModel}
 use Rattle.pssm_tool.specs.declared.run.Ended.TheVariants as ends

@@ -1,6 +1,6 @@
 -- Words that are spelled as stimuli, and what they name.
-use Rattle.std.proofs.Common.{◌≡◌, ◌<◌, ◌+◌, ℕ, ℤ, zero, suc, true, false, get_or, List, [], ◌∷◌, ◌++◌, length, take, codes, Option, Some, None, refl, sym, ap, subst, ◌∙◌, arith, String, string_bytes, add-one, slice_get, IfSome, IfNone, append-nil}
-use Rattle.std.specs.declared.alloc.Global.{Global}
+use Rattle.std.proofs.Common.{◌≡◌, ◌<◌, ◌+◌, ℕ, ℤ, zero, suc, true, false, get_or, List, [], ◌∷◌, ◌++◌, length, take, codes, Option, Some, None, refl, sym, ap, subst, ◌∙◌, arith, add-one, slice_get, IfSome, IfNone, append-nil}
+use Rattle.std.specs.Borrow.{Bor}
 use Rattle.std.specs.List.{AllByRecursion}
 use Rattle.std.proofs.lemmas.List.{append_cancel_left, append_cancel_right}
 use Rattle.pssm_semantics.specs.declared.entry.Entry.{Entry}
@@ -26,7 +26,7 @@ use Rattle.pssm_lines.proofs.OneFault.{no_line_fault}
 use Rattle.pssm_journal.specs.Entries.{◌>>=◌, IsEntryOf, KeepsNames, BreaksNames, entry_named, entry_at, object_named, signal_named}
 use Rattle.pssm_journal.proofs.LineLengths.{short_line}
 use Rattle.pssm_tool.specs.inner.Calls.{post_text, IsPost, ShowsCall}
-use Rattle.pssm_tool.specs.Words.{texts, IsCall, IsStimulusText}
+use Rattle.pssm_tool.specs.Words.{lent, IsCall, IsStimulusText}
 use Rattle.pssm_tool.specs.inner.Running.{IsKnown, NameNoStimuli}
 use Rattle.pssm_tool.specs.Stimuli.{post_of, Names, AreStimuli}
 
@@ -167,29 +167,29 @@ names_not_spelled setting word other x names = other (names.object, names.signal
 
 -- ---- words in order
 
-texts_next : (words : List (String Global)) (i : ℕ) (x : String Global) → i < length words → x ≡ get_or words i x → texts (take (suc i) words) ≡ texts (take i words) ++ string_bytes x ∷ []
-texts_next [] i x within is = absurd (omega arith)
-texts_next (y ∷ words) zero x within is = ap (λ (z : String Global). string_bytes z ∷ []) (sym is)
-texts_next (y ∷ words) (suc i) x within is = ap (λ (t : List (List ℕ)). string_bytes y ∷ t) (texts_next words i x (omega arith) is)
+lent_next : (words : List (Bor (List ℕ))) (i : ℕ) (d : Bor (List ℕ)) → i < length words → lent (take (suc i) words) ≡ lent (take i words) ++ (get_or words i d).now ∷ []
+lent_next [] i d within = absurd (omega arith)
+lent_next (y ∷ words) zero d within = refl
+lent_next (y ∷ words) (suc i) d within = ap (λ (t : List (List ℕ)). y.now ∷ t) (lent_next words i d (omega arith))
 
 -- the words up to the next one
-pub texts_more : (words : List (String Global)) (i : ℕ) (x : String Global) → i < length words → x ≡ get_or words i x → texts (take (i + 1) words) ≡ texts (take i words) ++ string_bytes x ∷ []
-texts_more words i x within is = rw add-one (texts_next words i x within is)
+lent_more : (words : List (Bor (List ℕ))) (i : ℕ) (d : Bor (List ℕ)) → i < length words → lent (take (i + 1) words) ≡ lent (take i words) ++ (get_or words i d).now ∷ []
+lent_more words i d within = rw add-one (lent_next words i d within)
 
 -- Not all words are spelled as stimuli where one is not.
-pub not_spelled : (words : List (String Global)) (i : ℕ) (x : String Global) → i < length words → x ≡ get_or words i x → (IsStimulusText (string_bytes x) → ⊥)
-    → AllByRecursion IsStimulusText (texts words) → ⊥
-not_spelled [] i x within is other all = absurd (omega arith)
-not_spelled (y ∷ words) zero x within is other all = other (subst (λ (z : String Global). IsStimulusText (string_bytes z)) (sym is) all.0)
-not_spelled (y ∷ words) (suc i) x within is other all = not_spelled words i x (omega arith) is other all.1
+pub not_spelled : (words : List (Bor (List ℕ))) (i : ℕ) (d : Bor (List ℕ)) (text : List ℕ) → i < length words → text ≡ (get_or words i d).now → (IsStimulusText text → ⊥)
+    → AllByRecursion IsStimulusText (lent words) → ⊥
+not_spelled [] i d text within is other all = absurd (omega arith)
+not_spelled (y ∷ words) zero d text within is other all = other (subst (λ (t : List ℕ). IsStimulusText t) (sym is) all.0)
+not_spelled (y ∷ words) (suc i) d text within is other all = not_spelled words i d text (omega arith) is other all.1
 
 -- Words that name no stimulus where one names none.
-pub not_named : (setting : Setting) (words : List (String Global)) (i : ℕ) (x : String Global) → i < length words → x ≡ get_or words i x
-    → ((s : Stimulus) → Names setting (string_bytes x) s → ⊥) → NameNoStimuli setting (texts words)
-not_named setting [] i x within is other stimuli are = absurd (omega arith)
-not_named setting (y ∷ words) i x within is other [] are = absurd are
-not_named setting (y ∷ words) zero x within is other (s ∷ stimuli) are = other s (subst (λ (z : String Global). Names setting (string_bytes z) s) (sym is) are.0)
-not_named setting (y ∷ words) (suc i) x within is other (s ∷ stimuli) are = not_named setting words i x (omega arith) is other stimuli are.1
+pub not_named : (setting : Setting) (words : List (Bor (List ℕ))) (i : ℕ) (d : Bor (List ℕ)) (text : List ℕ) → i < length words → text ≡ (get_or words i d).now
+    → ((s : Stimulus) → Names setting text s → ⊥) → NameNoStimuli setting (lent words)
+not_named setting [] i d text within is other stimuli are = absurd (omega arith)
+not_named setting (y ∷ words) i d text within is other [] are = absurd are
+not_named setting (y ∷ words) zero d text within is other (s ∷ stimuli) are = other s (subst (λ (t : List ℕ). Names setting t s) (sym is) are.0)
+not_named setting (y ∷ words) (suc i) d text within is other (s ∷ stimuli) are = not_named setting words i d text (omega arith) is other stimuli are.1
 
 -- one word and one stimulus more
 are_more : (setting : Setting) (words : List (List ℕ)) (word : List ℕ) (stimuli : List Stimulus) (s : Stimulus) → AreStimuli setting words stimuli → Names setting word s
@@ -199,11 +199,12 @@ are_more setting [] word (x ∷ stimuli) s are is = absurd are
 are_more setting (w ∷ words) word [] s are is = absurd are
 are_more setting (w ∷ words) word (x ∷ stimuli) s are is = (are.0, are_more setting words word stimuli s are.1 is)
 
-pub more_named : (setting : Setting) (words : List (String Global)) (i : ℕ) (x : String Global) (stimuli more : List Stimulus) (s : Stimulus) → i < length words → x ≡ get_or words i x
-    → AreStimuli setting (texts (take i words)) stimuli → Names setting (string_bytes x) s → more ≡ stimuli ++ s ∷ [] → AreStimuli setting (texts (take (i + 1) words)) more
-more_named setting words i x stimuli more s within is are names e =
-    subst (λ (t : List Stimulus). AreStimuli setting (texts (take (i + 1) words)) t) (sym e)
-    (subst (λ (t : List (List ℕ)). AreStimuli setting t (stimuli ++ s ∷ [])) (sym (texts_more words i x within is)) (are_more setting (texts (take i words)) (string_bytes x) stimuli s are names))
+pub more_named : (setting : Setting) (words : List (Bor (List ℕ))) (i : ℕ) (d : Bor (List ℕ)) (text : List ℕ) (stimuli more : List Stimulus) (s : Stimulus) → i < length words
+    → text ≡ (get_or words i d).now → AreStimuli setting (lent (take i words)) stimuli → Names setting text s → more ≡ stimuli ++ s ∷ [] → AreStimuli setting (lent (take (i + 1) words)) more
+more_named setting words i d text stimuli more s within is are names e =
+    let named : Names setting (get_or words i d).now s = subst (λ (t : List ℕ). Names setting t s) is names in
+    subst (λ (t : List Stimulus). AreStimuli setting (lent (take (i + 1) words)) t) (sym e)
+    (subst (λ (t : List (List ℕ)). AreStimuli setting t (stimuli ++ s ∷ [])) (sym (lent_more words i d within)) (are_more setting (lent (take i words)) (get_or words i d).now stimuli s are named))
 
 -- Stimuli that are named are known.
 pub all_known : (setting : Setting) (words : List (List ℕ)) (stimuli : List Stimulus) → AreStimuli setting words stimuli → AllByRecursion (IsKnown setting) stimuli

@@ -9,7 +9,7 @@ use Rattle.pssm_journal.specs.Judged.{IsJudged}
 use Rattle.pssm_journal.proofs.Judgements.{judged_once}
 use Rattle.pssm_load.specs.declared.fault.LoadFault.{LoadFault}
 use Rattle.pssm_load.specs.Loads.{Reads, ReadsSetting, IsLoadFault}
-use Rattle.pssm_tool.specs.declared.words.Options.{Options}
+use Rattle.pssm_tool.specs.declared.run_words.Options.{Options}
 use Rattle.pssm_tool.specs.declared.answer.Answer.{Answer}
 use Rattle.pssm_tool.specs.declared.answer.Answer.TheVariants.{WellFormed, Usage, TooLarge, Journal, Flat, BadModel}
 use Rattle.pssm_tool.specs.declared.run.Ended.{Ended}

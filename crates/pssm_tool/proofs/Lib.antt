@@ -1,6 +1,7 @@
 pub mod Regrouped
 pub mod Three
 pub mod WordLaws
+pub mod RunWordLaws
 pub mod CallLaws
 pub mod PostLaws
 pub mod RunLaws

@@ -11,7 +11,7 @@ use Rattle.pssm_lines.specs.declared.fault.LineFault.TheVariants as faults
 use Rattle.pssm_journal.specs.Judged.{Judged, Accepted, Refused, Limited, BadText, IsJudged}
 use Rattle.pssm_load.specs.declared.fault.LoadFault.{LoadFault}
 use Rattle.pssm_load.specs.Loads.{ReadsSetting, IsLoadFault}
-use Rattle.pssm_tool.specs.declared.words.Options.{Options}
+use Rattle.pssm_tool.specs.declared.run_words.Options.{Options}
 use Rattle.pssm_tool.specs.declared.answer.Answer.{Answer}
 use Rattle.pssm_tool.specs.declared.answer.Answer.TheVariants.{Accept, Refuse, Limit, WellFormed, Usage, BadLine, NoEnd, TooLarge, Journal, Flat, BadModel}
 use Rattle.pssm_tool.specs.declared.run.Ended.{Ended}

@@ -1,29 +1,27 @@
 -- The words of the command line, and the command that they mean.
-use Rattle.std.specs.Prelude.{◌≡◌, ℕ, ℤ, List, [], ◌∷◌, ◌++◌, map, codes, String, string_bytes}
+use Rattle.std.specs.Prelude.{◌≡◌, ℕ, ℤ, List, [], ◌∷◌, map, codes, String, string_bytes, Option, Some, None, true}
+use Rattle.std.specs.Borrow.{Bor}
 use Rattle.std.specs.List.{AllByRecursion}
 use Rattle.std.specs.declared.alloc.Global.{Global}
+use Rattle.clap.specs.Lexer.{usize_max}
+use Rattle.clap.specs.Words.{App, Row, Rule, all_of, fault_of, first_of, matches_of, new_app, new_rule}
 use Rattle.pssm_spelling.specs.Spelling.{IsName}
 use Rattle.pssm_spelling.specs.Numbers.{IsNumber}
 use Rattle.pssm_lines.specs.LineText.{call_text}
 use Rattle.pssm_lines.specs.Grammar.{AreArgs}
-use Rattle.pssm_tool.specs.declared.words.Options.{Options}
+use Rattle.pssm_tool.specs.declared.run_words.Options.{Options}
 
--- the words as texts
+-- words as texts
 abbrev pub texts : List (String Global) → List (List ℕ)
 texts words = map string_bytes words
+
+-- the same of words that are lent
+abbrev pub lent : List (Bor (List ℕ)) → List (List ℕ)
+lent words = map (λ word. word.now) words
 
 -- The first of the words is this one.
 abbrev pub BeginWith : List (List ℕ) → List ℕ → Type 0
 BeginWith words first = (rest : List (List ℕ)) × (words ≡ first ∷ rest)
-
--- The words begin with an option, its name and a number in its range; or it is left out, and the number is the one for that. The rest comes after it.
-pub data HasOption (name : List ℕ) (least greatest otherwise : ℕ) (words rest : List (List ℕ)) (n : ℕ) : Type 0 where
-  given : (word : List ℕ) → words ≡ name ∷ word ∷ rest → IsNumber word least greatest n → HasOption name least greatest otherwise words rest n
-  left_out : (BeginWith words name → ⊥) → words ≡ rest → n ≡ otherwise → HasOption name least greatest otherwise words rest n
-
--- The word begins as an option does.
-abbrev pub BeginsWithDashes : List ℕ → Type 0
-BeginsWithDashes word = (rest : List ℕ) × (word ≡ codes "--" ++ rest)
 
 -- `OBJ.SIG(1,-2)`, as it stands after `post` in a journal: a signal at an object, with at most eight numbers of 64 bits
 pub record IsCall (word object signal : List ℕ) (args : List ℤ) : Type 0 where
@@ -36,17 +34,53 @@ pub record IsCall (word object signal : List ℕ) (args : List ℤ) : Type 0 whe
 abbrev pub IsStimulusText : List ℕ → Type 0
 IsStimulusText word = (object signal : List ℕ) × (args : List ℤ) × IsCall word object signal args
 
--- `run [--seed N] [--workers W] [--limit L] MODEL STIMULUS*`, with the options in this order
-pub record IsRun (words : List (List ℕ)) (options : Options) (model : List ℕ) (stimuli : List (List ℕ)) : Type 0 where
-  pub after_run : List (List ℕ)
-  pub after_seed : List (List ℕ)
-  pub after_workers : List (List ℕ)
-  pub verb : words ≡ codes "run" ∷ after_run
-  pub seed : HasOption (codes "--seed") 0 18446744073709551615 0 after_run after_seed options.seed
-  pub workers : HasOption (codes "--workers") 1 16 1 after_seed after_workers options.workers
-  pub limit : HasOption (codes "--limit") 0 1000000 10000 after_workers (model ∷ stimuli) options.limit
-  pub no_option : BeginsWithDashes model → ⊥
+-- ---- the words of `run`
+
+-- `--NAME VALUE` or `--NAME=VALUE`, at most once
+abbrev pub option_rule : List ℕ → Rule
+option_rule name = record (new_rule name) { long = Some name }
+
+-- the words that are no options and no values of options, one or more, in their order
+abbrev pub list_rule : Rule
+list_rule = record (new_rule (codes "words")) { range = Some (record { start_inclusive = 1; end_inclusive = usize_max }) }
+
+-- The command as clap knows it: three options and a list, without options for help and version. All else is as clap has it where nothing is asked for:
+-- an option may stand anywhere before `--`, at most once, and its name is written out; a word that begins with a hyphen is no value and none of the list,
+-- but for `-` alone and what stands behind `--`.
+abbrev pub run_command : App
+run_command = record {
+  top = record (new_app (codes "run")).top {
+    disable_help_flag = true;
+    rules = option_rule (codes "seed") ∷ option_rule (codes "workers") ∷ option_rule (codes "limit") ∷ list_rule ∷ [];
+  };
+  subs = [];
+}
+
+-- The word that is given, if one is, is a number of the range; the number for an option that is left out is the other one.
+abbrev pub HasNumber : ℕ → ℕ → ℕ → Option (List ℕ) → ℕ → Type 0
+HasNumber least greatest otherwise (Some word) n = IsNumber word least greatest n
+HasNumber least greatest otherwise None n = n ≡ otherwise
+
+-- These are the numbers of the options among what clap found.
+pub record HasOptions (found : List Row) (options : Options) : Type 0 where
+  pub seed : HasNumber 0 18446744073709551615 0 (first_of (codes "seed") found) options.seed
+  pub workers : HasNumber 1 16 1 (first_of (codes "workers") found) options.workers
+  pub limit : HasNumber 0 1000000 10000 (first_of (codes "limit") found) options.limit
+
+-- What clap found asks for this run: the model is the first word of the list, and the stimuli are the others.
+pub record AsksFor (found : List Row) (options : Options) (model : List ℕ) (stimuli : List (List ℕ)) : Type 0 where
+  pub numbers : HasOptions found options
+  pub list : all_of (codes "words") found ≡ Some (model ∷ stimuli)
   pub spelled : AllByRecursion IsStimulusText stimuli
+
+-- `run` and its words, which clap takes for that command, without a fault, and in which it finds what asks for this run. (It takes the first word for
+-- the program's name, and reads those after it.)
+pub record IsRun (words : List (List ℕ)) (options : Options) (model : List ℕ) (stimuli : List (List ℕ)) : Type 0 where
+  pub verb : BeginWith words (codes "run")
+  pub taken : fault_of run_command words ≡ []
+  pub asks : AsksFor (matches_of run_command words) options model stimuli
+
+-- ---- all commands
 
 -- what words can mean: to judge a journal of a model, to run a model with stimuli, to check a model, or to print its flat text
 pub data Meaning : Type 0 where

@@ -1,6 +1,7 @@
 //! What each command does, up to its answer.
 ghost use Rattle.std.specs.Prelude.{◌≡◌, ◌≤◌, List, ℕ, IfOk, IfErr};
-ghost use Rattle.pssm_tool.specs.Words.{texts, Means, Judges, Runs, Checks, Prints};
+ghost use Rattle.pssm_tool.specs.Words.{Means, Judges, Checks, Prints};
+ghost use Rattle.pssm_tool.specs.inner.Commands.{meaning_of_run};
 ghost use Rattle.pssm_tool.specs.Due.{IsOwed, answer_to_fault};
 ghost use Rattle.pssm_tool.specs.inner.Verdicts.{said};
 ghost use Rattle.pssm_tool.specs.inner.Failures.{FailedFor, GoesOn};
@@ -9,9 +10,9 @@ use crate::answer::Answer;
 use crate::failure::Failure;
 use crate::model::model;
 use crate::run::run;
+use crate::run_words::RunWords;
 use crate::stimuli::stimuli_of;
 use crate::text::text_of;
-use crate::words::Options;
 use pssm_base::Inputs;
 use pssm_flat::write_flat;
 use pssm_judge::{JudgeFault, LineFault, Verdict, judge};
@@ -66,36 +67,34 @@ fn text_answer(fault: LineFault) -> Answer
     }
 }
 
-/// Runs the model that stands under the path with the stimuli that the words name.
+/// Runs the model that the words name with the stimuli that they name.
 pub fn run_model<I: Inputs>(
     alloc: Global,
     inputs: &mut I,
-    options: Options,
-    path: &str,
-    stimuli: &[String],
+    asked: &RunWords<'_>,
 ) -> Result<Answer, Failure>
-    requires { options.limit ≤ 1000000 }
-    ensures owed { IfOk result (λ answer. (words : List (List ℕ)) → Means words (Runs options path.now (texts stimuli.now))
+    requires { asked.now.options.limit ≤ 1000000 }
+    ensures owed { IfOk result (λ answer. (words : List (List ℕ)) → Means words (meaning_of_run asked.now)
         → IsOwed words (I.content inputs.old) answer) }
-    ensures goes_on { IfOk result (λ answer. (words : List (List ℕ)) → Means words (Runs options path.now (texts stimuli.now))
+    ensures goes_on { IfOk result (λ answer. (words : List (List ℕ)) → Means words (meaning_of_run asked.now)
         → GoesOn words (I.content inputs.old) answer) }
-    ensures failed { IfErr result (λ failure. (words : List (List ℕ)) → Means words (Runs options path.now (texts stimuli.now))
+    ensures failed { IfErr result (λ failure. (words : List (List ℕ)) → Means words (meaning_of_run asked.now)
         → FailedFor words (I.faults inputs.old) (I.faults inputs.new) failure) }
 {
-    let setting = match model(alloc, inputs, path) {
+    let setting = match model(alloc, inputs, asked.model) {
         Ok(Ok(setting)) => setting,
         Ok(Err(answer)) => return Ok(answer),
         Err(failure) => return Err(failure),
     };
-    let Some(stimuli) = stimuli_of(alloc, &setting, stimuli)? else {
+    let Some(stimuli) = stimuli_of(alloc, &setting, &asked.stimuli)? else {
         return Ok(Answer::Usage);
     };
     let (system, ended) = run(
         alloc,
         setting,
         stimuli.as_slice(),
-        options.seed,
-        options.limit,
+        asked.options.seed,
+        asked.options.limit,
     )?;
     let text = text_of(alloc, &system);
     drop(system);

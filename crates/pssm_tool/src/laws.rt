@@ -4,7 +4,7 @@ ghost use Rattle.pssm_base.specs.Reading.{Contents};
 ghost use Rattle.pssm_semantics.specs.declared.setting.Setting.{Setting};
 ghost use Rattle.pssm_semantics.specs.declared.stimulus.Stimulus.{Stimulus};
 ghost use Rattle.pssm_tool.specs.declared.answer.Answer.{Answer};
-ghost use Rattle.pssm_tool.specs.declared.words.Options.{Options};
+ghost use Rattle.pssm_tool.specs.declared.run_words.Options.{Options};
 ghost use Rattle.pssm_tool.specs.Words.{Means, Runs};
 ghost use Rattle.pssm_tool.specs.Stimuli.{AreStimuli};
 ghost use Rattle.pssm_tool.specs.Due.{HasModel, IsOwed, IsTold};

@@ -15,6 +15,7 @@ mod laws;
 mod model;
 mod refusal;
 mod run;
+mod run_words;
 mod status;
 mod stimuli;
 mod text;

@@ -3,7 +3,7 @@ ghost use Rattle.std.specs.Prelude.{◌≡◌, ◌↔◌, [], slice_get, IfOk, I
 ghost use Rattle.std.specs.List.{AllByRecursion};
 ghost use Rattle.pssm_semantics.specs.declared.stimulus.Stimulus.{Stimulus};
 ghost use Rattle.pssm_semantics.specs.Pool.{posts_of_entry};
-ghost use Rattle.pssm_tool.specs.Words.{texts, IsStimulusText};
+ghost use Rattle.pssm_tool.specs.Words.{lent, IsStimulusText};
 ghost use Rattle.pssm_tool.specs.Stimuli.{Names, AreStimuli};
 ghost use Rattle.pssm_tool.specs.inner.Calls.{post_text as post_text_of, IsPost, ShowsCall};
 ghost use Rattle.pssm_tool.specs.inner.Running.{NameNoStimuli};
@@ -13,8 +13,8 @@ use pssm_semantics::{Entry, Setting, Stimulus};
 use std::alloc::{AllocError as NoMemory, Global};
 
 /// Whether each word is spelled as a stimulus, `OBJ.SIG(1,-2)`.
-pub fn are_spelled(alloc: Global, words: &[String]) -> Result<bool, NoMemory>
-    ensures { IfOk result (λ yes. IsTrue yes ↔ AllByRecursion IsStimulusText (texts words.now)) }
+pub fn are_spelled(alloc: Global, words: &[&str]) -> Result<bool, NoMemory>
+    ensures { IfOk result (λ yes. IsTrue yes ↔ AllByRecursion IsStimulusText (lent words.now)) }
 {
     for word in words {
         if !is_spelled(alloc, word.as_bytes())? {
@@ -37,10 +37,10 @@ fn is_spelled(alloc: Global, word: &[u8]) -> Result<bool, NoMemory>
 pub fn stimuli_of(
     alloc: Global,
     setting: &Setting,
-    words: &[String],
+    words: &[&str],
 ) -> Result<Option<Vec<Stimulus>>, NoMemory>
-    ensures name { IfOk result (λ o. IfSome o (λ v. AreStimuli setting.now (texts words.now) v.items)) }
-    ensures none { IfOk result (λ o. IfNone o (NameNoStimuli setting.now (texts words.now))) }
+    ensures name { IfOk result (λ o. IfSome o (λ v. AreStimuli setting.now (lent words.now) v.items)) }
+    ensures none { IfOk result (λ o. IfNone o (NameNoStimuli setting.now (lent words.now))) }
 {
     let namespace = Namespace::new(alloc, setting)?;
     let stimuli = all_named(alloc, setting, &namespace, words);
@@ -54,11 +54,11 @@ fn all_named(
     alloc: Global,
     setting: &Setting,
     namespace: &Namespace,
-    words: &[String],
+    words: &[&str],
 ) -> Result<Option<Vec<Stimulus>>, NoMemory>
     requires { namespace.now ≡ setting.now }
-    ensures name { IfOk result (λ o. IfSome o (λ v. AreStimuli setting.now (texts words.now) v.items)) }
-    ensures none { IfOk result (λ o. IfNone o (NameNoStimuli setting.now (texts words.now))) }
+    ensures name { IfOk result (λ o. IfSome o (λ v. AreStimuli setting.now (lent words.now) v.items)) }
+    ensures none { IfOk result (λ o. IfNone o (NameNoStimuli setting.now (lent words.now))) }
 {
     let mut stimuli = Vec::new(alloc);
     for word in words {

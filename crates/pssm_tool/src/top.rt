@@ -7,7 +7,7 @@ ghost use Rattle.pssm_semantics.specs.declared.stimulus.Stimulus.{Stimulus};
 ghost use Rattle.pssm_load.specs.declared.fault.LoadFault.{LoadFault};
 ghost use Rattle.pssm_tool.specs.declared.answer.Answer.{Answer};
 ghost use Rattle.pssm_tool.specs.declared.run.Ended.{Ended};
-ghost use Rattle.pssm_tool.specs.declared.words.Options.{Options};
+ghost use Rattle.pssm_tool.specs.declared.run_words.Options.{Options};
 ghost use Rattle.pssm_base.specs.Faults.{Rose};
 ghost use Rattle.pssm_base.specs.Putting.{TookPart};
 ghost use Rattle.pssm_tool.specs.Words.{texts, Means, Judges, Runs};
@@ -185,13 +185,7 @@ fn answer<I: Inputs>(alloc: Global, words: &[String], inputs: &mut I) -> Result<
     let command = command_of(alloc, words)?;
     match command {
         Some(Command::Judge { model, journal }) => judge_journal(alloc, inputs, model, journal),
-        Some(
-            Command::Run {
-                options,
-                model,
-                stimuli,
-            },
-        ) => run_model(alloc, inputs, options, model, stimuli),
+        Some(Command::Run(asked)) => run_model(alloc, inputs, &asked),
         Some(Command::Check { model }) => check_model(alloc, inputs, model),
         Some(Command::Flat { model }) => print_model(alloc, inputs, model),
         None => Ok(Answer::Usage),

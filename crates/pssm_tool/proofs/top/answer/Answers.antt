@@ -1,8 +1,9 @@
 use Rattle.std.proofs.Common.{IfSome, subst}
-use Rattle.pssm_tool.specs.Words.{texts, Means, Judges, Runs, Checks, Prints}
-use Rattle.pssm_tool.specs.inner.Commands.{meaning_of}
+use Rattle.pssm_tool.specs.Words.{texts, lent, Means, Judges, Checks, Prints}
+use Rattle.pssm_tool.specs.inner.Commands.{meaning_of, meaning_of_run}
 use Rattle.pssm_tool.specs.Due.{IsOwed}
 use Rattle.pssm_tool.proofs.DueLaws.{at_words}
+use Rattle.pssm_tool.proofs.WordLaws.{limit_low}
 use Rattle.pssm_tool.proofs.top.answer.Goals as goal
 
 pub returns-in-Some-Judge-clause-owed : goal.returns-in-Some-Judge-clause-owed
@@ -12,7 +13,13 @@ returns-in-Some-Judge-clause-owed g c =
 
 pub returns-in-Some-Run-clause-owed : goal.returns-in-Some-Run-clause-owed
 returns-in-Some-Run-clause-owed g c =
-    at_words c.run_model.result (λ w a. IsOwed w (g.I.Inputs.content c.args.inputs.now) a) (texts c.args.words.now) (Runs c.in-Some-Run.options c.in-Some-Run.model.now (texts c.in-Some-Run.stimuli.now)) c.run_model.ensures.owed
+    at_words c.run_model.result (λ w a. IsOwed w (g.I.Inputs.content c.args.inputs.now) a) (texts c.args.words.now) (meaning_of_run c.in-Some-Run.asked) c.run_model.ensures.owed
+    (subst (λ command. Means (texts c.args.words.now) (meaning_of command)) (rw c.in-Some-Run.is at c.in-Some-Run.field-0-is) (subst (λ o. IfSome o (λ command. Means (texts c.args.words.now) (meaning_of command))) c.in-Some-Run.is c.in_ok-command.ensures.reads))
+
+-- The limit that the words choose is in its range.
+pub run_model-requires : goal.run_model-requires
+run_model-requires g c =
+    limit_low (texts c.args.words.now) c.in-Some-Run.asked.options c.in-Some-Run.asked.model.now (lent c.in-Some-Run.asked.stimuli.items)
     (subst (λ command. Means (texts c.args.words.now) (meaning_of command)) (rw c.in-Some-Run.is at c.in-Some-Run.field-0-is) (subst (λ o. IfSome o (λ command. Means (texts c.args.words.now) (meaning_of command))) c.in-Some-Run.is c.in_ok-command.ensures.reads))
 
 pub returns-in-Some-Check-clause-owed : goal.returns-in-Some-Check-clause-owed

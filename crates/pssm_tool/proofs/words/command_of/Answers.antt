@@ -1,18 +1,16 @@
-use Rattle.std.proofs.Common.{◌∙◌, List, ℕ, IfOk, IfSome, codes, ap, sym, subst}
+use Rattle.std.proofs.Common.{◌∙◌, codes, ap, sym}
 use Rattle.std.proofs.lemmas.Slice.Eq.{bytes_eq-Decides}
-use Rattle.pssm_tool.specs.Words.{texts, Means}
-use Rattle.pssm_tool.specs.inner.Commands.{meaning_of}
+use Rattle.pssm_tool.specs.Words.{texts}
 use Rattle.pssm_tool.proofs.Three.{two_items, three_items}
 use Rattle.pssm_tool.proofs.WordLaws.{first_and_rest, words_first, one_meaning}
 use Rattle.pssm_tool.proofs.words.command_of.Goals as goal
 
 -- The first word is `run`.
-pub returns-in-len1-up-clause-reads : goal.returns-in-len1-up-clause-reads
-returns-in-len1-up-clause-reads c =
+pub command_of_run-requires : goal.command_of_run-requires
+command_of_run-requires c =
     let all = first_and_rest c.args.words.now c.verb-item.result c.in-len1-up.len_at_least c.verb-item.is in
     let verb = (bytes_eq-Decides c.as_str.result.now (codes "run")).0 (sym (c.if-eq.ensures {u = tt})) in
-    subst (λ (t : List (List ℕ)). IfOk c.run_of.result (λ o. IfSome o (λ command. Means t (meaning_of command))))
-    (sym (words_first c.args.words.now _ c.verb-item.result (codes "run") all (sym c.as_str.ensures.value ∙ verb))) c.run_of.ensures.reads
+    (texts _, words_first c.args.words.now _ c.verb-item.result (codes "run") all (sym c.as_str.ensures.value ∙ verb))
 
 pub returns-in-len1-up-clause-once : goal.returns-in-len1-up-clause-once
 returns-in-len1-up-clause-once c = one_meaning (texts c.args.words.now)
