@@ -1,5 +1,5 @@
 -- Words that are spelled as stimuli, and what they name.
-use Rattle.std.proofs.Common.{◌≡◌, ◌<◌, ◌+◌, ℕ, ℤ, zero, suc, true, false, get_or, List, [], ◌∷◌, ◌++◌, length, take, codes, Option, Some, None, refl, sym, ap, subst, ◌∙◌, arith, add-one, slice_get, IfSome, IfNone, append-nil}
+use Rattle.std.proofs.Common.{◌≡◌, ◌<◌, ◌+◌, ℕ, ℤ, zero, suc, true, get_or, List, [], ◌∷◌, ◌++◌, length, take, codes, Option, Some, None, refl, sym, ap, subst, ◌∙◌, arith, add-one, slice_get, IfSome, IfNone, append-nil}
 use Rattle.std.specs.Borrow.{Bor}
 use Rattle.std.specs.List.{AllByRecursion}
 use Rattle.std.proofs.lemmas.List.{append_cancel_left, append_cancel_right}
@@ -12,7 +12,6 @@ use Rattle.pssm_semantics.specs.declared.line.Line.{Line}
 use Rattle.pssm_semantics.specs.declared.line.Line.TheVariants.{Post}
 use Rattle.pssm_semantics.specs.declared.setting.Setting.{Setting}
 use Rattle.pssm_semantics.specs.declared.stimulus.Stimulus.{Stimulus}
-use Rattle.pssm_semantics_laws.proofs.Appending.{every_push}
 use Rattle.pssm_lines.specs.declared.parts.LineParts.{LineParts}
 use Rattle.pssm_lines.specs.declared.parts.LineParts.TheVariants as parts
 use Rattle.pssm_lines.specs.declared.fault.LineFault.{LineFault}
