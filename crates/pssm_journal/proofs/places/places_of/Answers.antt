@@ -14,4 +14,4 @@ pub returns : goal.returns
 returns g c = places_all g.T.Named.name_of c.args.named.now c.loop-place.place c.before.loop-place.places (omega (arith, c.loop-place-test.false)) c.loop-place.invariant
 
 pub loop-place-init : goal.loop-place-init
-loop-place-init g c = places_none g.T.Named.name_of c.args.named.now c.in_ok-with_capacity.places c.in_ok-with_capacity.ensures.empty
+loop-place-init g c = places_none g.T.Named.name_of c.args.named.now c.in_ok-places.places c.in_ok-places.ensures.empty
