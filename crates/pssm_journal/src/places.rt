@@ -4,7 +4,7 @@ ghost use Rattle.std.specs.Option.{option_copied};
 ghost use Rattle.pssm_journal.specs.inner.Places.{place_in, place_noted, place_among, HoldsPlaces};
 
 use crate::keys::{KeptName, LentName};
-use indexmap::IndexMap;
+use indexmap::{Equivalent, IndexMap};
 use pssm_model::Text;
 use pssm_semantics::{ObjectDecl, SignalDecl};
 use std::alloc::{AllocError as NoMemory, Global};
@@ -41,11 +41,31 @@ impl Named for Text {
     }
 }
 
+// Among at most so many names one is found sooner by comparing them than by its hash.
+const FEW: usize = 4;
+
+// The place of a name among few, which are compared one after another.
+fn place_among_few(places: &IndexMap<KeptName, usize>, name: &[u8]) -> Option<usize>
+    ensures { result ≡ place_in places.now name.now }
+{
+    let sought = LentName { bytes: name };
+    for (kept, place) in places.iter() {
+        if sought.equivalent(kept) {
+            return Some(*place);
+        }
+    }
+    None
+}
+
 /// The place of a name.
 pub fn place_of(places: &IndexMap<KeptName, usize>, name: &[u8]) -> Option<usize>
     ensures { result ≡ place_in places.now name.now }
 {
-    places.get(LentName { bytes: name }).copied()
+    if places.len() <= FEW {
+        place_among_few(places, name)
+    } else {
+        places.get(LentName { bytes: name }).copied()
+    }
 }
 
 // Notes a name with its place, unless it has one.
