@@ -14,7 +14,7 @@ use std::snapshot::Snapshot;
 
 /// What the names of a setting's objects, signals and marks stand for (UML 2.5.1, 7.4.3, namespaces).
 ///
-/// It is made once of a setting, which clauses see. A look-up compares a name with few others, however many there are,
+/// It is made once of a setting, which clauses see. A look-up goes by the hash of a name, compares it with few others,
 /// and takes no memory.
 #[derive(Drop)]
 pub struct Namespace {
