@@ -1,4 +1,4 @@
-use Rattle.std.proofs.Common.{◌≡◌, ◌+◌, ◌≤◌, ◌<◌, length, refl, arith, sym}
+use Rattle.std.proofs.Common.{◌<◌, length, arith}
 use Rattle.pssm_journal.proofs.PlaceLaws.{places_none, places_more, places_all}
 use Rattle.pssm_journal.proofs.places.places_of.Goals as goal
 
