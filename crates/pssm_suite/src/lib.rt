@@ -1,0 +1,9 @@
+//! Generated models: for each number a model and stimuli for it, whose every run has the same counts.
+//!
+//! What the model of a number is stands in this crate's `specs/`, as a text and as a setting.
+//! This crate knows nothing of how a run is made.
+#![tactic(auto)]
+
+mod generate;
+
+pub use generate::generate;
