@@ -4,6 +4,6 @@
 //! This crate knows nothing of how a run is made.
 #![tactic(auto)]
 
-mod generate;
+mod writing;
 
-pub use generate::generate;
+pub use writing::generate;
