@@ -1,8 +1,7 @@
--- Words for a whole route: by which routes steps go, through which vertices a route goes on, where it ends, where it exits and enters,
--- and where it is anchored.
+-- Words for a whole route: by which routes steps go, through which vertices a route goes on, where it exits and enters, and where it is
+-- anchored.
 use Rattle.std.specs.Prelude.{◌≡◌, ◌⊎◌, [], ◌∷◌, Contains}
 use Rattle.pssm_model.specs.declared.ids.VertexId.{VertexId}
-use Rattle.pssm_model.specs.declared.ids.RegionId.{RegionId}
 use Rattle.pssm_model.specs.declared.ids.TransId.{TransId}
 use Rattle.pssm_model.specs.declared.elements.DraftMachine.{DraftMachine}
 use Rattle.pssm_model.specs.declared.elements.TransKind.{TransKind}
@@ -10,10 +9,10 @@ use Rattle.pssm_model.specs.declared.elements.TransKind.TheVariants.{External, L
 use Rattle.pssm_model.specs.declared.elements.VertexKind.TheVariants as kinds
 use Rattle.pssm_model.specs.declared.elements.Owner.TheVariants.{State}
 use Rattle.pssm_model.specs.declared.steps.Route.{Route}
-use Rattle.pssm_model.specs.Forest.{HasKind, owner_of, IsScope, LiesInRegion, LiesInState}
-use Rattle.pssm_model.specs.Legs.{Leaves, Enters, Goes, On, IsCut, SameLeg, LaterLeg, IsEnteredFor, IsEndState, Scope, LiesInScope}
+use Rattle.pssm_model.specs.Forest.{HasKind, owner_of, IsScope, LiesInState}
+use Rattle.pssm_model.specs.Legs.{Leaves, Enters, Goes, On, IsCut, Scope}
 use Rattle.pssm_model.specs.Legs.Scope.{Nowhere, Inside, Within}
-use Rattle.pssm_model.specs.Routes.{IsRoute, IsStateRoute, IsSource, EndsAt}
+use Rattle.pssm_model.specs.Routes.{IsRoute, IsStateRoute, IsSource}
 use Rattle.pssm_model.specs.FiringSets.{IsLateOrigin}
 
 -- a route that starts with one transition out of a vertex from which a step goes on within itself
@@ -29,18 +28,6 @@ IsStepRoute m p = IsStateRoute m p ⊎ IsRouteWithin m p
 abbrev pub IsThrough : DraftMachine → VertexId → Type 0
 IsThrough m v = HasKind m v kinds.Junction ⊎ IsCut m v
 
--- The route ends on the vertex: a transition of it does, and none goes on from there (UML 2.5.1 14.2.3.8, compound transitions).
-abbrev pub EndsOn : DraftMachine → Route → VertexId → Type 0
-EndsOn m p v = (t : TransId) × On p t × Enters m t v × EndsAt m p v
-
--- The route ends on a vertex in the region (UML 2.5.1 14.2.3.4, explicit entry).
-abbrev pub EndsIn : DraftMachine → Route → RegionId → Type 0
-EndsIn m p r = (v : VertexId) × EndsOn m p v × LiesInRegion m v r
-
--- a vertex on which a leg of the route ends and for which something is entered (UML 2.5.1 14.2.3.4, entering a State; for legs this profile's choice)
-abbrev pub IsStation : DraftMachine → Route → VertexId → Type 0
-IsStation m p v = IsEnteredFor m v × (HasKind m v kinds.Junction → ⊥) × ((t : TransId) × On p t × Enters m t v)
-
 -- A start of the route is external, local or internal (UML 2.5.1 14.5.12, transition kinds).
 abbrev pub GoesAs : DraftMachine → Route → TransKind → Type 0
 GoesAs m p kind = (t : TransId) × Contains p.starts t × Goes m t kind
@@ -55,19 +42,6 @@ abbrev pub IsAreaOf : DraftMachine → Route → Scope → Type 0
 IsAreaOf m p Nowhere = GoesAs m p Internal
 IsAreaOf m p (Inside s) = GoesAs m p Local × IsSource m p s
 IsAreaOf m p (Within r) = GoesAs m p External × IsScope m (IsEndOf m p) r
-
--- The route enters the State: it is not internal, and the State is at a station of it or lies in its area around one
--- (UML 2.5.1 14.2.3.4, entering a State).
-abbrev pub IsEnteredBy : DraftMachine → Route → VertexId → Type 0
-IsEnteredBy m p s =
-    (GoesAs m p Internal → ⊥)
-    × ((v : VertexId) × IsStation m p v
-    × (IsEndState m v s ⊎ ((area : Scope) × IsAreaOf m p area × LiesInScope m s area × LiesInState m v s)))
-
--- The leg, or one before it, begins at a fork or an entry point (UML 2.5.1 14.2.3.7, fork and entryPoint).
-abbrev pub IsDownLeg : DraftMachine → Route → TransId → Type 0
-IsDownLeg m p t =
-    (u : TransId) × (v : VertexId) × (SameLeg m p t u ⊎ LaterLeg m p u t) × Leaves m u v × (HasKind m v kinds.Fork ⊎ HasKind m v kinds.EntryPoint)
 
 -- The route starts with one transition, which leaves this State (UML 2.5.1 14.2.3.8, compound transitions).
 pub record IsFrom (m : DraftMachine) (p : Route) (t : TransId) (s : VertexId) : Type 0 where

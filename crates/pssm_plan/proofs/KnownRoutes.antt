@@ -17,7 +17,8 @@ use Rattle.pssm_model.specs.Forest.{HasKind, owner_of, LiesInRegion, LiesInState
 use Rattle.pssm_model.specs.Legs.{Leaves, Enters, Goes, On, transitions_of, SameLeg, LaterLeg, IsLastVertex, IsInternal, IsEnteredFor, IsEndState, Scope, LiesInScope, LegScope, WouldExit, LegExits, LegEnters}
 use Rattle.pssm_model.specs.Items.{IsAimedAt, LegEnds, LegOpens}
 use Rattle.pssm_model.specs.Routes.{EndsAt}
-use Rattle.pssm_model.specs.RouteWords.{IsStepRoute, GoesAs, EndsOn, EndsIn, IsEnteredBy}
+use Rattle.pssm_model.specs.RouteWords.{IsStepRoute, GoesAs}
+use Rattle.pssm_model_laws.specs.inner.RouteEnds.{EndsOn, EndsIn, IsEnteredBy}
 use Rattle.pssm_model.specs.Shapes.{HasShape}
 use Rattle.pssm_model.specs.WellFormed.{KeepsModelRules}
 use Rattle.pssm_plan.specs.inner.OverRoutes.{LiesInArea, LeavesOwner, OpensBeside, EndsOnChoice, IsHistoryFor, EndsOnHistory}

@@ -36,7 +36,8 @@ use Rattle.pssm_model.specs.Items.{CanExit, Before, PathBefore, IsWaiting, IsExi
 use Rattle.pssm_model.specs.Items.Before.{inner_exit, outer_enter, exit_effect, path as effect_path, effect_enter, effect_end, enter_end, later as by_later}
 use Rattle.pssm_model.specs.Items.PathBefore.{next as path_next, after as path_on}
 use Rattle.pssm_model.specs.Order.{HasGone, course_by}
-use Rattle.pssm_model.specs.RouteWords.{IsStepRoute, IsEnteredBy}
+use Rattle.pssm_model.specs.RouteWords.{IsStepRoute}
+use Rattle.pssm_model_laws.specs.inner.RouteEnds.{IsEnteredBy}
 use Rattle.pssm_plan.specs.Steadiness.{BeginsWell}
 use Rattle.pssm_plan.specs.inner.OverRoutes.{GoesByRoutes, IsExitedOver, IsRestoredOver}
 use Rattle.pssm_model.proofs.ElementLaws.{mapped_some, same_vertex, same_transition, nothing_in_nil}
