@@ -38,9 +38,7 @@ front_lines n =
     codes "machine Front"
     ∷ codes "region r0 top"
     ∷ codes "vertex v0 r0 initial"
-    ∷ (map state_line (up_to n)
-    ++ (codes "transition t0 v0 v1 external"
-    ∷ flat_map (step_lines n) (up_to n)))
+    ∷ (map state_line (up_to n) ++ (codes "transition t0 v0 v1 external" ∷ flat_map (step_lines n) (up_to n)))
 
 -- a State of two regions, in each of which a `Go` leads from one State to another and the next one back
 abbrev pub back_lines : List (List ℕ)

@@ -4,6 +4,8 @@
 //! This crate knows nothing of how a run is made.
 #![tactic(auto)]
 
+mod laws;
 mod writing;
 
+pub use laws::generated_texts;
 pub use writing::generate;

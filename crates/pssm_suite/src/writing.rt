@@ -3,7 +3,7 @@ ghost use Rattle.std.specs.Prelude.{◌≡◌, ◌≤◌, ◌++◌, OnOk, IfOk, 
 ghost use Rattle.std.specs.List.{flat_map};
 ghost use Rattle.std.specs.Fmt.{decimal};
 ghost use Rattle.pssm_flat.specs.Text.{line, text_of};
-ghost use Rattle.pssm_suite.specs.Generated.{up_to, state_line, next_state, step_line, step_lines, head_lines, front_lines, back_lines, generated_text, generated_stimuli};
+ghost use Rattle.pssm_suite.specs.Generated.{up_to, state_line, next_state, step_lines, generated_text, generated_stimuli};
 
 use pssm_model::SignalId;
 use pssm_semantics::{Args, ObjectId, Stimulus};
@@ -56,22 +56,23 @@ pub fn generate(alloc: Global, n: u16) -> Result<(Vec<u8>, Vec<Stimulus>), NoMem
     ensures text { IfOk result (λ made. made.0.items ≡ generated_text n) }
     ensures stimuli { IfOk result (λ made. made.1.items ≡ generated_stimuli n) }
 {
-    let text = write_model(alloc, n)?;
+    let mut text = Vec::new(alloc);
+    put_model(alloc, &mut text, n)?;
     let stimuli = make_stimuli(alloc, n)?;
     Ok((text, stimuli))
 }
 
-// The text of the model.
-fn write_model(alloc: Global, n: u16) -> Result<Vec<u8>, NoMemory>
+// Writes the lines of the model.
+fn put_model(alloc: Global, text: &mut Vec<u8>, n: u16) -> Result<(), NoMemory>
     requires few { n ≤ 4000 }
-    ensures { IfOk result (λ text. text.items ≡ generated_text n) }
+    ensures { OnOk result (text.new.items ≡ text.old.items ++ generated_text n) }
 {
-    let mut text = HEAD.to_vec(alloc)?;
-    put_states(alloc, &mut text, n)?;
+    text.extend_from_slice(HEAD)?;
+    put_states(alloc, text, n)?;
     text.extend_from_slice(b"transition t0 v0 v1 external\n")?;
-    put_steps(alloc, &mut text, n)?;
+    put_steps(alloc, text, n)?;
     text.extend_from_slice(BACK)?;
-    Ok(text)
+    Ok(())
 }
 
 // Writes a word and a number.
@@ -106,17 +107,26 @@ fn put_states(alloc: Global, text: &mut Vec<u8>, n: u16) -> Result<(), NoMemory>
     Ok(())
 }
 
+// The State behind a State of the circle.
+fn next_state(n: u16, number: u16) -> u16
+    requires few { n ≤ 4000 }
+    requires state { number ≤ n }
+    ensures { result ≡ next_state n number }
+{
+    if number == n { 1 } else { number + 1 }
+}
+
 // Writes the lines of the transition that leaves a State of the circle.
 fn put_step(alloc: Global, text: &mut Vec<u8>, n: u16, number: u16) -> Result<(), NoMemory>
     requires few { n ≤ 4000 }
     requires state { number ≤ n }
     ensures { OnOk result (text.new.items ≡ text.old.items ++ text_of (step_lines n number)) }
 {
-    let next = if number == n { 1 } else { number + 1 };
     put_numbered(alloc, text, b"transition t", number)?;
     put_numbered(alloc, text, b" v", number)?;
-    put_numbered(alloc, text, b" v", next)?;
-    text.extend_from_slice(b" external\non Go\neffect send b.Go();\n")
+    put_numbered(alloc, text, b" v", next_state(n, number))?;
+    text.extend_from_slice(b" external\non Go\neffect send b.Go();\n")?;
+    Ok(())
 }
 
 // Writes the lines of the transitions that lead round the circle.
