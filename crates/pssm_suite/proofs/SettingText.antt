@@ -3,11 +3,13 @@ use Rattle.std.proofs.Common.{◌≡◌, ℕ, zero, suc, ◌+◌, ◌≤◌, ◌
 use Rattle.std.specs.Prelude.{map, codes, replicate, slice_get}
 use Rattle.std.specs.List.{flat_map, range_with_len}
 use Rattle.std.specs.Fmt.{decimal}
+use Rattle.std.proofs.lemmas.Fmt.{decimal_digit}
 use Rattle.std.proofs.lemmas.List.{append-nil}
 use Rattle.pssm_semantics.specs.declared.setting.Names.{Names}
 use Rattle.pssm_semantics.specs.declared.setting.Class.{Class}
 use Rattle.pssm_semantics.specs.declared.tree.Act.{Act}
-use Rattle.pssm_flat.specs.Text.{text_of, numbered, vertex_lines, transition_lines, transition_line, names_of, block_lines, machine_lines, flat_lines, flat_text}
+use Rattle.pssm_flat.specs.Text.{text_of, numbered, vertex_lines, transition_lines, transition_line, names_of, block_lines, flat_lines, flat_text}
+use Rattle.pssm_flat.specs.Text.{head_lines as first_lines}
 use Rattle.pssm_suite.specs.Generated.{up_to, next_state, state_line, step_line, step_lines, head_lines, front_lines, back_lines, generated_lines, generated_text}
 use Rattle.pssm_suite.specs.GeneratedSetting.{vertex, transition, on_go, nothing, send_on, front, back, generated}
 use Rattle.pssm_model.specs.declared.elements.Vertex.{Vertex}
@@ -48,26 +50,63 @@ step_text : (n i : ℕ) → 1 ≤ i → i < 1 + n → transition_lines (names_of
 unfolding generated
 step_text n i le lt = rw (step_act n i le lt) refl
 
+-- ---- numbers of one digit
+
+zero_is : decimal 0 ≡ codes "0"
+zero_is = decimal_digit 0 (omega arith)
+
+one_is : decimal 1 ≡ codes "1"
+one_is = decimal_digit 1 (omega arith)
+
+two_is : decimal 2 ≡ codes "2"
+two_is = decimal_digit 2 (omega arith)
+
+three_is : decimal 3 ≡ codes "3"
+three_is = decimal_digit 3 (omega arith)
+
+four_is : decimal 4 ≡ codes "4"
+four_is = decimal_digit 4 (omega arith)
+
+five_is : decimal 5 ≡ codes "5"
+five_is = decimal_digit 5 (omega arith)
+
+six_is : decimal 6 ≡ codes "6"
+six_is = decimal_digit 6 (omega arith)
+
+seven_is : decimal 7 ≡ codes "7"
+seven_is = decimal_digit 7 (omega arith)
+
+-- ---- the blocks
+
 front_text : (n : ℕ) → block_lines (names_of (generated n) (front n)) (front n) ≡ front_lines n
 unfolding generated
 front_text n =
     let names = names_of (generated n) (front n) in
-    let states : numbered (vertex_lines names (front n)) 1 (replicate n (vertex 0 State [])) ≡ map state_line (up_to n) =
-    lines_of_equal (vertex_lines names (front n)) state_line (vertex 0 State []) (λ i. refl) 1 n in
-    let steps : numbered (transition_lines names (front n)) 1 (map (λ i. transition i (next_state n i) on_go i) (up_to n)) ≡ flat_map (step_lines n) (up_to n) =
+    let steps = map (λ i. transition i (next_state n i) on_go i) (up_to n) in
+    let states_are : numbered (vertex_lines names (front n)) 1 (replicate n (vertex 0 State [])) ≡ map state_line (up_to n) =
+    lines_of_equal (vertex_lines names (front n)) state_line (vertex 0 State []) (λ i. rw zero_is refl) 1 n in
+    let steps_are : numbered (transition_lines names (front n)) 1 steps ≡ flat_map (step_lines n) (up_to n) =
     lines_of_made (transition_lines names (front n)) (step_lines n) (λ i. transition i (next_state n i) on_go i) 1 n (step_text n) in
-    ap (λ ls. codes "machine Front" ∷ codes "region r0 top" ∷ codes "vertex v0 r0 initial" ∷ (ls ++ numbered (transition_lines names (front n)) 0 (front n).machine.transitions)) states
-    ∙ ap (λ ls. codes "machine Front" ∷ codes "region r0 top" ∷ codes "vertex v0 r0 initial" ∷ (map state_line (up_to n) ++ (codes "transition t0 v0 v1 external" ∷ ls))) steps
+    rw zero_is (rw one_is
+    (ap (λ ls. codes "machine Front" ∷ codes "region r0 top" ∷ codes "vertex v0 r0 initial" ∷ (ls ++ (codes "transition t0 v0 v1 external" ∷ numbered (transition_lines names (front n)) 1 steps))) states_are
+    ∙ ap (λ ls. codes "machine Front" ∷ codes "region r0 top" ∷ codes "vertex v0 r0 initial" ∷ (map state_line (up_to n) ++ (codes "transition t0 v0 v1 external" ∷ ls))) steps_are))
 
 back_text : (n : ℕ) → block_lines (names_of (generated n) back) back ≡ back_lines
 unfolding generated
-back_text n = refl
+back_text n = rw zero_is (rw one_is (rw two_is (rw three_is (rw four_is (rw five_is (rw six_is (rw seven_is refl)))))))
+
+head_text : (n : ℕ) → first_lines (generated n) ≡ head_lines
+unfolding generated
+head_text n = rw zero_is refl
 
 generated_lines_are : (n : ℕ) → flat_lines (generated n) ≡ generated_lines n
 unfolding generated flat_lines generated_lines
 generated_lines_are n =
     let end : List (List ℕ) = codes "end" ∷ [] in
-    ap (λ ls. head_lines ++ ((ls ++ (block_lines (names_of (generated n) back) back ++ [])) ++ end)) (front_text n)
+    let front_block = block_lines (names_of (generated n) (front n)) (front n) in
+    let back_block = block_lines (names_of (generated n) back) back in
+    ap (λ ls. ls ++ ((front_block ++ (back_block ++ [])) ++ end)) (head_text n)
+    ∙ ap (λ ls. head_lines ++ ((ls ++ (back_block ++ [])) ++ end)) (front_text n)
     ∙ ap (λ ls. head_lines ++ ((front_lines n ++ (ls ++ [])) ++ end)) (back_text n)
     ∙ ap (λ ls. head_lines ++ ((front_lines n ++ ls) ++ end)) (append-nil back_lines)
     ∙ ap (λ ls. head_lines ++ ls) (append_assoc (front_lines n) back_lines end)
