@@ -1,2 +1,5 @@
 pub mod TextLaws
 pub mod SettingText
+pub mod PlainMachines
+pub mod PlainFront
+pub mod PlainBack

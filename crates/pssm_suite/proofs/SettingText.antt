@@ -35,7 +35,7 @@ lines_of_made f g x k (suc n) each =
     ∙ ap (λ ls. g k ++ ls) (ap (λ j. numbered f j others) next ∙ lines_of_made f g x (k + 1) n (λ i le lt. each i (omega arith) (omega (arith, lt))))
 
 -- one of equal items
-one_of_equal : {X : Type 0} (x : X) (n i : ℕ) → i < n → slice_get (replicate n x) i ≡ Some x
+pub one_of_equal : {X : Type 0} (x : X) (n i : ℕ) → i < n → slice_get (replicate n x) i ≡ Some x
 one_of_equal x zero i lt = absurd (omega arith)
 one_of_equal x (suc n) zero lt = refl
 one_of_equal x (suc n) (suc i) lt = one_of_equal x n i (omega arith)
