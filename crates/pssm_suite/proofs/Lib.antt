@@ -3,3 +3,5 @@ pub mod SettingText
 pub mod PlainMachines
 pub mod PlainFront
 pub mod PlainBack
+pub mod FlatSetting
+pub mod LoadedSetting

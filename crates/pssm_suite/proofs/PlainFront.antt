@@ -24,7 +24,7 @@ use Rattle.pssm_suite.proofs.SettingText.{one_of_equal}
 abbrev round : Vertex
 round = vertex 0 kinds.State []
 
-abbrev step : ℕ → ℕ → Transition
+abbrev pub step : ℕ → ℕ → Transition
 step n i = transition i (next_state n i) on_go i
 
 -- what stands among equal items
@@ -43,7 +43,7 @@ made_at f k (suc n) (suc i) x e =
     (h.0 ∙ ap f same, omega (arith, h.1))
 
 -- behind a State of the circle is one of the circle
-next_within : (n i : ℕ) → 1 ≤ i → i ≤ n → (1 ≤ next_state n i) × (next_state n i ≤ n)
+pub next_within : (n i : ℕ) → 1 ≤ i → i ≤ n → (1 ≤ next_state n i) × (next_state n i ≤ n)
 next_within n i le ge = search (rules, arith)
 
 module _ (n : ℕ) (some : 1 ≤ n) (few : n ≤ 4000) where

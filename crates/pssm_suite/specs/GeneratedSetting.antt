@@ -1,5 +1,5 @@
 -- The setting of the generated model.
-use Rattle.std.specs.Prelude.{ℕ, List, [], ◌∷◌, map, replicate, codes, Some}
+use Rattle.std.specs.Prelude.{◌<◌, ℕ, List, [], ◌∷◌, length, map, replicate, codes, Some}
 use Rattle.pssm_model.specs.declared.ids.SignalId.{SignalId}
 use Rattle.pssm_model.specs.declared.elements.DraftMachine.{DraftMachine}
 use Rattle.pssm_model.specs.declared.elements.Vertex.{Vertex}
@@ -12,8 +12,10 @@ use Rattle.pssm_model.specs.declared.elements.Owner.TheVariants as owners
 use Rattle.pssm_semantics.specs.declared.setting.Program.{Program}
 use Rattle.pssm_semantics.specs.declared.setting.Class.{Class}
 use Rattle.pssm_semantics.specs.declared.setting.Setting.{Setting}
+use Rattle.pssm_semantics.specs.declared.stimulus.Stimulus.{Stimulus}
 use Rattle.pssm_semantics.specs.declared.tree.Act.{Act}
 use Rattle.pssm_semantics.specs.declared.tree.Stmt.{Send}
+use Rattle.pssm_semantics.specs.Settings.{HasCount}
 use Rattle.pssm_suite.specs.Generated.{up_to, next_state}
 
 -- a vertex of a region that neither behaves nor defers
@@ -75,3 +77,8 @@ generated n = record {
     classes = front n ∷ back ∷ [];
     objects = record { name = codes "a"; class = 0 } ∷ record { name = codes "b"; class = 1 } ∷ []
   }
+
+-- The object and the signal are the setting's, and the signal has as many parameters as there are arguments.
+pub record IsStimulusFor (setting : Setting) (x : Stimulus) : Type 0 where
+  pub object : x.object.0 < length setting.objects
+  pub signal : HasCount setting x.signal (length x.args)
