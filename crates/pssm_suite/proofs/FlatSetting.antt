@@ -103,7 +103,7 @@ next_act k a few e = record {
     spelled = send_spelled;
     line = send_line;
     number = omega (arith, e, length-replicate k send_on);
-    behind_is = ap (λ as. let p : Program = record { acts = nothing ∷ as; guards = []; marks = [] } in p) (sym (replicate_more k send_on));
+    behind_is = ap (λ others. let p : Program = record { acts = nothing ∷ others; guards = []; marks = [] } in p) (sym (replicate_more k send_on));
     few_acts = omega (arith, few, length-replicate k send_on);
     few_marks = omega arith
   }

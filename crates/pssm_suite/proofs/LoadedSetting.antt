@@ -53,7 +53,7 @@ generated_read n some few = record {
 
 go_fits : (n : ℕ) → IsStimulusFor (generated n) go
 unfolding generated
-go_fits n = record { object = omega arith; signal = refl }
+go_fits n = record { class = front n; object = refl; signal = refl }
 
 pub stimuli_fit : (n k : ℕ) → AllByRecursion (IsStimulusFor (generated n)) (replicate k go)
 stimuli_fit n zero = tt
