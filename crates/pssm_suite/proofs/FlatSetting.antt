@@ -1,6 +1,6 @@
 -- The generated setting has a flat text.
 use Rattle.std.proofs.Common.{◌≡◌, ◌≢◌, ◌≤◌, ◌<◌, ◌+◌, ℕ, zero, suc, true, List, [], ◌∷◌, ◌++◌, length, ltb, Some, None, All, refl, sym, ap, subst, ◌∙◌, inl, inr, arith}
-use Rattle.std.specs.Prelude.{map, replicate, codes, IsTrue}
+use Rattle.std.specs.Prelude.{map, replicate, codes, get_or, IsTrue}
 use Rattle.std.specs.List.{AllByRecursion, range_with_len, list_all}
 use Rattle.std.proofs.lemmas.List.{length-replicate, replicate_more}
 use Rattle.std.proofs.lemmas.List.FromFn.{length-map-range_with_len}
@@ -57,11 +57,14 @@ no_names = record { each = All-nil IsName; differ = λ j k d before within. absu
 single_name : (name : List ℕ) → IsName name → AreNames (name ∷ [])
 single_name name is = record { each = All-cons IsName name [] is (All-nil IsName); differ = λ j k d before within. absurd (omega arith) }
 
+a_is_not_b : codes "a" ≢ codes "b"
+a_is_not_b same = let first : 97 ≡ 98 = ap (λ (t : List ℕ). get_or t 0 0) same in absurd (omega (arith, first))
+
 objects_differ : AreNames (codes "a" ∷ codes "b" ∷ [])
 objects_differ = record {
   each = All-cons IsName (codes "a") (codes "b" ∷ []) (record { spelled = refl; short = omega arith }) (single_name (codes "b") (record { spelled = refl; short = omega arith })).each;
   differ = AllPairs-cons (λ a b. a ≢ b) (codes "a") (codes "b" ∷ [])
-      (All-cons (λ b. codes "a" ≢ b) (codes "b") [] (λ same. absurd cc) (All-nil (λ b. codes "a" ≢ b)))
+      (All-cons (λ b. codes "a" ≢ b) (codes "b") [] a_is_not_b (All-nil (λ b. codes "a" ≢ b)))
       (single_name (codes "b") (record { spelled = refl; short = omega arith })).differ;
 }
 
@@ -205,7 +208,7 @@ generated_written n few = record {
     counts = (omega arith, tt);
     class_names = (record { name_is = record { spelled = refl; short = omega arith }; new = tt }, (record { name_is = record { spelled = refl; short = omega arith }; new = (λ same. absurd cc, tt) }, tt));
     few_classes = omega arith;
-    object_names = (record { name_is = record { spelled = refl; short = omega arith }; new = tt }, (record { name_is = record { spelled = refl; short = omega arith }; new = (λ same. absurd cc, tt) }, tt));
+    object_names = (record { name_is = record { spelled = refl; short = omega arith }; new = tt }, (record { name_is = record { spelled = refl; short = omega arith }; new = (a_is_not_b, tt) }, tt));
     few_objects = omega arith;
     placed = (omega arith, (omega arith, tt));
     classes = (front_class n few, (back_class, tt))
