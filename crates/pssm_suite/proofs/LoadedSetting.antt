@@ -27,7 +27,7 @@ generated_well_formed n some few =
     let Keeps : Class → Type 0 = λ x. KeepsModelRules x.machine in
     record {
       proper = flat_proper (generated n) (generated_flat n some few);
-      rules = All-cons Keeps (front n) (back ∷ []) (plain_keeps (front_machine n) (front_plain n some few)) (All-cons Keeps back [] (plain_keeps back_machine back_plain) (All-nil Keeps))
+      rules = All-cons Keeps (front n) (back ∷ []) (plain_keeps (front_machine n) (front_plain n some few)) (All-cons Keeps back [] (plain_keeps back_machine back_plain) (All-nil Keeps));
     }
 
 no_faults : (m : DraftMachine) → KeepsModelRules m → AreFaults m []
@@ -47,9 +47,9 @@ class_faults n some few =
 
 pub generated_read : (n : ℕ) → 1 ≤ n → n ≤ 4000 → ReadsSetting (generated_text n) (generated n) []
 generated_read n some few = record {
-    reads = flat (begins_flat n) (generated_flat n some few) (sym (generated_text_is n));
-    faults = class_faults n some few
-  }
+  reads = flat (begins_flat n) (generated_flat n some few) (sym (generated_text_is n));
+  faults = class_faults n some few;
+}
 
 go_fits : (n : ℕ) → IsStimulusFor (generated n) go
 unfolding generated
