@@ -1,5 +1,5 @@
 -- The generated setting has a flat text.
-use Rattle.std.proofs.Common.{◌≡◌, ◌≢◌, ◌≤◌, ◌<◌, ◌+◌, ℕ, zero, suc, true, List, [], ◌∷◌, ◌++◌, length, ltb, Some, None, All, refl, sym, ap, subst, ◌∙◌, inl, inr, arith}
+use Rattle.std.proofs.Common.{◌≡◌, ◌≢◌, ◌≤◌, ◌<◌, ◌+◌, ℕ, zero, suc, true, List, [], ◌∷◌, ltb, Some, refl, sym, ap, inl, inr, arith}
 use Rattle.std.specs.Prelude.{map, replicate, codes, get_or, IsTrue}
 use Rattle.std.specs.List.{AllByRecursion, range_with_len, list_all}
 use Rattle.std.proofs.lemmas.List.{length-replicate, replicate_more}
@@ -8,13 +8,10 @@ use Rattle.std.proofs.lemmas.List.Elements.{All-cons, All-nil}
 use Rattle.std.proofs.lemmas.List.Kept.{AllPairs-cons}
 use Rattle.pssm_model.specs.declared.ids.ActId.{ActId}
 use Rattle.pssm_model.specs.declared.ids.SignalId.{SignalId}
-use Rattle.pssm_model.specs.declared.elements.Vertex.{Vertex}
 use Rattle.pssm_model.specs.declared.elements.VertexKind.{VertexKind}
 use Rattle.pssm_model.specs.declared.elements.VertexKind.TheVariants as kinds
-use Rattle.pssm_model.specs.declared.elements.Transition.{Transition}
 use Rattle.pssm_semantics.specs.declared.setting.Names.{Names}
 use Rattle.pssm_semantics.specs.declared.setting.Program.{Program}
-use Rattle.pssm_semantics.specs.declared.tree.Expr.{Expr}
 use Rattle.pssm_semantics.specs.declared.tree.Stmt.{Stmt, Send}
 use Rattle.pssm_semantics.specs.Fits.{ExprFits, StmtFits}
 use Rattle.pssm_spelling.specs.Spelling.{IsName}
@@ -25,7 +22,7 @@ use Rattle.pssm_acts.specs.Vocabularies.{vocabulary}
 use Rattle.pssm_acts.proofs.BlockBack.{act_read_back}
 use Rattle.pssm_flat.specs.Flat.{Leads, is_inner, is_label_byte, IsLabel, IsLineText, IsWrittenVertex, IsWrittenTransition, IsWrittenMachine, IsNextAct, LeadsVertex, LeadsTransition, first_program, IsNumbered, IsWrittenClass, IsWritten, IsFlat}
 use Rattle.pssm_flat.proofs.RightTexts.{line_text_is}
-use Rattle.pssm_suite.specs.Generated.{up_to, next_state}
+use Rattle.pssm_suite.specs.Generated.{next_state}
 use Rattle.pssm_suite.specs.GeneratedSetting.{vertex, transition, on_go, nothing, send_on, front_machine, front, back_machine, back, generated}
 use Rattle.pssm_suite.proofs.PlainMachines.{plain_shape}
 use Rattle.pssm_suite.proofs.PlainFront.{step, next_within, front_plain}

@@ -1,18 +1,15 @@
 -- The machine of `Back` is plain.
-use Rattle.std.proofs.Common.{◌≡◌, ◌⊎◌, ◌≤◌, ◌<◌, ◌+◌, ℕ, zero, suc, List, [], ◌∷◌, length, Option, Some, slice_get, refl, sym, ap, subst, ◌∙◌, inl, inr, arith}
+use Rattle.std.proofs.Common.{◌≡◌, ◌<◌, ℕ, zero, suc, List, [], Option, Some, refl, sym, ap, ◌∙◌, inl, inr, arith}
 use Rattle.std.specs.List.{AllByRecursion}
 use Rattle.std.specs.Option.{option_map_or}
 use Rattle.pssm_model.specs.declared.ids.VertexId.{VertexId}
 use Rattle.pssm_model.specs.declared.ids.RegionId.{RegionId}
 use Rattle.pssm_model.specs.declared.ids.TransId.{TransId}
-use Rattle.pssm_model.specs.declared.elements.Vertex.{Vertex}
-use Rattle.pssm_model.specs.declared.elements.Transition.{Transition}
 use Rattle.pssm_model.specs.declared.elements.VertexKind.TheVariants as kinds
 use Rattle.pssm_model.specs.declared.elements.Owner.TheVariants.{Top, Region, State}
-use Rattle.pssm_model.specs.Forest.{HasKind, owner_of, HasRegionsAbove}
+use Rattle.pssm_model.specs.Forest.{HasKind, owner_of}
 use Rattle.pssm_model.specs.Forest.HasRegionsAbove.{machine, region, state}
 use Rattle.pssm_model.specs.Legs.{Leaves}
-use Rattle.pssm_model.specs.Paths.{IsInitialOf}
 use Rattle.pssm_model.proofs.ElementLaws.{same_vertex, same_transition, same_region, all_at}
 use Rattle.pssm_suite.specs.GeneratedSetting.{vertex, transition, on_go, back_machine}
 use Rattle.pssm_suite.proofs.PlainMachines.{IsPlain, IsPlainVertex, IsPlainTransition, IsPlainRegion}

@@ -1,5 +1,5 @@
 -- Machines of initial vertices and States alone, whose transitions are external and have no guards, keep the rules of models.
-use Rattle.std.proofs.Common.{◌≡◌, ◌≢◌, ◌⊎◌, ◌≤◌, ◌<◌, ◌+◌, ℕ, suc, List, [], length, Some, slice_get, refl, sym, ap, subst, ◌∙◌, inl, inr, arith}
+use Rattle.std.proofs.Common.{◌≡◌, ◌≢◌, ◌⊎◌, ◌≤◌, ◌<◌, ℕ, suc, [], length, Some, sym, ap, subst, ◌∙◌, inl, inr, arith}
 use Rattle.std.proofs.lemmas.Option.{slice_get_within}
 use Rattle.pssm_model.specs.declared.ids.VertexId.{VertexId}
 use Rattle.pssm_model.specs.declared.ids.RegionId.{RegionId}
@@ -29,7 +29,7 @@ use Rattle.pssm_model.specs.Paths.ComesAfter.{end, inner}
 use Rattle.pssm_model.specs.Paths.LeadsOn.{next, after}
 use Rattle.pssm_model.specs.WellFormed.{HasGuard, HasElse, HasTrigger, Breaks, KeepsModelRules}
 use Rattle.pssm_model.specs.WellFormed.Breaks.{E01_top, E01, E02, E03, E04, E05, E06, E07, E08, E09, E10, E11, E12, E13, E14, E15, E16, E17, E18, E19, E20, E21}
-use Rattle.pssm_model.proofs.ElementLaws.{mapped_some, mapped_at, some_and, kind_unique, leaves_one, enters_at, leaves_at}
+use Rattle.pssm_model.proofs.ElementLaws.{mapped_some, mapped_at, some_and, kind_unique, enters_at, leaves_at}
 
 -- an initial vertex or a State, in a region of the machine
 pub record IsPlainVertex (m : DraftMachine) (x : Vertex) : Type 0 where
