@@ -1,0 +1,7 @@
+pub mod TextLaws
+pub mod SettingText
+pub mod PlainMachines
+pub mod PlainFront
+pub mod PlainBack
+pub mod FlatSetting
+pub mod LoadedSetting
