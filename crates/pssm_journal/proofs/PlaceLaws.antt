@@ -1,72 +1,86 @@
--- The places of names in a sorted map.
-use Rattle.std.proofs.Common.{◌≡◌, ◌<◌, ◌⊎◌, ℕ, zero, suc, ◌+◌, Bool, true, false, cond, List, [], ◌∷◌, ◌++◌, length, drop, get_or, Option, Some, None, refl, sym, ap, subst, ◌∙◌, arith, inl, inr, ⊎_elim, length-append}
-use Rattle.std.specs.Prelude.{position, map, option_map, slice_get}
-use Rattle.std.specs.Option.{option_and_then}
+-- The places of names, as they are noted one after another.
+use Rattle.std.proofs.Common.{◌≡◌, ◌<◌, ◌≤◌, ◌⊎◌, ℕ, zero, suc, ◌+◌, Bool, true, false, cond, List, [], ◌∷◌, ◌++◌, length, take, get_or, Option, Some, None, refl, sym, ap, subst, ◌∙◌, arith, inl, inr, length-append}
+use Rattle.std.specs.Prelude.{option_map, slice_get}
+use Rattle.std.specs.Option.{option_or}
 use Rattle.std.specs.List.{position_from}
 use Rattle.std.specs.Str.{bytes_eq}
-use Rattle.std.specs.Ordering.{is_eq, nat_cmp}
-use Rattle.std.specs.Cmp.{eq_by_cmp_equiv}
-use Rattle.std.specs.Cmp.Lexicographic.{slice_cmp, nat_list_cmp_total, nat_list_eq_equiv, bytes_decides}
-use Rattle.std.specs.BTreeMap.{UpdatesBy, is_at}
-use Rattle.std.specs.Map.{lookup, IsKeyTest, AreApart, KeepsOthers}
-use Rattle.std.proofs.lemmas.Bool.{cases_Bool, cond-true, cond-false}
-use Rattle.std.proofs.lemmas.List.{drop_more}
-use Rattle.std.proofs.lemmas.Map.Text.{is_eq-slice_cmp}
+use Rattle.std.specs.Cmp.Lexicographic.{bytes_decides}
+use Rattle.std.proofs.lemmas.List.{take_more, take_all, length-take-le}
 use Rattle.std.proofs.lemmas.Iterator.Adapters.{position_from-zero}
-use Rattle.std.proofs.lemmas.Option.{same_Some, slice_get-map}
+use Rattle.std.proofs.lemmas.Option.{same_Some}
+use Rattle.std.specs.Map.{lookup}
+use Rattle.indexmap.specs.IndexMap.{Updates}
 use Rattle.pssm_model.specs.declared.ids.MarkId.{MarkId}
 use Rattle.pssm_semantics.specs.declared.entry.ObjectId.{ObjectId}
-use Rattle.pssm_semantics.specs.declared.setting.ObjectDecl.{ObjectDecl}
 use Rattle.pssm_semantics.specs.declared.setting.Class.{Class}
 use Rattle.pssm_semantics.specs.declared.setting.Setting.{Setting}
 use Rattle.pssm_semantics.specs.Settings.{class_of}
 use Rattle.pssm_journal.specs.Entries.{◌>>=◌, numbered, mark_named, own_mark_named}
-use Rattle.pssm_journal.specs.inner.Places.{Places, place_in, place_among, HoldsPlaces, HoldsMarks}
+use Rattle.pssm_journal.specs.inner.Places.{Places, place_in, place_noted, place_among, HoldsPlaces, HoldsMarks}
 
--- ---- a map with one more name
+-- ---- one more name
 
-apart : (bs cs ks : List ℕ) → bytes_eq bs cs ≡ false → bytes_eq bs ks ≡ true → bytes_eq cs ks ≡ false
-apart bs cs ks n y = nat_list_eq_equiv.symm cs ks ∙ sym (nat_list_eq_equiv.congr bs ks cs y) ∙ n
+none_more : (o : Option ℕ) → o ≡ option_or o None
+none_more (Some k) = refl
+none_more None = refl
 
-apart_in_order : (bs cs ks : List ℕ) → bytes_eq bs cs ≡ false → is_eq (slice_cmp nat_cmp bs ks) ≡ true → is_eq (slice_cmp nat_cmp cs ks) ≡ false
-apart_in_order bs cs ks n y = is_eq-slice_cmp cs ks ∙ apart bs cs ks n (sym (is_eq-slice_cmp bs ks) ∙ y)
+kept_more : (o x : Option ℕ) (k : ℕ) → o ≡ Some k → o ≡ option_or o x
+kept_more (Some j) x k e = refl
+kept_more None x k e = absurd cc
 
-other_entries : {K X : Type 0} (eq : K → K → Bool) (test : K → Bool) (old new : List (K × X)) → KeepsOthers eq test old new → (other : K → Bool) → IsKeyTest eq other → AreApart test other → lookup other new ≡ lookup other old
-unfolding KeepsOthers
-other_entries eq test old new h = h
+-- A name that has a place keeps it, and so do all others.
+pub noted_before : {S : Type 0} (m : Places S) (noted : List ℕ) (place k : ℕ) → place_in m noted ≡ Some k → (name : List ℕ) → place_in m name ≡ place_noted (place_in m name) noted place name
+noted_before m noted place k is name = by_test (bytes_eq noted name) refl where
+  by_test : (t : Bool) → bytes_eq noted name ≡ t → place_in m name ≡ option_or (place_in m name) (cond t (Some place) None)
+  by_test true e = kept_more (place_in m name) (Some place) k (subst (λ n. place_in m n ≡ Some k) ((bytes_decides noted name).0 e) is)
+  by_test false e = none_more (place_in m name)
 
--- the place of any name after a change at one
-pub place_updates : (bs : List ℕ) (m n : Places) (w : Option ℕ) → UpdatesBy (λ x y. slice_cmp nat_cmp x.items y.items) (λ k. slice_cmp nat_cmp bs k.items) m n w
-    → (cs : List ℕ) → place_in n cs ≡ cond (bytes_eq bs cs) w (place_in m cs)
-place_updates bs m n w h cs =
-    ⊎_elim
-    (λ y. subst (λ l. place_in n l ≡ w) ((bytes_decides bs cs).0 y) h.1 ∙ sym (cond-true (bytes_eq bs cs) w (place_in m cs) y))
-    (λ e. other_entries _ _ _ _ h.3 _ (λ x y. (eq_by_cmp_equiv nat_list_cmp_total).congr cs x.items y.items) (λ k. apart_in_order bs cs k.items e) ∙ sym (cond-false (bytes_eq bs cs) w (place_in m cs) e))
-    (cases_Bool (bytes_eq bs cs))
+-- A name that has none gets its place, and no other changes.
+pub noted_now : {S : Type 0} (m n : Places S) (noted : List ℕ) (place : ℕ) → place_in m noted ≡ None → Updates bytes_eq m n noted (Some place) → (name : List ℕ) → place_in n name ≡ place_noted (place_in m name) noted place name
+noted_now m n noted place none updates name = updates.0 name ∙ by_test (bytes_eq noted name) refl where
+  by_test : (t : Bool) → bytes_eq noted name ≡ t → cond t (Some place) (place_in m name) ≡ option_or (place_in m name) (cond t (Some place) None)
+  by_test true e = sym (ap (λ o. option_or o (Some place)) (subst (λ n. place_in m n ≡ None) ((bytes_decides noted name).0 e) none))
+  by_test false e = none_more (place_in m name)
 
 -- ---- the first place
 
--- a map without names
-pub no_place : (places : Places) (name : List ℕ) → places.entries ≡ [] → place_in places name ≡ None
-no_place places name empty = ap (λ es. lookup (is_at (λ key. slice_cmp nat_cmp name key.items)) es) empty
+-- the first place with one thing more at the end
+position_from_more : {X : Type 0} (t : X → Bool) (i : ℕ) (xs : List X) (x : X) → position_from t i (xs ++ x ∷ []) ≡ option_or (position_from t i xs) (cond (t x) (Some (i + length xs)) None)
+position_from_more t i [] x = ap (λ n. cond (t x) (Some n) None) (let same : i ≡ i + 0 = omega arith in same)
+position_from_more t i (y ∷ xs) x = by_test (t y) (position_from_more t (i + 1) xs x) where
+  by_test : (b : Bool) → position_from t (i + 1) (xs ++ x ∷ []) ≡ option_or (position_from t (i + 1) xs) (cond (t x) (Some ((i + 1) + length xs)) None)
+      → cond b (Some i) (position_from t (i + 1) (xs ++ x ∷ [])) ≡ option_or (cond b (Some i) (position_from t (i + 1) xs)) (cond (t x) (Some (i + suc (length xs))) None)
+  by_test true later = refl
+  by_test false later =
+      later ∙ ap (λ n. option_or (position_from t (i + 1) xs) (cond (t x) (Some n) None)) (let same : (i + 1) + length xs ≡ i + suc (length xs) = omega arith in same)
 
--- one thing more in front of those whose places are kept
-pub place_more : {X : Type 0} (name_of : X → List ℕ) (xs : List X) (i next : ℕ) (x : X) (old new : Places) (key name : List ℕ) → next ≡ i + 1 → i < length xs → x ≡ get_or xs i x → key ≡ name_of x
-    → place_in old name ≡ position_from (λ y. bytes_eq (name_of y) name) next (drop next xs)
-    → place_in new name ≡ cond (bytes_eq key name) (Some i) (place_in old name)
-    → place_in new name ≡ position_from (λ y. bytes_eq (name_of y) name) i (drop i xs)
-place_more {X = X} name_of xs i next x old new key name follows within is named before after =
+-- the first place, as it is counted from the first thing on
+place_from_zero : {X : Type 0} (name_of : X → List ℕ) (xs : List X) (name : List ℕ) → place_among name_of xs name ≡ position_from (λ x. bytes_eq (name_of x) name) 0 xs
+place_from_zero name_of xs name = position_from-zero (λ x. bytes_eq (name_of x) name) xs
+
+-- none is noted yet
+pub places_none : {X S : Type 0} (name_of : X → List ℕ) (xs : List X) (places : Places S) → places.entries ≡ [] → HoldsPlaces name_of (take 0 xs) places
+places_none name_of xs places empty name = ap (λ es. lookup (λ key. bytes_eq name key) es) empty
+
+-- one thing more has its place
+pub places_more : {X S : Type 0} (name_of : X → List ℕ) (xs : List X) (i : ℕ) (x : X) (old new : Places S) (noted : List ℕ) → i < length xs → x ≡ get_or xs i x → noted ≡ name_of x
+    → ((name : List ℕ) → place_in new name ≡ place_noted (place_in old name) noted i name) → HoldsPlaces name_of (take i xs) old → HoldsPlaces name_of (take (i + 1) xs) new
+places_more {X = X} name_of xs i x old new noted within is named after before name =
     let t = λ (y : X). bytes_eq (name_of y) name in
-    let rest : drop i xs ≡ x ∷ drop (i + 1) xs = drop_more xs i x within ∙ ap (λ z. z ∷ drop (i + 1) xs) (sym is) in
-    after ∙ ap (λ o. cond (bytes_eq key name) (Some i) o) (before ∙ ap (λ n. position_from t n (drop n xs)) follows)
-    ∙ ap (λ k. cond (bytes_eq k name) (Some i) (position_from (λ y. bytes_eq (name_of y) name) (i + 1) (drop (i + 1) xs))) named
-    ∙ sym (ap (λ ys. position_from (λ y. bytes_eq (name_of y) name) i ys) rest)
+    let first = take i xs in
+    let many : i ≡ 0 + length first = omega (arith, length-take-le i xs (omega (arith, within))) in
+    let all : take (i + 1) xs ≡ first ++ x ∷ [] = take_more xs i x within ∙ ap (λ z. first ++ z ∷ []) (sym is) in
+    after name
+    ∙ ap (λ o. place_noted o noted i name) (before name ∙ place_from_zero name_of first name)
+    ∙ ap (λ k. option_or (position_from t 0 first) (cond (bytes_eq k name) (Some i) None)) named
+    ∙ ap (λ n. option_or (position_from t 0 first) (cond (t x) (Some n) None)) many
+    ∙ sym (position_from_more t 0 first x)
+    ∙ sym (ap (λ ys. position_from t 0 ys) all)
+    ∙ sym (place_from_zero name_of (take (i + 1) xs) name)
 
--- all of them
-pub first_place : {X : Type 0} (name_of : X → List ℕ) (xs : List X) (i : ℕ) (name : List ℕ) (o : Option ℕ) → i ≡ 0 → o ≡ position_from (λ y. bytes_eq (name_of y) name) i (drop i xs)
-    → o ≡ position (λ y. bytes_eq (name_of y) name) xs
-first_place name_of xs i name o none is =
-    is ∙ ap (λ n. position_from (λ y. bytes_eq (name_of y) name) n (drop n xs)) none ∙ sym (position_from-zero (λ y. bytes_eq (name_of y) name) xs)
+-- all have
+pub places_all : {X S : Type 0} (name_of : X → List ℕ) (xs : List X) (i : ℕ) (places : Places S) → length xs ≤ i → HoldsPlaces name_of (take i xs) places → HoldsPlaces name_of xs places
+places_all name_of xs i places all held = subst (λ ys. HoldsPlaces name_of ys places) (take_all i xs all) held
 
 -- ---- marks
 
@@ -80,17 +94,14 @@ at_more (z ∷ xs) [] x a y b i same e f = absurd (omega (arith, same))
 at_more (z ∷ xs) (w ∷ ys) x a y b zero same e f = inl (e, f)
 at_more (z ∷ xs) (w ∷ ys) x a y b (suc i) same e f = at_more xs ys x a y b i (omega (arith, same)) e f
 
-pub no_marks : (kept : List Places) → kept ≡ [] → HoldsMarks [] kept
-no_marks kept none = subst (λ (ps : List Places). HoldsMarks [] ps) (sym none) (refl, (λ i class places e f. absurd cc))
-
 -- the marks of one class more
-pub marks_more : (classes : List Class) (kept : List Places) (class : Class) (places : Places) → HoldsMarks classes kept → HoldsPlaces (λ mark. mark) class.program.marks places
+pub marks_more : {S : Type 0} (classes : List Class) (kept : List (Places S)) (class : Class) (places : Places S) → HoldsMarks classes kept → HoldsPlaces (λ mark. mark) class.program.marks places
     → HoldsMarks (classes ++ class ∷ []) (kept ++ places ∷ [])
-marks_more classes kept class places held here = (
+marks_more {S} classes kept class places held here = (
   omega (arith, held.0, length-append classes (class ∷ []), length-append kept (places ∷ [])),
   (λ i c p e f. elim (at_more classes kept class c places p i held.0 e f) [
     | inl before ↦ held.1 i c p before.0 before.1
-    | inr same ↦ subst (λ (x : Class). HoldsPlaces (λ mark. mark) x.program.marks p) same.0 (subst (λ (x : Places). HoldsPlaces (λ mark. mark) class.program.marks x) same.1 here)
+    | inr same ↦ subst (λ (x : Class). HoldsPlaces (λ mark. mark) x.program.marks p) same.0 (subst (λ (x : Places S). HoldsPlaces (λ mark. mark) class.program.marks x) same.1 here)
   ]),
 )
 
@@ -100,46 +111,3 @@ pub own_mark_is : (setting : Setting) (o : ObjectId) (class : Class) (name : Lis
 unfolding own_mark_named mark_named
 own_mark_is setting o class name place r here found is =
     is ∙ ap (λ p. option_map (λ i. let k : MarkId = record { 0 = i } in k) (numbered 65536 p)) found ∙ ap (λ c. c >>= λ x. mark_named x name) here
-
-pub own_mark_none : (setting : Setting) (o : ObjectId) (name : List ℕ) → None ≡ class_of setting o → None ≡ own_mark_named setting o name
-unfolding own_mark_named
-own_mark_none setting o name none = ap (λ c. c >>= λ x. mark_named x name) none
-
--- The class of an object, by the number that is kept of it.
-pub class_kept : (setting : Setting) (o : ObjectId) (classes : List ℕ) (n : ℕ) → classes ≡ map (λ d. d.class) setting.objects → Some n ≡ slice_get classes o.0 → class_of setting o ≡ slice_get setting.classes n
-class_kept setting o classes n are here = by_object (slice_get setting.objects o.0) refl where
-  mapped : slice_get classes o.0 ≡ option_map (λ (d : ObjectDecl). d.class) (slice_get setting.objects o.0)
-  mapped = ap (λ cs. slice_get cs o.0) are ∙ slice_get-map (λ (d : ObjectDecl). d.class) setting.objects o.0
-
-  by_object : (p : Option ObjectDecl) → slice_get setting.objects o.0 ≡ p → class_of setting o ≡ slice_get setting.classes n
-  by_object (Some d) is =
-      let same : n ≡ d.class = same_Some n d.class (here ∙ mapped ∙ ap (λ (p : Option ObjectDecl). option_map (λ (d : ObjectDecl). d.class) p) is) in
-      ap (λ (p : Option ObjectDecl). option_and_then (λ d. slice_get setting.classes d.class) p) is ∙ ap (λ m. slice_get setting.classes m) (sym same)
-  by_object None is =
-      let missing = here ∙ mapped ∙ ap (λ (p : Option ObjectDecl). option_map (λ (d : ObjectDecl). d.class) p) is in absurd cc
-
-pub class_not_kept : (setting : Setting) (o : ObjectId) (classes : List ℕ) → classes ≡ map (λ d. d.class) setting.objects → None ≡ slice_get classes o.0 → None ≡ class_of setting o
-class_not_kept setting o classes are none = by_object (slice_get setting.objects o.0) refl where
-  mapped : slice_get classes o.0 ≡ option_map (λ (d : ObjectDecl). d.class) (slice_get setting.objects o.0)
-  mapped = ap (λ cs. slice_get cs o.0) are ∙ slice_get-map (λ (d : ObjectDecl). d.class) setting.objects o.0
-
-  by_object : (p : Option ObjectDecl) → slice_get setting.objects o.0 ≡ p → None ≡ class_of setting o
-  by_object None is = sym (ap (λ (p : Option ObjectDecl). option_and_then (λ d. slice_get setting.classes d.class) p) is)
-  by_object (Some d) is =
-      let missing = none ∙ mapped ∙ ap (λ (p : Option ObjectDecl). option_map (λ (d : ObjectDecl). d.class) p) is in absurd cc
-
--- As many lists of marks as classes are kept.
-pub marks_missing : (classes : List Class) (kept : List Places) (n : ℕ) → length kept ≡ length classes → None ≡ slice_get kept n → None ≡ slice_get classes n
-marks_missing [] kept n same none = refl
-marks_missing (c ∷ classes) [] n same none = absurd (omega (arith, same))
-marks_missing (c ∷ classes) (p ∷ kept) zero same none = absurd cc
-marks_missing (c ∷ classes) (p ∷ kept) (suc n) same none = marks_missing classes kept n (omega (arith, same)) none
-
-pub marks_there : (classes : List Class) (kept : List Places) (n : ℕ) (places : Places) → length kept ≡ length classes → Some places ≡ slice_get kept n → (class : Class) × (Some class ≡ slice_get classes n)
-marks_there [] kept n places same some = absurd (none_in kept n same some) where
-  none_in : (kept : List Places) (n : ℕ) → length kept ≡ 0 → Some places ≡ slice_get kept n → ⊥
-  none_in [] n none e = cc
-  none_in (p ∷ kept) n none e = omega (arith, none)
-marks_there (c ∷ classes) [] n places same some = absurd (omega (arith, same))
-marks_there (c ∷ classes) (p ∷ kept) zero places same some = (c, refl)
-marks_there (c ∷ classes) (p ∷ kept) (suc n) places same some = marks_there classes kept n places (omega (arith, same)) some

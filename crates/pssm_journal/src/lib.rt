@@ -11,6 +11,7 @@ mod brief;
 mod entry;
 mod entry_lines;
 mod judged;
+mod keys;
 mod known;
 mod laws;
 mod names;

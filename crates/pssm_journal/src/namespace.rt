@@ -2,28 +2,29 @@
 ghost use Rattle.std.specs.Prelude.{◌≡◌, map, IfOk};
 ghost use Rattle.pssm_journal.specs.inner.Places.{HoldsMarks};
 
+use crate::keys::KeptName;
 use crate::names::{Names, mark_id, object_id, signal_id};
 use crate::places::{place_of, places_of};
+use indexmap::IndexMap;
 use pssm_model::{MarkId, SignalId};
 use pssm_semantics::{Class, ObjectDecl, ObjectId, Setting};
 use std::alloc::{AllocError as NoMemory, Global};
-use std::collections::BTreeMap;
 use std::marker::Model;
 use std::snapshot::Snapshot;
 
 /// What the names of a setting's objects, signals and marks stand for (UML 2.5.1, 7.4.3, namespaces).
 ///
-/// It is made once of a setting, which clauses see. A look-up compares a name with few others, however many there are,
+/// It is made once of a setting, which clauses see. A look-up goes by the hash of a name, compares it with few others,
 /// and takes no memory.
 #[derive(Drop)]
 pub struct Namespace {
     setting: Snapshot<Setting>,
-    objects: BTreeMap<Vec<u8>, usize>,
-    signals: BTreeMap<Vec<u8>, usize>,
+    objects: IndexMap<KeptName, usize>,
+    signals: IndexMap<KeptName, usize>,
     // the class of each object
     classes: Vec<u8>,
     // the marks of each class
-    marks: Vec<BTreeMap<Vec<u8>, usize>>,
+    marks: Vec<IndexMap<KeptName, usize>>,
 }
 
 impl Model for Namespace {
@@ -76,7 +77,7 @@ fn classes_of(alloc: Global, objects: &[ObjectDecl]) -> Result<Vec<u8>, NoMemory
 }
 
 // The places of the marks of each class.
-fn marks_of(alloc: Global, classes: &[Class]) -> Result<Vec<BTreeMap<Vec<u8>, usize>>, NoMemory>
+fn marks_of(alloc: Global, classes: &[Class]) -> Result<Vec<IndexMap<KeptName, usize>>, NoMemory>
     ensures { IfOk result (λ v. HoldsMarks classes.now v.items) }
 {
     let mut marks = Vec::with_capacity(alloc, classes.len())?;

@@ -1,12 +1,13 @@
 //! Where names stand among those of their kind.
-ghost use Rattle.std.specs.Prelude.{◌≡◌, ℕ, List, IfOk};
+ghost use Rattle.std.specs.Prelude.{◌≡◌, ℕ, List, IfOk, OnOk};
 ghost use Rattle.std.specs.Option.{option_copied};
-ghost use Rattle.pssm_journal.specs.inner.Places.{place_in, place_among, HoldsPlaces};
+ghost use Rattle.pssm_journal.specs.inner.Places.{place_in, place_noted, place_among, HoldsPlaces};
 
+use crate::keys::{KeptName, LentName};
+use indexmap::{Equivalent, IndexMap};
 use pssm_model::Text;
 use pssm_semantics::{ObjectDecl, SignalDecl};
 use std::alloc::{AllocError as NoMemory, Global};
-use std::collections::BTreeMap;
 
 /// What has a name.
 pub trait Named {
@@ -40,23 +41,63 @@ impl Named for Text {
     }
 }
 
-/// The place of each name among these things, the first where several have it.
-pub fn places_of<T: Named>(alloc: Global, named: &[T]) -> Result<BTreeMap<Vec<u8>, usize>, NoMemory>
-    ensures { IfOk result (λ places. HoldsPlaces T.name_of named.now places) }
+// Among at most so many names one is found sooner by comparing them than by its hash.
+const FEW: usize = 4;
+
+// The place of a name among few, which are compared one after another.
+fn place_among_few(places: &IndexMap<KeptName, usize>, name: &[u8]) -> Option<usize>
+    ensures { result ≡ place_in places.now name.now }
 {
-    let mut places = BTreeMap::new(alloc);
-    let mut place = named.len();
-    while place > 0 {
-        place -= 1;
-        let name = named[place].name().to_vec(alloc)?;
-        places.insert(name, place)?;
+    let sought = LentName { bytes: name };
+    for (kept, place) in places.iter() {
+        if sought.equivalent(kept) {
+            return Some(*place);
+        }
     }
-    Ok(places)
+    None
 }
 
 /// The place of a name.
-pub fn place_of(places: &BTreeMap<Vec<u8>, usize>, name: &[u8]) -> Option<usize>
+pub fn place_of(places: &IndexMap<KeptName, usize>, name: &[u8]) -> Option<usize>
     ensures { result ≡ place_in places.now name.now }
 {
-    places.get(name).copied()
+    if places.len() <= FEW {
+        place_among_few(places, name)
+    } else {
+        places.get(LentName { bytes: name }).copied()
+    }
+}
+
+// Notes a name with its place, unless it has one.
+#[tactic(auto, using(crate::proofs::PlaceLaws::noted_before, crate::proofs::PlaceLaws::noted_now))]
+fn note(
+    alloc: Global,
+    places: &mut IndexMap<KeptName, usize>,
+    name: &[u8],
+    place: usize,
+) -> Result<(), NoMemory>
+    ensures { OnOk result ((other : List ℕ) → place_in places.new other
+        ≡ place_noted (place_in places.old other) name.now place other) }
+{
+    if place_of(places, name).is_none() {
+        places.insert(KeptName::of(alloc, name)?, place)?;
+    }
+    Ok(())
+}
+
+/// The place of each name among these things, the first where several have it. The names stand in the order in which
+/// they are first seen: where all differ, the place of each is its index.
+pub fn places_of<T: Named>(
+    alloc: Global,
+    named: &[T],
+) -> Result<IndexMap<KeptName, usize>, NoMemory>
+    ensures { IfOk result (λ places. HoldsPlaces T.name_of named.now places) }
+{
+    let mut places = IndexMap::with_capacity(alloc, named.len())?;
+    let mut place = 0;
+    while place < named.len() {
+        note(alloc, &mut places, named[place].name(), place)?;
+        place += 1;
+    }
+    Ok(places)
 }

@@ -5,3 +5,12 @@ pub mod OneLoad
 pub mod ReadShapes
 pub mod LoadLaws
 pub mod SomeLoad
+pub mod FreeNames
+pub mod ReadAgain
+pub mod PlainBytes
+pub mod FlatPrograms
+pub mod AttributeTexts
+pub mod DraftParts
+pub mod FlatElements
+pub mod FlatSettings
+pub mod ReadBack

@@ -29,7 +29,7 @@ abbrev pub SettingOrFault : Type 0
 SettingOrFault = (draft : Draft) → IsInRange draft → ((setting : Setting) → IsSettingOf draft setting → ⊥) → ((fault : DraftFault) → IsFirstFailure draft fault → ⊥) → ⊥
 
 -- A draft that is read is in range.
-draft_in_range : OneRole → (bytes : List ℕ) (draft : Draft) → ReadsDraft bytes draft → IsInRange draft
+pub draft_in_range : OneRole → (bytes : List ℕ) (draft : Draft) → ReadsDraft bytes draft → IsInRange draft
 draft_in_range one_role bytes draft reads =
     let text = reads.is_file.text in
     let fine = faultless one_role reads.file reads.is_file.roles reads.none_second (stand_behind text.pieces reads.file.doc text.document) reads.none_first in

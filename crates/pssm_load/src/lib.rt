@@ -11,5 +11,5 @@ mod loading;
 mod rules;
 
 pub use fault::{ClassFault, LoadFault};
-pub use laws::{one_load, some_load};
+pub use laws::{flat_reads_back, one_load, some_load};
 pub use loading::load;

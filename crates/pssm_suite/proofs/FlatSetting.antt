@@ -1,5 +1,5 @@
 -- The generated setting has a flat text.
-use Rattle.std.proofs.Common.{◌≡◌, ◌≢◌, ◌≤◌, ◌<◌, ◌+◌, ℕ, zero, suc, true, List, [], ◌∷◌, ◌++◌, length, ltb, Some, None, All, refl, sym, ap, subst, ◌∙◌, inl, inr, arith}
+use Rattle.std.proofs.Common.{◌≡◌, ◌≢◌, ◌≤◌, ◌<◌, ◌+◌, ℕ, zero, suc, true, List, [], ◌∷◌, ltb, Some, refl, sym, ap, inl, inr, arith}
 use Rattle.std.specs.Prelude.{map, replicate, codes, get_or, IsTrue}
 use Rattle.std.specs.List.{AllByRecursion, range_with_len, list_all}
 use Rattle.std.proofs.lemmas.List.{length-replicate, replicate_more}
@@ -8,13 +8,10 @@ use Rattle.std.proofs.lemmas.List.Elements.{All-cons, All-nil}
 use Rattle.std.proofs.lemmas.List.Kept.{AllPairs-cons}
 use Rattle.pssm_model.specs.declared.ids.ActId.{ActId}
 use Rattle.pssm_model.specs.declared.ids.SignalId.{SignalId}
-use Rattle.pssm_model.specs.declared.elements.Vertex.{Vertex}
 use Rattle.pssm_model.specs.declared.elements.VertexKind.{VertexKind}
 use Rattle.pssm_model.specs.declared.elements.VertexKind.TheVariants as kinds
-use Rattle.pssm_model.specs.declared.elements.Transition.{Transition}
 use Rattle.pssm_semantics.specs.declared.setting.Names.{Names}
 use Rattle.pssm_semantics.specs.declared.setting.Program.{Program}
-use Rattle.pssm_semantics.specs.declared.tree.Expr.{Expr}
 use Rattle.pssm_semantics.specs.declared.tree.Stmt.{Stmt, Send}
 use Rattle.pssm_semantics.specs.Fits.{ExprFits, StmtFits}
 use Rattle.pssm_spelling.specs.Spelling.{IsName}
@@ -25,7 +22,7 @@ use Rattle.pssm_acts.specs.Vocabularies.{vocabulary}
 use Rattle.pssm_acts.proofs.BlockBack.{act_read_back}
 use Rattle.pssm_flat.specs.Flat.{Leads, is_inner, is_label_byte, IsLabel, IsLineText, IsWrittenVertex, IsWrittenTransition, IsWrittenMachine, IsNextAct, LeadsVertex, LeadsTransition, first_program, IsNumbered, IsWrittenClass, IsWritten, IsFlat}
 use Rattle.pssm_flat.proofs.RightTexts.{line_text_is}
-use Rattle.pssm_suite.specs.Generated.{up_to, next_state}
+use Rattle.pssm_suite.specs.Generated.{next_state}
 use Rattle.pssm_suite.specs.GeneratedSetting.{vertex, transition, on_go, nothing, send_on, front_machine, front, back_machine, back, generated}
 use Rattle.pssm_suite.proofs.PlainMachines.{plain_shape}
 use Rattle.pssm_suite.proofs.PlainFront.{step, next_within, front_plain}
@@ -100,22 +97,24 @@ program_of k = record { acts = nothing ∷ replicate k send_on; guards = []; mar
 
 next_act : (k : ℕ) (a : ActId) → k < 4000 → a.0 ≡ k + 1 → IsNextAct names (program_of k) a (program_of (k + 1))
 next_act k a few e = record {
-    act = send_on;
-    marks = [];
-    some = λ none. absurd cc;
-    spelled = send_spelled;
-    line = send_line;
-    number = omega (arith, e, length-replicate k send_on);
-    behind_is = ap (λ others. let p : Program = record { acts = nothing ∷ others; guards = []; marks = [] } in p) (sym (replicate_more k send_on));
-    few_acts = omega (arith, few, length-replicate k send_on);
-    few_marks = omega arith
-  }
+  act = send_on;
+  marks = [];
+  some = λ none. absurd cc;
+  spelled = send_spelled;
+  line = send_line;
+  number = omega (arith, e, length-replicate k send_on);
+  behind_is = ap (λ others. let p : Program = record { acts = nothing ∷ others; guards = []; marks = [] } in p) (sym (replicate_more k send_on));
+  few_acts = omega (arith, few, length-replicate k send_on);
+  few_marks = omega arith;
+}
 
 steps_lead : (n total k m : ℕ) → k + m ≡ total → total ≤ 4000 → Leads (LeadsTransition names) (program_of k) (map (step n) (range_with_len (k + 1) m)) (program_of total)
 steps_lead n total k zero e le = let same : k ≡ total = omega (arith, e) in ap program_of same
-steps_lead n total k (suc m) e le =
-    (program_of (k + 1), record { guarded = program_of k; guard = refl; effect = inr (next_act k (record { 0 = k + 1 }) (omega (arith, e, le)) refl) },
-    steps_lead n total (k + 1) m (omega (arith, e)) le)
+steps_lead n total k (suc m) e le = (
+  program_of (k + 1),
+  record { guarded = program_of k; guard = refl; effect = inr (next_act k (record { 0 = k + 1 }) (omega (arith, e, le)) refl) },
+  steps_lead n total (k + 1) m (omega (arith, e)) le,
+)
 
 -- a vertex has no behaviour, and neither has a transition of effect 0
 still : (r : ℕ) (kind : VertexKind) (label : List ℕ) → LeadsVertex names first_program (vertex r kind label) first_program
@@ -126,19 +125,38 @@ idle source target triggers = record { guarded = first_program; guard = refl; ef
 
 front_numbered : (n : ℕ) → n ≤ 4000 → IsNumbered names (front_machine n) (front n).program
 front_numbered n few = record {
-    middle = first_program;
-    vertices = (first_program, still 0 kinds.Initial [], lead_equal (LeadsVertex names) first_program (vertex 0 kinds.State []) (still 0 kinds.State []) n);
-    transitions = (first_program, idle 0 1 [], steps_lead n n 0 n (omega arith) few)
-  }
+  middle = first_program;
+  vertices = (first_program, still 0 kinds.Initial [], lead_equal (LeadsVertex names) first_program (vertex 0 kinds.State []) (still 0 kinds.State []) n);
+  transitions = (first_program, idle 0 1 [], steps_lead n n 0 n (omega arith) few);
+}
 
 back_numbered : IsNumbered names back_machine back.program
 back_numbered =
     let p = first_program in
     record {
       middle = first_program;
-      vertices = (p, still 0 kinds.Initial [], (p, still 0 kinds.State (codes "S"), (p, still 1 kinds.Initial [], (p, still 1 kinds.State (codes "P"), (p, still 1 kinds.State (codes "P2"),
-          (p, still 2 kinds.Initial [], (p, still 2 kinds.State (codes "R"), (p, still 2 kinds.State (codes "R2"), refl))))))));
-      transitions = (p, idle 0 1 [], (p, idle 2 3 [], (p, idle 5 6 [], (p, idle 3 4 on_go, (p, idle 6 7 on_go, (p, idle 4 3 on_go, (p, idle 7 6 on_go, refl)))))))
+      vertices = (
+        p,
+        still 0 kinds.Initial [],
+        (
+          p,
+          still 0 kinds.State (codes "S"),
+          (
+            p,
+            still 1 kinds.Initial [],
+            (
+              p,
+              still 1 kinds.State (codes "P"),
+              (
+                p,
+                still 1 kinds.State (codes "P2"),
+                (p, still 2 kinds.Initial [], (p, still 2 kinds.State (codes "R"), (p, still 2 kinds.State (codes "R2"), refl))),
+              ),
+            ),
+          ),
+        ),
+      );
+      transitions = (p, idle 0 1 [], (p, idle 2 3 [], (p, idle 5 6 [], (p, idle 3 4 on_go, (p, idle 6 7 on_go, (p, idle 4 3 on_go, (p, idle 7 6 on_go, refl)))))));
     }
 
 -- ---- the elements
@@ -148,12 +166,12 @@ label_is label low inner plain = record { text = (line_text_is label low inner).
 
 written_vertex : (r : ℕ) (kind : VertexKind) (label : List ℕ) → r < 65536 → IsLabel label → IsWrittenVertex 1 (vertex r kind label)
 written_vertex r kind label lt is = record {
-    owner = lt;
-    label = is;
-    as_state = inr (record { entry = refl; exit = refl; steps = refl; defers = refl });
-    few_steps = omega arith;
-    defers = tt
-  }
+  owner = lt;
+  label = is;
+  as_state = inr (record { entry = refl; exit = refl; steps = refl; defers = refl });
+  few_steps = omega arith;
+  defers = tt;
+}
 
 unlabelled : (r : ℕ) (kind : VertexKind) → r < 65536 → IsWrittenVertex 1 (vertex r kind [])
 unlabelled r kind lt = written_vertex r kind [] lt (label_is [] refl refl refl)
@@ -166,15 +184,18 @@ written_step source target effect lt le = record { source = lt; target = le; tri
 
 front_written : (n : ℕ) → n ≤ 4000 → IsWrittenMachine 1 (front_machine n)
 front_written n few = record {
-    some_region = omega arith;
-    few_regions = omega arith;
-    few_vertices = omega (arith, length-replicate n (vertex 0 kinds.State []), few);
-    few_transitions = omega (arith, length-map-range_with_len (step n) 1 n, few);
-    regions = (tt, tt);
-    vertices = (unlabelled 0 kinds.Initial (omega arith), all_equal (IsWrittenVertex 1) (vertex 0 kinds.State []) (unlabelled 0 kinds.State (omega arith)) n);
-    transitions = (written_first 0 1 (omega arith) (omega arith), all_made (IsWrittenTransition 1) (step n) 1 n
-        (λ i le lt. let within = next_within n i le (omega (arith, lt)) in written_step i (next_state n i) i (omega (arith, lt, few)) (omega (arith, within.1, few))))
-  }
+  some_region = omega arith;
+  few_regions = omega arith;
+  few_vertices = omega (arith, length-replicate n (vertex 0 kinds.State []), few);
+  few_transitions = omega (arith, length-map-range_with_len (step n) 1 n, few);
+  regions = (tt, tt);
+  vertices = (unlabelled 0 kinds.Initial (omega arith), all_equal (IsWrittenVertex 1) (vertex 0 kinds.State []) (unlabelled 0 kinds.State (omega arith)) n);
+  transitions = (
+    written_first 0 1 (omega arith) (omega arith),
+    all_made (IsWrittenTransition 1) (step n) 1 n
+        (λ i le lt. let within = next_within n i le (omega (arith, lt)) in written_step i (next_state n i) i (omega (arith, lt, few)) (omega (arith, within.1, few))),
+  );
+}
 
 back_written : IsWrittenMachine 1 back_machine
 back_written =
@@ -185,11 +206,32 @@ back_written =
       few_vertices = omega arith;
       few_transitions = omega arith;
       regions = (tt, (omega arith, (omega arith, tt)));
-      vertices = (unlabelled 0 kinds.Initial (omega arith), (label 0 (codes "S") (omega arith) (label_is (codes "S") refl refl refl),
-          (unlabelled 1 kinds.Initial (omega arith), (label 1 (codes "P") (omega arith) (label_is (codes "P") refl refl refl), (label 1 (codes "P2") (omega arith) (label_is (codes "P2") refl refl refl),
-          (unlabelled 2 kinds.Initial (omega arith), (label 2 (codes "R") (omega arith) (label_is (codes "R") refl refl refl), (label 2 (codes "R2") (omega arith) (label_is (codes "R2") refl refl refl), tt))))))));
-      transitions = (written_first 0 1 (omega arith) (omega arith), (written_first 2 3 (omega arith) (omega arith), (written_first 5 6 (omega arith) (omega arith),
-          (written_step 3 4 0 (omega arith) (omega arith), (written_step 6 7 0 (omega arith) (omega arith), (written_step 4 3 0 (omega arith) (omega arith), (written_step 7 6 0 (omega arith) (omega arith), tt)))))))
+      vertices = (
+        unlabelled 0 kinds.Initial (omega arith),
+        (
+          label 0 (codes "S") (omega arith) (label_is (codes "S") refl refl refl),
+          (
+            unlabelled 1 kinds.Initial (omega arith),
+            (
+              label 1 (codes "P") (omega arith) (label_is (codes "P") refl refl refl),
+              (
+                label 1 (codes "P2") (omega arith) (label_is (codes "P2") refl refl refl),
+                (unlabelled 2 kinds.Initial (omega arith), (label 2 (codes "R") (omega arith) (label_is (codes "R") refl refl refl), (label 2 (codes "R2") (omega arith) (label_is (codes "R2") refl refl refl), tt))),
+              ),
+            ),
+          ),
+        ),
+      );
+      transitions = (
+        written_first 0 1 (omega arith) (omega arith),
+        (
+          written_first 2 3 (omega arith) (omega arith),
+          (
+            written_first 5 6 (omega arith) (omega arith),
+            (written_step 3 4 0 (omega arith) (omega arith), (written_step 6 7 0 (omega arith) (omega arith), (written_step 4 3 0 (omega arith) (omega arith), (written_step 7 6 0 (omega arith) (omega arith), tt)))),
+          ),
+        ),
+      );
     }
 
 -- ---- the classes and the setting
@@ -203,20 +245,20 @@ back_class = record { var_names = tt; few_vars = omega arith; firsts = tt; machi
 generated_written : (n : ℕ) → n ≤ 4000 → IsWritten (generated n)
 unfolding generated
 generated_written n few = record {
-    signal_names = (record { name_is = record { spelled = refl; short = omega arith }; new = tt }, tt);
-    few_signals = omega arith;
-    counts = (omega arith, tt);
-    class_names = (record { name_is = record { spelled = refl; short = omega arith }; new = tt }, (record { name_is = record { spelled = refl; short = omega arith }; new = (λ same. absurd cc, tt) }, tt));
-    few_classes = omega arith;
-    object_names = (record { name_is = record { spelled = refl; short = omega arith }; new = tt }, (record { name_is = record { spelled = refl; short = omega arith }; new = (a_is_not_b, tt) }, tt));
-    few_objects = omega arith;
-    placed = (omega arith, (omega arith, tt));
-    classes = (front_class n few, (back_class, tt))
-  }
+  signal_names = (record { name_is = record { spelled = refl; short = omega arith }; new = tt }, tt);
+  few_signals = omega arith;
+  counts = (omega arith, tt);
+  class_names = (record { name_is = record { spelled = refl; short = omega arith }; new = tt }, (record { name_is = record { spelled = refl; short = omega arith }; new = (λ same. absurd cc, tt) }, tt));
+  few_classes = omega arith;
+  object_names = (record { name_is = record { spelled = refl; short = omega arith }; new = tt }, (record { name_is = record { spelled = refl; short = omega arith }; new = (a_is_not_b, tt) }, tt));
+  few_objects = omega arith;
+  placed = (omega arith, (omega arith, tt));
+  classes = (front_class n few, (back_class, tt));
+}
 
 pub generated_flat : (n : ℕ) → 1 ≤ n → n ≤ 4000 → IsFlat (generated n)
 unfolding generated
 generated_flat n some few = record {
-    written = generated_written n few;
-    shape = (plain_shape (front_machine n) (front_plain n some few), (plain_shape back_machine back_plain, tt))
-  }
+  written = generated_written n few;
+  shape = (plain_shape (front_machine n) (front_plain n some few), (plain_shape back_machine back_plain, tt));
+}

@@ -1,19 +1,18 @@
 -- The generated setting is well formed, and its text is read as it.
-use Rattle.std.proofs.Common.{◌≡◌, ◌≤◌, ◌<◌, ℕ, zero, suc, List, [], ◌∷◌, ◌++◌, All, refl, sym, arith}
+use Rattle.std.proofs.Common.{◌≤◌, ℕ, zero, suc, List, [], ◌∷◌, ◌++◌, refl, sym, arith}
 use Rattle.std.specs.Prelude.{codes, replicate}
 use Rattle.std.specs.List.{AllByRecursion}
 use Rattle.std.proofs.lemmas.List.Elements.{All-cons, All-nil}
 use Rattle.pssm_model.specs.declared.elements.DraftMachine.{DraftMachine}
 use Rattle.pssm_model.specs.WellFormed.{KeepsModelRules}
 use Rattle.pssm_model.proofs.ElementLaws.{nothing_in_nil}
-use Rattle.pssm_semantics.specs.declared.stimulus.Stimulus.{Stimulus}
 use Rattle.pssm_semantics.specs.declared.setting.Class.{Class}
 use Rattle.pssm_semantics.specs.Proper.{IsWellFormed}
 use Rattle.pssm_flat.specs.Text.{line, text_of}
 use Rattle.pssm_flat.proofs.ProperLaws.{flat_proper}
 use Rattle.pssm_load.specs.Loads.{AreFaults, AreClassFaults, BeginsFlat, ReadsSetting}
 use Rattle.pssm_load.specs.Loads.Reads.{flat}
-use Rattle.pssm_suite.specs.Generated.{front_lines, back_lines, generated_lines, generated_text, go, generated_stimuli}
+use Rattle.pssm_suite.specs.Generated.{front_lines, back_lines, generated_lines, generated_text, go}
 use Rattle.pssm_suite.specs.GeneratedSetting.{front_machine, front, back_machine, back, generated, IsStimulusFor}
 use Rattle.pssm_suite.proofs.SettingText.{generated_text_is}
 use Rattle.pssm_suite.proofs.PlainMachines.{plain_keeps}
@@ -27,7 +26,7 @@ generated_well_formed n some few =
     let Keeps : Class → Type 0 = λ x. KeepsModelRules x.machine in
     record {
       proper = flat_proper (generated n) (generated_flat n some few);
-      rules = All-cons Keeps (front n) (back ∷ []) (plain_keeps (front_machine n) (front_plain n some few)) (All-cons Keeps back [] (plain_keeps back_machine back_plain) (All-nil Keeps))
+      rules = All-cons Keeps (front n) (back ∷ []) (plain_keeps (front_machine n) (front_plain n some few)) (All-cons Keeps back [] (plain_keeps back_machine back_plain) (All-nil Keeps));
     }
 
 no_faults : (m : DraftMachine) → KeepsModelRules m → AreFaults m []
@@ -47,9 +46,9 @@ class_faults n some few =
 
 pub generated_read : (n : ℕ) → 1 ≤ n → n ≤ 4000 → ReadsSetting (generated_text n) (generated n) []
 generated_read n some few = record {
-    reads = flat (begins_flat n) (generated_flat n some few) (sym (generated_text_is n));
-    faults = class_faults n some few
-  }
+  reads = flat (begins_flat n) (generated_flat n some few) (sym (generated_text_is n));
+  faults = class_faults n some few;
+}
 
 go_fits : (n : ℕ) → IsStimulusFor (generated n) go
 unfolding generated

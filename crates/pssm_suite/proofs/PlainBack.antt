@@ -1,18 +1,15 @@
 -- The machine of `Back` is plain.
-use Rattle.std.proofs.Common.{◌≡◌, ◌⊎◌, ◌≤◌, ◌<◌, ◌+◌, ℕ, zero, suc, List, [], ◌∷◌, length, Option, Some, slice_get, refl, sym, ap, subst, ◌∙◌, inl, inr, arith}
+use Rattle.std.proofs.Common.{◌≡◌, ◌<◌, ℕ, zero, suc, List, [], Option, Some, refl, sym, ap, ◌∙◌, inl, inr, arith}
 use Rattle.std.specs.List.{AllByRecursion}
 use Rattle.std.specs.Option.{option_map_or}
 use Rattle.pssm_model.specs.declared.ids.VertexId.{VertexId}
 use Rattle.pssm_model.specs.declared.ids.RegionId.{RegionId}
 use Rattle.pssm_model.specs.declared.ids.TransId.{TransId}
-use Rattle.pssm_model.specs.declared.elements.Vertex.{Vertex}
-use Rattle.pssm_model.specs.declared.elements.Transition.{Transition}
 use Rattle.pssm_model.specs.declared.elements.VertexKind.TheVariants as kinds
 use Rattle.pssm_model.specs.declared.elements.Owner.TheVariants.{Top, Region, State}
-use Rattle.pssm_model.specs.Forest.{HasKind, owner_of, HasRegionsAbove}
+use Rattle.pssm_model.specs.Forest.{HasKind, owner_of}
 use Rattle.pssm_model.specs.Forest.HasRegionsAbove.{machine, region, state}
 use Rattle.pssm_model.specs.Legs.{Leaves}
-use Rattle.pssm_model.specs.Paths.{IsInitialOf}
 use Rattle.pssm_model.proofs.ElementLaws.{same_vertex, same_transition, same_region, all_at}
 use Rattle.pssm_suite.specs.GeneratedSetting.{vertex, transition, on_go, back_machine}
 use Rattle.pssm_suite.proofs.PlainMachines.{IsPlain, IsPlainVertex, IsPlainTransition, IsPlainRegion}
@@ -25,9 +22,22 @@ state_in : (r : ℕ) (label : List ℕ) → r < 3 → IsPlainVertex back_machine
 state_in r label lt = record { kind_is = inr refl; home = record { 0 = r }; owner_is = refl; there = lt }
 
 vertices_are : AllByRecursion (IsPlainVertex back_machine) back_machine.vertices
-vertices_are =
-    (initial_in 0 (omega arith), (state_in 0 _ (omega arith), (initial_in 1 (omega arith), (state_in 1 _ (omega arith), (state_in 1 _ (omega arith),
-    (initial_in 2 (omega arith), (state_in 2 _ (omega arith), (state_in 2 _ (omega arith), tt))))))))
+vertices_are = (
+  initial_in 0 (omega arith),
+  (
+    state_in 0 _ (omega arith),
+    (
+      initial_in 1 (omega arith),
+      (
+        state_in 1 _ (omega arith),
+        (
+          state_in 1 _ (omega arith),
+          (initial_in 2 (omega arith), (state_in 2 _ (omega arith), (state_in 2 _ (omega arith), tt))),
+        ),
+      ),
+    ),
+  ),
+)
 
 -- the transitions, one after the other
 first_in : (source target r : ℕ) → owner_of back_machine (State (record { 0 = source })) ≡ Some (Region (record { 0 = r }))
@@ -39,14 +49,26 @@ step_in : (source target r : ℕ) → owner_of back_machine (State (record { 0 =
     → owner_of back_machine (State (record { 0 = target })) ≡ Some (Region (record { 0 = r })) → HasKind back_machine (record { 0 = source }) kinds.State
     → HasKind back_machine (record { 0 = target }) kinds.State → IsPlainTransition back_machine (transition source target on_go 0)
 step_in source target r o p j k = record {
-    external = refl; unguarded = refl; target_kind = k; home = record { 0 = r }; source_home = o; target_home = p;
-    untriggered = λ i. absurd (let e : Some kinds.State ≡ Some kinds.Initial = sym j ∙ i in cc)
-  }
+  external = refl;
+  unguarded = refl;
+  target_kind = k;
+  home = record { 0 = r };
+  source_home = o;
+  target_home = p;
+  untriggered = λ i. absurd (let e : Some kinds.State ≡ Some kinds.Initial = sym j ∙ i in cc);
+}
 
 transitions_are : AllByRecursion (IsPlainTransition back_machine) back_machine.transitions
-transitions_are =
-    (first_in 0 1 0 refl refl refl, (first_in 2 3 1 refl refl refl, (first_in 5 6 2 refl refl refl,
-    (step_in 3 4 1 refl refl refl refl, (step_in 6 7 2 refl refl refl refl, (step_in 4 3 1 refl refl refl refl, (step_in 7 6 2 refl refl refl refl, tt)))))))
+transitions_are = (
+  first_in 0 1 0 refl refl refl,
+  (
+    first_in 2 3 1 refl refl refl,
+    (
+      first_in 5 6 2 refl refl refl,
+      (step_in 3 4 1 refl refl refl refl, (step_in 6 7 2 refl refl refl refl, (step_in 4 3 1 refl refl refl refl, (step_in 7 6 2 refl refl refl refl, tt)))),
+    ),
+  ),
+)
 
 -- the regions
 region_is : (n : ℕ) → n < 3 → IsPlainRegion back_machine (record { 0 = n })
@@ -126,12 +148,12 @@ top_is (suc (suc (suc n))) o = absurd cc
 
 pub back_plain : IsPlain back_machine
 back_plain = record {
-    vertices = λ v x e. all_at (IsPlainVertex back_machine) back_machine.vertices v.0 x vertices_are e;
-    transitions = λ t x e. all_at (IsPlainTransition back_machine) back_machine.transitions t.0 x transitions_are e;
-    regions = λ r lt. region_is r.0 lt;
-    limits = record { regions = omega arith; vertices = omega arith; transitions = omega arith };
-    top = (record { 0 = 0 }, refl);
-    tops = λ r o. (record { 0 = 0 }, (refl, let first : RegionId = record { 0 = 0 } in ap (λ (q : RegionId). Some (Region q)) (sym (same_region r first (top_is r.0 o)))));
-    one_initial = λ v w r h g. same_vertex v w (initial_is v.0 r h.0 h.1 ∙ sym (initial_is w.0 r g.0 g.1));
-    one_out = λ v h. one_out v.0 h
-  }
+  vertices = λ v x e. all_at (IsPlainVertex back_machine) back_machine.vertices v.0 x vertices_are e;
+  transitions = λ t x e. all_at (IsPlainTransition back_machine) back_machine.transitions t.0 x transitions_are e;
+  regions = λ r lt. region_is r.0 lt;
+  limits = record { regions = omega arith; vertices = omega arith; transitions = omega arith };
+  top = (record { 0 = 0 }, refl);
+  tops = λ r o. (record { 0 = 0 }, (refl, let first : RegionId = record { 0 = 0 } in ap (λ (q : RegionId). Some (Region q)) (sym (same_region r first (top_is r.0 o)))));
+  one_initial = λ v w r h g. same_vertex v w (initial_is v.0 r h.0 h.1 ∙ sym (initial_is w.0 r g.0 g.1));
+  one_out = λ v h. one_out v.0 h;
+}

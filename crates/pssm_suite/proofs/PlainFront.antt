@@ -1,8 +1,8 @@
 -- The machine of `Front` is plain.
-use Rattle.std.proofs.Common.{◌≡◌, ◌⊎◌, ◌≤◌, ◌<◌, ◌+◌, ◌==◌, ℕ, zero, suc, true, false, List, [], ◌∷◌, length, Some, slice_get, refl, sym, ap, subst, ◌∙◌, inl, inr, arith, rules}
-use Rattle.std.specs.Prelude.{map, replicate, nat_eq}
+use Rattle.std.proofs.Common.{◌≡◌, ◌≤◌, ◌<◌, ◌+◌, ℕ, zero, suc, [], Some, slice_get, refl, sym, ap, subst, ◌∙◌, inl, inr, arith, rules}
+use Rattle.std.specs.Prelude.{map, replicate}
 use Rattle.std.specs.List.{range_with_len}
-use Rattle.std.proofs.lemmas.List.{length-replicate, length-map}
+use Rattle.std.proofs.lemmas.List.{length-replicate}
 use Rattle.std.proofs.lemmas.List.FromFn.{length-map-range_with_len}
 use Rattle.pssm_model.specs.declared.ids.VertexId.{VertexId}
 use Rattle.pssm_model.specs.declared.ids.RegionId.{RegionId}
@@ -11,12 +11,11 @@ use Rattle.pssm_model.specs.declared.elements.Vertex.{Vertex}
 use Rattle.pssm_model.specs.declared.elements.Transition.{Transition}
 use Rattle.pssm_model.specs.declared.elements.VertexKind.TheVariants as kinds
 use Rattle.pssm_model.specs.declared.elements.Owner.TheVariants.{Top, Region, State}
-use Rattle.pssm_model.specs.Forest.{vertex_at, transition_at, HasKind, owner_of}
+use Rattle.pssm_model.specs.Forest.{HasKind, owner_of}
 use Rattle.pssm_model.specs.Forest.HasRegionsAbove.{machine}
 use Rattle.pssm_model.specs.Legs.{Leaves}
-use Rattle.pssm_model.specs.Paths.{IsInitialOf}
 use Rattle.pssm_model.proofs.ElementLaws.{same_vertex, same_transition, same_region, only_element, mapped_some, mapped_at}
-use Rattle.pssm_suite.specs.Generated.{up_to, next_state}
+use Rattle.pssm_suite.specs.Generated.{next_state}
 use Rattle.pssm_suite.specs.GeneratedSetting.{vertex, transition, on_go, front_machine}
 use Rattle.pssm_suite.proofs.PlainMachines.{IsPlain, IsPlainVertex, IsPlainTransition, IsPlainRegion}
 use Rattle.pssm_suite.proofs.SettingText.{one_of_equal}
@@ -73,37 +72,46 @@ module _ (n : ℕ) (some : 1 ≤ n) (few : n ≤ 4000) where
   transition_is zero x e =
       let same : transition 0 1 [] 0 ≡ x = cc in
       subst (IsPlainTransition (front_machine n)) same (record {
-        external = refl; unguarded = refl; target_kind = state_kind 1 (omega arith) some; home = record { 0 = 0 };
-        source_home = refl; target_home = state_home 1 (omega arith) some; untriggered = λ h. refl
+        external = refl;
+        unguarded = refl;
+        target_kind = state_kind 1 (omega arith) some;
+        home = record { 0 = 0 };
+        source_home = refl;
+        target_home = state_home 1 (omega arith) some;
+        untriggered = λ h. refl;
       })
   transition_is (suc k) x e =
       let h = made_at (step n) 1 n k x e in
       let after = next_within n (1 + k) (omega arith) (omega (arith, h.1)) in
       subst (IsPlainTransition (front_machine n)) (sym h.0) (record {
-        external = refl; unguarded = refl; target_kind = state_kind (next_state n (1 + k)) after.0 after.1; home = record { 0 = 0 };
-        source_home = state_home (1 + k) (omega arith) (omega (arith, h.1)); target_home = state_home (next_state n (1 + k)) after.0 after.1;
-        untriggered = λ i. absurd (not_initial (1 + k) (omega arith) (omega (arith, h.1)) i)
+        external = refl;
+        unguarded = refl;
+        target_kind = state_kind (next_state n (1 + k)) after.0 after.1;
+        home = record { 0 = 0 };
+        source_home = state_home (1 + k) (omega arith) (omega (arith, h.1));
+        target_home = state_home (next_state n (1 + k)) after.0 after.1;
+        untriggered = λ i. absurd (not_initial (1 + k) (omega arith) (omega (arith, h.1)) i);
       })
 
   initial_is : (v : VertexId) → HasKind (front_machine n) v kinds.Initial → v.0 ≡ 0
   initial_is v h = number v.0 h where
-      number : (k : ℕ) → HasKind (front_machine n) (record { 0 = k }) kinds.Initial → k ≡ 0
-      number zero h = refl
-      number (suc k) h =
-          let x = mapped_some (λ (y : Vertex). y.kind) _ kinds.Initial h in
-          let round_is = equal_at round n k x.0 x.1 in
-          absurd (let e : kinds.State ≡ kinds.Initial = ap (λ (y : Vertex). y.kind) (sym round_is.0) ∙ x.2 in cc)
+    number : (k : ℕ) → HasKind (front_machine n) (record { 0 = k }) kinds.Initial → k ≡ 0
+    number zero h = refl
+    number (suc k) h =
+        let x = mapped_some (λ (y : Vertex). y.kind) _ kinds.Initial h in
+        let round_is = equal_at round n k x.0 x.1 in
+        absurd (let e : kinds.State ≡ kinds.Initial = ap (λ (y : Vertex). y.kind) (sym round_is.0) ∙ x.2 in cc)
 
   -- the one transition out of the initial vertex
   first_out : (u : TransId) → Leaves (front_machine n) u (record { 0 = 0 }) → u.0 ≡ 0
   first_out u l = number u.0 l where
-      number : (k : ℕ) → Leaves (front_machine n) (record { 0 = k }) (record { 0 = 0 }) → k ≡ 0
-      number zero l = refl
-      number (suc k) l =
-          let x = mapped_some (λ (y : Transition). y.source) _ (record { 0 = 0 }) l in
-          let is = made_at (step n) 1 n k x.0 x.1 in
-          let e : 1 + k ≡ 0 = ap (λ (y : Transition). y.source.0) (sym is.0) ∙ ap (λ (v : VertexId). v.0) x.2 in
-          absurd (omega (arith, e))
+    number : (k : ℕ) → Leaves (front_machine n) (record { 0 = k }) (record { 0 = 0 }) → k ≡ 0
+    number zero l = refl
+    number (suc k) l =
+        let x = mapped_some (λ (y : Transition). y.source) _ (record { 0 = 0 }) l in
+        let is = made_at (step n) 1 n k x.0 x.1 in
+        let e : 1 + k ≡ 0 = ap (λ (y : Transition). y.source.0) (sym is.0) ∙ ap (λ (v : VertexId). v.0) x.2 in
+        absurd (omega (arith, e))
 
   one_out : (v : VertexId) → HasKind (front_machine n) v kinds.Initial → (t : TransId) × Leaves (front_machine n) t v × ((u : TransId) → Leaves (front_machine n) u v → u ≡ t)
   one_out v h =
@@ -120,16 +128,16 @@ module _ (n : ℕ) (some : 1 ≤ n) (few : n ≤ 4000) where
 
   pub front_plain : IsPlain (front_machine n)
   front_plain = record {
-      vertices = λ v x e. vertex_is v.0 x e;
-      transitions = λ t x e. transition_is t.0 x e;
-      regions = region_is;
-      limits = record {
-        regions = omega arith;
-        vertices = omega (arith, length-replicate n round, few);
-        transitions = omega (arith, length-map-range_with_len (step n) 1 n, few)
-      };
-      top = (record { 0 = 0 }, refl);
-      tops = λ r o. (record { 0 = 0 }, (refl, let first : RegionId = record { 0 = 0 } in ap (λ (q : RegionId). Some (Region q)) (sym (same_region r first (only_element Top Top r.0 o).0))));
-      one_initial = λ v w r h g. same_vertex v w (initial_is v h.0 ∙ sym (initial_is w g.0));
-      one_out = one_out
-    }
+    vertices = λ v x e. vertex_is v.0 x e;
+    transitions = λ t x e. transition_is t.0 x e;
+    regions = region_is;
+    limits = record {
+      regions = omega arith;
+      vertices = omega (arith, length-replicate n round, few);
+      transitions = omega (arith, length-map-range_with_len (step n) 1 n, few);
+    };
+    top = (record { 0 = 0 }, refl);
+    tops = λ r o. (record { 0 = 0 }, (refl, let first : RegionId = record { 0 = 0 } in ap (λ (q : RegionId). Some (Region q)) (sym (same_region r first (only_element Top Top r.0 o).0))));
+    one_initial = λ v w r h g. same_vertex v w (initial_is v h.0 ∙ sym (initial_is w g.0));
+    one_out = one_out;
+  }

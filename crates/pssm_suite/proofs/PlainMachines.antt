@@ -1,5 +1,5 @@
 -- Machines of initial vertices and States alone, whose transitions are external and have no guards, keep the rules of models.
-use Rattle.std.proofs.Common.{◌≡◌, ◌≢◌, ◌⊎◌, ◌≤◌, ◌<◌, ◌+◌, ℕ, suc, List, [], length, Some, slice_get, refl, sym, ap, subst, ◌∙◌, inl, inr, arith}
+use Rattle.std.proofs.Common.{◌≡◌, ◌≢◌, ◌⊎◌, ◌≤◌, ◌<◌, ℕ, suc, [], length, Some, sym, ap, subst, ◌∙◌, inl, inr, arith}
 use Rattle.std.proofs.lemmas.Option.{slice_get_within}
 use Rattle.pssm_model.specs.declared.ids.VertexId.{VertexId}
 use Rattle.pssm_model.specs.declared.ids.RegionId.{RegionId}
@@ -29,7 +29,7 @@ use Rattle.pssm_model.specs.Paths.ComesAfter.{end, inner}
 use Rattle.pssm_model.specs.Paths.LeadsOn.{next, after}
 use Rattle.pssm_model.specs.WellFormed.{HasGuard, HasElse, HasTrigger, Breaks, KeepsModelRules}
 use Rattle.pssm_model.specs.WellFormed.Breaks.{E01_top, E01, E02, E03, E04, E05, E06, E07, E08, E09, E10, E11, E12, E13, E14, E15, E16, E17, E18, E19, E20, E21}
-use Rattle.pssm_model.proofs.ElementLaws.{mapped_some, mapped_at, some_and, kind_unique, leaves_one, enters_at, leaves_at}
+use Rattle.pssm_model.proofs.ElementLaws.{mapped_some, mapped_at, some_and, kind_unique, enters_at, leaves_at}
 
 -- an initial vertex or a State, in a region of the machine
 pub record IsPlainVertex (m : DraftMachine) (x : Vertex) : Type 0 where
@@ -87,9 +87,9 @@ module _ (m : DraftMachine) (plain : IsPlain m) where
   -- a pseudostate is an initial vertex
   initial_alone : (v : VertexId) → IsPseudostate m v → HasKind m v kinds.Initial
   initial_alone v (k, has, is) = elim (kinds_of v k has) [
-      | inl e ↦ subst (λ (j : VertexKind). HasKind m v j) e has
-      | inr e ↦ absurd (subst IsPseudostateKind e is)
-    ]
+    | inl e ↦ subst (λ (j : VertexKind). HasKind m v j) e has
+    | inr e ↦ absurd (subst IsPseudostateKind e is)
+  ]
 
   not_both : (v : VertexId) → HasKind m v kinds.State → HasKind m v kinds.Initial → ⊥
   not_both v a b = let e : kinds.State ≡ kinds.Initial = kind_unique m v kinds.State kinds.Initial a b in cc
@@ -125,9 +125,11 @@ module _ (m : DraftMachine) (plain : IsPlain m) where
   same_home : (t : TransId) (v w : VertexId) → Leaves m t v → Enters m t w → (r : RegionId) × (owner_of m (State v) ≡ Some (Region r)) × (owner_of m (State w) ≡ Some (Region r))
   same_home t v w l e =
       let x = mapped_some (λ (y : Transition). y.source) (transition_at m t) v l in
-      let is = plain.transitions t x.0 x.1 in
-      (is.home, subst (λ (u : VertexId). owner_of m (State u) ≡ Some (Region is.home)) x.2 is.source_home,
-      subst (λ (u : VertexId). owner_of m (State u) ≡ Some (Region is.home)) ((enters_at m t x.0 w x.1).0 e) is.target_home)
+      let is = plain.transitions t x.0 x.1 in (
+        is.home,
+        subst (λ (u : VertexId). owner_of m (State u) ≡ Some (Region is.home)) x.2 is.source_home,
+        subst (λ (u : VertexId). owner_of m (State u) ≡ Some (Region is.home)) ((enters_at m t x.0 w x.1).0 e) is.target_home,
+      )
 
   comes_to_target : (t : TransId) (w : VertexId) → ComesAfter m t w → Enters m t w
   comes_to_target t w (end e) = e
@@ -197,12 +199,12 @@ module _ (m : DraftMachine) (plain : IsPlain m) where
 
   pub plain_shape : HasShape m
   plain_shape = record {
-      regions = region_shape;
-      vertices = vertex_shape;
-      ends = λ t x e.
-          let is = plain.transitions t x e in
-          let source = mapped_some (λ (z : Vertex). z.owner) (vertex_at m x.source) (Region is.home) is.source_home in
-          let target = mapped_some (λ (z : Vertex). z.owner) (vertex_at m x.target) (Region is.home) is.target_home in
-          (slice_get_within m.vertices x.source.0 source.0 source.1, slice_get_within m.vertices x.target.0 target.0 target.1);
-      limits = plain.limits
-    }
+    regions = region_shape;
+    vertices = vertex_shape;
+    ends = λ t x e.
+        let is = plain.transitions t x e in
+        let source = mapped_some (λ (z : Vertex). z.owner) (vertex_at m x.source) (Region is.home) is.source_home in
+        let target = mapped_some (λ (z : Vertex). z.owner) (vertex_at m x.target) (Region is.home) is.target_home in
+        (slice_get_within m.vertices x.source.0 source.0 source.1, slice_get_within m.vertices x.target.0 target.0 target.1);
+    limits = plain.limits;
+  }

@@ -1,19 +1,14 @@
 -- The flat text of the generated setting.
-use Rattle.std.proofs.Common.{◌≡◌, ℕ, zero, suc, ◌+◌, ◌≤◌, ◌<◌, List, [], ◌∷◌, ◌++◌, Some, refl, sym, ap, ◌∙◌, append_assoc, arith}
+use Rattle.std.proofs.Common.{◌≡◌, ℕ, zero, suc, ◌+◌, ◌≤◌, ◌<◌, List, [], ◌∷◌, ◌++◌, Some, refl, ap, ◌∙◌, append_assoc, arith}
 use Rattle.std.specs.Prelude.{map, codes, replicate, slice_get}
 use Rattle.std.specs.List.{flat_map, range_with_len}
 use Rattle.std.specs.Fmt.{decimal}
 use Rattle.std.proofs.lemmas.Fmt.{decimal_digit}
 use Rattle.std.proofs.lemmas.List.{append-nil}
-use Rattle.pssm_semantics.specs.declared.setting.Names.{Names}
-use Rattle.pssm_semantics.specs.declared.setting.Class.{Class}
-use Rattle.pssm_semantics.specs.declared.tree.Act.{Act}
-use Rattle.pssm_flat.specs.Text.{text_of, numbered, vertex_lines, transition_lines, transition_line, names_of, block_lines, flat_lines, flat_text}
+use Rattle.pssm_flat.specs.Text.{text_of, numbered, vertex_lines, transition_lines, names_of, block_lines, flat_lines, flat_text}
 use Rattle.pssm_flat.specs.Text.{head_lines as first_lines}
-use Rattle.pssm_suite.specs.Generated.{up_to, next_state, state_line, step_line, step_lines, head_lines, front_lines, back_lines, generated_lines, generated_text}
+use Rattle.pssm_suite.specs.Generated.{up_to, next_state, state_line, step_lines, head_lines, front_lines, back_lines, generated_lines, generated_text}
 use Rattle.pssm_suite.specs.GeneratedSetting.{vertex, transition, on_go, nothing, send_on, front, back, generated}
-use Rattle.pssm_model.specs.declared.elements.Vertex.{Vertex}
-use Rattle.pssm_model.specs.declared.elements.Transition.{Transition}
 use Rattle.pssm_model.specs.declared.elements.VertexKind.TheVariants.{State}
 
 -- the lines of equal items, each of one line

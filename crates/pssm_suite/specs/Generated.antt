@@ -1,6 +1,6 @@
 -- The generated model of a number n, and the stimuli for it: a circle of n States that sends on what it takes, and a State whose two regions go to and fro.
 -- The text is the flat one, line by line.
-use Rattle.std.specs.Prelude.{ℕ, suc, ◌+◌, ◌==◌, List, [], ◌∷◌, ◌++◌, map, replicate, codes, if◌then◌else◌}
+use Rattle.std.specs.Prelude.{ℕ, ◌+◌, ◌==◌, List, [], ◌∷◌, ◌++◌, map, replicate, codes, if◌then◌else◌}
 use Rattle.std.specs.List.{flat_map, range_with_len}
 use Rattle.std.specs.Fmt.{decimal}
 use Rattle.pssm_semantics.specs.declared.stimulus.Stimulus.{Stimulus}

@@ -9,7 +9,6 @@ use Rattle.pssm_model.specs.declared.elements.Transition.{Transition}
 use Rattle.pssm_model.specs.declared.elements.TransKind.TheVariants.{External}
 use Rattle.pssm_model.specs.declared.elements.Guard.TheVariants.{Always}
 use Rattle.pssm_model.specs.declared.elements.Owner.TheVariants as owners
-use Rattle.pssm_semantics.specs.declared.setting.Program.{Program}
 use Rattle.pssm_semantics.specs.declared.setting.Class.{Class}
 use Rattle.pssm_semantics.specs.declared.setting.Setting.{Setting}
 use Rattle.pssm_semantics.specs.declared.stimulus.Stimulus.{Stimulus}
@@ -44,10 +43,10 @@ send_on = record { stmts = Send (Some (record { 0 = 1 })) (record { 0 = 0 }) [] 
 
 abbrev pub front_machine : ℕ → DraftMachine
 front_machine n = record {
-    regions = owners.Top ∷ [];
-    vertices = vertex 0 Initial [] ∷ replicate n (vertex 0 State []);
-    transitions = transition 0 1 [] 0 ∷ map (λ i. transition i (next_state n i) on_go i) (up_to n)
-  }
+  regions = owners.Top ∷ [];
+  vertices = vertex 0 Initial [] ∷ replicate n (vertex 0 State []);
+  transitions = transition 0 1 [] 0 ∷ map (λ i. transition i (next_state n i) on_go i) (up_to n);
+}
 
 -- each step has a behaviour of its own, and all of them are alike
 abbrev pub front : ℕ → Class
@@ -57,13 +56,13 @@ front n = record { name = codes "Front"; vars = []; machine = front_machine n; p
 
 abbrev pub back_machine : DraftMachine
 back_machine = record {
-    regions = owners.Top ∷ owners.State (record { 0 = 1 }) ∷ owners.State (record { 0 = 1 }) ∷ [];
-    vertices = vertex 0 Initial [] ∷ vertex 0 State (codes "S")
-        ∷ vertex 1 Initial [] ∷ vertex 1 State (codes "P") ∷ vertex 1 State (codes "P2")
-        ∷ vertex 2 Initial [] ∷ vertex 2 State (codes "R") ∷ vertex 2 State (codes "R2") ∷ [];
-    transitions = transition 0 1 [] 0 ∷ transition 2 3 [] 0 ∷ transition 5 6 [] 0
-        ∷ transition 3 4 on_go 0 ∷ transition 6 7 on_go 0 ∷ transition 4 3 on_go 0 ∷ transition 7 6 on_go 0 ∷ []
-  }
+  regions = owners.Top ∷ owners.State (record { 0 = 1 }) ∷ owners.State (record { 0 = 1 }) ∷ [];
+  vertices = vertex 0 Initial [] ∷ vertex 0 State (codes "S")
+      ∷ vertex 1 Initial [] ∷ vertex 1 State (codes "P") ∷ vertex 1 State (codes "P2")
+      ∷ vertex 2 Initial [] ∷ vertex 2 State (codes "R") ∷ vertex 2 State (codes "R2") ∷ [];
+  transitions = transition 0 1 [] 0 ∷ transition 2 3 [] 0 ∷ transition 5 6 [] 0
+      ∷ transition 3 4 on_go 0 ∷ transition 6 7 on_go 0 ∷ transition 4 3 on_go 0 ∷ transition 7 6 on_go 0 ∷ [];
+}
 
 abbrev pub back : Class
 back = record { name = codes "Back"; vars = []; machine = back_machine; program = record { acts = nothing ∷ []; guards = []; marks = [] } }
@@ -73,10 +72,10 @@ back = record { name = codes "Back"; vars = []; machine = back_machine; program 
 -- the signal `Go` without parameters, the two classes, and an object of each
 unfoldable pub generated : ℕ → Setting
 generated n = record {
-    signals = record { name = codes "Go"; count = 0 } ∷ [];
-    classes = front n ∷ back ∷ [];
-    objects = record { name = codes "a"; class = 0 } ∷ record { name = codes "b"; class = 1 } ∷ []
-  }
+  signals = record { name = codes "Go"; count = 0 } ∷ [];
+  classes = front n ∷ back ∷ [];
+  objects = record { name = codes "a"; class = 0 } ∷ record { name = codes "b"; class = 1 } ∷ [];
+}
 
 -- The object is one of the setting's, of some class, and the signal is one with as many parameters as there are arguments.
 pub record IsStimulusFor (setting : Setting) (x : Stimulus) : Type 0 where

@@ -76,12 +76,7 @@ fn put_model(alloc: Global, text: &mut Vec<u8>, n: u16) -> Result<(), NoMemory>
 }
 
 // Writes a word and a number.
-fn put_numbered(
-    alloc: Global,
-    text: &mut Vec<u8>,
-    word: &[u8],
-    number: u16,
-) -> Result<(), NoMemory>
+fn put_numbered(alloc: Global, text: &mut Vec<u8>, word: &[u8], number: u16) -> Result<(), NoMemory>
     ensures { OnOk result (text.new.items ≡ text.old.items ++ (word.now ++ decimal number)) }
 {
     text.extend_from_slice(word)?;

@@ -14,5 +14,5 @@ loop-class-preserved c =
     let here = subst (λ (ms : List (List _)). HoldsPlaces (λ mark. mark) ms c.in_ok-places_of.field-0) c.as_slice.ensures c.in_ok-places_of.ensures in
     let one_more = take_more classes c.loop-class.class-index class c.loop-class-test.true ∙ ap (λ (x : Class). first ++ x ∷ []) (sym c.class-item.is) in
     subst (λ (cs : List Class). HoldsMarks cs c.push.new.self.items) (sym one_more)
-    (subst (λ (ps : List Places). HoldsMarks (first ++ class ∷ []) ps) (sym c.in_ok-push.ensures.items)
+    (subst (λ ps. HoldsMarks (first ++ class ∷ []) ps) (sym {A = List (Places _)} c.in_ok-push.ensures.items)
     (marks_more first c.loop-class.marks.items class c.in_ok-places_of.field-0 c.loop-class.invariant here))

@@ -1,16 +1,11 @@
-use Rattle.std.proofs.Common.{◌≡◌, ℕ, ◌≤◌, List, length, drop}
-use Rattle.std.specs.List.{position_from}
-use Rattle.std.specs.Str.{bytes_eq}
-use Rattle.pssm_journal.specs.inner.Places.{place_in}
+use Rattle.std.proofs.Common.{length, take, ◌-◌}
+use Rattle.pssm_journal.specs.inner.Places.{HoldsPlaces}
 use Rattle.pssm_journal.proofs.places.places_of.Given as goal
 
--- The places of the last ones are kept, from this one on.
+-- The places of the first things are noted.
 abbrev pub invariant-loop-place : goal.invariant-loop-place
-invariant-loop-place g l = record {
-  within : l.place ≤ length l.named;
-  held : (name : List ℕ) → place_in l.places name ≡ position_from (λ x. bytes_eq (g.T.Named.name_of x) name) l.place (drop l.place l.named);
-}
+invariant-loop-place g l = HoldsPlaces g.T.Named.name_of (take l.place l.named) l.places
 
--- those that are still to be kept
+-- those that are still to be noted
 abbrev pub decreases-loop-place : goal.decreases-loop-place
-decreases-loop-place g l = l.place
+decreases-loop-place g l = length l.named - l.place
