@@ -11,6 +11,7 @@ mod acts_reader;
 mod argument_reader;
 mod expr_reader;
 mod guard_reader;
+mod marks;
 mod numbers;
 mod phrase_reader;
 mod read_blocks;
@@ -22,10 +23,13 @@ mod tokens;
 mod writing;
 
 pub use act_fault::ActFault;
+pub use marks::Marks;
 pub use pssm_semantics::{
     Act, Args, Class, Cond, Entry, Expr, Line, LineOut, Names, ObjectDecl, ObjectId, Out, Outcome,
     Program, Rel, Rule, Setting, SignalDecl, Stimulus, Stmt, Task, VarDecl, Worked, run, truth,
 };
-pub use reading::{one_reading, read_act, read_cond, read_steps};
+pub use reading::{
+    one_reading, read_act, read_act_noting, read_cond, read_steps, read_steps_noting,
+};
 pub use tokens::longest_token;
 pub use writing::{write_act, write_cond};
