@@ -10,6 +10,7 @@ mod act_fault;
 mod acts_reader;
 mod argument_reader;
 mod expr_reader;
+mod growing;
 mod guard_reader;
 mod marks;
 mod numbers;
@@ -23,6 +24,7 @@ mod tokens;
 mod writing;
 
 pub use act_fault::ActFault;
+pub use growing::Growing;
 pub use marks::Marks;
 pub use pssm_semantics::{
     Act, Args, Class, Cond, Entry, Expr, Line, LineOut, Names, ObjectDecl, ObjectId, Out, Outcome,

@@ -53,6 +53,13 @@ impl Marks {
         }
     }
 
+    /// How many there are.
+    pub fn len(&self) -> usize
+        ensures { result ≡ length self.now }
+    {
+        self.names.len()
+    }
+
     /// The names.
     pub fn as_slice(&self) -> &[Text]
         ensures { result.now ≡ self.now }

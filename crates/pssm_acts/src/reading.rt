@@ -189,7 +189,7 @@ pub fn read_act_noting(
     ensures unchanged { IsCanonicalAct names.now text.now
         → IfOk result (λ act. act_text names.now marks.new act ≡ text.now) }
 {
-    let known = marks.as_slice().len();
+    let known = marks.len();
     match act_in(alloc, text, names, marks) {
         Ok(act) => Ok(act),
         Err(fault) => {
@@ -227,7 +227,7 @@ pub fn read_steps_noting(
     ensures refused { IfErr result (λ _. marks.new ≡ marks.old) }
     ensures kept { KeepsMarks marks.old marks.new }
 {
-    let known = marks.as_slice().len();
+    let known = marks.len();
     match steps_in(alloc, text, names, marks) {
         Ok(steps) => Ok(steps.into_vec()),
         Err(fault) => {
