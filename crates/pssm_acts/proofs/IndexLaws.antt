@@ -56,8 +56,8 @@ pub one_more : (keys next : List Key) (key : Key) (names : List (List ℕ)) (nam
     → next ≡ insert_key (λ (a b : Key). bytes_eq a.items b.items) keys key → map word_of next ≡ names ++ name ∷ []
 one_more keys next key names name same none is put =
     let absent : list_any (is_key key.items) keys ≡ false = any_key keys key.items
-        ∙ ap (λ (xs : List (List ℕ)). list_any (is_name key.items) xs) same
-        ∙ ap (λ (n : List ℕ). list_any (is_name n) names) is ∙ none_among names name none in
+    ∙ ap (λ (xs : List (List ℕ)). list_any (is_name key.items) xs) same
+    ∙ ap (λ (n : List ℕ). list_any (is_name n) names) is ∙ none_among names name none in
     let behind : next ≡ keys ++ key ∷ [] = put ∙ ap (λ b. if b then keys else keys ++ key ∷ []) absent in
     ap (λ (xs : List Key). map word_of xs) behind ∙ map-append word_of keys (key ∷ [])
     ∙ ap (λ (xs : List (List ℕ)). xs ++ key.items ∷ []) same ∙ ap (λ (n : List ℕ). names ++ n ∷ []) is

@@ -14,9 +14,7 @@ ghost use Rattle.pssm_bodies.specs.inner.Through.{StopsIn};
 ghost use Rattle.pssm_model.specs.declared.ids.ActId.{ActId};
 
 use crate::texts::{MOST_NUMBERS, is_not_empty};
-use pssm_acts::{
-    ActFault, Growing, Marks, read_act_noting, read_cond, read_steps_noting,
-};
+use pssm_acts::{ActFault, Growing, Marks, read_act_noting, read_cond, read_steps_noting};
 use pssm_model::{ActId, Body, Guard, GuardId, Row};
 use pssm_semantics::{Act, Cond, Names};
 use std::alloc::{AllocError as NoMemory, Global};
@@ -99,12 +97,7 @@ fn with_acts(
 }
 
 // The behaviour that a text spells behind these marks, and the marks behind it.
-fn act_of(
-    alloc: Global,
-    names: &Names,
-    text: &[u8],
-    marks: Marks,
-) -> Result<(Act, Marks), ActFault>
+fn act_of(alloc: Global, names: &Names, text: &[u8], marks: Marks) -> Result<(Act, Marks), ActFault>
     requires vars { length names.now.vars ≤ 64 }
     requires objects { length names.now.objects ≤ 64 }
     requires signals { length names.now.signals ≤ 256 }
