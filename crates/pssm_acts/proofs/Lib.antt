@@ -70,3 +70,4 @@ pub mod LongestLaws
 pub mod Each
 pub mod MarkNames
 pub mod Wider
+pub mod IndexLaws

@@ -111,10 +111,10 @@ tokens_named text = cut_names (length text) false 0 text
 -- ---- one more mark
 
 -- Each fails the test.
-abbrev AllFail : {X : Type 0} → (X → Bool) → List X → Type 0
+abbrev pub AllFail : {X : Type 0} → (X → Bool) → List X → Type 0
 AllFail {X} p xs = AllByRecursion (λ (x : X). p x ≡ false) xs
 
-none_passes : {X : Type 0} (p : X → Bool) (xs : List X) → length xs ≤ position_or_len p xs → AllFail p xs
+pub none_passes : {X : Type 0} (p : X → Bool) (xs : List X) → length xs ≤ position_or_len p xs → AllFail p xs
 none_passes p [] le = tt
 none_passes {X} p (x ∷ xs) le = by_first (p x) refl le (none_passes p xs) where
   by_first : (t : Bool) → p x ≡ t → length (x ∷ xs) ≤ position_or_len p (x ∷ xs) → (length xs ≤ position_or_len p xs → AllFail p xs) → AllFail p (x ∷ xs)
@@ -123,7 +123,7 @@ none_passes {X} p (x ∷ xs) le = by_first (p x) refl le (none_passes p xs) wher
       let longer : position_or_len p (x ∷ xs) ≡ 1 + position_or_len p xs = rw e refl in
       (e, more (omega (arith, longer, le)))
 
-none_found : {X : Type 0} (p : X → Bool) (xs : List X) → position p xs ≡ None → length xs ≤ position_or_len p xs
+pub none_found : {X : Type 0} (p : X → Bool) (xs : List X) → position p xs ≡ None → length xs ≤ position_or_len p xs
 none_found p xs e = by_below (ltb (position_or_len p xs) (length xs)) refl where
   by_below : (t : Bool) → ltb (position_or_len p xs) (length xs) ≡ t → length xs ≤ position_or_len p xs
   by_below true lt = absurd (

@@ -8,3 +8,4 @@ pub mod Stacks
 pub mod Readers
 pub mod TextLeft
 pub mod Operands
+pub mod Indexed

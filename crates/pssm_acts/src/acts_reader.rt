@@ -9,11 +9,12 @@ ghost use Rattle.pssm_acts.specs.inner.GuardReading.{nots_waiting};
 
 use crate::act_fault::{ActFault, refused};
 use crate::guard_reader::{GuardReader, guard_end, guard_next, new_guard};
+use crate::marks::Marks;
 use crate::phrase_reader::{Phrase, Phrased, new_phrase, phrase_next};
 use crate::read_blocks::{Blocks, OpenIf, counted, new_blocks, with_if, with_step, with_stmt};
 use crate::stack::Stack;
 use crate::token::{Kind, Piece};
-use pssm_model::{Row, Text};
+use pssm_model::Row;
 use pssm_semantics::{Act, Cond, Names, Stmt};
 use std::alloc::Global;
 
@@ -299,15 +300,15 @@ fn in_phrase(
     phrase: Phrase,
     piece: Piece<'_>,
     names: &Names,
-    marks: &mut Vec<Text>,
+    marks: &mut Marks,
 ) -> Result<ActsReader, ActFault>
     requires few { length names.now.vars ≤ 65536 }
     requires objects { length names.now.objects ≤ 256 }
     requires signals { length names.now.signals ≤ 65536 }
-    requires marks { length marks.old.items < 65536 }
+    requires marks { length marks.old < 65536 }
     ensures gives { AnswersWith
-        (phrase_read names.now marks.old.items blocks phrase (token_of piece.entry)) result marks.new.items }
-    ensures kept { KeepsMarks marks.old.items marks.new.items }
+        (phrase_read names.now marks.old blocks phrase (token_of piece.entry)) result marks.new }
+    ensures kept { KeepsMarks marks.old marks.new }
 {
     let room = LEVELS.saturating_sub(blocks.outer.len());
     match phrase_next(alloc, phrase, piece, names, marks, room) {
@@ -344,17 +345,17 @@ pub(crate) fn acts_next(
     reader: ActsReader,
     piece: Piece<'_>,
     names: &Names,
-    marks: &mut Vec<Text>,
+    marks: &mut Marks,
     stepped: bool,
 ) -> Result<ActsReader, ActFault>
     requires few { length names.now.vars ≤ 65536 }
     requires objects { length names.now.objects ≤ 256 }
     requires signals { length names.now.signals ≤ 65536 }
-    requires marks { length marks.old.items < 65536 }
+    requires marks { length marks.old < 65536 }
     requires nots { turn_nots reader.turn < 4294967295 }
     ensures gives { AnswersWith
-        (acts_step names.now stepped marks.old.items reader (token_of piece.entry)) result marks.new.items }
-    ensures kept { KeepsMarks marks.old.items marks.new.items }
+        (acts_step names.now stepped marks.old reader (token_of piece.entry)) result marks.new }
+    ensures kept { KeepsMarks marks.old marks.new }
 {
     let ActsReader { blocks, turn } = reader;
     match turn {

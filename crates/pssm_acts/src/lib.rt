@@ -10,7 +10,9 @@ mod act_fault;
 mod acts_reader;
 mod argument_reader;
 mod expr_reader;
+mod growing;
 mod guard_reader;
+mod marks;
 mod numbers;
 mod phrase_reader;
 mod read_blocks;
@@ -22,10 +24,14 @@ mod tokens;
 mod writing;
 
 pub use act_fault::ActFault;
+pub use growing::Growing;
+pub use marks::Marks;
 pub use pssm_semantics::{
     Act, Args, Class, Cond, Entry, Expr, Line, LineOut, Names, ObjectDecl, ObjectId, Out, Outcome,
     Program, Rel, Rule, Setting, SignalDecl, Stimulus, Stmt, Task, VarDecl, Worked, run, truth,
 };
-pub use reading::{one_reading, read_act, read_cond, read_steps};
+pub use reading::{
+    one_reading, read_act, read_act_noting, read_cond, read_steps, read_steps_noting,
+};
 pub use tokens::longest_token;
 pub use writing::{write_act, write_cond};

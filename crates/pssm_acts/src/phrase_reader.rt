@@ -2,16 +2,17 @@
 //! next token makes of that.
 ghost use Rattle.std.specs.Prelude.{◌≡◌, ◌≤◌, ◌<◌, length, position, bytes_eq, IfOk, IfErr, IfSome};
 ghost use Rattle.pssm_acts.specs.inner.ExprReading.{Answers, token_of};
-ghost use Rattle.pssm_acts.specs.Marks.{KeepsMarks, mark_of, with_mark};
+ghost use Rattle.pssm_acts.specs.Marks.{KeepsMarks};
 ghost use Rattle.pssm_acts.specs.inner.PhraseReading.{AnswersWith, argument_read, became, call_made, called_ended, dotted, mark_read, named, phrase_begun, phrase_step, receiver_read, signal_found, signal_read, value_read};
 
 use crate::act_fault::{ActFault, refused};
 use crate::argument_reader::{Argued, Arguments, arguments_next};
 use crate::expr_reader::{ExprReader, expr_end, expr_next, new_reader, place_of, variable};
+use crate::marks::Marks;
 use crate::token::{Kind, Piece};
-use pssm_model::{MarkId, Row, SignalId, Text};
+use pssm_model::{MarkId, Row, SignalId};
 use pssm_semantics::{Expr, Names, ObjectId, SignalDecl, Stmt};
-use std::alloc::{AllocError as NoMemory, Global};
+use std::alloc::Global;
 
 // The greatest number of a mark's arguments (this profile's choice).
 const MARK_ARGUMENTS: usize = 8;
@@ -47,23 +48,6 @@ pub enum Phrase {
 pub enum Phrased {
     Goes(Phrase),
     Ends(Stmt),
-}
-
-// The number of the mark with this name, which is noted where it is new.
-fn mark_named(alloc: Global, marks: &mut Vec<Text>, name: &[u8]) -> Result<MarkId, NoMemory>
-    requires few { length marks.old.items < 65536 }
-    ensures number { IfOk result (λ mark. mark ≡ mark_of marks.old.items name.now) }
-    ensures noted { IfOk result (λ _. marks.new.items ≡ with_mark marks.old.items name.now) }
-    ensures left { IfErr result (λ _. marks.new.items ≡ marks.old.items) }
-{
-    match place_of(marks.as_slice(), name) {
-        Some(place) => Ok(MarkId(place as u16)),
-        None => {
-            let next = marks.len() as u16;
-            marks.push(Text::from_vec(name.to_vec(alloc)?))?;
-            Ok(MarkId(next))
-        }
-    }
 }
 
 // The place of the first signal with this name.
@@ -185,14 +169,14 @@ fn signal(object: Option<ObjectId>, piece: Piece<'_>, names: &Names) -> Result<P
 
 // A token behind `mark`: a name, which is noted where it is new.
 #[tactic(auto, using(crate::proofs::AnswerLaws::mark_kept, crate::proofs::AnswerLaws::same_kept), unfolding(crate::specs::inner::PhraseReading::mark_read))]
-fn mark(alloc: Global, piece: Piece<'_>, marks: &mut Vec<Text>) -> Result<Phrased, ActFault>
-    requires few { length marks.old.items < 65536 }
-    ensures gives { AnswersWith (mark_read marks.old.items (token_of piece.entry)) result marks.new.items }
-    ensures kept { KeepsMarks marks.old.items marks.new.items }
+fn mark(alloc: Global, piece: Piece<'_>, marks: &mut Marks) -> Result<Phrased, ActFault>
+    requires few { length marks.old < 65536 }
+    ensures gives { AnswersWith (mark_read marks.old (token_of piece.entry)) result marks.new }
+    ensures kept { KeepsMarks marks.old marks.new }
 {
     match piece.kind {
         Kind::Name => {
-            let mark = mark_named(alloc, marks, piece.word)?;
+            let mark = marks.number(alloc, piece.word)?;
             Ok(Phrased::Goes(Phrase::Named(Call::Mark(mark))))
         }
         _ => Err(ActFault::Syntax { at: piece.at }),
@@ -285,16 +269,16 @@ pub(crate) fn phrase_next(
     phrase: Phrase,
     piece: Piece<'_>,
     names: &Names,
-    marks: &mut Vec<Text>,
+    marks: &mut Marks,
     room: usize,
 ) -> Result<Phrased, ActFault>
     requires few { length names.now.vars ≤ 65536 }
     requires objects { length names.now.objects ≤ 256 }
     requires signals { length names.now.signals ≤ 65536 }
-    requires marks { length marks.old.items < 65536 }
+    requires marks { length marks.old < 65536 }
     ensures gives { AnswersWith
-        (phrase_step names.now room marks.old.items phrase (token_of piece.entry)) result marks.new.items }
-    ensures kept { KeepsMarks marks.old.items marks.new.items }
+        (phrase_step names.now room marks.old phrase (token_of piece.entry)) result marks.new }
+    ensures kept { KeepsMarks marks.old marks.new }
 {
     match phrase {
         Phrase::Variable(variable) => becomes(alloc, variable, piece),

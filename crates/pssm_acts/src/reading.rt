@@ -18,11 +18,13 @@ ghost use Rattle.pssm_acts.specs.Vocabularies.{vocabulary};
 use crate::act_fault::ActFault;
 use crate::acts_reader::{LEVELS, ReadActs, acts_end, acts_next, new_acts};
 use crate::guard_reader::{guard_end, guard_next, new_guard};
+use crate::marks::Marks;
 use crate::read_blocks::with_step;
 use crate::tokens::Tokens;
 use pssm_model::{Row, Text};
 use pssm_semantics::{Act, Cond, Names};
 use std::alloc::Global;
+use std::mem;
 
 // The greatest length of a text, in bytes (this profile's choice).
 const TEXT_LEN: usize = 4096;
@@ -77,17 +79,17 @@ fn acts_of(
     alloc: Global,
     text: &[u8],
     names: &Names,
-    marks: &mut Vec<Text>,
+    marks: &mut Marks,
     stepped: bool,
 ) -> Result<ReadActs, ActFault>
     requires few { length names.now.vars ≤ 65536 }
     requires objects { length names.now.objects ≤ 256 }
     requires signals { length names.now.signals ≤ 65536 }
-    requires marks { length marks.old.items ≤ 32768 }
+    requires marks { length marks.old ≤ 32768 }
     requires short { length text.now ≤ 4096 }
     ensures gives { AnswersWith
-        (text_acts names.now stepped marks.old.items text.now) result marks.new.items }
-    ensures kept { KeepsMarks marks.old.items marks.new.items }
+        (text_acts names.now stepped marks.old text.now) result marks.new }
+    ensures kept { KeepsMarks marks.old marks.new }
 {
     let mut tokens = Tokens::of(text);
     let mut reader = new_acts(alloc);
@@ -103,16 +105,16 @@ fn acts_in(
     alloc: Global,
     text: &[u8],
     names: &Names,
-    marks: &mut Vec<Text>,
+    marks: &mut Marks,
     stepped: bool,
 ) -> Result<ReadActs, ActFault>
     requires few { length names.now.vars ≤ 65536 }
     requires objects { length names.now.objects ≤ 256 }
     requires signals { length names.now.signals ≤ 65536 }
-    requires marks { length marks.old.items ≤ 32768 }
+    requires marks { length marks.old ≤ 32768 }
     ensures gives { AnswersWith
-        (acts_reading names.now stepped marks.old.items text.now) result marks.new.items }
-    ensures kept { KeepsMarks marks.old.items marks.new.items }
+        (acts_reading names.now stepped marks.old text.now) result marks.new }
+    ensures kept { KeepsMarks marks.old marks.new }
 {
     if text.len() > TEXT_LEN {
         return Err(ActFault::TooLong { at: 0 });
@@ -122,14 +124,14 @@ fn acts_in(
 
 // The behaviour that a text spells.
 #[tactic(auto, unfolding(crate::specs::inner::ActReading::act_reading))]
-fn act_in(alloc: Global, text: &[u8], names: &Names, marks: &mut Vec<Text>) -> Result<Act, ActFault>
+fn act_in(alloc: Global, text: &[u8], names: &Names, marks: &mut Marks) -> Result<Act, ActFault>
     requires few { length names.now.vars ≤ 65536 }
     requires objects { length names.now.objects ≤ 256 }
     requires signals { length names.now.signals ≤ 65536 }
-    requires marks { length marks.old.items ≤ 32768 }
+    requires marks { length marks.old ≤ 32768 }
     ensures gives { AnswersWith
-        (act_reading names.now marks.old.items text.now) result marks.new.items }
-    ensures kept { KeepsMarks marks.old.items marks.new.items }
+        (act_reading names.now marks.old text.now) result marks.new }
+    ensures kept { KeepsMarks marks.old marks.new }
 {
     let ReadActs { earlier: _, last } = acts_in(alloc, text, names, marks, false)?;
     Ok(last)
@@ -141,15 +143,15 @@ fn steps_in(
     alloc: Global,
     text: &[u8],
     names: &Names,
-    marks: &mut Vec<Text>,
+    marks: &mut Marks,
 ) -> Result<Row<Act>, ActFault>
     requires few { length names.now.vars ≤ 65536 }
     requires objects { length names.now.objects ≤ 256 }
     requires signals { length names.now.signals ≤ 65536 }
-    requires marks { length marks.old.items ≤ 32768 }
+    requires marks { length marks.old ≤ 32768 }
     ensures gives { AnswersWith
-        (steps_reading names.now marks.old.items text.now) result marks.new.items }
-    ensures kept { KeepsMarks marks.old.items marks.new.items }
+        (steps_reading names.now marks.old text.now) result marks.new }
+    ensures kept { KeepsMarks marks.old marks.new }
 {
     let ReadActs { earlier, last } = acts_in(alloc, text, names, marks, true)?;
     let Act { stmts } = last;
@@ -160,6 +162,84 @@ fn steps_in(
 ///
 /// A mark has the number of its name in `marks`; a name that is new is added behind them. A refusal
 /// leaves them as they were.
+pub fn read_act_noting(
+    alloc: Global,
+    text: &[u8],
+    names: &Names,
+    marks: &mut Marks,
+) -> Result<Act, ActFault>
+    requires few { length names.now.vars ≤ 65536 }
+    requires objects { length names.now.objects ≤ 256 }
+    requires signals { length names.now.signals ≤ 65536 }
+    requires marks { length marks.old ≤ 32768 }
+    ensures spelled { IfOk result
+        (λ act. SpellsAct names.now marks.old text.now act marks.new) }
+    ensures known { (act : Act) (noted : List (List ℕ))
+        → SpellsAct names.now marks.old text.now act noted
+        → AnswersWith (Ok (act, noted)) result marks.new }
+    ensures fits { IfOk result (λ act. ActFits (vocabulary names.now marks.new) act) }
+    ensures fault { IfErr result
+        (λ fault. Faults (TextFault StmtsShape names.now text.now) fault) }
+    ensures first { (fault : ActFault)
+        → TextFault StmtsShape names.now text.now fault → Answers (Err fault) result }
+    ensures refused { IfErr result (λ _. marks.new ≡ marks.old) }
+    ensures kept { KeepsMarks marks.old marks.new }
+    ensures canonical { IsCanonicalAct names.now text.now
+        → IfErr result (λ fault. fault ≡ NoMemory) }
+    ensures unchanged { IsCanonicalAct names.now text.now
+        → IfOk result (λ act. act_text names.now marks.new act ≡ text.now) }
+{
+    let known = marks.len();
+    match act_in(alloc, text, names, marks) {
+        Ok(act) => Ok(act),
+        Err(fault) => {
+            marks.truncate(known);
+            Err(fault)
+        }
+    }
+}
+
+/// The steps that a text spells, separated by `step;`; otherwise the first fault in reading order.
+///
+/// A mark has the number of its name in `marks`; a name that is new is added behind them. A refusal
+/// leaves them as they were.
+pub fn read_steps_noting(
+    alloc: Global,
+    text: &[u8],
+    names: &Names,
+    marks: &mut Marks,
+) -> Result<Vec<Act>, ActFault>
+    requires few { length names.now.vars ≤ 65536 }
+    requires objects { length names.now.objects ≤ 256 }
+    requires signals { length names.now.signals ≤ 65536 }
+    requires marks { length marks.old ≤ 32768 }
+    ensures spelled { IfOk result
+        (λ steps. SpellsSteps names.now marks.old text.now steps.items marks.new) }
+    ensures known { (steps : List Act) (noted : List (List ℕ))
+        → SpellsSteps names.now marks.old text.now steps noted
+        → AnswersWith (Ok (steps, noted)) (listed result) marks.new }
+    ensures fits { IfOk result
+        (λ steps. All (ActFits (vocabulary names.now marks.new)) steps.items) }
+    ensures fault { IfErr result
+        (λ fault. Faults (TextFault StepsShape names.now text.now) fault) }
+    ensures first { (fault : ActFault)
+        → TextFault StepsShape names.now text.now fault → Answers (Err fault) result }
+    ensures refused { IfErr result (λ _. marks.new ≡ marks.old) }
+    ensures kept { KeepsMarks marks.old marks.new }
+{
+    let known = marks.len();
+    match steps_in(alloc, text, names, marks) {
+        Ok(steps) => Ok(steps.into_vec()),
+        Err(fault) => {
+            marks.truncate(known);
+            Err(fault)
+        }
+    }
+}
+
+/// The behaviour that a text spells; otherwise the first fault in reading order.
+///
+/// As `read_act_noting`, where each mark is sought among those before it.
 pub fn read_act(
     alloc: Global,
     text: &[u8],
@@ -187,20 +267,15 @@ pub fn read_act(
     ensures unchanged { IsCanonicalAct names.now text.now
         → IfOk result (λ act. act_text names.now marks.new.items act ≡ text.now) }
 {
-    let known = marks.len();
-    match act_in(alloc, text, names, marks) {
-        Ok(act) => Ok(act),
-        Err(fault) => {
-            marks.truncate(known);
-            Err(fault)
-        }
-    }
+    let mut noted = Marks::listed(alloc, mem::replace(marks, Vec::new(alloc)));
+    let read = read_act_noting(alloc, text, names, &mut noted);
+    *marks = noted.into_vec();
+    read
 }
 
 /// The steps that a text spells, separated by `step;`; otherwise the first fault in reading order.
 ///
-/// A mark has the number of its name in `marks`; a name that is new is added behind them. A refusal
-/// leaves them as they were.
+/// As `read_steps_noting`, where each mark is sought among those before it.
 pub fn read_steps(
     alloc: Global,
     text: &[u8],
@@ -225,14 +300,10 @@ pub fn read_steps(
     ensures refused { IfErr result (λ _. marks.new.items ≡ marks.old.items) }
     ensures kept { KeepsMarks marks.old.items marks.new.items }
 {
-    let known = marks.len();
-    match steps_in(alloc, text, names, marks) {
-        Ok(steps) => Ok(steps.into_vec()),
-        Err(fault) => {
-            marks.truncate(known);
-            Err(fault)
-        }
-    }
+    let mut noted = Marks::listed(alloc, mem::replace(marks, Vec::new(alloc)));
+    let read = read_steps_noting(alloc, text, names, &mut noted);
+    *marks = noted.into_vec();
+    read
 }
 
 /// Each text spells one guard, one behaviour or one list of steps, with the marks that there are,

@@ -8,9 +8,9 @@ ghost use Rattle.pssm_bodies.specs.Programs.{NumbersVertex, NumbersTransition, A
 ghost use Rattle.pssm_bodies.specs.inner.Through.{StopsIn, guards_count, HasActs, HasGuard};
 
 use crate::numbered::{act_added, guard_added, steps_added};
-use pssm_acts::ActFault;
+use pssm_acts::{ActFault, Growing};
 use pssm_model::{ActId, Body, Duplicate, Guard, Row, Transition, Vertex};
-use pssm_semantics::{Names, Program};
+use pssm_semantics::Names;
 use std::alloc::{AllocError as NoMemory, Global};
 
 // The numbers of the behaviours of a vertex.
@@ -41,9 +41,9 @@ fn vertex_acts(
     alloc: Global,
     names: &Names,
     bodies: &[Body],
-    program: Program,
+    program: Growing,
     from: &Vertex,
-) -> Result<(VertexActs, Program), ActFault>
+) -> Result<(VertexActs, Growing), ActFault>
     requires vars { length names.now.vars ≤ 64 }
     requires objects { length names.now.objects ≤ 64 }
     requires signals { length names.now.signals ≤ 256 }
@@ -86,9 +86,9 @@ fn vertex_numbered(
     alloc: Global,
     names: &Names,
     bodies: &[Body],
-    program: Program,
+    program: Growing,
     from: &Vertex,
-) -> Result<(Vertex, Program), ActFault>
+) -> Result<(Vertex, Growing), ActFault>
     requires vars { length names.now.vars ≤ 64 }
     requires objects { length names.now.objects ≤ 64 }
     requires signals { length names.now.signals ≤ 256 }
@@ -107,9 +107,9 @@ pub(crate) fn vertices_numbered(
     alloc: Global,
     names: &Names,
     bodies: &[Body],
-    program: Program,
+    program: Growing,
     from: &[Vertex],
-) -> Result<(Vec<Vertex>, Program), ActFault>
+) -> Result<(Vec<Vertex>, Growing), ActFault>
     requires vars { length names.now.vars ≤ 64 }
     requires objects { length names.now.objects ≤ 64 }
     requires signals { length names.now.signals ≤ 256 }
@@ -136,9 +136,9 @@ fn transition_acts(
     alloc: Global,
     names: &Names,
     bodies: &[Body],
-    program: Program,
+    program: Growing,
     from: &Transition,
-) -> Result<(TransitionActs, Program), ActFault>
+) -> Result<(TransitionActs, Growing), ActFault>
     requires vars { length names.now.vars ≤ 64 }
     requires objects { length names.now.objects ≤ 64 }
     requires signals { length names.now.signals ≤ 256 }
@@ -181,9 +181,9 @@ fn transition_numbered(
     alloc: Global,
     names: &Names,
     bodies: &[Body],
-    program: Program,
+    program: Growing,
     from: &Transition,
-) -> Result<(Transition, Program), ActFault>
+) -> Result<(Transition, Growing), ActFault>
     requires vars { length names.now.vars ≤ 64 }
     requires objects { length names.now.objects ≤ 64 }
     requires signals { length names.now.signals ≤ 256 }
@@ -202,9 +202,9 @@ pub(crate) fn transitions_numbered(
     alloc: Global,
     names: &Names,
     bodies: &[Body],
-    program: Program,
+    program: Growing,
     from: &[Transition],
-) -> Result<(Vec<Transition>, Program), ActFault>
+) -> Result<(Vec<Transition>, Growing), ActFault>
     requires vars { length names.now.vars ≤ 64 }
     requires objects { length names.now.objects ≤ 64 }
     requires signals { length names.now.signals ≤ 256 }

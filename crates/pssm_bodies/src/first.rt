@@ -9,6 +9,7 @@ use crate::body_fault::{BodyFault, fault_at};
 use crate::slot::Slot;
 use crate::slots::table;
 use crate::texts::counted_on;
+use pssm_acts::Marks;
 use pssm_model::FlatDraft;
 use pssm_semantics::Names;
 use std::alloc::Global;
@@ -31,7 +32,7 @@ fn read_all(
     ensures fault { IfErr result (λ f. IsDueFault names.now flat.now f) }
 {
     let bodies = flat.bodies.as_slice();
-    let mut marks = Vec::new(alloc);
+    let mut marks = Marks::new(alloc);
     let mut count = 1usize;
     for number in 1..bodies.len() {
         let Some(slot) = table[number] else {

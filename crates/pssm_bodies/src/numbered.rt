@@ -14,22 +14,22 @@ ghost use Rattle.pssm_bodies.specs.inner.Through.{StopsIn};
 ghost use Rattle.pssm_model.specs.declared.ids.ActId.{ActId};
 
 use crate::texts::{MOST_NUMBERS, is_not_empty};
-use pssm_acts::{ActFault, read_act, read_cond, read_steps};
-use pssm_model::{ActId, Body, Guard, GuardId, Row, Text};
-use pssm_semantics::{Act, Cond, Names, Program};
+use pssm_acts::{ActFault, Growing, Marks, read_act_noting, read_cond, read_steps_noting};
+use pssm_model::{ActId, Body, Guard, GuardId, Row};
+use pssm_semantics::{Act, Cond, Names};
 use std::alloc::{AllocError as NoMemory, Global};
 
 /// The program of a class of which nothing has been read: the empty behaviour alone.
-pub(crate) fn first_program(alloc: Global) -> Result<Program, NoMemory>
+pub(crate) fn first_program(alloc: Global) -> Result<Growing, NoMemory>
     ensures { IfOk result (λ p. p ≡ first) }
 {
     let mut acts = Vec::new(alloc);
     let stmts = Row::from_vec(Vec::new(alloc));
     acts.push(Act { stmts })?;
-    Ok(Program {
+    Ok(Growing {
         acts: Row::from_vec(acts),
         guards: Row::from_vec(Vec::new(alloc)),
-        marks: Row::from_vec(Vec::new(alloc)),
+        marks: Marks::new(alloc),
     })
 }
 
@@ -44,14 +44,14 @@ fn text_of(bodies: &[Body], number: u16) -> &[u8]
 }
 
 // Whether the program keeps the limits of behaviours and marks.
-fn keeps_limits(program: &Program) -> bool
+fn keeps_limits(program: &Growing) -> bool
     ensures { IsTrue result ↔ KeepsLimits program.now }
 {
     program.acts.as_slice().len() <= MOST_NUMBERS && program.marks.as_slice().len() <= MOST_NUMBERS
 }
 
 // The behaviour at the end of the program, where it has statements, and its number.
-fn with_act(program: Program, act: Act) -> Result<(ActId, Program), NoMemory>
+fn with_act(program: Growing, act: Act) -> Result<(ActId, Growing), NoMemory>
     requires { length program.acts ≤ 65535 }
     ensures number { IfOk result (λ r. r.0 ≡ number_of program act) }
     ensures program { IfOk result (λ r. r.1 ≡ act_behind program act) }
@@ -59,7 +59,7 @@ fn with_act(program: Program, act: Act) -> Result<(ActId, Program), NoMemory>
     if !is_not_empty(&act) {
         return Ok((ActId(0), program));
     }
-    let Program {
+    let Growing {
         acts,
         guards,
         marks,
@@ -69,7 +69,7 @@ fn with_act(program: Program, act: Act) -> Result<(ActId, Program), NoMemory>
     acts.push(act)?;
     Ok((
         number,
-        Program {
+        Growing {
             acts: Row::from_vec(acts),
             guards,
             marks,
@@ -80,9 +80,9 @@ fn with_act(program: Program, act: Act) -> Result<(ActId, Program), NoMemory>
 // The behaviours at the end of the program, and their numbers.
 fn with_acts(
     alloc: Global,
-    mut program: Program,
+    mut program: Growing,
     mut acts: Vec<Act>,
-) -> Result<(Vec<ActId>, Program), NoMemory>
+) -> Result<(Vec<ActId>, Growing), NoMemory>
     requires { length program.acts + length acts.items ≤ 65535 }
     ensures { IfOk result (λ r. AreNumbered program acts.items r.0.items r.1) }
 {
@@ -97,12 +97,7 @@ fn with_acts(
 }
 
 // The behaviour that a text spells behind these marks, and the marks behind it.
-fn act_of(
-    alloc: Global,
-    names: &Names,
-    text: &[u8],
-    marks: Row<Text>,
-) -> Result<(Act, Row<Text>), ActFault>
+fn act_of(alloc: Global, names: &Names, text: &[u8], marks: Marks) -> Result<(Act, Marks), ActFault>
     requires vars { length names.now.vars ≤ 64 }
     requires objects { length names.now.objects ≤ 64 }
     requires signals { length names.now.signals ≤ 256 }
@@ -110,9 +105,9 @@ fn act_of(
     ensures spelled { IfOk result (λ r. SpellsAct names.now marks text.now r.0 r.1) }
     ensures fault { IfErr result (λ f. Faults (HasTextFault names.now readings.Behaviour text.now) f) }
 {
-    let mut marks = marks.into_vec();
-    let act = read_act(alloc, text, names, &mut marks)?;
-    Ok((act, Row::from_vec(marks)))
+    let mut marks = marks;
+    let act = read_act_noting(alloc, text, names, &mut marks)?;
+    Ok((act, marks))
 }
 
 // The steps that a text spells behind these marks, and the marks behind them.
@@ -120,8 +115,8 @@ fn steps_of(
     alloc: Global,
     names: &Names,
     text: &[u8],
-    marks: Row<Text>,
-) -> Result<(Vec<Act>, Row<Text>), ActFault>
+    marks: Marks,
+) -> Result<(Vec<Act>, Marks), ActFault>
     requires vars { length names.now.vars ≤ 64 }
     requires objects { length names.now.objects ≤ 64 }
     requires signals { length names.now.signals ≤ 256 }
@@ -129,9 +124,9 @@ fn steps_of(
     ensures spelled { IfOk result (λ r. SpellsSteps names.now marks text.now r.0.items r.1) }
     ensures fault { IfErr result (λ f. Faults (HasTextFault names.now readings.Steps text.now) f) }
 {
-    let mut marks = marks.into_vec();
-    let acts = read_steps(alloc, text, names, &mut marks)?;
-    Ok((acts, Row::from_vec(marks)))
+    let mut marks = marks;
+    let acts = read_steps_noting(alloc, text, names, &mut marks)?;
+    Ok((acts, marks))
 }
 
 // The program with the behaviour of a body, and the number of the behaviour.
@@ -139,9 +134,9 @@ fn act_put(
     alloc: Global,
     names: &Names,
     bodies: &[Body],
-    program: Program,
+    program: Growing,
     from: ActId,
-) -> Result<(ActId, Program), ActFault>
+) -> Result<(ActId, Growing), ActFault>
     requires vars { length names.now.vars ≤ 64 }
     requires objects { length names.now.objects ≤ 64 }
     requires signals { length names.now.signals ≤ 256 }
@@ -150,14 +145,14 @@ fn act_put(
     ensures fault { IfErr result
         (λ f. Faults (HasTextFault names.now readings.Behaviour (text_at bodies.now from.0)) f) }
 {
-    let Program {
+    let Growing {
         acts,
         guards,
         marks,
     } = program;
     let (act, marks) = act_of(alloc, names, text_of(bodies, from.0), marks)?;
     Ok(with_act(
-        Program {
+        Growing {
             acts,
             guards,
             marks,
@@ -171,9 +166,9 @@ pub(crate) fn act_added(
     alloc: Global,
     names: &Names,
     bodies: &[Body],
-    program: Program,
+    program: Growing,
     from: ActId,
-) -> Result<(ActId, Program), ActFault>
+) -> Result<(ActId, Growing), ActFault>
     requires vars { length names.now.vars ≤ 64 }
     requires objects { length names.now.objects ≤ 64 }
     requires signals { length names.now.signals ≤ 256 }
@@ -196,9 +191,9 @@ fn steps_put(
     alloc: Global,
     names: &Names,
     bodies: &[Body],
-    program: Program,
+    program: Growing,
     from: ActId,
-) -> Result<(Vec<ActId>, Program), ActFault>
+) -> Result<(Vec<ActId>, Growing), ActFault>
     requires vars { length names.now.vars ≤ 64 }
     requires objects { length names.now.objects ≤ 64 }
     requires signals { length names.now.signals ≤ 256 }
@@ -207,7 +202,7 @@ fn steps_put(
     ensures fault { IfErr result
         (λ f. Faults (HasTextFault names.now readings.Steps (text_at bodies.now from.0)) f) }
 {
-    let Program {
+    let Growing {
         acts,
         guards,
         marks,
@@ -215,7 +210,7 @@ fn steps_put(
     let (steps, marks) = steps_of(alloc, names, text_of(bodies, from.0), marks)?;
     Ok(with_acts(
         alloc,
-        Program {
+        Growing {
             acts,
             guards,
             marks,
@@ -229,9 +224,9 @@ fn steps_kept(
     alloc: Global,
     names: &Names,
     bodies: &[Body],
-    program: Program,
+    program: Growing,
     from: ActId,
-) -> Result<(Vec<ActId>, Program), ActFault>
+) -> Result<(Vec<ActId>, Growing), ActFault>
     requires vars { length names.now.vars ≤ 64 }
     requires objects { length names.now.objects ≤ 64 }
     requires signals { length names.now.signals ≤ 256 }
@@ -254,9 +249,9 @@ pub(crate) fn steps_added(
     alloc: Global,
     names: &Names,
     bodies: &[Body],
-    program: Program,
+    program: Growing,
     from: &[ActId],
-) -> Result<(Vec<ActId>, Program), ActFault>
+) -> Result<(Vec<ActId>, Growing), ActFault>
     requires vars { length names.now.vars ≤ 64 }
     requires objects { length names.now.objects ≤ 64 }
     requires signals { length names.now.signals ≤ 256 }
@@ -283,12 +278,12 @@ fn cond_of(alloc: Global, names: &Names, text: &[u8]) -> Result<Cond, ActFault>
 }
 
 // The guard at the end of the program, and its number.
-fn with_guard(program: Program, cond: Cond) -> Result<(GuardId, Program), NoMemory>
+fn with_guard(program: Growing, cond: Cond) -> Result<(GuardId, Growing), NoMemory>
     requires { length program.guards ≤ 65535 }
     ensures number { IfOk result (λ r. r.0 ≡ number_of_guard program) }
     ensures program { IfOk result (λ r. r.1 ≡ guard_behind program cond) }
 {
-    let Program {
+    let Growing {
         acts,
         guards,
         marks,
@@ -298,7 +293,7 @@ fn with_guard(program: Program, cond: Cond) -> Result<(GuardId, Program), NoMemo
     guards.push(cond)?;
     Ok((
         number,
-        Program {
+        Growing {
             acts,
             guards: Row::from_vec(guards),
             marks,
@@ -311,9 +306,9 @@ fn guard_put(
     alloc: Global,
     names: &Names,
     bodies: &[Body],
-    program: Program,
+    program: Growing,
     from: GuardId,
-) -> Result<(GuardId, Program), ActFault>
+) -> Result<(GuardId, Growing), ActFault>
     requires vars { length names.now.vars ≤ 64 }
     requires room { length program.guards ≤ 65535 }
     ensures numbers { IfOk result (λ r. (cond : Cond) × SpellsCond names.now (text_at bodies.now from.0) cond
@@ -330,9 +325,9 @@ pub(crate) fn guard_added(
     alloc: Global,
     names: &Names,
     bodies: &[Body],
-    program: Program,
+    program: Growing,
     from: Guard,
-) -> Result<(Guard, Program), ActFault>
+) -> Result<(Guard, Growing), ActFault>
     requires vars { length names.now.vars ≤ 64 }
     requires limits { KeepsLimits program }
     requires room { length program.guards + length (guard_slots from) ≤ 65535 }

@@ -54,7 +54,10 @@ fn numbered(alloc: Global, names: &Names, flat: &FlatDraft) -> Result<Programmed
         vertices: Row::from_vec(vertices),
         transitions: Row::from_vec(transitions),
     };
-    Ok(Programmed { machine, program })
+    Ok(Programmed {
+        machine,
+        program: program.into_program(),
+    })
 }
 
 // The second reading; it meets no fault, since the first has met none.

@@ -8,8 +8,7 @@ ghost use Rattle.pssm_bodies.specs.Faults.{HasTextFault};
 ghost use Rattle.pssm_bodies.specs.inner.Counts.{has_statements, SaysCount, CountsOn, FailsOn};
 
 use crate::slot::Reading;
-use pssm_acts::{ActFault, read_act, read_cond, read_steps};
-use pssm_model::Text;
+use pssm_acts::{ActFault, Marks, read_act_noting, read_cond, read_steps_noting};
 use pssm_semantics::{Act, Names};
 use std::alloc::Global;
 
@@ -41,18 +40,18 @@ fn behaviour_count(
     alloc: Global,
     names: &Names,
     text: &[u8],
-    marks: &mut Vec<Text>,
+    marks: &mut Marks,
 ) -> Result<usize, ActFault>
     requires vars { length names.now.vars ≤ 64 }
     requires objects { length names.now.objects ≤ 64 }
     requires signals { length names.now.signals ≤ 256 }
-    requires marks { length marks.old.items ≤ 32768 }
+    requires marks { length marks.old ≤ 32768 }
     ensures few { IfOk result (λ n. n ≤ 64) }
     ensures says { IfOk result
-        (λ n. SaysCount names.now marks.old.items text.now readings.Behaviour n marks.new.items) }
+        (λ n. SaysCount names.now marks.old text.now readings.Behaviour n marks.new) }
     ensures fault { IfErr result (λ f. Faults (HasTextFault names.now readings.Behaviour text.now) f) }
 {
-    let act = read_act(alloc, text, names, marks)?;
+    let act = read_act_noting(alloc, text, names, marks)?;
     if is_not_empty(&act) { Ok(1) } else { Ok(0) }
 }
 
@@ -61,18 +60,18 @@ fn steps_count(
     alloc: Global,
     names: &Names,
     text: &[u8],
-    marks: &mut Vec<Text>,
+    marks: &mut Marks,
 ) -> Result<usize, ActFault>
     requires vars { length names.now.vars ≤ 64 }
     requires objects { length names.now.objects ≤ 64 }
     requires signals { length names.now.signals ≤ 256 }
-    requires marks { length marks.old.items ≤ 32768 }
+    requires marks { length marks.old ≤ 32768 }
     ensures few { IfOk result (λ n. n ≤ 64) }
     ensures says { IfOk result
-        (λ n. SaysCount names.now marks.old.items text.now readings.Steps n marks.new.items) }
+        (λ n. SaysCount names.now marks.old text.now readings.Steps n marks.new) }
     ensures fault { IfErr result (λ f. Faults (HasTextFault names.now readings.Steps text.now) f) }
 {
-    let acts = read_steps(alloc, text, names, marks)?;
+    let acts = read_steps_noting(alloc, text, names, marks)?;
     Ok(count(acts.as_slice()))
 }
 
@@ -81,12 +80,12 @@ fn guard_count(
     alloc: Global,
     names: &Names,
     text: &[u8],
-    marks: &mut Vec<Text>,
+    marks: &mut Marks,
 ) -> Result<usize, ActFault>
     requires vars { length names.now.vars ≤ 64 }
     ensures few { IfOk result (λ n. n ≤ 64) }
     ensures says { IfOk result
-        (λ n. SaysCount names.now marks.old.items text.now readings.Guard n marks.new.items) }
+        (λ n. SaysCount names.now marks.old text.now readings.Guard n marks.new) }
     ensures fault { IfErr result (λ f. Faults (HasTextFault names.now readings.Guard text.now) f) }
 {
     let _cond = read_cond(alloc, text, names)?;
@@ -99,14 +98,14 @@ fn text_count(
     names: &Names,
     text: &[u8],
     reading: Reading,
-    marks: &mut Vec<Text>,
+    marks: &mut Marks,
 ) -> Result<usize, ActFault>
     requires vars { length names.now.vars ≤ 64 }
     requires objects { length names.now.objects ≤ 64 }
     requires signals { length names.now.signals ≤ 256 }
-    requires marks { length marks.old.items ≤ 32768 }
+    requires marks { length marks.old ≤ 32768 }
     ensures few { IfOk result (λ n. n ≤ 64) }
-    ensures says { IfOk result (λ n. SaysCount names.now marks.old.items text.now reading n marks.new.items) }
+    ensures says { IfOk result (λ n. SaysCount names.now marks.old text.now reading n marks.new) }
     ensures fault { IfErr result (λ f. Faults (HasTextFault names.now reading text.now) f) }
 {
     match reading {
@@ -123,19 +122,19 @@ pub(crate) fn counted_on(
     text: &[u8],
     reading: Reading,
     count: usize,
-    marks: &mut Vec<Text>,
+    marks: &mut Marks,
 ) -> Result<usize, ActFault>
     requires vars { length names.now.vars ≤ 64 }
     requires objects { length names.now.objects ≤ 64 }
     requires signals { length names.now.signals ≤ 256 }
-    requires marks { length marks.old.items ≤ 32768 }
+    requires marks { length marks.old ≤ 32768 }
     requires count { count ≤ 32768 }
     ensures limits { IfOk result (λ more. more ≤ 32768) }
-    ensures marks { IfOk result (λ _. length marks.new.items ≤ 32768) }
+    ensures marks { IfOk result (λ _. length marks.new ≤ 32768) }
     ensures counts { IfOk result
-        (λ more. CountsOn names.now text.now reading count marks.old.items more marks.new.items) }
+        (λ more. CountsOn names.now text.now reading count marks.old more marks.new) }
     ensures fault { IfErr result
-        (λ f. FailsOn names.now text.now reading count marks.old.items f) }
+        (λ f. FailsOn names.now text.now reading count marks.old f) }
 {
     let said = text_count(alloc, names, text, reading, marks)?;
     let more = count + said;

@@ -13,11 +13,11 @@ use crate::head::is_among;
 use crate::line::Line;
 use crate::numbering::{act_added, guard_added, program_out};
 use crate::rows::{pop, push};
-use pssm_acts::ActFault;
+use pssm_acts::{ActFault, Growing};
 use pssm_model::{
     ActId, Duplicate, Guard, Owner, Row, Text, TransKind, Transition, Vertex, VertexId, VertexKind,
 };
-use pssm_semantics::{Names, Program, VarDecl};
+use pssm_semantics::{Names, VarDecl};
 use std::alloc::{AllocError, Global};
 
 /// How many variables a class may have (this profile's choice).
@@ -32,7 +32,7 @@ pub(crate) struct Block {
     pub regions: Row<Owner>,
     pub vertices: Row<Vertex>,
     pub transitions: Row<Transition>,
-    pub program: Program,
+    pub program: Growing,
 }
 
 impl Block {

@@ -57,7 +57,7 @@ fn closed(alloc: Global, block: Block, behind: u32) -> Result<Class, FlatFault>
             name,
             vars,
             machine,
-            program,
+            program: program.into_program(),
         }),
         Err(fault) => refused((draft, name, vars, program), fault),
     }

@@ -9,10 +9,10 @@ ghost use Rattle.pssm_flat.specs.Flat.{first_program as first};
 ghost use Rattle.pssm_flat.specs.inner.Outlines.{act_put_in, act_numbered, guard_numbered, with_act, with_guard};
 
 use crate::refusal::{nothing, refused};
-use crate::rows::{push, taken_out};
-use pssm_acts::{ActFault, read_act, read_cond, write_act, write_cond};
+use crate::rows::push;
+use pssm_acts::{ActFault, Growing, Marks, read_act_noting, read_cond, write_act, write_cond};
 use pssm_model::{ActId, GuardId, Row, Text};
-use pssm_semantics::{Act, Cond, Names, Program};
+use pssm_semantics::{Act, Cond, Names};
 use std::alloc::{AllocError, Global};
 use std::mem;
 
@@ -24,27 +24,27 @@ const GUARDS_AT_MOST: usize = 65536;
 const MARKS_AT_MOST: usize = 32768;
 
 /// The program of a block of which no action text has been read: the empty behaviour alone.
-pub(crate) fn first_program(alloc: Global) -> Result<Program, AllocError>
+pub(crate) fn first_program(alloc: Global) -> Result<Growing, AllocError>
     ensures { IfOk result (λ p. p ≡ first) }
 {
     let mut acts = Row::from_vec(Vec::new(alloc));
     let stmts = Row::from_vec(Vec::new(alloc));
     push(alloc, &mut acts, Act { stmts })?;
-    Ok(Program {
+    Ok(Growing {
         acts,
         guards: Row::from_vec(Vec::new(alloc)),
-        marks: Row::from_vec(Vec::new(alloc)),
+        marks: Marks::new(alloc),
     })
 }
 
 /// The program, in whose place none stands afterwards.
-pub(crate) fn program_out(alloc: Global, program: &mut Program) -> Program
+pub(crate) fn program_out(alloc: Global, program: &mut Growing) -> Growing
     ensures { result ≡ program.old }
 {
-    let none = Program {
+    let none = Growing {
         acts: Row::from_vec(Vec::new(alloc)),
         guards: Row::from_vec(Vec::new(alloc)),
-        marks: Row::from_vec(Vec::new(alloc)),
+        marks: Marks::new(alloc),
     };
     mem::replace(program, none)
 }
@@ -53,17 +53,17 @@ pub(crate) fn program_out(alloc: Global, program: &mut Program) -> Program
 fn act_of(
     alloc: Global,
     names: &Names,
-    mut marks: Vec<Text>,
+    mut marks: Marks,
     text: &[u8],
-) -> Result<(Act, Row<Text>), ActFault>
+) -> Result<(Act, Marks), ActFault>
     requires vars { length names.now.vars ≤ 64 }
     requires objects { length names.now.objects ≤ 64 }
     requires signals { length names.now.signals ≤ 256 }
-    requires marks { length marks.items ≤ 32768 }
-    ensures { Answers (act_reading names.now marks.items text.now) result }
+    requires marks { length marks ≤ 32768 }
+    ensures { Answers (act_reading names.now marks text.now) result }
 {
-    match read_act(alloc, text, names, &mut marks) {
-        Ok(act) => Ok((act, Row::from_vec(marks))),
+    match read_act_noting(alloc, text, names, &mut marks) {
+        Ok(act) => Ok((act, marks)),
         Err(fault) => refused(marks, fault),
     }
 }
@@ -85,10 +85,10 @@ fn spells_act(
 // Puts the behaviour at the end of the program, with the marks behind it.
 fn act_put(
     alloc: Global,
-    mut program: Program,
+    mut program: Growing,
     act: Act,
-    marks: Row<Text>,
-) -> Result<(ActId, Program), AllocError>
+    marks: Marks,
+) -> Result<(ActId, Growing), AllocError>
     requires { length program.acts < 32768 }
     ensures { IfOk result (λ r. r ≡ act_put_in program act marks) }
 {
@@ -104,10 +104,10 @@ fn act_put(
 fn act_kept(
     alloc: Global,
     names: &Names,
-    program: Program,
+    program: Growing,
     text: &[u8],
-    read: (Act, Row<Text>),
-) -> Result<Option<(ActId, Program)>, AllocError>
+    read: (Act, Marks),
+) -> Result<Option<(ActId, Growing)>, AllocError>
     requires { length program.acts < 32768 }
     ensures { IfOk result (λ r. r ≡ act_numbered names.now program text.now read) }
 {
@@ -131,9 +131,9 @@ fn act_kept(
 pub(crate) fn act_added(
     alloc: Global,
     names: &Names,
-    mut program: Program,
+    mut program: Growing,
     text: &[u8],
-) -> Result<Option<(ActId, Program)>, ActFault>
+) -> Result<Option<(ActId, Growing)>, ActFault>
     requires vars { length names.now.vars ≤ 64 }
     requires objects { length names.now.objects ≤ 64 }
     requires signals { length names.now.signals ≤ 256 }
@@ -143,7 +143,7 @@ pub(crate) fn act_added(
     if text.is_empty() || program.acts.as_slice().len() >= ACTS_AT_MOST {
         return Ok(nothing(program));
     }
-    let marks = taken_out(alloc, &mut program.marks);
+    let marks = mem::replace(&mut program.marks, Marks::new(alloc));
     match act_of(alloc, names, marks, text) {
         Ok(read) => Ok(act_kept(alloc, names, program, text, read)?),
         Err(fault) => refused(program, fault),
@@ -170,10 +170,10 @@ fn spells_cond(alloc: Global, names: &Names, cond: &Cond, text: &[u8]) -> Result
 fn guard_kept(
     alloc: Global,
     names: &Names,
-    mut program: Program,
+    mut program: Growing,
     text: &[u8],
     cond: Cond,
-) -> Result<Option<(GuardId, Program)>, AllocError>
+) -> Result<Option<(GuardId, Growing)>, AllocError>
     requires { length program.guards < 65536 }
     ensures { IfOk result (λ r. r ≡ guard_numbered names.now program text.now cond) }
 {
@@ -198,9 +198,9 @@ fn guard_kept(
 pub(crate) fn guard_added(
     alloc: Global,
     names: &Names,
-    program: Program,
+    program: Growing,
     text: &[u8],
-) -> Result<Option<(GuardId, Program)>, ActFault>
+) -> Result<Option<(GuardId, Growing)>, ActFault>
     requires vars { length names.now.vars ≤ 64 }
     ensures { Answers (with_guard names.now program text.now) result }
 {

@@ -6,6 +6,6 @@ use Rattle.pssm_bodies.proofs.texts.steps_count.Goals as goal
 
 pub returns-clause-says : goal.returns-clause-says
 returns-clause-says c =
-    says_acts c.args.names.now c.args.marks.now.items c.args.text.now c.in_ok-acts.acts.items c.read_steps.new.marks.items c.count.result
+    says_acts c.args.names.now c.args.marks.now c.args.text.now c.in_ok-acts.acts.items c.read_steps_noting.new.marks c.count.result
     c.in_ok-acts.ensures.spelled
     (c.count.ensures ∙ ap (count_by has_statements) c.as_slice.ensures.value)

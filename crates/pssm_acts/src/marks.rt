@@ -1,0 +1,139 @@
+//! `Marks`: the names of marks in the order in which they are first named.
+ghost use Rattle.std.specs.Prelude.{◌≡◌, ◌<◌, ◌++◌, ◌∷◌, [], List, ℕ, None, length, take, position, bytes_eq, IfOk, IfErr, IfSome};
+ghost use Rattle.pssm_acts.specs.Marks.{mark_of, with_mark};
+
+use crate::expr_reader::place_of;
+use indexmap::IndexSet;
+use pssm_model::{MarkId, Text};
+use std::alloc::{AllocError as NoMemory, Global};
+use std::marker::Model;
+
+/// The names of marks, in order. A clause sees the list of them.
+///
+/// A look-up in marks that were begun by `new` does not compare a name with each of them.
+#[derive(Drop)]
+pub struct Marks {
+    names: Vec<Text>,
+    // the same names, where they are indexed
+    places: IndexSet<Vec<u8>>,
+    indexed: bool,
+}
+
+impl Model for Marks {
+    ghost use Rattle.std.specs.Prelude.{List, ℕ};
+    ghost use Rattle.pssm_acts.specs.inner.Indexed.{IsIndexed};
+
+    ghost Value = { List (List ℕ) };
+
+    ghost view = { λ m. m.names.items };
+
+    ghost invariant = { λ m. IsIndexed m.indexed m.names.items m.places.keys };
+}
+
+impl Marks {
+    /// No marks.
+    pub fn new(alloc: Global) -> Marks
+        ensures { result ≡ [] }
+    {
+        Marks {
+            names: Vec::new(alloc),
+            places: IndexSet::new(alloc),
+            indexed: true,
+        }
+    }
+
+    // These marks, perhaps some of them alike. A name is compared with each of them.
+    pub(crate) fn listed(alloc: Global, names: Vec<Text>) -> Marks
+        ensures { result ≡ names.items }
+    {
+        Marks {
+            names,
+            places: IndexSet::new(alloc),
+            indexed: false,
+        }
+    }
+
+    /// How many there are.
+    pub fn len(&self) -> usize
+        ensures { result ≡ length self.now }
+    {
+        self.names.len()
+    }
+
+    /// The names.
+    pub fn as_slice(&self) -> &[Text]
+        ensures { result.now ≡ self.now }
+    {
+        self.names.as_slice()
+    }
+
+    /// The vector of the names.
+    pub fn into_vec(self) -> Vec<Text>
+        ensures { result.items ≡ self }
+    {
+        let Marks {
+            names,
+            places,
+            indexed: _,
+        } = self;
+        drop(places);
+        names
+    }
+
+    // Leaves the first so many.
+    pub(crate) fn truncate(&mut self, known: usize)
+        ensures { self.new ≡ take known self.old }
+    {
+        self.names.truncate(known);
+        self.places.truncate(known);
+    }
+
+    // The place of the first mark with this name.
+    fn place(&self, name: &[u8]) -> Option<usize>
+        ensures gives { result ≡ position (λ m. bytes_eq m name.now) self.now }
+        ensures within { IfSome result (λ k. k < length self.now) }
+    {
+        if self.indexed {
+            self.places.get_index_of(name)
+        } else {
+            place_of(self.names.as_slice(), name)
+        }
+    }
+
+    // Puts a mark with a new name behind the others.
+    fn push(&mut self, alloc: Global, name: &[u8]) -> Result<(), NoMemory>
+        requires new { position (λ m. bytes_eq m name.now) self.old ≡ None }
+        ensures noted { IfOk result (λ _. self.new ≡ self.old ++ name.now ∷ []) }
+        ensures left { IfErr result (λ _. self.new ≡ self.old) }
+    {
+        let text = Text::from_vec(name.to_vec(alloc)?);
+        if !self.indexed {
+            self.names.push(text)?;
+            return Ok(());
+        }
+        let key = name.to_vec(alloc)?;
+        self.places.reserve(1)?;
+        self.names.push(text)?;
+        match self.places.insert(key) {
+            Ok(_) => Ok(()),
+            Err(_) => unreachable!(),
+        }
+    }
+
+    // The number of the mark with this name, which is noted where it is new.
+    pub(crate) fn number(&mut self, alloc: Global, name: &[u8]) -> Result<MarkId, NoMemory>
+        requires few { length self.old < 65536 }
+        ensures number { IfOk result (λ mark. mark ≡ mark_of self.old name.now) }
+        ensures noted { IfOk result (λ _. self.new ≡ with_mark self.old name.now) }
+        ensures left { IfErr result (λ _. self.new ≡ self.old) }
+    {
+        match self.place(name) {
+            Some(place) => Ok(MarkId(place as u16)),
+            None => {
+                let next = self.names.len() as u16;
+                self.push(alloc, name)?;
+                Ok(MarkId(next))
+            }
+        }
+    }
+}
