@@ -101,7 +101,7 @@ module _ (words : List (List ℕ)) (contents : Contents) (before after : Option 
   gives_good e = told (good_from_code a e) where
     told : IsGood a → ((n : ℕ) × Gives words contents before after (Accept n)) ⊎ ((text : List ℕ) × Gives words contents before after (Journal text ends.Quiet))
         ⊎ Gives words contents before after WellFormed ⊎ ((text : List ℕ) × Gives words contents before after (Flat text))
-      ⊎ ((n entries takes : ℕ) × (digest : List ℕ) × Gives words contents before after (Generated n entries takes digest))
+        ⊎ ((n entries takes : ℕ) × (digest : List ℕ) × Gives words contents before after (Generated n entries takes digest))
     told (accepts n same) = inl (n, given_as (Accept n) same)
     told (quiet text same) = inr (inl (text, given_as (Journal text ends.Quiet) same))
     told (well same) = inr (inr (inl (given_as WellFormed same)))

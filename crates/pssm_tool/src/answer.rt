@@ -17,11 +17,18 @@ use std::alloc::{AllocError as NoMemory, Global};
 #[derive(Drop)]
 pub enum Answer {
     /// The journal is admissible, and has so many entries.
-    Accept { entries: u32 },
+    Accept {
+        entries: u32,
+    },
     /// The entry, counted from 1, is the first that breaks a rule, and this is the first rule that it breaks.
-    Refuse { entry: u32, rule: Rule },
+    Refuse {
+        entry: u32,
+        rule: Rule,
+    },
     /// With this entry, counted from 1, the journal passes its limits, and no earlier entry breaks a rule.
-    Limit { entry: u32 },
+    Limit {
+        entry: u32,
+    },
     /// The model reads, in either form, and its machines keep the rules of models.
     WellFormed,
     /// The words mean no command, or a stimulus among them does not fit the model: it names what the model does not have,
@@ -29,14 +36,22 @@ pub enum Answer {
     Usage,
     /// The line of the journal, counted from 1, goes wrong at this byte, counted from 1, and no earlier line breaks a
     /// rule.
-    BadLine { line: u32, byte: u32 },
+    BadLine {
+        line: u32,
+        byte: u32,
+    },
     /// The journal ends within this line, counted from 1, or has no bytes, and no earlier line breaks a rule.
-    NoEnd { line: u32 },
+    NoEnd {
+        line: u32,
+    },
     /// A file has more than 16,777,216 bytes, or a line of a journal more than 65,536, and no earlier line breaks a
     /// rule.
     TooLarge,
     /// The text of a run's journal, and how the run ended.
-    Journal { text: Text, ended: Ended },
+    Journal {
+        text: Text,
+        ended: Ended,
+    },
     /// The flat text of a model.
     Flat(Text),
     /// What is said of the journal of a generated model's run, by the model's number: how many entries it has, how many

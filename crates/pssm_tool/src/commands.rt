@@ -6,7 +6,7 @@ ghost use Rattle.pssm_semantics.specs.Names.{HasSpelledNames};
 ghost use Rattle.pssm_semantics.specs.Proper.{IsWellFormed};
 ghost use Rattle.pssm_suite.specs.Generated.{generated_stimuli};
 ghost use Rattle.pssm_tool.specs.Words.{Means, Judges, Checks, Prints, Generates};
-ghost use Rattle.pssm_tool.specs.RunTexts.{take_count};
+ghost use Rattle.pssm_tool.specs.RunTexts.{take_count, takes_signal as takes_a_signal};
 ghost use Rattle.pssm_tool.specs.inner.Commands.{meaning_of_run};
 ghost use Rattle.pssm_tool.specs.Due.{IsOwed, IsDueForGenerated, answer_to_fault};
 ghost use Rattle.pssm_tool.specs.inner.Verdicts.{said};
@@ -205,8 +205,18 @@ fn run_generated(
 fn take_count_of(entries: &[Entry]) -> usize
     ensures { result ≡ take_count entries.now }
 {
-    entries
-        .iter()
-        .filter(|e| matches!(**e, Entry::Take { .. }))
-        .count()
+    let mut takes = 0;
+    for entry in entries {
+        if takes_signal(entry) {
+            takes += 1;
+        }
+    }
+    takes
+}
+
+// Whether the entry takes a signal.
+fn takes_signal(entry: &Entry) -> bool
+    ensures { result ≡ takes_a_signal entry.now }
+{
+    matches!(entry, Entry::Take { .. })
 }
