@@ -27,7 +27,9 @@ run --limit 9 - a.Go()
 run -- M a.Go()
 run M -- a.Go()
 run --limit=9 -- --limit a.Go()
-run M --'''.split('\n')
+run M --
+gen 1
+gen 4000'''.split('\n')
 BAD = '''judge
 judge M
 judge M J K
@@ -36,7 +38,14 @@ check
 check M N
 flat
 flat M N
-gen 3
+gen
+gen 0
+gen 03
+gen +3
+gen 4001
+gen 40000000
+gen 3 3
+gen M
 Judge M J
  judge M J
 run
