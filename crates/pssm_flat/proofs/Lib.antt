@@ -36,3 +36,4 @@ pub mod PlaceLaws
 pub mod FaultLaws
 pub mod ReadLaws
 pub mod EveryText
+pub mod Growth
