@@ -14,8 +14,8 @@ use std::snapshot::Snapshot;
 
 /// What the names of a setting's objects, signals and marks stand for (UML 2.5.1, 7.4.3, namespaces).
 ///
-/// It is made once of a setting, which clauses see. A look-up goes by the hash of a name, compares it with few others,
-/// and takes no memory.
+/// It is made once of a setting, which clauses see. A look-up goes by the hash of a name, or compares it with the names
+/// where they are few, and takes no memory.
 #[derive(Drop)]
 pub struct Namespace {
     setting: Snapshot<Setting>,
