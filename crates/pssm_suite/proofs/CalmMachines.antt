@@ -1,7 +1,6 @@
 -- Calm machines: plain ones with one transition out of each vertex, in which each transition out of a State is triggered and stays in a region
 -- under which no region lies.
-use Rattle.std.proofs.Common.{◌≡◌, ◌⊎◌, ◌≤◌, ◌<◌, ◌+◌, ℕ, [], length, Some, sym, ap, subst, ◌∙◌, inl, inr, ⊎_elim, arith}
-use Rattle.std.specs.Option.{option_map_or}
+use Rattle.std.proofs.Common.{◌≡◌, ◌⊎◌, ◌≤◌, ◌<◌, ◌+◌, ℕ, [], Some}
 use Rattle.pssm_model.specs.declared.ids.VertexId.{VertexId}
 use Rattle.pssm_model.specs.declared.ids.RegionId.{RegionId}
 use Rattle.pssm_model.specs.declared.ids.TransId.{TransId}
