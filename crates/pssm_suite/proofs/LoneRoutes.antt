@@ -112,7 +112,7 @@ module _ (m : DraftMachine) (plain : IsPlain m) where
   lies_direct s home bottom (further {q = k} e rest) =
       let at = vertex_home s k e in absurd (bottom at.0 (subst (λ o. LiesUnder m o (Region home)) at.1 rest))
 
-  region_there : (r : RegionId) (q : Owner) → LiesUnder m (Region r) q → r.0 < length m.regions
+  pub region_there : (r : RegionId) (q : Owner) → LiesUnder m (Region r) q → r.0 < length m.regions
   region_there r q (owned e) = slice_get_within m.regions r.0 q e
   region_there r q (further {q = k} e rest) = slice_get_within m.regions r.0 k e
 
