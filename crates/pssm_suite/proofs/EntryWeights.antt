@@ -5,7 +5,9 @@ use Rattle.std.specs.Option.{option_map_or}
 use Rattle.std.proofs.lemmas.List.Sums.{sum_by-cons, sum_by-append}
 use Rattle.std.proofs.Math.Nat.{mul-add}
 use Rattle.pssm_model.specs.declared.steps.How.{How}
+use Rattle.pssm_model.specs.declared.steps.How.TheVariants.{By, Nothing}
 use Rattle.pssm_model.specs.declared.steps.Item.{Item}
+use Rattle.pssm_model.specs.declared.steps.Item.TheVariants as items
 use Rattle.pssm_semantics.specs.declared.entry.ObjectId.{ObjectId}
 use Rattle.pssm_semantics.specs.declared.entry.Entry.{Entry}
 use Rattle.pssm_semantics.specs.declared.entry.Entry.TheVariants.{Post, Start, Take, Done, Exit, Effect, Enter, Opened, Pick, DoStep}
@@ -196,11 +198,11 @@ own_entry_weighs o (Post q g args) free other = sym (no_value (λ x. 1) (q.0 == 
 own_entry_weighs o (Start q) free other = head_weight (q.0 == o.0) other
 own_entry_weighs o (Take q k firing) free other = head_weight (q.0 == o.0) other
 own_entry_weighs o (Done q v firing) free other = head_weight (q.0 == o.0) other
-own_entry_weighs o (Exit q v outs) free other = one_item (q.0 == o.0) _
-own_entry_weighs o (Effect q t outs) free other = one_item (q.0 == o.0) _
-own_entry_weighs o (Enter q v outs) free other = one_item (q.0 == o.0) _
-own_entry_weighs o (Opened q r mode how) free other = one_item (q.0 == o.0) _
-own_entry_weighs o (Pick q v route) free other = one_item (q.0 == o.0) _
+own_entry_weighs o (Exit q v outs) free other = one_item (q.0 == o.0) (items.Exit v, Nothing)
+own_entry_weighs o (Effect q t outs) free other = one_item (q.0 == o.0) (items.Effect t, Nothing)
+own_entry_weighs o (Enter q v outs) free other = one_item (q.0 == o.0) (items.Enter v, Nothing)
+own_entry_weighs o (Opened q r mode how) free other = one_item (q.0 == o.0) (items.Opened r mode, how)
+own_entry_weighs o (Pick q v route) free other = one_item (q.0 == o.0) (items.Pick v, By route)
 own_entry_weighs o (DoStep q v k outs) free other = head_weight (q.0 == o.0) (λ same. free (same_object q o same))
 
 -- ---- starts and takes apart

@@ -27,7 +27,7 @@ use Rattle.pssm_semantics.specs.Admissible.{IsAdmissibleIn}
 use Rattle.pssm_semantics.proofs.Appended.{AllByRecursion-back}
 use Rattle.pssm_semantics_laws.proofs.Admissible.{IsAdmissible-front}
 use Rattle.pssm_semantics_laws.proofs.Objects.{same_object}
-use Rattle.pssm_object.specs.Standing.{IsUnderWay}
+use Rattle.pssm_object.specs.Standing.{IsUnderWay, HasNotStarted}
 use Rattle.pssm_object.specs.Coming.{HasCome, HasCourse}
 use Rattle.pssm_system.proofs.Coming.{has_come}
 use Rattle.pssm_suite.proofs.CalmMachines.{IsCalm}
@@ -143,7 +143,7 @@ module _ {setting : Setting} (b : IsWellFormed setting) (o : ObjectId) (class : 
         ⊎ EndsWithin (IsAdmissibleIn setting) (own_entry o) (own_head o (1 + 3 * length m.regions) (1 + 3 * count)) J
     own_each =
         ⊎_elim
-        (λ none. inl (sum_of_none (λ f. (object_of f ≡ o) → IsPost f) (own_entry o) (no_own_entry o) J none.posts))
+        (λ (none : HasNotStarted m J o). inl (sum_of_none (λ f. (object_of f ≡ o) → IsPost f) (own_entry o) (no_own_entry o) J none.posts))
         (λ (c : HasCourse m J o). inr (record {
           before = c.under_way.step.before;
           head = c.under_way.step.head;
