@@ -154,7 +154,7 @@ one_item s t w x y (inr (inr e)) (inr (inr f)) k = e ∙ sym f
 
 module _ (m : DraftMachine) (first count : ℕ) (calm : IsCalm m first count) (routes : List Route) (now : Configuration) (begins : BeginsWell m (Fires routes) now)
     (of_states : (route : Route) → Contains routes route → IsStateRoute m route) where
-  fired_within : (x : Item) (f : IsFired m now routes x) → (first ≤ home_of m x) × (home_of m x < first + count)
+  pub fired_within : (x : Item) (f : IsFired m now routes x) → (first ≤ home_of m x) × (home_of m x < first + count)
   fired_within x f =
       let lone = f.there.lone in
       let at = calm.within f.there.at lone.source lone.home lone.leaves f.there.state lone.source_home in
