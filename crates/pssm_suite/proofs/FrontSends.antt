@@ -105,18 +105,18 @@ module _ (n : ℕ) (some : 1 ≤ n) (few : n ≤ 4000) (now : Configuration) whe
 
     pub fired_sends : (ran : List (Item × How)) → HasGone m (Fires routes) now ran → sum_by sends_of ran ≤ 1
     fired_sends _ (begun fires) = omega arith
-    fired_sends _ (more {ran = ran} item how before ready truth way) = by (item_sends item) refl (none_or_some sends_of ran)
+    fired_sends _ (more {ran = ran} item how before ready truth way) = by (item_sends item) refl (none_or_some sends_of ran) (fired_sends ran before)
       where
-        by : (k : ℕ) → item_sends item ≡ k → (sum_by sends_of ran ≡ 0) ⊎ ((x : Item × How) × Contains ran x × (1 ≤ sends_of x)) → sum_by sends_of (ran ++ (item, how) ∷ []) ≤ 1
-        by k e (inl none) =
+        by : (k : ℕ) → item_sends item ≡ k → (sum_by sends_of ran ≡ 0) ⊎ ((x : Item × How) × Contains ran x × (1 ≤ sends_of x)) → sum_by sends_of ran ≤ 1
+            → sum_by sends_of (ran ++ (item, how) ∷ []) ≤ 1
+        by k e (inl none) so_far =
             let a = sum_by_push sends_of ran (item, how) in
             let one = item_sends_one item in
             omega (arith, a, one, none)
-        by zero e (inr found) =
+        by zero e (inr found) so_far =
             let a = sum_by_push sends_of ran (item, how) in
-            let so_far = fired_sends ran before in
             omega (arith, a, e, so_far)
-        by (suc k) e (inr (x, inside, sends)) =
+        by (suc k) e (inr (x, inside, sends)) so_far =
             let all = gone_fired m 0 1 (front_calm n some few) routes now begins of_states in
             let gone = more item how before ready truth way in
             let first = (all ran before x inside).1 in

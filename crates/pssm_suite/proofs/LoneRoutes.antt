@@ -72,18 +72,20 @@ module _ (m : DraftMachine) (plain : IsPlain m) where
       let x = some_at m.transitions t.0 there in
       let leaves : Leaves m t x.0.source = mapped_at (λ (y : Transition). y.source) (transition_at m t) x.0 x.1 in
       let enters : Enters m t x.0.target = mapped_at (λ (y : Transition). y.target) (transition_at m t) x.0 x.1 in
-      let home = same_home m plain t x.0.source x.0.target leaves enters in
-      (t, record {
-        starts = begin.1;
-        only = λ u is. only_reached p route t begin.1 u (route.reached u is);
-        source = x.0.source;
-        leaves = leaves;
-        target = x.0.target;
-        enters = enters;
-        home = home.0;
-        source_home = home.1;
-        target_home = home.2;
-      })
+      let home = same_home m plain t x.0.source x.0.target leaves enters in (
+        t,
+        record {
+          starts = begin.1;
+          only = λ u is. only_reached p route t begin.1 u (route.reached u is);
+          source = x.0.source;
+          leaves = leaves;
+          target = x.0.target;
+          enters = enters;
+          home = home.0;
+          source_home = home.1;
+          target_home = home.2;
+        },
+      )
 
   -- no leg follows another
   no_cut : (v : VertexId) → IsCut m v → ⊥
