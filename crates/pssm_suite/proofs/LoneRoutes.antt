@@ -118,7 +118,7 @@ module _ (m : DraftMachine) (plain : IsPlain m) where
   region_there r q (owned e) = slice_get_within m.regions r.0 q e
   region_there r q (further {q = k} e rest) = slice_get_within m.regions r.0 k e
 
-  no_circle : (r : RegionId) → LiesUnder m (Region r) (Region r) → ⊥
+  pub no_circle : (r : RegionId) → LiesUnder m (Region r) (Region r) → ⊥
   no_circle r under = circle_is_endless under (plain.regions r (region_there r (Region r) under)).above
 
   -- the region in which a vertex stands directly is there
@@ -153,14 +153,14 @@ module _ (m : DraftMachine) (plain : IsPlain m) where
     pub leg_is : (u w : TransId) → SameLeg m p u w → (u ≡ t) × (w ≡ t)
     leg_is u w leg = (lone.only u (begins_on m p u w leg), lone.only w (ends_on m p u w leg))
 
-    left_is : (u : TransId) (v : VertexId) → u ≡ t → Leaves m u v → v ≡ lone.source
+    pub left_is : (u : TransId) (v : VertexId) → u ≡ t → Leaves m u v → v ≡ lone.source
     left_is u v e l = leaves_one m t v lone.source (subst (λ k. Leaves m k v) e l) lone.leaves
 
-    entered_is : (u : TransId) (v : VertexId) → u ≡ t → Enters m u v → v ≡ lone.target
+    pub entered_is : (u : TransId) (v : VertexId) → u ≡ t → Enters m u v → v ≡ lone.target
     entered_is u v e l = enters_one m t v lone.target (subst (λ k. Enters m k v) e l) lone.enters
 
     -- its vertices lie in its home
-    of_leg_home : (u : TransId) (v : VertexId) → IsOfLeg m p u v → LiesInRegion m v lone.home
+    pub of_leg_home : (u : TransId) (v : VertexId) → IsOfLeg m p u v → LiesInRegion m v lone.home
     of_leg_home u v (w, leg, inl l) =
         subst (λ k. LiesInRegion m k lone.home) (sym (left_is w v (leg_is u w leg).1 l)) (owned lone.source_home)
     of_leg_home u v (w, leg, inr e) =
