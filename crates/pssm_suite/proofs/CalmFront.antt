@@ -31,11 +31,12 @@ triggered n (suc k) x e =
 
 -- a transition leaves the vertex of its number
 pub front_source : (n k : ℕ) (v : VertexId) → Leaves (front_machine n) (record { 0 = k }) v → v.0 ≡ k
-front_source n zero v l = let x = mapped_some (λ (y : Transition). y.source) _ v l in
+front_source n zero v l =
+    let x = mapped_some (λ (y : Transition). y.source) (slice_get (front_machine n).transitions zero) v l in
     let same : transition 0 1 [] 0 ≡ x.0 = (let is = x.1 in cc) in
     ap (λ (w : VertexId). w.0) (sym x.2) ∙ ap (λ (y : Transition). y.source.0) (sym same)
 front_source n (suc k) v l =
-    let x = mapped_some (λ (y : Transition). y.source) _ v l in
+    let x = mapped_some (λ (y : Transition). y.source) (slice_get (front_machine n).transitions (suc k)) v l in
     let is = (made_at (step n) 1 n k x.0 x.1).0 in
     let number : 1 + k ≡ suc k = omega arith in
     ap (λ (w : VertexId). w.0) (sym x.2) ∙ ap (λ (y : Transition). y.source.0) is ∙ number

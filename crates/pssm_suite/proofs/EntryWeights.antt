@@ -180,7 +180,7 @@ abbrev pub IsNoDoStep : Entry → Type 0
 IsNoDoStep (DoStep o state step outs) = ⊥
 IsNoDoStep _ = Unit {0}
 
-one_item : (b : Bool) (x : Item × How) → cond b 1 0 ≡ option_map_or (λ (y : Item × How). 1) (if b then Some x else None) 0
+one_item : (b : Bool) (x : Item × How) → ◌≡◌ {A = ℕ} (cond b 1 0) (option_map_or (λ (y : Item × How). 1) (if b then Some x else None) 0)
 one_item true x = refl
 one_item false x = refl
 
@@ -188,7 +188,7 @@ pub no_value : (value : Item × How → ℕ) (b : Bool) → (let none : Option (
 no_value value true = refl
 no_value value false = refl
 
-head_weight : (b : Bool) → (b ≡ true → ⊥) → cond b 1 0 ≡ (let none : Option (Item × How) = None in option_map_or (λ (y : Item × How). 1) (if b then none else none) 0)
+head_weight : (b : Bool) → (b ≡ true → ⊥) → ◌≡◌ {A = ℕ} (cond b 1 0) (let none : Option (Item × How) = None in option_map_or (λ (y : Item × How). 1) (if b then none else none) 0)
 head_weight true h = absurd (h refl)
 head_weight false h = refl
 

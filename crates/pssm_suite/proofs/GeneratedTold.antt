@@ -71,7 +71,7 @@ none_for_back : (xs : List Stimulus) → AllByRecursion (λ x. x ≡ go) xs → 
 none_for_back [] all = refl
 none_for_back (x ∷ xs) all =
     let a = sum_by-cons (λ (y : Stimulus). cond (is_for back_object y) 1 0) x xs in
-    let b : cond (is_for back_object x) 1 0 ≡ 0 = ap (λ (y : Stimulus). cond (is_for back_object y) 1 0) all.0 in
+    let b : ◌≡◌ {A = ℕ} (cond (is_for back_object x) 1 0) 0 = ap {B = ℕ} (λ (y : Stimulus). cond (is_for back_object y) 1 0) all.0 in
     let rest = none_for_back xs all.1 in
     omega (arith, a, b, rest)
 

@@ -21,3 +21,5 @@ pub mod TakenSignals
 pub mod GeneratedTold
 pub mod FrontSends
 pub mod RunCounts
+pub mod LoneItems
+pub mod EnabledRoutes

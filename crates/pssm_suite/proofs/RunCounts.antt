@@ -36,7 +36,7 @@ use Rattle.pssm_suite.proofs.FrontSends.{item_sends_one, sends_below}
 
 -- ---- an object starts once
 
-no_take : (b : Bool) → cond b 0 0 ≡ 0
+no_take : (b : Bool) → ◌≡◌ {A = ℕ} (cond b 0 0) 0
 no_take true = refl
 no_take false = refl
 
@@ -62,7 +62,7 @@ module _ (setting : Setting) (o : ObjectId) where
           let a = sum_by_push (own_head o 1 0) J (Start q) in
           let one = at_most_one (q.0 == o.0) in
           omega (arith, a, none, one)
-      by false e = other J (Start q) (ap (λ b. cond b 1 0) e) was
+      by false e = other J (Start q) (ap {B = ℕ} (λ b. cond b 1 0) e) was
   one_more J (Take q number firing) may was = other J (Take q number firing) (no_take (q.0 == o.0)) was
   one_more J (Post q g args) may was = other J (Post q g args) refl was
   one_more J (Done q v firing) may was = other J (Done q v firing) refl was
@@ -92,9 +92,9 @@ all_of_two n J admissible =
     ⊎_elim (λ one. inl one.0) (λ two. inr two.0) (which_object n (object_of e) known.0 known.1))
 
 -- one of the two tests is passed
-one_of_two : (q : ObjectId) → IsOfTwo q → cond (q.0 == 0) 1 0 + cond (q.0 == 1) 1 0 ≡ 1
-one_of_two q (inl e) = ap (λ (p : ObjectId). cond (p.0 == 0) 1 0 + cond (p.0 == 1) 1 0) e
-one_of_two q (inr e) = ap (λ (p : ObjectId). cond (p.0 == 0) 1 0 + cond (p.0 == 1) 1 0) e
+one_of_two : (q : ObjectId) → IsOfTwo q → ◌≡◌ {A = ℕ} (cond (q.0 == 0) 1 0 + cond (q.0 == 1) 1 0) 1
+one_of_two q (inl e) = ap {B = ℕ} (λ (p : ObjectId). cond (p.0 == 0) 1 0 + cond (p.0 == 1) 1 0) e
+one_of_two q (inr e) = ap {B = ℕ} (λ (p : ObjectId). cond (p.0 == 0) 1 0 + cond (p.0 == 1) 1 0) e
 
 entry_parts : (e : Entry) → IsOfTwo (object_of e) → length (posts_of_entry e) + own_entry front_object e + own_entry back_object e ≡ 1
 entry_parts (Post q g args) of_two = omega arith

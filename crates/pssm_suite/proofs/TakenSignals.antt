@@ -33,10 +33,10 @@ filter_le : {X : Type 0} (p : X → Bool) (xs : List X) → length (filter p xs)
 filter_le p xs = omega (arith, length-filter p xs, count_by-le-length p xs)
 
 filter_less : {X : Type 0} (p : X → Bool) (held rest : List X) (x : X) → p x ≡ false → length (filter p (held ++ x ∷ rest)) + 1 ≤ length (held ++ x ∷ rest)
-filter_less p held rest x no =
+filter_less p held rest x fails =
     let parts = ap (λ ys. length ys) (filter-append p held (x ∷ rest)) in
     let both = length-append (filter p held) (filter p (x ∷ rest)) in
-    let second = ap (λ b. length (cond b (x ∷ filter p rest) (filter p rest))) no in
+    let second = ap (λ b. length (cond b (x ∷ filter p rest) (filter p rest))) fails in
     let a = filter_le p held in
     let c = filter_le p rest in
     let whole = length-append held (x ∷ rest) in
@@ -93,14 +93,14 @@ take_own o J number firing held rest x waits was =
     let size = ap (λ (ws : List (ℕ × Stimulus)). length ws) waits in
     let told = told_more o J e in
     let taken = takes_more o J e in
-    let one = ap (λ b. cond b 1 0) (eq-eqb o.0 o.0 refl) in
+    let one = ap {B = ℕ} (λ b. cond b 1 0) (eq-eqb o.0 o.0 refl) in
     omega (arith, was, less, pool, inner, size, told, taken, one)
 
 take_other : (o q : ObjectId) (J : List Entry) (number : ℕ) (firing : Firing) → (q.0 == o.0) ≡ false → FewTaken o J → FewTaken o (J ++ Take q number firing ∷ [])
 take_other o q J number firing apart was =
-    others o J (Take q number firing) (ap (λ b. cond b 1 0) apart) (λ n. ap (λ b. b && (number == n)) apart) was
+    others o J (Take q number firing) (ap {B = ℕ} (λ b. cond b 1 0) apart) (λ n. ap (λ b. b && (number == n)) apart) was
 
-no_start : (b : Bool) → cond b 0 0 ≡ 0
+no_start : (b : Bool) → ◌≡◌ {A = ℕ} (cond b 0 0) 0
 no_start true = refl
 no_start false = refl
 
