@@ -110,7 +110,7 @@ module _ (m : DraftMachine) (first count : ℕ) (calm : IsCalm m first count) (n
       route.apart u (subst (λ w. Contains p.starts w) (sym same) (is_start p t lone.starts)) inside)
 
   -- routes of one source are the same
-  one_route : (p q : Route) → IsRoute m p → IsRoute m q → (f : FiresAt m now p) (g : FiresAt m now q) → f.lone.source ≡ g.lone.source → p ≡ q
+  pub one_route : (p q : Route) → IsRoute m p → IsRoute m q → (f : FiresAt m now p) (g : FiresAt m now q) → f.lone.source ≡ g.lone.source → p ≡ q
   one_route p q a b f g same =
       let at : f.at ≡ g.at = calm.one_step f.at g.at g.lone.source (subst (λ v. Leaves m f.at v) same f.lone.leaves) g.lone.leaves in
       same_route p q
@@ -150,7 +150,7 @@ module _ (m : DraftMachine) (first count : ℕ) (calm : IsCalm m first count) (n
       clash : (p q : Route) → IsEnabled m now truth (Signal signal) p → IsEnabled m now truth (Signal signal) q → Conflict m now.Active p q → ⊥
       clash p q e d = no_conflict p q e.route_of_states.0 d.route_of_states.0 (enabled_at signal p e) (enabled_at signal q d)
 
-      sound : (routes : List Route) → All (IsEnabled m now truth (Signal signal)) routes → IsSound m now truth (Signal signal) routes
+      pub sound : (routes : List Route) → All (IsEnabled m now truth (Signal signal)) routes → IsSound m now truth (Signal signal) routes
       sound routes all =
           let Enabled : Route → Type 0 = IsEnabled m now truth (Signal signal) in
           record {

@@ -143,10 +143,10 @@ module _ (n : ℕ) (some : 1 ≤ n) (few : n ≤ 4000) where
   no_item true r none = ap (λ x. option_map_or sends_of x 0) (none refl)
   no_item false r none = refl
 
-  no_weight : (e : Entry) → ((object_of e ≡ front_object) → IsPost e) → item_weight e ≡ 0
+  pub no_weight : (e : Entry) → ((object_of e ≡ front_object) → IsPost e) → item_weight e ≡ 0
   no_weight e h = no_item ((object_of e).0 == 0) (item_of e) (λ same. no_post_item e (h (same_object (object_of e) front_object same)))
 
-  weighs : (J : List Entry) → AllByRecursion (WeighsAs front_object item_weight sends_of) J
+  pub weighs : (J : List Entry) → AllByRecursion (WeighsAs front_object item_weight sends_of) J
   weighs [] = tt
   weighs (e ∷ J) = ((λ other. refl), weighs J)
 

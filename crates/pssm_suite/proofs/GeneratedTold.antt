@@ -31,7 +31,7 @@ use Rattle.pssm_suite.proofs.TakenSignals.{is_for, told_count}
 
 -- ---- sums over what entries tell
 
-sum_of_parts : {X Y : Type 0} (f : Y → ℕ) (g : X → List Y) (xs : List X) → sum_by f (flat_map g xs) ≡ sum_by (λ x. sum_by f (g x)) xs
+pub sum_of_parts : {X Y : Type 0} (f : Y → ℕ) (g : X → List Y) (xs : List X) → sum_by f (flat_map g xs) ≡ sum_by (λ x. sum_by f (g x)) xs
 sum_of_parts f g [] = refl
 sum_of_parts f g (x ∷ xs) =
     let a = sum_by-append f (g x) (flat_map g xs) in
@@ -87,7 +87,7 @@ sent_to_front (suc k) =
     let rest = sent_to_front k in
     omega (arith, a, rest)
 
-sent_to_back : (k : ℕ) → count_by (is_for back_object) (flat_map signals_of_out (replicate k go_on)) ≡ k
+pub sent_to_back : (k : ℕ) → count_by (is_for back_object) (flat_map signals_of_out (replicate k go_on)) ≡ k
 sent_to_back zero = refl
 sent_to_back (suc k) =
     let a = sum_by-cons (λ (y : Stimulus). cond (is_for back_object y) 1 0) sent (flat_map signals_of_out (replicate k go_on)) in
@@ -170,7 +170,7 @@ entry_to_back e posts sends =
     let some = sent_to_back (item_weight e) in
     omega (arith, parts, posted, others, some)
 
-both : {X : Type 0} (P Q R : X → Type 0) → ((x : X) → P x → Q x → R x) → (xs : List X) → AllByRecursion P xs → AllByRecursion Q xs → AllByRecursion R xs
+pub both : {X : Type 0} (P Q R : X → Type 0) → ((x : X) → P x → Q x → R x) → (xs : List X) → AllByRecursion P xs → AllByRecursion Q xs → AllByRecursion R xs
 both P Q R f [] p q = tt
 both P Q R f (x ∷ xs) p q = (f x p.0 q.0, both P Q R f xs p.1 q.1)
 

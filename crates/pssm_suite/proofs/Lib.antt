@@ -23,3 +23,13 @@ pub mod FrontSends
 pub mod RunCounts
 pub mod LoneItems
 pub mod EnabledRoutes
+pub mod LongLists
+pub mod FullFired
+pub mod FullStarts
+pub mod CalmFiring
+pub mod AllTaken
+pub mod QuietObjects
+pub mod FullSteps
+pub mod FrontWhole
+pub mod BackWhole
+pub mod RunEnds

@@ -62,11 +62,11 @@ come_few J o k (x ∷ xs) =
 abbrev FewTaken : ObjectId → List Entry → Type 0
 FewTaken o J = takes_of o J + length (pool_of J o) ≤ told_count o J
 
-told_more : (o : ObjectId) (J : List Entry) (e : Entry) → told_count o (J ++ e ∷ []) ≡ told_count o J + count_by (is_for o) (signals_of_entry e)
+pub told_more : (o : ObjectId) (J : List Entry) (e : Entry) → told_count o (J ++ e ∷ []) ≡ told_count o J + count_by (is_for o) (signals_of_entry e)
 told_more o J e =
     ap (count_by (is_for o)) (signals_of-append J e) ∙ sum_by-append (λ (y : Stimulus). cond (is_for o y) 1 0) (signals_of J) (signals_of_entry e)
 
-takes_more : (o : ObjectId) (J : List Entry) (e : Entry) → takes_of o (J ++ e ∷ []) ≡ takes_of o J + own_head o 0 1 e
+pub takes_more : (o : ObjectId) (J : List Entry) (e : Entry) → takes_of o (J ++ e ∷ []) ≡ takes_of o J + own_head o 0 1 e
 takes_more o J e = sum_by_push (own_head o 0 1) J e
 
 -- an entry that takes no signal of the object
