@@ -234,7 +234,6 @@ start_count o J = sum_by (own_head o 1 0) J
 abbrev pub takes_of : ObjectId → List Entry → ℕ
 takes_of o J = sum_by (own_head o 0 1) J
 
--- unsure: that omega takes the products of two variables as unknowns; otherwise three lemmas with numerals for first and later, as 4 and 4, 10 and 7
 pub split_heads : (o : ObjectId) (first later : ℕ) (J : List Entry) → sum_by (own_head o first later) J ≡ first * start_count o J + later * takes_of o J
 split_heads o first later [] = omega arith
 split_heads o first later (e ∷ J) =

@@ -25,7 +25,7 @@ use Rattle.pssm_model.specs.FiringSets.{IsFiring}
 use Rattle.pssm_model.specs.Order.{HasGone, course_by}
 use Rattle.pssm_model.proofs.ElementLaws.{leaves_one, all_at}
 use Rattle.pssm_model.proofs.OwnerChains.{one_owner}
-use Rattle.pssm_plan.specs.Steadiness.{changed_along}
+use Rattle.pssm_plan.specs.Steadiness.{IsConsistent}
 use Rattle.pssm_semantics.specs.declared.entry.ObjectId.{ObjectId}
 use Rattle.pssm_semantics.specs.declared.entry.Entry.{Entry}
 use Rattle.pssm_semantics.specs.declared.entry.Entry.TheVariants.{Post, Start, Take, Done, Exit, Effect, Enter, Opened, Pick, DoStep}
@@ -216,7 +216,7 @@ module _ {setting : Setting} (b : IsWellFormed setting) (o : ObjectId) (class : 
             let t = left s (record { 0 = first + j }) at.2 at.3 (omega arith) (omega (arith, lt)) in
             let there = configuration_after m c.under_way.step.before o in
             let fired = fires_there in
-            let consistent = come_consistent well_formed (inr course_before) in
+            let consistent : IsConsistent m (configuration_after m c.under_way.step.before o) = come_consistent well_formed (inr course_before) in
             let inside : Contains firing.routes (route_of t.0) =
             fires_all m first count calm there fired.truth consistent go_signal firing.routes fired.fires.0 (route_of t.0)
             (is_enabled m first count calm there fired.truth t.0 s t.1 at.2 at.1) in
