@@ -1,6 +1,6 @@
 -- What is told to an object it has taken, or it waits.
-use Rattle.std.proofs.Common.{◌≡◌, ◌≢◌, ◌⊎◌, ◌≤◌, ◌<◌, ◌+◌, ◌==◌, ◌&&◌, ◌||◌, ◌++◌, ℕ, zero, suc, List, [], ◌∷◌, length, Bool, true, false, not, cond, Some, None, filter, slice_get, refl, sym, ap, subst, ◌∙◌, ⊎_elim, arith, length-append, eq-eqb}
-use Rattle.std.specs.List.{AllByRecursion, sum_by, count_by, list_any, enumerate_from}
+use Rattle.std.proofs.Common.{◌≡◌, ◌≤◌, ◌<◌, ◌+◌, ◌==◌, ◌&&◌, ◌||◌, ◌++◌, ℕ, zero, suc, List, [], ◌∷◌, length, Bool, true, false, not, cond, Some, filter, refl, sym, ap, subst, ◌∙◌, ⊎_elim, arith, length-append, eq-eqb}
+use Rattle.std.specs.List.{AllByRecursion, count_by, list_any, enumerate_from}
 use Rattle.std.proofs.lemmas.Bool.Decides.{eqb_tells}
 use Rattle.std.proofs.lemmas.Option.{slice_get_within}
 use Rattle.std.proofs.lemmas.List.Filters.{length-filter_both}
@@ -21,7 +21,7 @@ use Rattle.pssm_semantics_laws.proofs.Admissible.{IsAdmissible-front}
 use Rattle.pssm_semantics_laws.proofs.Objects.{same_object}
 use Rattle.pssm_semantics_laws.proofs.Waiting.{waits_in, arrivals, pool_of-grows, pool_of-take}
 use Rattle.pssm_system.proofs.Takes.{admissible-keeps_takes}
-use Rattle.pssm_suite.proofs.EntryWeights.{each_entry, own_head, takes_of}
+use Rattle.pssm_suite.proofs.EntryWeights.{each_entry, takes_of}
 use Rattle.pssm_suite.proofs.TakenSignals.{is_for, told_count, told_more, takes_more}
 
 -- ---- a number stands once among the signals

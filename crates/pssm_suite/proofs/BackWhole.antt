@@ -1,5 +1,5 @@
 -- The finished steps of `b` have all their entries.
-use Rattle.std.proofs.Common.{◌≡◌, ◌⊎◌, ◌≤◌, ◌<◌, ◌+◌, ◌*◌, ℕ, zero, suc, List, length, Some, refl, sym, ap, subst, ◌∙◌, arith}
+use Rattle.std.proofs.Common.{◌≡◌, ◌≤◌, ◌<◌, ◌+◌, ℕ, zero, suc, List, length, Some, refl, sym, subst, arith}
 use Rattle.std.specs.List.{sum_by}
 use Rattle.pssm_model.specs.declared.ids.VertexId.{VertexId}
 use Rattle.pssm_model.specs.declared.ids.RegionId.{RegionId}
@@ -16,7 +16,7 @@ use Rattle.pssm_model.specs.Items.{HasRunOut}
 use Rattle.pssm_model.specs.Order.{HasGone, course_by}
 use Rattle.pssm_model.proofs.ElementLaws.{enters_one}
 use Rattle.pssm_semantics.specs.declared.entry.Entry.{Entry}
-use Rattle.pssm_suite.specs.GeneratedSetting.{back_machine, back, generated}
+use Rattle.pssm_suite.specs.GeneratedSetting.{back_machine, back}
 use Rattle.pssm_suite.proofs.LoadedSetting.{generated_well_formed}
 use Rattle.pssm_suite.proofs.PlainBack.{back_plain}
 use Rattle.pssm_suite.proofs.CalmBack.{back_calm}

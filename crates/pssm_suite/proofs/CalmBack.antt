@@ -1,5 +1,5 @@
 -- The machine of `Back` is calm: its transitions out of States are in the two regions of its State.
-use Rattle.std.proofs.Common.{◌≡◌, ◌⊎◌, ◌≤◌, ◌<◌, ◌+◌, ℕ, zero, suc, [], Option, Some, refl, sym, ap, subst, ◌∙◌, inl, inr, ⊎_elim, arith}
+use Rattle.std.proofs.Common.{◌≡◌, ◌⊎◌, ◌≤◌, ◌<◌, ℕ, zero, suc, [], Option, Some, refl, sym, ap, ◌∙◌, inl, inr, ⊎_elim, arith}
 use Rattle.std.specs.List.{AllByRecursion}
 use Rattle.std.specs.Option.{option_map_or}
 use Rattle.pssm_model.specs.declared.ids.VertexId.{VertexId}
@@ -15,7 +15,7 @@ use Rattle.pssm_model.proofs.ElementLaws.{same_transition, all_at, top_lies_nowh
 use Rattle.pssm_model.proofs.Nesting.{under_cases}
 use Rattle.pssm_suite.specs.GeneratedSetting.{on_go, back_machine}
 use Rattle.pssm_suite.proofs.PlainBack.{back_plain}
-use Rattle.pssm_suite.proofs.LoneRoutes.{IsBottom, region_there}
+use Rattle.pssm_suite.proofs.LoneRoutes.{region_there}
 use Rattle.pssm_suite.proofs.CalmMachines.{IsCalmVertex, IsCalm}
 
 calm : (x : Vertex) → x.entry.0 ≡ 0 → x.exit.0 ≡ 0 → x.steps ≡ [] → x.defers ≡ [] → IsCalmVertex x

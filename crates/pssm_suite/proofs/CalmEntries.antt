@@ -1,8 +1,7 @@
 -- Objects of calm machines do no do steps, dispatch no completions and never end.
-use Rattle.std.proofs.Common.{◌≡◌, ◌⊎◌, ◌<◌, ℕ, List, [], length, Option, Some, None, refl, ap, subst, sym, ◌∙◌, inl, inr, ⊎_elim, arith}
+use Rattle.std.proofs.Common.{◌≡◌, ℕ, List, [], length, Option, Some, None, refl, ap, subst, sym, ◌∙◌, inl, inr, ⊎_elim, arith}
 use Rattle.std.specs.Option.{option_map_or}
 use Rattle.pssm_model.specs.declared.ids.VertexId.{VertexId}
-use Rattle.pssm_model.specs.declared.ids.TransId.{TransId}
 use Rattle.pssm_model.specs.declared.elements.DraftMachine.{DraftMachine}
 use Rattle.pssm_model.specs.declared.elements.Vertex.{Vertex}
 use Rattle.pssm_model.specs.declared.elements.Transition.{Transition}
@@ -12,7 +11,7 @@ use Rattle.pssm_model.specs.Configuration.{Configuration, IsNextDoStep, do_steps
 use Rattle.pssm_model.proofs.ElementLaws.{mapped_some, leaves_at}
 use Rattle.pssm_semantics.specs.declared.entry.ObjectId.{ObjectId}
 use Rattle.pssm_semantics.specs.declared.entry.Entry.{Entry}
-use Rattle.pssm_semantics.specs.Completion.{IsQueuedAt, IsQueueEmpty, HasCompletionTransition, HasEnded}
+use Rattle.pssm_semantics.specs.Completion.{IsQueueEmpty, HasCompletionTransition, HasEnded}
 use Rattle.pssm_suite.specs.GeneratedSetting.{on_go}
 use Rattle.pssm_suite.proofs.PlainMachines.{not_both, no_other}
 use Rattle.pssm_suite.proofs.CalmMachines.{IsCalm}

@@ -1,9 +1,8 @@
 -- In a calm machine each triggered transition of an active State is an enabled route, no two enabled routes conflict, and so each of them fires.
-use Rattle.std.proofs.Common.{◌≡◌, ◌⊎◌, ◌<◌, ℕ, List, [], ◌∷◌, length, Contains, All, Some, refl, sym, ap, subst, ◌∙◌, inl, inr, ⊎_elim}
+use Rattle.std.proofs.Common.{◌≡◌, ◌<◌, ℕ, List, [], ◌∷◌, length, Contains, All, Some, refl, sym, ap, subst, ◌∙◌, inl, inr, ⊎_elim}
 use Rattle.std.proofs.lemmas.List.Elements.{All-cons, All-contains, Contains-append_right}
 use Rattle.std.proofs.lemmas.Option.{slice_get_within}
 use Rattle.pssm_model.specs.declared.ids.VertexId.{VertexId}
-use Rattle.pssm_model.specs.declared.ids.RegionId.{RegionId}
 use Rattle.pssm_model.specs.declared.ids.TransId.{TransId}
 use Rattle.pssm_model.specs.declared.ids.SignalId.{SignalId}
 use Rattle.pssm_model.specs.declared.elements.DraftMachine.{DraftMachine}
@@ -12,13 +11,12 @@ use Rattle.pssm_model.specs.declared.elements.VertexKind.{VertexKind}
 use Rattle.pssm_model.specs.declared.elements.VertexKind.TheVariants as kinds
 use Rattle.pssm_model.specs.declared.elements.Owner.TheVariants.{Region, State}
 use Rattle.pssm_model.specs.declared.steps.Route.{Route}
-use Rattle.pssm_model.specs.declared.steps.Event.{Event}
 use Rattle.pssm_model.specs.declared.steps.Event.TheVariants.{Signal}
 use Rattle.pssm_model.specs.Forest.{transition_at, HasKind, owner_of, IsOrLiesIn}
 use Rattle.pssm_model.specs.Forest.LiesUnder.{owned, further}
 use Rattle.pssm_model.specs.Legs.{Leaves, Enters, On, Exits}
 use Rattle.pssm_model.specs.Configuration.{Configuration}
-use Rattle.pssm_model.specs.Routes.{Truth, GoesOnAt, IsRoute, IsSource, IsStateRoute, IsTrueAt, Lists, IsEnabled, Conflict}
+use Rattle.pssm_model.specs.Routes.{Truth, GoesOnAt, IsRoute, IsSource, IsTrueAt, Lists, IsEnabled, Conflict}
 use Rattle.pssm_model.specs.Routes.IsReached.{start}
 use Rattle.pssm_model.specs.FiringSets.{IsSound, IsFiringSet}
 use Rattle.pssm_model.proofs.ElementLaws.{mapped_some, mapped_at, kind_unique, leaves_one, lists_at, nothing_in_nil}
@@ -26,8 +24,7 @@ use Rattle.pssm_model.proofs.RouteLaws.{in_one, is_one, nil_from_nothing, one_in
 use Rattle.pssm_model_laws.proofs.StateRoutes.{is_start, source_is_left}
 use Rattle.pssm_semantics_laws.proofs.Members.{first_in, later_in}
 use Rattle.pssm_plan.specs.Steadiness.{IsConsistent}
-use Rattle.pssm_suite.specs.GeneratedSetting.{on_go}
-use Rattle.pssm_suite.proofs.PlainMachines.{IsPlain, no_other, not_both, enters_state}
+use Rattle.pssm_suite.proofs.PlainMachines.{no_other, not_both, enters_state}
 use Rattle.pssm_suite.proofs.LoneRoutes.{IsLone, lone_route, exits_direct}
 use Rattle.pssm_suite.proofs.CalmMachines.{IsCalm}
 use Rattle.pssm_suite.proofs.FiredSteps.{FiresAt}

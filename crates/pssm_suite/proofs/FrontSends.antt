@@ -1,5 +1,5 @@
 -- `a` sends no more signals than it takes: each of its steps has at most one effect that sends.
-use Rattle.std.proofs.Common.{◌≡◌, ◌⊎◌, ◌≤◌, ◌<◌, ◌+◌, ◌==◌, ◌++◌, ℕ, zero, suc, List, [], ◌∷◌, Bool, true, false, if◌then◌else◌, Option, None, Contains, refl, sym, ap, subst, ◌∙◌, inl, inr, ⊎_elim, arith}
+use Rattle.std.proofs.Common.{◌≡◌, ◌⊎◌, ◌≤◌, ◌+◌, ◌==◌, ◌++◌, ℕ, zero, suc, List, [], ◌∷◌, Bool, true, false, if◌then◌else◌, Option, None, Contains, refl, sym, ap, subst, ◌∙◌, inl, inr, ⊎_elim, arith}
 use Rattle.std.specs.List.{AllByRecursion, sum_by}
 use Rattle.std.specs.Option.{option_map_or}
 use Rattle.std.proofs.lemmas.List.Elements.{Contains-push}
@@ -15,11 +15,10 @@ use Rattle.pssm_model.specs.Routes.{IsStateRoute}
 use Rattle.pssm_model.specs.Order.{HasGone}
 use Rattle.pssm_model.specs.Order.HasGone.{begun, more}
 use Rattle.pssm_plan.specs.Steadiness.{BeginsWell}
-use Rattle.pssm_semantics.specs.declared.entry.ObjectId.{ObjectId}
 use Rattle.pssm_semantics.specs.declared.entry.Entry.{Entry}
 use Rattle.pssm_semantics.specs.declared.entry.Entry.TheVariants.{Post, Start, Take, Done, Exit, Effect, Enter, Opened, Pick, DoStep}
 use Rattle.pssm_semantics.specs.Journal.{IsPost, Heads, object_of, configuration_after}
-use Rattle.pssm_semantics.specs.Steps.{head_of, item_of, item_by}
+use Rattle.pssm_semantics.specs.Steps.{head_of, item_of}
 use Rattle.pssm_semantics.specs.Admissible.{IsAdmissibleIn}
 use Rattle.pssm_semantics_laws.proofs.Members.{first_in, later_in}
 use Rattle.pssm_semantics_laws.proofs.Objects.{same_object}
@@ -31,8 +30,8 @@ use Rattle.pssm_suite.proofs.PlainFront.{front_plain, initial_is}
 use Rattle.pssm_suite.proofs.LoadedSetting.{generated_well_formed}
 use Rattle.pssm_suite.proofs.CalmFront.{front_source, front_calm}
 use Rattle.pssm_suite.proofs.FiredSteps.{IsFired, routes_begun, gone_fired}
-use Rattle.pssm_suite.proofs.StartSteps.{IsMoved, IsStarted, gone_started}
-use Rattle.pssm_suite.proofs.StepPlaces.{home_of, kind_of, fired_within, fired_same}
+use Rattle.pssm_suite.proofs.StartSteps.{IsStarted, gone_started}
+use Rattle.pssm_suite.proofs.StepPlaces.{kind_of, fired_within, fired_same}
 use Rattle.pssm_suite.proofs.EntryWeights.{EndsWithin, steps_below, WeighsAs, weight_of_items, sum_of_none, own_head, no_value}
 use Rattle.pssm_suite.proofs.StepSums.{yes_is, no_done, good_before, ran_of_start, ran_of_take, begins_take}
 use Rattle.pssm_suite.proofs.GeneratedObjects.{front_object, front_class}

@@ -1,6 +1,6 @@
 -- The finished steps of `a` have all their entries, and each of its takes sends one signal.
-use Rattle.std.proofs.Common.{◌≡◌, ◌⊎◌, ◌≤◌, ◌<◌, ◌+◌, ◌*◌, ◌==◌, ◌++◌, ℕ, zero, suc, List, [], ◌∷◌, length, Contains, Some, slice_get, refl, sym, ap, subst, ◌∙◌, inl, inr, ⊎_elim, arith, eq-eqb}
-use Rattle.std.specs.List.{AllByRecursion, sum_by}
+use Rattle.std.proofs.Common.{◌≡◌, ◌⊎◌, ◌≤◌, ◌<◌, ◌+◌, ℕ, zero, suc, List, [], ◌∷◌, length, Contains, Some, slice_get, refl, sym, ap, ◌∙◌, inl, inr, ⊎_elim, arith}
+use Rattle.std.specs.List.{sum_by}
 use Rattle.std.proofs.lemmas.List.FromFn.{length-map-range_with_len}
 use Rattle.std.proofs.lemmas.List.Sums.{sum_by-cons}
 use Rattle.pssm_model.specs.declared.ids.VertexId.{VertexId}
@@ -14,7 +14,7 @@ use Rattle.pssm_model.specs.declared.steps.How.{How}
 use Rattle.pssm_model.specs.declared.steps.Item.{Item}
 use Rattle.pssm_model.specs.declared.steps.Item.TheVariants as items
 use Rattle.pssm_model.specs.declared.steps.Firing.{Firing}
-use Rattle.pssm_model.specs.Forest.{vertex_at, transition_at, HasKind, owner_of}
+use Rattle.pssm_model.specs.Forest.{HasKind, owner_of}
 use Rattle.pssm_model.specs.Legs.{Leaves}
 use Rattle.pssm_model.specs.Configuration.{Configuration}
 use Rattle.pssm_model.specs.Course.Head.{Starts, Fires}
@@ -29,7 +29,7 @@ use Rattle.pssm_semantics_laws.proofs.Members.{in_cases}
 use Rattle.pssm_object.specs.Standing.{HasNotStarted}
 use Rattle.pssm_object.specs.Coming.{HasCourse}
 use Rattle.pssm_system.proofs.Coming.{has_come}
-use Rattle.pssm_suite.specs.GeneratedSetting.{front_machine, front, generated}
+use Rattle.pssm_suite.specs.GeneratedSetting.{front_machine, front}
 use Rattle.pssm_suite.proofs.PlainFront.{round, step, equal_at, made_at, front_plain}
 use Rattle.pssm_suite.proofs.PlainMachines.{not_both}
 use Rattle.pssm_suite.proofs.LoadedSetting.{generated_well_formed}

@@ -1,12 +1,11 @@
 -- The first step of a plain machine that has run out: of each region that was opened the items have run, the target is active, and its regions were opened too.
-use Rattle.std.proofs.Common.{◌≡◌, ◌⊎◌, ◌≤◌, ◌<◌, ◌+◌, ◌*◌, ◌++◌, ℕ, zero, suc, List, [], ◌∷◌, length, map, Contains, Some, refl, sym, ap, subst, ◌∙◌, inl, inr, ⊎_elim, arith}
+use Rattle.std.proofs.Common.{◌≡◌, ◌≤◌, ◌<◌, ◌+◌, ◌*◌, ◌++◌, ℕ, zero, suc, List, [], ◌∷◌, length, map, Contains, Some, refl, sym, ap, subst, ◌∙◌, inl, inr, ⊎_elim, arith}
 use Rattle.std.proofs.lemmas.List.{length-map}
 use Rattle.std.proofs.lemmas.List.Elements.{Contains-push, Contains-push_cases}
 use Rattle.pssm_model.specs.declared.ids.VertexId.{VertexId}
 use Rattle.pssm_model.specs.declared.ids.RegionId.{RegionId}
 use Rattle.pssm_model.specs.declared.ids.TransId.{TransId}
 use Rattle.pssm_model.specs.declared.elements.DraftMachine.{DraftMachine}
-use Rattle.pssm_model.specs.declared.elements.VertexKind.TheVariants as kinds
 use Rattle.pssm_model.specs.declared.elements.Owner.TheVariants.{Top, Region, State}
 use Rattle.pssm_model.specs.declared.steps.Route.{Route}
 use Rattle.pssm_model.specs.declared.steps.Mode.TheVariants.{Plain}
@@ -14,7 +13,7 @@ use Rattle.pssm_model.specs.declared.steps.How.{How}
 use Rattle.pssm_model.specs.declared.steps.How.TheVariants.{By, Restore, Nothing}
 use Rattle.pssm_model.specs.declared.steps.Item.{Item}
 use Rattle.pssm_model.specs.declared.steps.Item.TheVariants as items
-use Rattle.pssm_model.specs.Forest.{HasKind, owner_of}
+use Rattle.pssm_model.specs.Forest.{owner_of}
 use Rattle.pssm_model.specs.Legs.{Leaves}
 use Rattle.pssm_model.specs.Configuration.{Configuration}
 use Rattle.pssm_model.specs.Course.{HasRun, IsLeg, RemembersSoFar}
@@ -33,7 +32,7 @@ use Rattle.pssm_plan.specs.Steadiness.{changed_by_item, changed_along}
 use Rattle.pssm_plan.proofs.SteadyChanges.{changed_along-push}
 use Rattle.pssm_suite.proofs.PlainMachines.{IsPlain}
 use Rattle.pssm_suite.proofs.LoneRoutes.{IsLone, lone_route}
-use Rattle.pssm_suite.proofs.StartSteps.{IsMoved, IsStarted, gone_started}
+use Rattle.pssm_suite.proofs.StartSteps.{IsStarted, gone_started}
 use Rattle.pssm_suite.proofs.StepPlaces.{home_of, kind_of, place_from, item_home}
 use Rattle.pssm_suite.proofs.LoneItems.{leg_of, is_on, enters_it, aims_nowhere, effect_called, enter_called}
 use Rattle.pssm_suite.proofs.FullFired.{still_active, ran_last, no_exit_effect, no_exit_enter}

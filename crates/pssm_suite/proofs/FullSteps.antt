@@ -1,5 +1,5 @@
 -- The finished steps of an object of a calm class have all their items, and leave a State active in each region in which transitions lead from States.
-use Rattle.std.proofs.Common.{◌≡◌, ◌⊎◌, ◌≤◌, ◌<◌, ◌+◌, ◌*◌, ◌==◌, ◌++◌, ℕ, zero, suc, List, [], ◌∷◌, length, Contains, Some, refl, sym, ap, subst, ◌∙◌, inl, inr, ⊎_elim, arith, length-append, eq-eqb}
+use Rattle.std.proofs.Common.{◌≡◌, ◌⊎◌, ◌≤◌, ◌<◌, ◌+◌, ◌*◌, ◌==◌, ◌++◌, ℕ, zero, suc, List, [], ◌∷◌, length, Contains, Some, refl, ap, subst, ◌∙◌, inl, inr, ⊎_elim, arith, length-append, eq-eqb}
 use Rattle.std.specs.List.{AllByRecursion, sum_by}
 use Rattle.std.proofs.lemmas.Grind.{flat_map-append}
 use Rattle.pssm_model.specs.declared.ids.VertexId.{VertexId}
@@ -34,7 +34,7 @@ use Rattle.pssm_semantics.specs.declared.stimulus.Stimulus.{Stimulus}
 use Rattle.pssm_semantics.specs.declared.setting.Class.{Class}
 use Rattle.pssm_semantics.specs.declared.setting.Setting.{Setting}
 use Rattle.pssm_semantics.specs.Settings.{class_of}
-use Rattle.pssm_semantics.specs.Journal.{IsPost, IsStart, Splits, IsActive, Heads, object_of, configuration_after}
+use Rattle.pssm_semantics.specs.Journal.{IsPost, Splits, IsActive, Heads, object_of, configuration_after}
 use Rattle.pssm_semantics.specs.Steps.{head_of}
 use Rattle.pssm_semantics.specs.Values.{eight_of}
 use Rattle.pssm_semantics.specs.Pool.{signals_of, signals_of_entry, told_by}

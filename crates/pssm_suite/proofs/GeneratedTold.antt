@@ -1,5 +1,5 @@
 -- What is told to the two objects of the generated setting: to `a` the posts, to `b` what the effects of `a` send.
-use Rattle.std.proofs.Common.{◌≡◌, ◌⊎◌, ◌≤◌, ◌+◌, ◌==◌, ◌++◌, ℕ, zero, suc, List, [], ◌∷◌, length, cond, if◌then◌else◌, None, refl, sym, ap, subst, ◌∙◌, ⊎_elim, arith}
+use Rattle.std.proofs.Common.{◌≡◌, ◌≤◌, ◌==◌, ◌++◌, ℕ, zero, suc, List, [], ◌∷◌, length, cond, if◌then◌else◌, None, refl, sym, ap, subst, ◌∙◌, ⊎_elim, arith}
 use Rattle.std.specs.Prelude.{replicate, flat_map}
 use Rattle.std.specs.List.{AllByRecursion, sum_by, count_by}
 use Rattle.std.specs.Option.{option_map_or}
@@ -13,7 +13,7 @@ use Rattle.pssm_semantics.specs.declared.stimulus.Stimulus.{Stimulus}
 use Rattle.pssm_semantics.specs.declared.setting.Class.{Class}
 use Rattle.pssm_semantics.specs.Journal.{Splits, object_of, configuration_after}
 use Rattle.pssm_semantics.specs.Steps.{item_of, item_by}
-use Rattle.pssm_semantics.specs.Pool.{outs_of, signals_of_out, posts_of_entry, signals_of_entry, signals_of, posts_of, told_by}
+use Rattle.pssm_semantics.specs.Pool.{outs_of, signals_of_out, posts_of_entry, signals_of_entry, posts_of, told_by}
 use Rattle.pssm_semantics.specs.Known.{NamesKnown}
 use Rattle.pssm_semantics.specs.Rules.{KeepsDoSteps, KeepsOuts}
 use Rattle.pssm_semantics.specs.Admissible.{IsAdmissibleIn, FitsStimuli}
@@ -26,7 +26,7 @@ use Rattle.pssm_suite.proofs.CalmBack.{back_calm}
 use Rattle.pssm_suite.proofs.CalmEntries.{no_do_step}
 use Rattle.pssm_suite.proofs.EntryWeights.{each_entry, IsNoDoStep}
 use Rattle.pssm_suite.proofs.GeneratedObjects.{front_object, back_object, which_object}
-use Rattle.pssm_suite.proofs.GeneratedOuts.{go_on, sends_of, entry_sends, back_sends, front_sends}
+use Rattle.pssm_suite.proofs.GeneratedOuts.{go_on, sends_of, back_sends, front_sends}
 use Rattle.pssm_suite.proofs.TakenSignals.{is_for, told_count}
 
 -- ---- sums over what entries tell

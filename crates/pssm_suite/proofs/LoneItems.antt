@@ -1,5 +1,5 @@
 -- What a route of one transition calls: the exit of its source, its effect and the entry of its target.
-use Rattle.std.proofs.Common.{◌≡◌, ◌⊎◌, Some, refl, sym, subst, inl, inr, ⊎_elim}
+use Rattle.std.proofs.Common.{◌≡◌, Some, refl, sym, subst, inl, inr, ⊎_elim}
 use Rattle.pssm_model.specs.declared.ids.VertexId.{VertexId}
 use Rattle.pssm_model.specs.declared.ids.RegionId.{RegionId}
 use Rattle.pssm_model.specs.declared.ids.TransId.{TransId}
@@ -9,9 +9,9 @@ use Rattle.pssm_model.specs.declared.elements.TransKind.TheVariants.{Local, Inte
 use Rattle.pssm_model.specs.declared.elements.Owner.TheVariants.{Region, State}
 use Rattle.pssm_model.specs.declared.steps.Route.{Route}
 use Rattle.pssm_model.specs.declared.steps.Item.TheVariants as items
-use Rattle.pssm_model.specs.Forest.{owner_of, LiesUnder, LiesInRegion, IsScope}
+use Rattle.pssm_model.specs.Forest.{owner_of, LiesUnder, LiesInRegion}
 use Rattle.pssm_model.specs.Forest.LiesUnder.{owned, further}
-use Rattle.pssm_model.specs.Legs.{Leaves, On, SameLeg, LaterLeg, IsLastVertex, IsLocalFrom, IsInternal, IsOfLeg, PassesSomePoint, LegScope, LegExits, LegEnters}
+use Rattle.pssm_model.specs.Legs.{On, IsLastVertex, IsLocalFrom, IsInternal, IsOfLeg, PassesSomePoint, LegScope, LegExits, LegEnters}
 use Rattle.pssm_model.specs.Legs.Scope.{Within}
 use Rattle.pssm_model.specs.Legs.SameLeg.{itself}
 use Rattle.pssm_model.specs.Legs.LegScope.{other}

@@ -1,6 +1,6 @@
 -- The runs of a generated model have at most 12 n + 14 entries and 2 n takes, and so never fill a journal.
-use Rattle.std.proofs.Common.{◌≡◌, ◌⊎◌, ◌≤◌, ◌<◌, ◌+◌, ◌*◌, ◌==◌, ◌++◌, ℕ, zero, suc, List, [], ◌∷◌, length, Bool, true, false, cond, Option, Some, None, refl, sym, ap, subst, ◌∙◌, inl, inr, ⊎_elim, arith, length-append}
-use Rattle.std.specs.List.{AllByRecursion, sum_by, count_by}
+use Rattle.std.proofs.Common.{◌≡◌, ◌⊎◌, ◌≤◌, ◌+◌, ◌*◌, ◌==◌, ◌++◌, ℕ, List, [], ◌∷◌, length, Bool, true, false, cond, Option, Some, None, refl, ap, subst, inl, inr, ⊎_elim, arith, length-append}
+use Rattle.std.specs.List.{AllByRecursion, sum_by}
 use Rattle.std.specs.Option.{option_map_or}
 use Rattle.std.proofs.lemmas.List.{length-replicate}
 use Rattle.std.proofs.lemmas.List.Sums.{sum_by-cons, sum_by_push}
@@ -12,9 +12,9 @@ use Rattle.pssm_semantics.specs.declared.entry.Entry.TheVariants.{Post, Start, T
 use Rattle.pssm_semantics.specs.declared.entry.Rule.{Rule}
 use Rattle.pssm_semantics.specs.declared.entry.Rule.TheVariants.{A1, A3}
 use Rattle.pssm_semantics.specs.declared.setting.Setting.{Setting}
-use Rattle.pssm_semantics.specs.Journal.{IsPost, Splits, object_of}
+use Rattle.pssm_semantics.specs.Journal.{IsPost, object_of}
 use Rattle.pssm_semantics.specs.Steps.{item_by}
-use Rattle.pssm_semantics.specs.Pool.{outs_of, posts_of_entry, posts_of, output_count, pool_of}
+use Rattle.pssm_semantics.specs.Pool.{outs_of, posts_of_entry, posts_of, output_count}
 use Rattle.pssm_semantics.specs.Rules.{Holds}
 use Rattle.pssm_semantics.specs.Admissible.{IsAdmissibleIn, IsFull, FitsStimuli}
 use Rattle.pssm_semantics.proofs.Appended.{from_the_end}
@@ -30,7 +30,7 @@ use Rattle.pssm_suite.proofs.EntryWeights.{each_entry, sum_of_ones, sum_of_none,
 use Rattle.pssm_suite.proofs.StepSums.{own_below}
 use Rattle.pssm_suite.proofs.GeneratedObjects.{front_object, back_object, front_class, back_class, which_object}
 use Rattle.pssm_suite.proofs.GeneratedOuts.{go_on, sends_of}
-use Rattle.pssm_suite.proofs.TakenSignals.{told_count, few_taken}
+use Rattle.pssm_suite.proofs.TakenSignals.{few_taken}
 use Rattle.pssm_suite.proofs.GeneratedTold.{sums_below, posts_go, SendsAsItem, all_send, item_weight, told_to_front, told_to_back}
 use Rattle.pssm_suite.proofs.FrontSends.{item_sends_one, sends_below}
 

@@ -1,5 +1,5 @@
 -- Where a run of a generated model has ended quietly it has exactly 12 n + 14 entries and 2 n takes.
-use Rattle.std.proofs.Common.{◌≡◌, ◌⊎◌, ◌≤◌, ◌<◌, ◌+◌, ◌*◌, ◌==◌, ◌++◌, ℕ, zero, suc, List, [], ◌∷◌, length, cond, Contains, Some, refl, sym, ap, subst, ◌∙◌, ⊎_elim, arith, append-nil}
+use Rattle.std.proofs.Common.{◌≡◌, ◌≤◌, ◌+◌, ◌*◌, ◌==◌, ℕ, zero, suc, List, [], ◌∷◌, length, cond, Contains, refl, sym, ap, subst, ◌∙◌, arith, append-nil}
 use Rattle.std.specs.Prelude.{replicate, flat_map}
 use Rattle.std.specs.List.{AllByRecursion, sum_by, count_by}
 use Rattle.std.proofs.lemmas.List.{length-replicate}
@@ -10,10 +10,10 @@ use Rattle.pssm_semantics.specs.declared.entry.Entry.{Entry}
 use Rattle.pssm_semantics.specs.declared.entry.Entry.TheVariants.{Post, Start, Take, Done, Exit, Effect, Enter, Opened, Pick, DoStep}
 use Rattle.pssm_semantics.specs.declared.stimulus.Stimulus.{Stimulus}
 use Rattle.pssm_semantics.specs.Journal.{IsStart}
-use Rattle.pssm_semantics.specs.Pool.{outs_of, signals_of_out, posts_of_entry, signals_of_entry, signals_of, posts_of, pool_of}
+use Rattle.pssm_semantics.specs.Pool.{outs_of, signals_of_out, posts_of_entry, signals_of_entry, posts_of, pool_of}
 use Rattle.pssm_semantics.proofs.Appended.{AllByRecursion-append}
-use Rattle.pssm_suite.specs.Counts.{take_count, IsGeneratedRun, IsGeneratedEnd, HasAllEntries}
-use Rattle.pssm_suite.specs.Generated.{go, generated_stimuli}
+use Rattle.pssm_suite.specs.Counts.{IsGeneratedRun, IsGeneratedEnd, HasAllEntries}
+use Rattle.pssm_suite.specs.Generated.{go}
 use Rattle.pssm_suite.specs.GeneratedSetting.{front, back, generated}
 use Rattle.pssm_suite.proofs.LoadedSetting.{generated_well_formed}
 use Rattle.pssm_suite.proofs.CalmFront.{front_calm}
@@ -22,10 +22,10 @@ use Rattle.pssm_suite.proofs.EnabledRoutes.{go_signal}
 use Rattle.pssm_suite.proofs.EntryWeights.{own_entry, own_head, split_heads, start_count, takes_of}
 use Rattle.pssm_suite.proofs.GeneratedObjects.{front_object, back_object, front_class, back_class}
 use Rattle.pssm_suite.proofs.GeneratedOuts.{go_on}
-use Rattle.pssm_suite.proofs.TakenSignals.{is_for, told_count, few_taken}
+use Rattle.pssm_suite.proofs.TakenSignals.{is_for, told_count}
 use Rattle.pssm_suite.proofs.AllTaken.{all_taken}
-use Rattle.pssm_suite.proofs.GeneratedTold.{sum_of_parts, sums_below, both, PostsGo, posts_go, SendsAsItem, all_send, item_weight, sent_to_back, told_to_front, told_to_back}
-use Rattle.pssm_suite.proofs.RunCounts.{RunParts, run_parts}
+use Rattle.pssm_suite.proofs.GeneratedTold.{sum_of_parts, sums_below, both, PostsGo, posts_go, SendsAsItem, all_send, item_weight, sent_to_back}
+use Rattle.pssm_suite.proofs.RunCounts.{run_parts}
 use Rattle.pssm_suite.proofs.FullSteps.{AreGo, go_at}
 use Rattle.pssm_suite.proofs.QuietObjects.{course, finished, none_waits}
 use Rattle.pssm_suite.proofs.FrontWhole.{weighs_within, FrontDone, front_exactly, sends_exactly}

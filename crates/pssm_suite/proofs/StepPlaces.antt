@@ -35,7 +35,7 @@ use Rattle.pssm_plan.specs.Steadiness.{BeginsWell}
 use Rattle.pssm_suite.proofs.PlainMachines.{IsPlain}
 use Rattle.pssm_suite.proofs.LoneRoutes.{IsLone, home_there}
 use Rattle.pssm_suite.proofs.CalmMachines.{IsCalm}
-use Rattle.pssm_suite.proofs.FiredSteps.{IsItemOf, FiresAt, IsFired, gone_fired, one_transition}
+use Rattle.pssm_suite.proofs.FiredSteps.{IsItemOf, IsFired, gone_fired, one_transition}
 use Rattle.pssm_suite.proofs.StartSteps.{IsMoved, IsStarted, gone_started, one_first}
 
 -- ---- items of which each has a number of its own, below a bound

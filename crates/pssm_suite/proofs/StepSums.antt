@@ -1,14 +1,10 @@
 -- How many entries an object of a calm class has, by its starts and takes.
-use Rattle.std.proofs.Common.{◌≡◌, ◌⊎◌, ◌≤◌, ◌<◌, ◌+◌, ◌*◌, ◌==◌, ◌++◌, ℕ, List, [], ◌∷◌, length, Bool, true, cond, Some, Contains, filter_map, refl, sym, ap, subst, ◌∙◌, inl, inr, ⊎_elim, arith}
+use Rattle.std.proofs.Common.{◌≡◌, ◌⊎◌, ◌≤◌, ◌+◌, ◌*◌, ◌==◌, ◌++◌, ℕ, List, ◌∷◌, length, Bool, true, cond, Some, refl, sym, ap, subst, ◌∙◌, inl, inr, ⊎_elim, arith}
 use Rattle.std.specs.List.{AllByRecursion, sum_by}
 use Rattle.pssm_model.specs.declared.ids.VertexId.{VertexId}
 use Rattle.pssm_model.specs.declared.elements.DraftMachine.{DraftMachine}
 use Rattle.pssm_model.specs.declared.steps.Firing.{Firing}
 use Rattle.pssm_model.specs.declared.steps.Route.{Route}
-use Rattle.pssm_model.specs.declared.steps.How.{How}
-use Rattle.pssm_model.specs.declared.steps.Item.{Item}
-use Rattle.pssm_model.specs.Configuration.{Configuration}
-use Rattle.pssm_model.specs.Course.{Head}
 use Rattle.pssm_model.specs.Course.Head.{Starts, Fires}
 use Rattle.pssm_model.specs.Order.{HasGone}
 use Rattle.pssm_plan.specs.Steadiness.{BeginsWell}
@@ -28,7 +24,7 @@ use Rattle.pssm_semantics.proofs.Appended.{AllByRecursion-back}
 use Rattle.pssm_semantics_laws.proofs.Admissible.{IsAdmissible-front}
 use Rattle.pssm_semantics_laws.proofs.Objects.{same_object}
 use Rattle.pssm_object.specs.Standing.{IsUnderWay, HasNotStarted}
-use Rattle.pssm_object.specs.Coming.{HasCome, HasCourse}
+use Rattle.pssm_object.specs.Coming.{HasCourse}
 use Rattle.pssm_system.proofs.Coming.{has_come}
 use Rattle.pssm_suite.proofs.CalmMachines.{IsCalm}
 use Rattle.pssm_suite.proofs.CalmEntries.{no_do_step, none_queued}

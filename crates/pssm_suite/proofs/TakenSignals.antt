@@ -1,6 +1,6 @@
 -- An object takes no more signals than are told to it.
-use Rattle.std.proofs.Common.{◌≡◌, ◌≢◌, ◌⊎◌, ◌≤◌, ◌<◌, ◌+◌, ◌==◌, ◌&&◌, ◌++◌, ℕ, zero, suc, List, [], ◌∷◌, length, Bool, true, false, not, cond, Some, filter, refl, sym, ap, subst, ◌∙◌, arith, length-append, eq-eqb}
-use Rattle.std.specs.List.{sum_by, count_by, list_any, enumerate_from}
+use Rattle.std.proofs.Common.{◌≡◌, ◌≤◌, ◌+◌, ◌==◌, ◌&&◌, ◌++◌, ℕ, List, [], ◌∷◌, length, Bool, true, false, not, cond, filter, refl, sym, ap, subst, ◌∙◌, arith, length-append, eq-eqb}
+use Rattle.std.specs.List.{count_by, list_any, enumerate_from}
 use Rattle.std.proofs.lemmas.List.Elements.{filter-append}
 use Rattle.std.proofs.lemmas.List.Sums.{sum_by-cons, sum_by-append, sum_by_push, length-filter, count_by-le-length}
 use Rattle.pssm_model.specs.declared.steps.Firing.{Firing}
@@ -17,7 +17,7 @@ use Rattle.pssm_semantics.specs.Admissible.{IsAdmissibleIn}
 use Rattle.pssm_semantics.proofs.Appended.{from_the_end}
 use Rattle.pssm_semantics_laws.proofs.Admissible.{IsAdmissible-front, IsAdmissible-last}
 use Rattle.pssm_semantics_laws.proofs.Objects.{same_object}
-use Rattle.pssm_semantics_laws.proofs.Waiting.{signals_of-append, waits_in, arrivals, pool_of-grows, pool_of-same, pool_of-take}
+use Rattle.pssm_semantics_laws.proofs.Waiting.{signals_of-append, waits_in, arrivals, pool_of-grows, pool_of-take}
 use Rattle.pssm_suite.proofs.EntryWeights.{own_head, takes_of}
 
 -- whether the signal is one for the object, and how many of these a journal has
