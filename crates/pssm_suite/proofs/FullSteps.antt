@@ -48,8 +48,8 @@ use Rattle.pssm_semantics_laws.proofs.SettingClasses.{class_of_object}
 use Rattle.pssm_semantics_laws.proofs.Objects.{same_object}
 use Rattle.pssm_object.specs.Standing.{HasNotStarted}
 use Rattle.pssm_object.specs.Coming.{HasCourse}
-use Rattle.pssm_object.proofs.Coming.{come_started, come_consistent}
-use Rattle.pssm_object.proofs.Rules.{unstarted_finished}
+use Rattle.pssm_object.proofs.Coming.{come_consistent}
+use Rattle.pssm_object.proofs.Rules.{not_started, unstarted_finished}
 use Rattle.pssm_object.proofs.UnderWay.{finished_step}
 use Rattle.pssm_system.proofs.Coming.{has_come}
 use Rattle.pssm_system.proofs.Takes.{pool_of-waits}
@@ -172,8 +172,11 @@ module _ {setting : Setting} (b : IsWellFormed setting) (o : ObjectId) (class : 
 
       pub course_before : HasCourse m c.under_way.step.before o
       course_before =
-          come_started (has_come b o class is c.under_way.step.before before_good)
-          (done.admissible c.under_way.step.before c.under_way.step.after (Take o number firing) take_splits A3 class is)
+          let start = done.admissible c.under_way.step.before c.under_way.step.after (Take o number firing) take_splits A3 class is in
+          ⊎_elim
+          (λ (none : HasNotStarted m c.under_way.step.before o). absurd (not_started c.under_way.step.before o none.posts start.0 start.1 start.2))
+          (λ (earlier : HasCourse m c.under_way.step.before o). earlier)
+          (has_come b o class is c.under_way.step.before before_good)
 
       -- what the take fires
       record IsFiredAt : Type 0 where
