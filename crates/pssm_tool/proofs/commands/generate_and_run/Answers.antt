@@ -33,7 +33,6 @@ run_generated-requires-clause-known c =
     (c.as_slice-in-Ok-Ok.ensures.value ∙ c.in_ok-text.ensures.stimuli)
 
 -- The setting is the generated one.
--- unsure: the goals of `some` and `few` close by themselves
 pub run_generated-requires-clause-generated : goal.run_generated-requires-clause-generated
 run_generated-requires-clause-generated c =
     let reads : ReadsSetting c.as_slice.result.now c.in-Ok-Ok.setting [] = (rw c.in-Ok-Ok.field-0-is at c.in-Ok-Ok.ensures.loads) in

@@ -3,9 +3,8 @@ use Rattle.pssm_tool.proofs.GeneratedLaws.{never_full, quiet_due}
 use Rattle.pssm_tool.proofs.commands.run_generated.Goals as goal
 
 -- The journal is not full.
--- unsure: the goal's name
-pub prove-unreachable-requires : goal.prove-unreachable-requires
-prove-unreachable-requires c =
+pub unreachable-requires : goal.unreachable-requires
+unreachable-requires c =
     never_full c.args.setting c.in_ok-system.system.setting c.args.number c.args.stimuli.now c.in_ok-system.system.journal c.in_ok-text.text c.in_ok-system.ensures.setting c.requires.stimuli
     c.in_ok-text.ensures (c.in_ok-system.ensures.setting ∙ c.requires.generated) (c.generated_runs.ensures.never_full c.args.number c.requires.some c.requires.few)
     c.in_ok-system.ended c.in_ok-system.ensures.ends c.in-Limit.is
