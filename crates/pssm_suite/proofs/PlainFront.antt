@@ -20,20 +20,20 @@ use Rattle.pssm_suite.specs.GeneratedSetting.{vertex, transition, on_go, front_m
 use Rattle.pssm_suite.proofs.PlainMachines.{IsPlain, IsPlainVertex, IsPlainTransition, IsPlainRegion}
 use Rattle.pssm_suite.proofs.SettingText.{one_of_equal}
 
-abbrev round : Vertex
+abbrev pub round : Vertex
 round = vertex 0 kinds.State []
 
 abbrev pub step : ℕ → ℕ → Transition
 step n i = transition i (next_state n i) on_go i
 
 -- what stands among equal items
-equal_at : {X : Type 0} (y : X) (n i : ℕ) (x : X) → slice_get (replicate n y) i ≡ Some x → (x ≡ y) × (i < n)
+pub equal_at : {X : Type 0} (y : X) (n i : ℕ) (x : X) → slice_get (replicate n y) i ≡ Some x → (x ≡ y) × (i < n)
 equal_at y zero i x e = absurd cc
 equal_at y (suc n) zero x e = (cc, omega arith)
 equal_at y (suc n) (suc i) x e = let h = equal_at y n i x e in (h.0, omega (arith, h.1))
 
 -- what stands among items that are made from their numbers
-made_at : {X : Type 0} (f : ℕ → X) (k n i : ℕ) (x : X) → slice_get (map f (range_with_len k n)) i ≡ Some x → (x ≡ f (k + i)) × (i < n)
+pub made_at : {X : Type 0} (f : ℕ → X) (k n i : ℕ) (x : X) → slice_get (map f (range_with_len k n)) i ≡ Some x → (x ≡ f (k + i)) × (i < n)
 made_at f k zero i x e = absurd cc
 made_at f k (suc n) zero x e = let same : k ≡ k + 0 = omega arith in (let is : x ≡ f k = cc in is ∙ ap f same, omega arith)
 made_at f k (suc n) (suc i) x e =
@@ -59,10 +59,10 @@ module _ (n : ℕ) (some : 1 ≤ n) (few : n ≤ 4000) where
       subst (IsPlainVertex (front_machine n)) same (record { kind_is = inr refl; home = record { 0 = 0 }; owner_is = refl; there = omega arith })
 
   -- where a State of the circle stands, and of what kind it is
-  state_home : (j : ℕ) → 1 ≤ j → j ≤ n → owner_of (front_machine n) (State (record { 0 = j })) ≡ Some (Region (record { 0 = 0 }))
+  pub state_home : (j : ℕ) → 1 ≤ j → j ≤ n → owner_of (front_machine n) (State (record { 0 = j })) ≡ Some (Region (record { 0 = 0 }))
   state_home j le ge = mapped_at (λ (y : Vertex). y.owner) _ round (state_at j le ge)
 
-  state_kind : (j : ℕ) → 1 ≤ j → j ≤ n → HasKind (front_machine n) (record { 0 = j }) kinds.State
+  pub state_kind : (j : ℕ) → 1 ≤ j → j ≤ n → HasKind (front_machine n) (record { 0 = j }) kinds.State
   state_kind j le ge = mapped_at (λ (y : Vertex). y.kind) _ round (state_at j le ge)
 
   not_initial : (j : ℕ) → 1 ≤ j → j ≤ n → HasKind (front_machine n) (record { 0 = j }) kinds.Initial → ⊥
@@ -93,7 +93,7 @@ module _ (n : ℕ) (some : 1 ≤ n) (few : n ≤ 4000) where
         untriggered = λ i. absurd (not_initial (1 + k) (omega arith) (omega (arith, h.1)) i);
       })
 
-  initial_is : (v : VertexId) → HasKind (front_machine n) v kinds.Initial → v.0 ≡ 0
+  pub initial_is : (v : VertexId) → HasKind (front_machine n) v kinds.Initial → v.0 ≡ 0
   initial_is v h = number v.0 h where
     number : (k : ℕ) → HasKind (front_machine n) (record { 0 = k }) kinds.Initial → k ≡ 0
     number zero h = refl
@@ -103,7 +103,7 @@ module _ (n : ℕ) (some : 1 ≤ n) (few : n ≤ 4000) where
         absurd (let e : kinds.State ≡ kinds.Initial = ap (λ (y : Vertex). y.kind) (sym round_is.0) ∙ x.2 in cc)
 
   -- the one transition out of the initial vertex
-  first_out : (u : TransId) → Leaves (front_machine n) u (record { 0 = 0 }) → u.0 ≡ 0
+  pub first_out : (u : TransId) → Leaves (front_machine n) u (record { 0 = 0 }) → u.0 ≡ 0
   first_out u l = number u.0 l where
     number : (k : ℕ) → Leaves (front_machine n) (record { 0 = k }) (record { 0 = 0 }) → k ≡ 0
     number zero l = refl

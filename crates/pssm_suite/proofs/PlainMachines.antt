@@ -68,19 +68,19 @@ pub record IsPlain (m : DraftMachine) : Type 0 where
   pub one_out : (v : VertexId) → HasKind m v kinds.Initial → (t : TransId) × Leaves m t v × ((u : TransId) → Leaves m u v → u ≡ t)
 
 module _ (m : DraftMachine) (plain : IsPlain m) where
-  kinds_of : (v : VertexId) (k : VertexKind) → HasKind m v k → (k ≡ kinds.Initial) ⊎ (k ≡ kinds.State)
+  pub kinds_of : (v : VertexId) (k : VertexKind) → HasKind m v k → (k ≡ kinds.Initial) ⊎ (k ≡ kinds.State)
   kinds_of v k h =
       let x = mapped_some (λ (y : Vertex). y.kind) (vertex_at m v) k h in
       subst (λ (j : VertexKind). (j ≡ kinds.Initial) ⊎ (j ≡ kinds.State)) x.2 (plain.vertices v x.0 x.1).kind_is
 
-  no_other : (v : VertexId) (k : VertexKind) → k ≢ kinds.Initial → k ≢ kinds.State → HasKind m v k → ⊥
+  pub no_other : (v : VertexId) (k : VertexKind) → k ≢ kinds.Initial → k ≢ kinds.State → HasKind m v k → ⊥
   no_other v k a b h = elim (kinds_of v k h) [ inl e ↦ a e | inr e ↦ b e ]
 
-  no_history : (v : VertexId) → IsHistory m v → ⊥
+  pub no_history : (v : VertexId) → IsHistory m v → ⊥
   no_history v (inl h) = no_other v kinds.ShallowHistory (λ e. cc) (λ e. cc) h
   no_history v (inr h) = no_other v kinds.DeepHistory (λ e. cc) (λ e. cc) h
 
-  no_point : (v : VertexId) → IsPoint m v → ⊥
+  pub no_point : (v : VertexId) → IsPoint m v → ⊥
   no_point v (inl h) = no_other v kinds.EntryPoint (λ e. cc) (λ e. cc) h
   no_point v (inr h) = no_other v kinds.ExitPoint (λ e. cc) (λ e. cc) h
 
@@ -91,15 +91,15 @@ module _ (m : DraftMachine) (plain : IsPlain m) where
     | inr e ↦ absurd (subst IsPseudostateKind e is)
   ]
 
-  not_both : (v : VertexId) → HasKind m v kinds.State → HasKind m v kinds.Initial → ⊥
+  pub not_both : (v : VertexId) → HasKind m v kinds.State → HasKind m v kinds.Initial → ⊥
   not_both v a b = let e : kinds.State ≡ kinds.Initial = kind_unique m v kinds.State kinds.Initial a b in cc
 
-  enters_state : (t : TransId) (w : VertexId) → Enters m t w → HasKind m w kinds.State
+  pub enters_state : (t : TransId) (w : VertexId) → Enters m t w → HasKind m w kinds.State
   enters_state t w h =
       let x = mapped_some (λ (y : Transition). y.target) (transition_at m t) w h in
       subst (λ (u : VertexId). HasKind m u kinds.State) x.2 (plain.transitions t x.0 x.1).target_kind
 
-  no_guard : (t : TransId) → HasGuard m t → ⊥
+  pub no_guard : (t : TransId) → HasGuard m t → ⊥
   no_guard t h =
       let g = some_and (λ (g : Guard). g ≢ Always) (guard_of m t) h in
       let x = mapped_some (λ (y : Transition). y.guard) (transition_at m t) g.0 g.1 in
@@ -110,7 +110,7 @@ module _ (m : DraftMachine) (plain : IsPlain m) where
       let x = mapped_some (λ (y : Transition). y.guard) (transition_at m t) Otherwise h in
       let e : Otherwise ≡ Always = sym x.2 ∙ (plain.transitions t x.0 x.1).unguarded in cc
 
-  goes_external : (t : TransId) (k : TransKind) → Goes m t k → k ≡ External
+  pub goes_external : (t : TransId) (k : TransKind) → Goes m t k → k ≡ External
   goes_external t k h =
       let x = mapped_some (λ (y : Transition). y.kind) (transition_at m t) k h in
       sym x.2 ∙ (plain.transitions t x.0 x.1).external
@@ -122,7 +122,7 @@ module _ (m : DraftMachine) (plain : IsPlain m) where
       x.2 ((plain.transitions t x.0 x.1).untriggered (subst (λ (u : VertexId). HasKind m u kinds.Initial) (sym same) k))
 
   -- the ends of a transition lie in one region
-  same_home : (t : TransId) (v w : VertexId) → Leaves m t v → Enters m t w → (r : RegionId) × (owner_of m (State v) ≡ Some (Region r)) × (owner_of m (State w) ≡ Some (Region r))
+  pub same_home : (t : TransId) (v w : VertexId) → Leaves m t v → Enters m t w → (r : RegionId) × (owner_of m (State v) ≡ Some (Region r)) × (owner_of m (State w) ≡ Some (Region r))
   same_home t v w l e =
       let x = mapped_some (λ (y : Transition). y.source) (transition_at m t) v l in
       let is = plain.transitions t x.0 x.1 in (

@@ -1,10 +1,13 @@
 //! What is known of each generated model.
-ghost use Rattle.std.specs.Prelude.{◌≡◌, ◌≤◌, ℕ, []};
+ghost use Rattle.std.specs.Prelude.{◌≡◌, ◌≤◌, ℕ, List, []};
 ghost use Rattle.std.specs.List.{AllByRecursion};
+ghost use Rattle.pssm_semantics.specs.declared.entry.Entry.{Entry};
+ghost use Rattle.pssm_semantics.specs.Admissible.{IsFull};
 ghost use Rattle.pssm_semantics.specs.Proper.{IsWellFormed};
 ghost use Rattle.pssm_flat.specs.Flat.{IsFlat};
 ghost use Rattle.pssm_flat.specs.Text.{flat_text};
 ghost use Rattle.pssm_load.specs.Loads.{ReadsSetting};
+ghost use Rattle.pssm_suite.specs.Counts.{IsGeneratedRun, IsGeneratedEnd, HasFewEntries, HasAllEntries};
 ghost use Rattle.pssm_suite.specs.Generated.{generated_text, generated_stimuli};
 ghost use Rattle.pssm_suite.specs.GeneratedSetting.{generated, IsStimulusFor};
 
@@ -19,4 +22,16 @@ pub fn generated_texts()
 pub fn generated_settings()
     ensures well_formed { (n : ℕ) → 1 ≤ n → n ≤ 4000 → IsWellFormed (generated n) }
     ensures stimuli { (n : ℕ) → AllByRecursion (IsStimulusFor (generated n)) (generated_stimuli n) }
+{}
+
+/// However a run of the generated model goes, it has few entries and takes, and never fills a journal of a million
+/// entries.
+pub fn generated_runs()
+    ensures few { (n : ℕ) → 1 ≤ n → n ≤ 4000 → (J : List Entry) → IsGeneratedRun n J → HasFewEntries n J }
+    ensures never_full { (n : ℕ) → 1 ≤ n → n ≤ 4000 → (J : List Entry) → IsGeneratedRun n J → IsFull 1000000 J → ⊥ }
+{}
+
+/// Where it has come to its end, it has all of them, whichever way it went.
+pub fn generated_ends()
+    ensures { (n : ℕ) → 1 ≤ n → n ≤ 4000 → (J : List Entry) → IsGeneratedEnd n J → HasAllEntries n J }
 {}

@@ -7,5 +7,5 @@
 mod laws;
 mod writing;
 
-pub use laws::{generated_settings, generated_texts};
+pub use laws::{generated_ends, generated_runs, generated_settings, generated_texts};
 pub use writing::generate;

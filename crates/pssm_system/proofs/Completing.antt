@@ -136,7 +136,7 @@ work-free (Done o v firing) h = tt
 work-free (Pick o v route) h = tt
 work-free (DoStep o v k outs) h = tt
 
-work-no_post : (e : Entry) → IsWork e → IsPost e → ⊥
+pub work-no_post : (e : Entry) → IsWork e → IsPost e → ⊥
 work-no_post (Post o g args) h post = h
 work-no_post (Exit o v outs) h post = post
 work-no_post (Effect o t outs) h post = post
@@ -165,7 +165,7 @@ differ-pairs (o ∷ rest) h =
 module _ {setting : Setting} (b : IsWellFormed setting) where
   module _ (o : ObjectId) (class : Class) (is : class_of setting o ≡ Some class) where
     -- an entry that goes on with its step may follow
-    may-go_on : (J : List Entry) (e : Entry) → GoesOn class J o e → MayFollow setting J e
+    pub may-go_on : (J : List Entry) (e : Entry) → GoesOn class J o e → MayFollow setting J e
     may-go_on J e h rule =
         let fits = (class_of_object setting b o class is).1 in
         let here : class_of setting (object_of e) ≡ Some class = ap (λ q. class_of setting q) h.own ∙ is in

@@ -2,7 +2,7 @@
 use Rattle.std.proofs.Common.{◌≡◌, ◌⊎◌, ◌<◌, ℕ, List, [], length, refl, sym, ap, subst, ◌∙◌, inl, inr, arith}
 use Rattle.std.specs.Prelude.{Option, Some, None, IsSome, IfSome}
 use Rattle.pssm_base.specs.Reading.{Contents, ReadsWhole, HoldsMore}
-use Rattle.pssm_semantics.specs.declared.entry.Entry.{Entry}
+use Rattle.sha2.specs.Sha256.{sha256}
 use Rattle.pssm_semantics.specs.declared.setting.Setting.{Setting}
 use Rattle.pssm_semantics.specs.declared.stimulus.Stimulus.{Stimulus}
 use Rattle.pssm_flat.specs.Text.{flat_text}
@@ -12,13 +12,12 @@ use Rattle.pssm_load.specs.declared.fault.LoadFault.{LoadFault}
 use Rattle.pssm_load.specs.Loads.{Reads, ReadsSetting, IsLoadFault}
 use Rattle.pssm_tool.specs.declared.run_words.Options.{Options}
 use Rattle.pssm_tool.specs.declared.answer.Answer.{Answer}
-use Rattle.pssm_tool.specs.declared.answer.Answer.TheVariants.{WellFormed, Usage, TooLarge, Journal, Flat, BadModel}
-use Rattle.pssm_tool.specs.declared.run.Ended.{Ended}
-use Rattle.pssm_tool.specs.declared.run.Ended.TheVariants as ends
+use Rattle.pssm_tool.specs.declared.answer.Answer.TheVariants.{WellFormed, Usage, TooLarge, Journal, Flat, Generated, BadModel}
 use Rattle.pssm_tool.specs.Words.{Meaning, Judges, Runs, Checks, Prints, Generates, Means}
 use Rattle.pssm_tool.specs.Stimuli.{AreStimuli}
 use Rattle.pssm_tool.specs.Answers.{code_of}
-use Rattle.pssm_tool.specs.Due.{Source, File, Generator, source_of, IsLarge, HasBytes, HasModel, answer_to, IsDueForJournal, large_journal, judged, IsDueForRun, unfit, ran, answer_to_run, IsDueForGenerated, IsDueForModel, IsOwed, usage, large_model, bad_model, on_model, IsTold, IsRunOwed, named, generated, IsOfRun}
+use Rattle.pssm_suite.specs.Counts.{take_count}
+use Rattle.pssm_tool.specs.Due.{Source, File, Generator, source_of, IsLarge, HasBytes, HasModel, answer_to, IsDueForJournal, large_journal, judged, IsDueForRun, unfit, ran, IsDueForGenerated, IsDueForModel, IsOwed, usage, large_model, bad_model, on_model, IsTold, IsRunOwed, named, generated, IsOfRun}
 use Rattle.pssm_tool.proofs.WordLaws.{one_meaning}
 use Rattle.pssm_tool.proofs.DueLaws.{model_named, journal_named}
 
@@ -98,13 +97,8 @@ same_code a b x y same e f = inl (ap code_of e ∙ same ∙ sym (ap code_of f))
 of_run : (a b : Answer) → a ≡ b → IsOfRun b → IsOfRun a
 of_run a b e run = subst IsOfRun (sym e) run
 
--- What is said of a generated model's run is of a run.
-generated_of_run : (n : ℕ) (J : List Entry) (text : List ℕ) (ended : Ended) → IsOfRun (answer_to_run n J text ended)
-generated_of_run n J text ends.Quiet = tt
-generated_of_run n J text ends.Limit = tt
-
 generated_answered : (s : Setting) (n : ℕ) (a : Answer) → IsDueForGenerated s n a → IsOfRun a
-generated_answered s n a p = of_run a (answer_to_run n p.run.journal p.text p.ended) p.answered (generated_of_run n p.run.journal p.text p.ended)
+generated_answered s n a p = of_run a (Generated n (length p.run.journal) (take_count p.run.journal) (sha256 p.text)) p.answered tt
 
 run_once : (s : Setting) (options : Options) (names : List (List ℕ)) (a b : Answer) → IsDueForRun s options names a → IsDueForRun s options names b → AreAlike a b
 run_once s options names a b (unfit none e) (unfit also f) = same_code a b Usage Usage refl e f

@@ -7,14 +7,16 @@ use Rattle.pssm_semantics.specs.declared.entry.Entry.{Entry}
 use Rattle.pssm_semantics.specs.declared.setting.Setting.{Setting}
 use Rattle.pssm_semantics.specs.declared.stimulus.Stimulus.{Stimulus}
 use Rattle.pssm_load.specs.Loads.{Reads, ReadsSetting}
+use Rattle.pssm_semantics.specs.Admissible.{IsAdmissibleIn, IsFull, FitsStimuli}
+use Rattle.pssm_suite.specs.Counts.{take_count, IsGeneratedRun}
 use Rattle.pssm_suite.specs.Generated.{generated_text, generated_stimuli}
 use Rattle.pssm_suite.specs.GeneratedSetting.{IsStimulusFor}
 use Rattle.pssm_suite.specs.GeneratedSetting.{generated as generated_setting}
 use Rattle.pssm_tool.specs.declared.answer.Answer.{Answer}
-use Rattle.pssm_tool.specs.declared.answer.Answer.TheVariants.{Journal, Generated}
+use Rattle.pssm_tool.specs.declared.answer.Answer.TheVariants.{Generated}
 use Rattle.pssm_tool.specs.declared.run.Ended.{Ended}
 use Rattle.pssm_tool.specs.declared.run.Ended.TheVariants.{Quiet, Limit}
-use Rattle.pssm_tool.specs.RunTexts.{EndsRun, take_count}
+use Rattle.pssm_tool.specs.RunTexts.{EndsRun}
 use Rattle.pssm_tool.specs.declared.failure.Failure.{Failure}
 use Rattle.pssm_tool.specs.Words.{Generates, Means}
 use Rattle.pssm_tool.specs.Due.{IsDueForGenerated, IsOwed, bad_model, on_model}
@@ -35,6 +37,11 @@ generated_known one n s stimuli reads is for same =
     subst (λ (t : List Stimulus). AllByRecursion (IsKnown s) t) (sym same)
     (subst (λ (t : Setting). AllByRecursion (IsKnown t) (generated_stimuli n)) here (all_known (generated_setting n) (generated_stimuli n) for))
 
+-- The setting that the generated text is read as is the generated one.
+pub generated_read_as : ((bytes : List ℕ) (a b : Setting) → Reads bytes a → Reads bytes b → a ≡ b) → (n : ℕ) (s : Setting) → ReadsSetting (generated_text n) s []
+    → ReadsSetting (generated_text n) (generated_setting n) [] → s ≡ generated_setting n
+generated_read_as one n s reads is = one (generated_text n) s (generated_setting n) reads.reads is.reads
+
 -- What is owed for the run of a generated model is owed for the words.
 pub generated_owed : (r : Result Answer Failure) (n : ℕ) (s : Setting) → ReadsSetting (generated_text n) s [] → IfOk r (IsDueForGenerated s n)
     → IfOk r (λ a. (words : List (List ℕ)) → Means words (Generates n) → (contents : Contents) → IsOwed words contents a)
@@ -51,22 +58,22 @@ module _ (s own : Setting) (n : ℕ) (given : List Stimulus) (J : List Entry) (b
   here : IsTextOf s J bytes
   here = subst (λ (t : Setting). IsTextOf t J bytes) same text
 
-  -- The journal is full.
-  pub full_due : (ended : Ended) → EndsRun s given 1000000 J ended → ended ≡ Limit → (a : Answer) → a ≡ Journal bytes ended → IsDueForGenerated s n a
-  full_due Quiet run is a e = absurd cc
-  full_due Limit run is a e = record {
-    text = bytes;
-    ended = Limit;
-    run = record { journal = J; lines = here.lines; text = here.text; kept = here.kept; run = subst (λ (t : List Stimulus). EndsRun s t 1000000 J Limit) are run };
-    answered = e;
-  }
+  -- The journal is not full.
+  pub never_full : own ≡ generated_setting n → ((K : List Entry) → IsGeneratedRun n K → IsFull 1000000 K → ⊥) → (ended : Ended) → EndsRun s given 1000000 J ended → ended ≡ Limit → ⊥
+  never_full is law Quiet run at = cc
+  never_full is law Limit run at =
+      law J
+      (record {
+        admissible = subst (λ (t : Setting). IsAdmissibleIn t J) is text.kept.admissible;
+        fits = subst (λ (xs : List Stimulus). FitsStimuli J xs) are run.fits;
+      })
+      run.ends
 
   -- The run ended quietly.
   pub quiet_due : (ended : Ended) → EndsRun s given 1000000 J ended → ended ≡ Quiet → (a : Answer) → a ≡ Generated n (length J) (take_count J) (sha256 bytes) → IsDueForGenerated s n a
   quiet_due Limit run is a e = absurd cc
   quiet_due Quiet run is a e = record {
     text = bytes;
-    ended = Quiet;
     run = record { journal = J; lines = here.lines; text = here.text; kept = here.kept; run = subst (λ (t : List Stimulus). EndsRun s t 1000000 J Quiet) are run };
     answered = e;
   }

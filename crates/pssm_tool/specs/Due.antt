@@ -5,7 +5,6 @@ use Rattle.std.specs.Io.KnownBytes.{Appends}
 use Rattle.sha2.specs.Sha256.{sha256}
 use Rattle.pssm_base.specs.Faults.{Rose}
 use Rattle.pssm_base.specs.Reading.{Contents, ReadsWhole, HoldsMore}
-use Rattle.pssm_semantics.specs.declared.entry.Entry.{Entry}
 use Rattle.pssm_semantics.specs.declared.setting.Setting.{Setting}
 use Rattle.pssm_semantics.specs.declared.stimulus.Stimulus.{Stimulus}
 use Rattle.pssm_flat.specs.Text.{flat_text}
@@ -14,6 +13,7 @@ use Rattle.pssm_lines.specs.declared.fault.LineFault.TheVariants as faults
 use Rattle.pssm_journal.specs.Judged.{Judged, Accepted, Refused, Limited, BadText, IsJudged}
 use Rattle.pssm_load.specs.declared.fault.LoadFault.{LoadFault}
 use Rattle.pssm_load.specs.Loads.{ReadsSetting, IsLoadFault}
+use Rattle.pssm_suite.specs.Counts.{take_count}
 use Rattle.pssm_suite.specs.Generated.{generated_text, generated_stimuli}
 use Rattle.pssm_tool.specs.declared.run_words.Options.{Options}
 use Rattle.pssm_tool.specs.declared.answer.Answer.{Answer}
@@ -22,7 +22,7 @@ use Rattle.pssm_tool.specs.declared.run.Ended.{Ended}
 use Rattle.pssm_tool.specs.declared.run.Ended.TheVariants as ends
 use Rattle.pssm_tool.specs.Words.{Meaning, Judges, Runs, Checks, Prints, Generates, Means, IsUsage}
 use Rattle.pssm_tool.specs.Stimuli.{AreStimuli}
-use Rattle.pssm_tool.specs.RunTexts.{IsRunText, take_count}
+use Rattle.pssm_tool.specs.RunTexts.{IsRunText}
 use Rattle.pssm_tool.specs.Answers.{text_of}
 
 -- the most bytes that a model or a journal may have
@@ -105,18 +105,12 @@ pub data IsDueForRun (setting : Setting) (options : Options) (names : List (List
   ran : (stimuli : List Stimulus) (text : List ℕ) (ended : Ended) → AreStimuli setting names stimuli → IsRunText setting stimuli options.limit text ended
       → answer ≡ Journal text ended → IsDueForRun setting options names answer
 
--- what is said of the run of a generated model: the line on its journal
--- (That the journal is never full is not proved yet: one that is full would be written itself.)
-abbrev pub answer_to_run : ℕ → List Entry → List ℕ → Ended → Answer
-answer_to_run n J text ends.Quiet = Generated n (length J) (take_count J) (sha256 text)
-answer_to_run n J text ends.Limit = Journal text ends.Limit
-
--- The answer is owed for a run of a generated model with the stimuli for it, and with a limit of a million entries.
+-- The answer is owed for a run of a generated model with the stimuli for it: the line on its journal, when nothing more can happen.
+-- (With a limit of a million entries no such journal is ever full.)
 pub record IsDueForGenerated (setting : Setting) (n : ℕ) (answer : Answer) : Type 0 where
   pub text : List ℕ
-  pub ended : Ended
-  pub run : IsRunText setting (generated_stimuli n) most_entries text ended
-  pub answered : answer ≡ answer_to_run n run.journal text ended
+  pub run : IsRunText setting (generated_stimuli n) most_entries text ends.Quiet
+  pub answered : answer ≡ Generated n (length run.journal) (take_count run.journal) (sha256 text)
 
 -- The answer is owed for a command on a model that breaks no rule.
 abbrev pub IsDueForModel : Contents → Setting → Meaning → Answer → Type 0

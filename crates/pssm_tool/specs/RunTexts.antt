@@ -1,7 +1,6 @@
 -- What a run of a setting with stimuli comes to.
-use Rattle.std.specs.Prelude.{◌≡◌, ◌≤◌, ℕ, Bool, true, false, List, length, count_by}
+use Rattle.std.specs.Prelude.{◌≡◌, ◌≤◌, ℕ, List, length}
 use Rattle.pssm_semantics.specs.declared.entry.Entry.{Entry}
-use Rattle.pssm_semantics.specs.declared.entry.Entry.TheVariants.{Take}
 use Rattle.pssm_semantics.specs.declared.line.Line.{Line}
 use Rattle.pssm_semantics.specs.declared.setting.Setting.{Setting}
 use Rattle.pssm_semantics.specs.declared.stimulus.Stimulus.{Stimulus}
@@ -10,15 +9,6 @@ use Rattle.pssm_lines.specs.LineText.{journal_text}
 use Rattle.pssm_journal.specs.Judged.{IsKept}
 use Rattle.pssm_tool.specs.declared.run.Ended.{Ended}
 use Rattle.pssm_tool.specs.declared.run.Ended.TheVariants.{Quiet, Limit}
-
--- whether the entry takes a signal
-abbrev pub takes_signal : Entry → Bool
-takes_signal (Take object number firing) = true
-takes_signal _ = false
-
--- how many entries take a signal
-abbrev pub take_count : List Entry → ℕ
-take_count J = count_by takes_signal J
 
 -- The journal ends as it should: nothing more can happen, or it is full.
 abbrev pub EndsAs : Setting → List Stimulus → ℕ → List Entry → Ended → Type 0

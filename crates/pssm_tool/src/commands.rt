@@ -5,8 +5,9 @@ ghost use Rattle.pssm_base.specs.Reading.{Contents};
 ghost use Rattle.pssm_semantics.specs.Names.{HasSpelledNames};
 ghost use Rattle.pssm_semantics.specs.Proper.{IsWellFormed};
 ghost use Rattle.pssm_suite.specs.Generated.{generated_stimuli};
+ghost use Rattle.pssm_suite.specs.GeneratedSetting.{generated as generated_setting};
 ghost use Rattle.pssm_tool.specs.Words.{Means, Judges, Checks, Prints, Generates};
-ghost use Rattle.pssm_tool.specs.RunTexts.{take_count, takes_signal as takes_a_signal};
+ghost use Rattle.pssm_suite.specs.Counts.{take_count, takes_signal as takes_a_signal};
 ghost use Rattle.pssm_tool.specs.inner.Commands.{meaning_of_run};
 ghost use Rattle.pssm_tool.specs.Due.{IsOwed, IsDueForGenerated, answer_to_fault};
 ghost use Rattle.pssm_tool.specs.inner.Verdicts.{said};
@@ -26,7 +27,7 @@ use pssm_judge::{JudgeFault, LineFault, Verdict, judge};
 use pssm_load::one_load;
 use pssm_model::Text;
 use pssm_semantics::{Entry, Setting, Stimulus};
-use pssm_suite::{generate, generated_settings, generated_texts};
+use pssm_suite::{generate, generated_runs, generated_settings, generated_texts};
 use sha2::{Digest, Sha256};
 use std::alloc::Global;
 
@@ -183,15 +184,20 @@ fn run_generated(
     requires spelled { HasSpelledNames setting }
     requires known { AllByRecursion (IsKnown setting) stimuli.now }
     requires stimuli { stimuli.now ≡ generated_stimuli number }
+    requires some { 1 ≤ number }
+    requires few { number ≤ 4000 }
+    requires generated { setting ≡ generated_setting number }
     ensures owed { IfOk result (IsDueForGenerated setting number) }
     ensures goes_on { IfOk result (λ answer. (words : List (List ℕ)) (contents : Contents)
         → GoesOn words contents answer) }
     ensures failed { IfErr result (λ failure. failure ≡ Failure.NoMemory) }
 {
+    generated_runs();
     let (system, ended) = run(alloc, setting, stimuli, u64::from(number), MOST_ENTRIES)?;
     let text = text_of(alloc, &system)?;
     match ended {
-        Ended::Limit => Ok(Answer::Journal { text, ended }),
+        // No run of a generated model has so many entries.
+        Ended::Limit => unreachable!(),
         Ended::Quiet => Ok(Answer::Generated {
             number,
             entries: system.entries().len(),

@@ -5,7 +5,7 @@ use Rattle.pssm_load.specs.Loads.{ReadsSetting}
 use Rattle.pssm_suite.specs.Generated.{generated_text}
 use Rattle.pssm_tool.specs.inner.Failures.{IsRefusedFor}
 use Rattle.pssm_tool.proofs.GeneratedSize.{generated_small}
-use Rattle.pssm_tool.proofs.GeneratedLaws.{generated_known, generated_owed, refusal_owed}
+use Rattle.pssm_tool.proofs.GeneratedLaws.{generated_known, generated_read_as, generated_owed, refusal_owed}
 use Rattle.pssm_tool.proofs.commands.generate_and_run.Goals as goal
 
 -- The text has few bytes.
@@ -31,6 +31,13 @@ run_generated-requires-clause-known c =
     generated_known c.one_load.ensures.setting c.args.number c.in-Ok-Ok.setting c.as_slice-in-Ok-Ok.result.now here
     (c.generated_texts.ensures.read c.args.number c.requires.some c.requires.few) (c.generated_settings.ensures.stimuli c.args.number)
     (c.as_slice-in-Ok-Ok.ensures.value ∙ c.in_ok-text.ensures.stimuli)
+
+-- The setting is the generated one.
+pub run_generated-requires-clause-generated : goal.run_generated-requires-clause-generated
+run_generated-requires-clause-generated c =
+    let reads : ReadsSetting c.as_slice.result.now c.in-Ok-Ok.setting [] = (rw c.in-Ok-Ok.field-0-is at c.in-Ok-Ok.ensures.loads) in
+    let here = subst (λ (t : List ℕ). ReadsSetting t c.in-Ok-Ok.setting []) (c.as_slice.ensures.value ∙ c.in_ok-text.ensures.text) reads in
+    generated_read_as c.one_load.ensures.setting c.args.number c.in-Ok-Ok.setting here (c.generated_texts.ensures.read c.args.number c.requires.some c.requires.few)
 
 pub returns-in-Ok-Ok-clause-owed : goal.returns-in-Ok-Ok-clause-owed
 returns-in-Ok-Ok-clause-owed c =

@@ -1,12 +1,13 @@
-use Rattle.std.proofs.Common.{refl}
-use Rattle.pssm_tool.proofs.GeneratedLaws.{full_due, quiet_due}
+use Rattle.std.proofs.Common.{refl, ◌∙◌}
+use Rattle.pssm_tool.proofs.GeneratedLaws.{never_full, quiet_due}
 use Rattle.pssm_tool.proofs.commands.run_generated.Goals as goal
 
--- The journal is full.
-pub returns-in-Limit-clause-owed : goal.returns-in-Limit-clause-owed
-returns-in-Limit-clause-owed c =
-    full_due c.args.setting c.in_ok-system.system.setting c.args.number c.args.stimuli.now c.in_ok-system.system.journal c.in_ok-text.text c.in_ok-system.ensures.setting c.requires.stimuli
-    c.in_ok-text.ensures c.in_ok-system.ended c.in_ok-system.ensures.ends c.in-Limit.is _ refl
+-- The journal is not full.
+pub unreachable-requires : goal.unreachable-requires
+unreachable-requires c =
+    never_full c.args.setting c.in_ok-system.system.setting c.args.number c.args.stimuli.now c.in_ok-system.system.journal c.in_ok-text.text c.in_ok-system.ensures.setting c.requires.stimuli
+    c.in_ok-text.ensures (c.in_ok-system.ensures.setting ∙ c.requires.generated) (c.generated_runs.ensures.never_full c.args.number c.requires.some c.requires.few)
+    c.in_ok-system.ended c.in_ok-system.ensures.ends c.in-Limit.is
 
 -- The run ended quietly.
 pub returns-clause-owed : goal.returns-clause-owed
