@@ -14,8 +14,8 @@ use std::snapshot::Snapshot;
 
 /// What the names of a setting's objects, signals and marks stand for (UML 2.5.1, 7.4.3, namespaces).
 ///
-/// It is made once of a setting, which clauses see. A look-up goes by the hash of a name, compares it with few others,
-/// and takes no memory.
+/// It is made once of a setting, which clauses see. A look-up compares a name with few others: with all of them where
+/// there are at most four, and otherwise with those that its hash leads to. It takes no memory.
 #[derive(Drop)]
 pub struct Namespace {
     setting: Snapshot<Setting>,

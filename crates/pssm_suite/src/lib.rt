@@ -1,4 +1,4 @@
-//! Generated models: for each number a model and stimuli for it, whose every run has the same counts.
+//! Generated models: for each number a model and stimuli for it.
 //!
 //! What the model of a number is stands in this crate's `specs/`, as a text and as a setting.
 //! This crate knows nothing of how a run is made.
