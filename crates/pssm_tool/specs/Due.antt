@@ -147,7 +147,7 @@ pub data IsRunOwed (words : List (List ℕ)) (contents : Contents) (setting : Se
       → AreStimuli setting names stimuli → IsRunOwed words contents setting stimuli
   generated : (n : ℕ) → Means words (Generates n) → HasModel contents (Generator n) setting → stimuli ≡ generated_stimuli n → IsRunOwed words contents setting stimuli
 
--- The answer is what a run came to: its journal, or the line on it. (Which of the runs that may be it was, the words do not tell.)
+-- The answer is what a run came to: its journal, or the line on it. (Several runs may be owed; the words do not tell which it is.)
 abbrev pub IsOfRun : Answer → Type 0
 IsOfRun (Journal text ended) = Unit {0}
 IsOfRun (Generated n entries takes digest) = Unit {0}

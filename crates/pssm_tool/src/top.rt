@@ -29,12 +29,15 @@ use std::alloc::Global;
 /// texts and the statuses are this profile's choice). `words` are those after the program's name.
 ///
 /// `judge MODEL JOURNAL` judges a journal of a run of the model, and writes one line.
-/// `run [--seed N] [--workers W] [--limit L] MODEL STIMULUS*` runs the model and writes the journal. `check MODEL` says
-/// whether the model is well formed, and `flat MODEL` writes its flat text. `gen N` runs the generated model of a
-/// number from 1 to 4000, and writes a line with the counts and the digest of its journal. A model is in the flat form,
-/// where its bytes begin with `pssm-flat`, and otherwise a model file as an editor writes it. What is written goes to
-/// `out` at once, after all else is done; before that nothing is written. `rt` and `gate` are for commands
-/// that start workers, of which there is none.
+/// `run [--seed N] [--workers W] [--limit L] MODEL STIMULUS*` runs the model and writes the
+/// journal; the options may stand anywhere before `--`. `check MODEL` says whether the model is
+/// well formed, and `flat MODEL` writes its flat text. `gen N` runs the generated model of a number
+/// from 1 to 4000, and writes a line with the counts and the digest of its journal.
+///
+/// A model is in the flat form, where its bytes begin with `pssm-flat`, and otherwise a model file
+/// as an editor writes it. What is written goes to `out` at once, after all else is done; before
+/// that nothing is written. `rt` and `gate` are for commands that start workers, of which there is
+/// none.
 pub fn pssm<R, I: Inputs, S: Sink, G: Gate + Sync>(
     _rt: &R,
     alloc: Global,
@@ -63,7 +66,8 @@ pub fn pssm<R, I: Inputs, S: Sink, G: Gate + Sync>(
 
     // 0: the journal is admissible, and `accept N` says how many entries it has; or the journal was written of a run
     // that ended where nothing more can happen; or the model, of either form, keeps the rules of models, and
-    // `well formed` or its flat text was written; or the line was written on a generated model's run, which ended so.
+    // `well formed` or its flat text was written; or the line was written on a run of a generated model that ended
+    // where nothing more can happen.
     ensures accepted { result.code ≡ 0
         → ((n : ℕ) × Gives (texts words.now) (I.content inputs.old)
         (S.taken out.old) (S.taken out.new) (Answer.Accept n))
