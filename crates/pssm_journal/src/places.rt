@@ -1,7 +1,6 @@
 //! Where names stand among those of their kind.
 ghost use Rattle.std.specs.Prelude.{◌≡◌, ℕ, List, IfOk, OnOk};
-ghost use Rattle.std.specs.Option.{option_copied};
-ghost use Rattle.pssm_journal.specs.inner.Places.{place_in, place_noted, place_among, HoldsPlaces};
+ghost use Rattle.pssm_journal.specs.inner.Places.{place_in, place_noted, HoldsPlaces};
 
 use crate::keys::{KeptName, LentName};
 use indexmap::{Equivalent, IndexMap};

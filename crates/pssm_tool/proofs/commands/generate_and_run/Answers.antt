@@ -1,8 +1,7 @@
-use Rattle.std.proofs.Common.{◌≡◌, ◌∙◌, ◌≤◌, List, ℕ, [], length, subst, sym}
+use Rattle.std.proofs.Common.{◌∙◌, ◌≤◌, List, ℕ, [], length, subst, sym}
 use Rattle.pssm_semantics.specs.Names.{HasSpelledNames}
 use Rattle.pssm_semantics.specs.Proper.{IsWellFormed}
 use Rattle.pssm_load.specs.Loads.{ReadsSetting}
-use Rattle.pssm_suite.specs.Generated.{generated_text}
 use Rattle.pssm_tool.specs.inner.Failures.{IsRefusedFor}
 use Rattle.pssm_tool.proofs.GeneratedSize.{generated_small}
 use Rattle.pssm_tool.proofs.GeneratedLaws.{generated_known, generated_owed, refusal_owed}
