@@ -1,5 +1,6 @@
 //! `Marks`: the names of marks in the order in which they are first named.
-ghost use Rattle.std.specs.Prelude.{◌≡◌, ◌<◌, ◌++◌, ◌∷◌, [], List, ℕ, None, length, take, position, bytes_eq, IfOk, IfErr, IfSome};
+ghost use Rattle.std.specs.Prelude.{◌≡◌, ◌<◌, ◌++◌, ◌∷◌, [], List, ℕ, None, length, take, position, bytes_eq};
+ghost use Rattle.std.specs.Prelude.{IfOk, IfErr, IfSome};
 ghost use Rattle.pssm_acts.specs.Marks.{mark_of, with_mark};
 
 use crate::expr_reader::place_of;

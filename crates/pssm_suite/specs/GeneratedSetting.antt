@@ -24,8 +24,14 @@ vertex r kind label =
 
 -- an external transition without a guard, with the effect of a number
 abbrev pub transition : ℕ → ℕ → List SignalId → ℕ → Transition
-transition source target triggers effect =
-    record { source = record { 0 = source }; target = record { 0 = target }; kind = External; triggers = triggers; guard = Always; effect = record { 0 = effect } }
+transition source target triggers effect = record {
+  source = record { 0 = source };
+  target = record { 0 = target };
+  kind = External;
+  triggers = triggers;
+  guard = Always;
+  effect = record { 0 = effect };
+}
 
 -- the signal `Go` alone
 abbrev pub on_go : List SignalId
@@ -50,7 +56,12 @@ front_machine n = record {
 
 -- each step has a behaviour of its own, and all of them are alike
 abbrev pub front : ℕ → Class
-front n = record { name = codes "Front"; vars = []; machine = front_machine n; program = record { acts = nothing ∷ replicate n send_on; guards = []; marks = [] } }
+front n = record {
+  name = codes "Front";
+  vars = [];
+  machine = front_machine n;
+  program = record { acts = nothing ∷ replicate n send_on; guards = []; marks = [] };
+}
 
 -- ---- the class `Back`
 

@@ -17,7 +17,8 @@ use Rattle.pssm_load.specs.Loads.{ReadsSetting, IsLoadFault}
 use Rattle.pssm_suite.specs.Generated.{generated_text, generated_stimuli}
 use Rattle.pssm_tool.specs.declared.run_words.Options.{Options}
 use Rattle.pssm_tool.specs.declared.answer.Answer.{Answer}
-use Rattle.pssm_tool.specs.declared.answer.Answer.TheVariants.{Accept, Refuse, Limit, WellFormed, Usage, BadLine, NoEnd, TooLarge, Journal, Flat, Generated, BadModel}
+use Rattle.pssm_tool.specs.declared.answer.Answer.TheVariants.{Accept, Refuse, Limit, WellFormed, Usage, BadLine, NoEnd, TooLarge}
+use Rattle.pssm_tool.specs.declared.answer.Answer.TheVariants.{Journal, Flat, Generated, BadModel}
 use Rattle.pssm_tool.specs.declared.run.Ended.{Ended}
 use Rattle.pssm_tool.specs.declared.run.Ended.TheVariants as ends
 use Rattle.pssm_tool.specs.Words.{Meaning, Judges, Runs, Checks, Prints, Generates, Means, IsUsage}
@@ -132,8 +133,8 @@ pub data IsOwed (words : List (List ℕ)) (contents : Contents) (answer : Answer
   large_model : (meaning : Meaning) → Means words meaning → IsLarge contents (source_of meaning) → answer ≡ TooLarge → IsOwed words contents answer
   bad_model : (meaning : Meaning) (bytes : List ℕ) (fault : LoadFault) → Means words meaning → HasBytes contents (source_of meaning) bytes
       → IsLoadFault bytes fault → answer ≡ BadModel fault → IsOwed words contents answer
-  on_model : (meaning : Meaning) (setting : Setting) → Means words meaning → HasModel contents (source_of meaning) setting → IsDueForModel contents setting meaning answer
-      → IsOwed words contents answer
+  on_model : (meaning : Meaning) (setting : Setting) → Means words meaning → HasModel contents (source_of meaning) setting
+      → IsDueForModel contents setting meaning answer → IsOwed words contents answer
 
 -- The answer is owed, and its text was written.
 abbrev pub Gives : List (List ℕ) → Contents → Option (List ℕ) → Option (List ℕ) → Answer → Type 0
@@ -145,7 +146,8 @@ Gives words contents before after answer = IsOwed words contents answer × Appen
 pub data IsRunOwed (words : List (List ℕ)) (contents : Contents) (setting : Setting) (stimuli : List Stimulus) : Type 0 where
   named : (options : Options) (model : List ℕ) (names : List (List ℕ)) → Means words (Runs options model names) → HasModel contents (File model) setting
       → AreStimuli setting names stimuli → IsRunOwed words contents setting stimuli
-  generated : (n : ℕ) → Means words (Generates n) → HasModel contents (Generator n) setting → stimuli ≡ generated_stimuli n → IsRunOwed words contents setting stimuli
+  generated : (n : ℕ) → Means words (Generates n) → HasModel contents (Generator n) setting → stimuli ≡ generated_stimuli n
+      → IsRunOwed words contents setting stimuli
 
 -- The answer is what a run came to: its journal, or the line on it. (Several runs may be owed; the words do not tell which it is.)
 abbrev pub IsOfRun : Answer → Type 0

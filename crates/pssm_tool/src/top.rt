@@ -93,8 +93,8 @@ pub fn pssm<R, I: Inputs, S: Sink, G: Gate + Sync>(
     ensures bad_model { result.code ≡ 3 → (fault : LoadFault) × Gives (texts words.now) (I.content inputs.old)
         (S.taken out.old) (S.taken out.new) (Answer.BadModel fault) }
 
-    // 4: `journal line L byte B` names the first byte at which the journal's text goes wrong, and `journal line L no end`
-    // the line within which it ends; no earlier line breaks a rule.
+    // 4: `journal line L byte B` names the first byte at which the journal's text goes wrong, and
+    // `journal line L no end` the line within which it ends; no earlier line breaks a rule.
     ensures bad_journal { result.code ≡ 4
         → ((line : ℕ) × (byte : ℕ) × Gives (texts words.now) (I.content inputs.old)
         (S.taken out.old) (S.taken out.new) (Answer.BadLine line byte))
@@ -133,7 +133,8 @@ pub fn pssm<R, I: Inputs, S: Sink, G: Gate + Sync>(
 
     // 6: writing failed in this call. A front of the text that was owed was taken.
     ensures write_fault { result.code ≡ 6 → Rose (S.faults out.old) (S.faults out.new) }
-    ensures write_fault_part { result.code ≡ 6 → (answer : Answer) × IsOwed (texts words.now) (I.content inputs.old) answer
+    ensures write_fault_part { result.code ≡ 6 → (answer : Answer)
+        × IsOwed (texts words.now) (I.content inputs.old) answer
         × TookPart (S.taken out.old) (S.taken out.new) (text_of answer) }
 
     // 7: there was not enough memory. Nothing is written.

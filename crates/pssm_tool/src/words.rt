@@ -48,7 +48,8 @@ pub fn command_of(alloc: Global, words: &[String]) -> Result<Option<Command<'_>>
 
 // The command to run the generated model of the number that the word spells.
 fn generated<'a>(word: &str) -> Option<Command<'a>>
-    ensures reads { IfSome result (λ command. (n : ℕ) × (meaning_of command ≡ Generates n) × IsNumber word.now 1 4000 n) }
+    ensures reads { IfSome result (λ command. (n : ℕ)
+        × (meaning_of command ≡ Generates n) × IsNumber word.now 1 4000 n) }
     ensures none { IfNone result ((n : ℕ) → IsNumber word.now 1 4000 n → ⊥) }
 {
     let number = number_of(word, 1, 4000)?;
