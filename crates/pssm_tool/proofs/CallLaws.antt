@@ -25,7 +25,8 @@ use Rattle.pssm_lines.proofs.OneFault.{no_line_fault}
 use Rattle.pssm_journal.specs.Entries.{◌>>=◌, IsEntryOf, KeepsNames, BreaksNames, entry_named, entry_at, object_named, signal_named}
 use Rattle.pssm_journal.proofs.LineLengths.{short_line}
 use Rattle.pssm_tool.specs.inner.Calls.{post_text, IsPost, ShowsCall}
-use Rattle.pssm_tool.specs.Words.{lent, IsCall, IsStimulusText}
+use Rattle.pssm_tool.specs.Words.{IsCall, IsStimulusText}
+use Rattle.pssm_tool.specs.inner.Commands.{lent}
 use Rattle.pssm_tool.specs.inner.Running.{IsKnown, NameNoStimuli}
 use Rattle.pssm_tool.specs.Stimuli.{post_of, Names, AreStimuli}
 

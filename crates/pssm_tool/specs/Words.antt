@@ -1,6 +1,5 @@
 -- The words of the command line, and the command that they mean.
 use Rattle.std.specs.Prelude.{◌≡◌, ℕ, ℤ, List, [], ◌∷◌, map, codes, String, string_bytes, Option, Some, None, true}
-use Rattle.std.specs.Borrow.{Bor}
 use Rattle.std.specs.List.{AllByRecursion}
 use Rattle.std.specs.declared.alloc.Global.{Global}
 use Rattle.clap.specs.Lexer.{usize_max}
@@ -14,10 +13,6 @@ use Rattle.pssm_tool.specs.declared.run_words.Options.{Options}
 -- words as texts
 abbrev pub texts : List (String Global) → List (List ℕ)
 texts words = map string_bytes words
-
--- the same of words that are lent
-abbrev pub lent : List (Bor (List ℕ)) → List (List ℕ)
-lent words = map (λ word. word.now) words
 
 -- The first of the words is this one.
 abbrev pub BeginWith : List (List ℕ) → List ℕ → Type 0

@@ -1,8 +1,8 @@
 //! The words of `run`, as clap reads them.
 ghost use Rattle.std.specs.Prelude.{◌≡◌, ◌≤◌, [], false, List, ℕ, codes, IfOk, IfSome, IfNone};
 ghost use Rattle.clap.specs.Words.{app_of, fault_of, first_of, found_of, matches_of, rows_of, rule_of};
-ghost use Rattle.pssm_tool.specs.Words.{texts, lent, BeginWith, Means, IsUsage};
-ghost use Rattle.pssm_tool.specs.inner.Commands.{meaning_of_run};
+ghost use Rattle.pssm_tool.specs.Words.{texts, BeginWith, Means, IsUsage};
+ghost use Rattle.pssm_tool.specs.inner.Commands.{meaning_of_run, lent};
 ghost use Rattle.pssm_tool.specs.Words.{option_rule, list_rule, run_command as command_of_run, HasNumber, HasOptions, AsksFor};
 
 use crate::stimuli::are_spelled;

@@ -5,8 +5,7 @@ use Rattle.pssm_semantics.specs.declared.setting.Setting.{Setting}
 use Rattle.pssm_semantics.specs.declared.stimulus.Stimulus.{Stimulus}
 use Rattle.pssm_semantics.specs.Names.{HasSpelledNames}
 use Rattle.pssm_semantics.specs.Proper.{IsWellFormed}
-use Rattle.pssm_tool.specs.Words.{lent}
-use Rattle.pssm_tool.specs.inner.Commands.{meaning_of_run}
+use Rattle.pssm_tool.specs.inner.Commands.{meaning_of_run, lent}
 use Rattle.pssm_tool.specs.Due.{File, HasModel, unfit, ran, on_model}
 use Rattle.pssm_tool.specs.Stimuli.{AreStimuli}
 use Rattle.pssm_tool.specs.inner.Running.{IsKnown, NameNoStimuli}
