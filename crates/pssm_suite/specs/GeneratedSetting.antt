@@ -81,8 +81,8 @@ back = record { name = codes "Back"; vars = []; machine = back_machine; program 
 -- ---- the setting
 
 -- the signal `Go` without parameters, the two classes, and an object of each
-unfoldable pub generated : ℕ → Setting
-generated n = record {
+unfoldable pub generated_setting : ℕ → Setting
+generated_setting n = record {
   signals = record { name = codes "Go"; count = 0 } ∷ [];
   classes = front n ∷ back ∷ [];
   objects = record { name = codes "a"; class = 0 } ∷ record { name = codes "b"; class = 1 } ∷ [];

@@ -6,17 +6,17 @@ ghost use Rattle.pssm_flat.specs.Flat.{IsFlat};
 ghost use Rattle.pssm_flat.specs.Text.{flat_text};
 ghost use Rattle.pssm_load.specs.Loads.{ReadsSetting};
 ghost use Rattle.pssm_suite.specs.Generated.{generated_text, generated_stimuli};
-ghost use Rattle.pssm_suite.specs.GeneratedSetting.{generated, IsStimulusFor};
+ghost use Rattle.pssm_suite.specs.GeneratedSetting.{generated_setting, IsStimulusFor};
 
 /// The text of the generated model is the flat text of the generated setting, and is read as it.
 pub fn generated_texts()
-    ensures text { (n : ℕ) → flat_text (generated n) ≡ generated_text n }
-    ensures flat { (n : ℕ) → 1 ≤ n → n ≤ 4000 → IsFlat (generated n) }
-    ensures read { (n : ℕ) → 1 ≤ n → n ≤ 4000 → ReadsSetting (generated_text n) (generated n) [] }
+    ensures text { (n : ℕ) → flat_text (generated_setting n) ≡ generated_text n }
+    ensures flat { (n : ℕ) → 1 ≤ n → n ≤ 4000 → IsFlat (generated_setting n) }
+    ensures read { (n : ℕ) → 1 ≤ n → n ≤ 4000 → ReadsSetting (generated_text n) (generated_setting n) [] }
 {}
 
 /// The generated setting is well formed, and its stimuli name what it has.
 pub fn generated_settings()
-    ensures well_formed { (n : ℕ) → 1 ≤ n → n ≤ 4000 → IsWellFormed (generated n) }
-    ensures stimuli { (n : ℕ) → AllByRecursion (IsStimulusFor (generated n)) (generated_stimuli n) }
+    ensures well_formed { (n : ℕ) → 1 ≤ n → n ≤ 4000 → IsWellFormed (generated_setting n) }
+    ensures stimuli { (n : ℕ) → AllByRecursion (IsStimulusFor (generated_setting n)) (generated_stimuli n) }
 {}

@@ -8,8 +8,7 @@ use Rattle.pssm_semantics.specs.declared.setting.Setting.{Setting}
 use Rattle.pssm_semantics.specs.declared.stimulus.Stimulus.{Stimulus}
 use Rattle.pssm_load.specs.Loads.{Reads, ReadsSetting}
 use Rattle.pssm_suite.specs.Generated.{generated_text, generated_stimuli}
-use Rattle.pssm_suite.specs.GeneratedSetting.{IsStimulusFor}
-use Rattle.pssm_suite.specs.GeneratedSetting.{generated as generated_setting}
+use Rattle.pssm_suite.specs.GeneratedSetting.{generated_setting, IsStimulusFor}
 use Rattle.pssm_tool.specs.declared.answer.Answer.{Answer}
 use Rattle.pssm_tool.specs.declared.answer.Answer.TheVariants.{Journal, Generated}
 use Rattle.pssm_tool.specs.declared.run.Ended.{Ended}
