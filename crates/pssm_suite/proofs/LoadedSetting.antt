@@ -7,13 +7,14 @@ use Rattle.pssm_model.specs.declared.elements.DraftMachine.{DraftMachine}
 use Rattle.pssm_model.specs.WellFormed.{KeepsModelRules}
 use Rattle.pssm_model.proofs.ElementLaws.{nothing_in_nil}
 use Rattle.pssm_semantics.specs.declared.setting.Class.{Class}
+use Rattle.pssm_semantics.specs.Known.{IsStimulusOf}
 use Rattle.pssm_semantics.specs.Proper.{IsWellFormed}
 use Rattle.pssm_flat.specs.Text.{line, text_of}
 use Rattle.pssm_flat.proofs.ProperLaws.{flat_proper}
 use Rattle.pssm_load.specs.Loads.{AreFaults, AreClassFaults, BeginsFlat, ReadsSetting}
 use Rattle.pssm_load.specs.Loads.Reads.{flat}
 use Rattle.pssm_suite.specs.Generated.{front_lines, back_lines, generated_lines, generated_text, go}
-use Rattle.pssm_suite.specs.GeneratedSetting.{front_machine, front, back_machine, back, generated_setting, IsStimulusFor}
+use Rattle.pssm_suite.specs.GeneratedSetting.{front_machine, front, back_machine, back, generated_setting}
 use Rattle.pssm_suite.proofs.SettingText.{generated_text_is}
 use Rattle.pssm_suite.proofs.PlainMachines.{plain_keeps}
 use Rattle.pssm_suite.proofs.PlainFront.{front_plain}
@@ -50,10 +51,10 @@ generated_read n some few = record {
   faults = class_faults n some few;
 }
 
-go_fits : (n : ℕ) → IsStimulusFor (generated_setting n) go
+go_fits : (n : ℕ) → IsStimulusOf (generated_setting n) go
 unfolding generated_setting
-go_fits n = record { class = front n; object = refl; signal = refl }
+go_fits n = (front n, refl, refl)
 
-pub stimuli_fit : (n k : ℕ) → AllByRecursion (IsStimulusFor (generated_setting n)) (replicate k go)
+pub stimuli_fit : (n k : ℕ) → AllByRecursion (IsStimulusOf (generated_setting n)) (replicate k go)
 stimuli_fit n zero = tt
 stimuli_fit n (suc k) = (go_fits n, stimuli_fit n k)

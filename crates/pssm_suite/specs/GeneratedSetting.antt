@@ -1,5 +1,5 @@
 -- The setting of the generated model.
-use Rattle.std.specs.Prelude.{◌≡◌, ℕ, List, [], ◌∷◌, length, map, replicate, codes, Some}
+use Rattle.std.specs.Prelude.{ℕ, List, [], ◌∷◌, map, replicate, codes, Some}
 use Rattle.pssm_model.specs.declared.ids.SignalId.{SignalId}
 use Rattle.pssm_model.specs.declared.elements.DraftMachine.{DraftMachine}
 use Rattle.pssm_model.specs.declared.elements.Vertex.{Vertex}
@@ -11,10 +11,8 @@ use Rattle.pssm_model.specs.declared.elements.Guard.TheVariants.{Always}
 use Rattle.pssm_model.specs.declared.elements.Owner.TheVariants as owners
 use Rattle.pssm_semantics.specs.declared.setting.Class.{Class}
 use Rattle.pssm_semantics.specs.declared.setting.Setting.{Setting}
-use Rattle.pssm_semantics.specs.declared.stimulus.Stimulus.{Stimulus}
 use Rattle.pssm_semantics.specs.declared.tree.Act.{Act}
 use Rattle.pssm_semantics.specs.declared.tree.Stmt.{Send}
-use Rattle.pssm_semantics.specs.Settings.{class_of, HasCount}
 use Rattle.pssm_suite.specs.Generated.{up_to, next_state}
 
 -- a vertex of a region that neither behaves nor defers
@@ -87,9 +85,3 @@ generated_setting n = record {
   classes = front n ∷ back ∷ [];
   objects = record { name = codes "a"; class = 0 } ∷ record { name = codes "b"; class = 1 } ∷ [];
 }
-
--- The object is one of the setting's, of some class, and the signal is one with as many parameters as there are arguments.
-pub record IsStimulusFor (setting : Setting) (x : Stimulus) : Type 0 where
-  pub class : Class
-  pub object : class_of setting x.object ≡ Some class
-  pub signal : HasCount setting x.signal (length x.args)

@@ -1,14 +1,15 @@
 -- The generated setting is what the generated text is read as, and its stimuli are known.
-use Rattle.std.proofs.Common.{◌≡◌, ℕ, List, [], ◌∷◌, length, Result, Ok, Err, IfOk, refl, sym, subst}
+use Rattle.std.proofs.Common.{◌≡◌, ℕ, List, [], length, Result, Ok, Err, IfOk, refl, sym, subst}
 use Rattle.std.specs.List.{AllByRecursion}
 use Rattle.sha2.specs.Sha256.{sha256}
 use Rattle.pssm_base.specs.Reading.{Contents}
 use Rattle.pssm_semantics.specs.declared.entry.Entry.{Entry}
 use Rattle.pssm_semantics.specs.declared.setting.Setting.{Setting}
 use Rattle.pssm_semantics.specs.declared.stimulus.Stimulus.{Stimulus}
+use Rattle.pssm_semantics.specs.Known.{IsStimulusOf}
 use Rattle.pssm_load.specs.Loads.{Reads, ReadsSetting}
 use Rattle.pssm_suite.specs.Generated.{generated_text, generated_stimuli}
-use Rattle.pssm_suite.specs.GeneratedSetting.{generated_setting, IsStimulusFor}
+use Rattle.pssm_suite.specs.GeneratedSetting.{generated_setting}
 use Rattle.pssm_tool.specs.declared.answer.Answer.{Answer}
 use Rattle.pssm_tool.specs.declared.answer.Answer.TheVariants.{Journal, Generated}
 use Rattle.pssm_tool.specs.declared.run.Ended.{Ended}
@@ -18,21 +19,16 @@ use Rattle.pssm_tool.specs.declared.failure.Failure.{Failure}
 use Rattle.pssm_tool.specs.Words.{Generates, Means}
 use Rattle.pssm_tool.specs.Due.{IsDueForGenerated, IsOwed, bad_model, on_model}
 use Rattle.pssm_tool.specs.inner.Failures.{IsRefusedFor}
-use Rattle.pssm_tool.specs.inner.Running.{IsKnown, IsTextOf}
-
--- Stimuli for a setting are known.
-all_known : (s : Setting) (stimuli : List Stimulus) → AllByRecursion (IsStimulusFor s) stimuli → AllByRecursion (IsKnown s) stimuli
-all_known s [] all = tt
-all_known s (x ∷ stimuli) all = ((λ J. (all.0.class, all.0.object, all.0.signal)), all_known s stimuli all.1)
+use Rattle.pssm_tool.specs.inner.Running.{IsTextOf}
 
 -- The stimuli for a generated model are known to the setting that its text is read as.
 pub generated_known : ((bytes : List ℕ) (a b : Setting) → Reads bytes a → Reads bytes b → a ≡ b) → (n : ℕ) (s : Setting) (stimuli : List Stimulus) → ReadsSetting (generated_text n) s []
-    → ReadsSetting (generated_text n) (generated_setting n) [] → AllByRecursion (IsStimulusFor (generated_setting n)) (generated_stimuli n) → stimuli ≡ generated_stimuli n
-    → AllByRecursion (IsKnown s) stimuli
+    → ReadsSetting (generated_text n) (generated_setting n) [] → AllByRecursion (IsStimulusOf (generated_setting n)) (generated_stimuli n) → stimuli ≡ generated_stimuli n
+    → AllByRecursion (IsStimulusOf s) stimuli
 generated_known one n s stimuli reads is for same =
     let here : generated_setting n ≡ s = one (generated_text n) (generated_setting n) s is.reads reads.reads in
-    subst (λ (t : List Stimulus). AllByRecursion (IsKnown s) t) (sym same)
-    (subst (λ (t : Setting). AllByRecursion (IsKnown t) (generated_stimuli n)) here (all_known (generated_setting n) (generated_stimuli n) for))
+    subst (λ (t : List Stimulus). AllByRecursion (IsStimulusOf s) t) (sym same)
+    (subst (λ (t : Setting). AllByRecursion (IsStimulusOf t) (generated_stimuli n)) here for)
 
 -- What is owed for the run of a generated model is owed for the words.
 pub generated_owed : (r : Result Answer Failure) (n : ℕ) (s : Setting) → ReadsSetting (generated_text n) s [] → IfOk r (IsDueForGenerated s n)

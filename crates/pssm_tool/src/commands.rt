@@ -4,13 +4,13 @@ ghost use Rattle.std.specs.List.{AllByRecursion};
 ghost use Rattle.pssm_base.specs.Reading.{Contents};
 ghost use Rattle.pssm_semantics.specs.Names.{HasSpelledNames};
 ghost use Rattle.pssm_semantics.specs.Proper.{IsWellFormed};
+ghost use Rattle.pssm_semantics.specs.Known.{IsStimulusOf};
 ghost use Rattle.pssm_suite.specs.Generated.{generated_stimuli};
 ghost use Rattle.pssm_tool.specs.Words.{Means, Judges, Checks, Prints, Generates};
 ghost use Rattle.pssm_tool.specs.RunTexts.{take_count, takes_signal as takes_a_signal};
 ghost use Rattle.pssm_tool.specs.inner.Commands.{meaning_of_run};
 ghost use Rattle.pssm_tool.specs.Due.{IsOwed, IsDueForGenerated, answer_to_fault};
 ghost use Rattle.pssm_tool.specs.inner.Verdicts.{said};
-ghost use Rattle.pssm_tool.specs.inner.Running.{IsKnown};
 ghost use Rattle.pssm_tool.specs.inner.Failures.{FailedFor, GoesOn};
 
 use crate::answer::Answer;
@@ -181,7 +181,7 @@ fn run_generated(
 ) -> Result<Answer, Failure>
     requires well_formed { IsWellFormed setting }
     requires spelled { HasSpelledNames setting }
-    requires known { AllByRecursion (IsKnown setting) stimuli.now }
+    requires known { AllByRecursion (IsStimulusOf setting) stimuli.now }
     requires stimuli { stimuli.now ≡ generated_stimuli number }
     ensures owed { IfOk result (IsDueForGenerated setting number) }
     ensures goes_on { IfOk result (λ answer. (words : List (List ℕ)) (contents : Contents)

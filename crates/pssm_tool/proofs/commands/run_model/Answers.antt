@@ -5,10 +5,11 @@ use Rattle.pssm_semantics.specs.declared.setting.Setting.{Setting}
 use Rattle.pssm_semantics.specs.declared.stimulus.Stimulus.{Stimulus}
 use Rattle.pssm_semantics.specs.Names.{HasSpelledNames}
 use Rattle.pssm_semantics.specs.Proper.{IsWellFormed}
+use Rattle.pssm_semantics.specs.Known.{IsStimulusOf}
 use Rattle.pssm_tool.specs.inner.Commands.{meaning_of_run, lent}
 use Rattle.pssm_tool.specs.Due.{File, HasModel, unfit, ran, on_model}
 use Rattle.pssm_tool.specs.Stimuli.{AreStimuli}
-use Rattle.pssm_tool.specs.inner.Running.{IsKnown, NameNoStimuli}
+use Rattle.pssm_tool.specs.inner.Running.{NameNoStimuli}
 use Rattle.pssm_tool.specs.inner.Failures.{LacksModel}
 use Rattle.pssm_tool.proofs.CallLaws.{all_known}
 use Rattle.pssm_tool.proofs.DueLaws.{lacks_owed, failed_at_model}
@@ -41,7 +42,7 @@ run-requires-clause-well_formed g c =
 pub run-requires-clause-known : goal.run-requires-clause-known
 run-requires-clause-known g c =
     let named = rw c.in-Some.is at c.in_ok-stimuli.ensures.name in
-    subst (λ (t : List Stimulus). AllByRecursion (IsKnown c.in-Ok-Ok.setting) t) (sym c.as_slice.ensures.value) (all_known c.in-Ok-Ok.setting (lent c.deref.result.now) c.in-Some.stimuli.items named)
+    subst (λ (t : List Stimulus). AllByRecursion (IsStimulusOf c.in-Ok-Ok.setting) t) (sym c.as_slice.ensures.value) (all_known c.in-Ok-Ok.setting (lent c.deref.result.now) c.in-Some.stimuli.items named)
 
 -- Its names are names.
 pub text_of-text-requires : goal.text_of-text-requires
