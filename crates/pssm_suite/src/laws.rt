@@ -1,5 +1,5 @@
 //! What is known of each generated model.
-ghost use Rattle.std.specs.Prelude.{◌≡◌, ◌≤◌, ℕ, []};
+ghost use Rattle.std.specs.Prelude.{◌≡◌, ◌≤◌, ℕ, [], length};
 ghost use Rattle.std.specs.List.{AllByRecursion};
 ghost use Rattle.pssm_semantics.specs.Known.{IsStimulusOf};
 ghost use Rattle.pssm_semantics.specs.Proper.{IsWellFormed};
@@ -9,8 +9,10 @@ ghost use Rattle.pssm_load.specs.Loads.{ReadsSetting};
 ghost use Rattle.pssm_suite.specs.Generated.{generated_text, generated_stimuli};
 ghost use Rattle.pssm_suite.specs.GeneratedSetting.{generated_setting};
 
-/// The text of the generated model is the flat text of the generated setting, and is read as it.
+/// The text of the generated model is the flat text of the generated setting, and is read as it; it
+/// has no more bytes than a model may have.
 pub fn generated_texts()
+    ensures small { (n : ℕ) → n ≤ 4000 → length (generated_text n) ≤ 16777216 }
     ensures text { (n : ℕ) → flat_text (generated_setting n) ≡ generated_text n }
     ensures flat { (n : ℕ) → 1 ≤ n → n ≤ 4000 → IsFlat (generated_setting n) }
     ensures read { (n : ℕ) → 1 ≤ n → n ≤ 4000 → ReadsSetting (generated_text n) (generated_setting n) [] }

@@ -12,13 +12,13 @@ use Rattle.pssm_load.specs.declared.fault.LoadFault.{LoadFault}
 use Rattle.pssm_load.specs.declared.fault.LoadFault.TheVariants as faults
 use Rattle.pssm_load.specs.Loads.{ReadsSetting, IsLoadFault, rules}
 use Rattle.pssm_suite.specs.Generated.{generated_text, generated_stimuli}
+use Rattle.pssm_suite.proofs.GeneratedSize.{generated_small}
 use Rattle.pssm_tool.specs.declared.answer.Answer.{Answer}
 use Rattle.pssm_tool.specs.declared.answer.Answer.TheVariants.{WellFormed, Usage, TooLarge, Flat, BadModel}
 use Rattle.pssm_tool.specs.Words.{Meaning, Judges, Runs, Checks, Prints, Generates, Means}
 use Rattle.pssm_tool.specs.Due.{most_bytes, Source, File, Generator, source_of, IsLarge, HasBytes, HasModel, answer_to, large_journal, judged, unfit, IsOwed, usage, large_model, bad_model, on_model, IsTold, IsRunOwed, named, generated}
 use Rattle.pssm_tool.proofs.DueLaws.{model_named, journal_named}
 use Rattle.pssm_tool.proofs.DueOnce.{told_bytes}
-use Rattle.pssm_tool.proofs.GeneratedSize.{generated_small}
 
 -- Bytes have a setting, with the rules that its machines break, or a fault.
 abbrev pub SettingOrFault : Type 0

@@ -3,14 +3,13 @@ use Rattle.pssm_semantics.specs.Names.{HasSpelledNames}
 use Rattle.pssm_semantics.specs.Proper.{IsWellFormed}
 use Rattle.pssm_load.specs.Loads.{ReadsSetting}
 use Rattle.pssm_tool.specs.inner.Failures.{IsRefusedFor}
-use Rattle.pssm_tool.proofs.GeneratedSize.{generated_small}
 use Rattle.pssm_tool.proofs.GeneratedLaws.{generated_known, generated_owed, refusal_owed}
 use Rattle.pssm_tool.proofs.commands.generate_and_run.Goals as goal
 
 -- The text has few bytes.
 pub setting_of-found-requires : goal.setting_of-found-requires
 setting_of-found-requires c =
-    subst (λ (t : List ℕ). length t ≤ 16777216) (sym (c.as_slice.ensures.value ∙ c.in_ok-text.ensures.text)) (generated_small c.args.number c.requires.few)
+    subst (λ (t : List ℕ). length t ≤ 16777216) (sym (c.as_slice.ensures.value ∙ c.in_ok-text.ensures.text)) (c.generated_texts.ensures.small c.args.number c.requires.few)
 
 pub run_generated-requires-clause-well_formed : goal.run_generated-requires-clause-well_formed
 run_generated-requires-clause-well_formed c =
