@@ -3,7 +3,6 @@ ghost use Rattle.std.specs.Prelude.{◌≡◌, ◌≤◌, ℕ, [], length};
 ghost use Rattle.std.specs.List.{AllByRecursion};
 ghost use Rattle.pssm_semantics.specs.Known.{IsStimulusOf};
 ghost use Rattle.pssm_semantics.specs.Proper.{IsWellFormed};
-ghost use Rattle.pssm_flat.specs.Flat.{IsFlat};
 ghost use Rattle.pssm_flat.specs.Text.{flat_text};
 ghost use Rattle.pssm_load.specs.Loads.{ReadsSetting};
 ghost use Rattle.pssm_suite.specs.Generated.{generated_text, generated_stimuli};
@@ -12,10 +11,9 @@ ghost use Rattle.pssm_suite.specs.GeneratedSetting.{generated_setting};
 /// The text of the generated model is the flat text of the generated setting, and is read as it; it
 /// has no more bytes than a model may have.
 pub fn generated_texts()
-    ensures small { (n : ℕ) → n ≤ 4000 → length (generated_text n) ≤ 16777216 }
     ensures text { (n : ℕ) → flat_text (generated_setting n) ≡ generated_text n }
-    ensures flat { (n : ℕ) → 1 ≤ n → n ≤ 4000 → IsFlat (generated_setting n) }
     ensures read { (n : ℕ) → 1 ≤ n → n ≤ 4000 → ReadsSetting (generated_text n) (generated_setting n) [] }
+    ensures small { (n : ℕ) → n ≤ 4000 → length (generated_text n) ≤ 16777216 }
 {}
 
 /// The generated setting is well formed, and its stimuli name what it has.
