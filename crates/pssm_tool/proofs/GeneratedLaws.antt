@@ -7,7 +7,8 @@ use Rattle.pssm_semantics.specs.declared.entry.Entry.{Entry}
 use Rattle.pssm_semantics.specs.declared.setting.Setting.{Setting}
 use Rattle.pssm_semantics.specs.declared.stimulus.Stimulus.{Stimulus}
 use Rattle.pssm_semantics.specs.Known.{IsStimulusOf}
-use Rattle.pssm_load.specs.Loads.{Reads, ReadsSetting}
+use Rattle.pssm_load.specs.declared.fault.LoadFault.{LoadFault}
+use Rattle.pssm_load.specs.Loads.{Reads, ReadsSetting, IsLoadFault}
 use Rattle.pssm_suite.specs.Generated.{generated_text, generated_stimuli}
 use Rattle.pssm_suite.specs.GeneratedSetting.{generated_setting}
 use Rattle.pssm_tool.specs.declared.answer.Answer.{Answer}
@@ -17,7 +18,7 @@ use Rattle.pssm_tool.specs.declared.run.Ended.TheVariants.{Quiet, Limit}
 use Rattle.pssm_tool.specs.RunTexts.{EndsRun, take_count}
 use Rattle.pssm_tool.specs.declared.failure.Failure.{Failure}
 use Rattle.pssm_tool.specs.Words.{Generates, Means}
-use Rattle.pssm_tool.specs.Due.{IsDueForGenerated, IsOwed, bad_model, on_model}
+use Rattle.pssm_tool.specs.Due.{IsDueForGenerated, IsOwed, on_model}
 use Rattle.pssm_tool.specs.inner.Failures.{IsRefusedFor}
 use Rattle.pssm_tool.specs.inner.Running.{IsTextOf}
 
@@ -36,9 +37,10 @@ pub generated_owed : (r : Result Answer Failure) (n : ℕ) (s : Setting) → Rea
 generated_owed (Ok a) n s loads due = λ words is contents. on_model (Generates n) s is (record { bytes = generated_text n; reads = refl; loads = loads }) due
 generated_owed (Err e) n s loads due = tt
 
--- A refusal of the text is owed.
-pub refusal_owed : (n : ℕ) (a : Answer) → IsRefusedFor (generated_text n) a → (words : List (List ℕ)) → Means words (Generates n) → (contents : Contents) → IsOwed words contents a
-refusal_owed n a (fault, wrong, e) words is contents = bad_model (Generates n) (generated_text n) fault is refl wrong e
+-- Nothing is wrong with the text.
+pub never_refused : ((bytes : List ℕ) (setting : Setting) (fault : LoadFault) → ReadsSetting bytes setting [] → IsLoadFault bytes fault → ⊥) → (n : ℕ) (a : Answer)
+    → ReadsSetting (generated_text n) (generated_setting n) [] → IsRefusedFor (generated_text n) a → ⊥
+never_refused apart n a reads (fault, wrong, e) = apart (generated_text n) (generated_setting n) fault reads wrong
 
 -- ---- the run
 

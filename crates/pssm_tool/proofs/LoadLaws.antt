@@ -1,6 +1,6 @@
 -- How a model that is not there is told.
 use Rattle.std.proofs.Common.{◌≡◌, ◌≢◌, ◌⊎◌, ℕ, List, [], Result, Ok, Err, IfOk, IfErr, refl, sym, subst, inl, inr}
-use Rattle.pssm_base.specs.Reading.{Contents}
+use Rattle.pssm_base.specs.Reading.{Contents, ReadsWhole}
 use Rattle.pssm_semantics.specs.declared.setting.Setting.{Setting}
 use Rattle.pssm_load.specs.declared.fault.LoadFault.{LoadFault}
 use Rattle.pssm_load.specs.declared.fault.LoadFault.TheVariants.{NoMemory}
@@ -19,9 +19,10 @@ IsWrong bytes fault = (fault ≡ NoMemory) ⊎ IsLoadFault bytes fault
 -- ---- the model
 
 -- What is wrong with the bytes of a model, where it is not want of memory.
-pub lacks_by_fault : (contents : Contents) (source : Source) (bytes : List ℕ) (fault : LoadFault) → HasBytes contents source bytes → IsWrong bytes fault → fault ≢ NoMemory → LacksModel contents source (BadModel fault)
-lacks_by_fault contents source bytes fault reads (inl none) other = absurd (other none)
-lacks_by_fault contents source bytes fault reads (inr wrong) other = has_fault bytes fault reads wrong refl
+pub lacks_by_fault : (contents : Contents) (path bytes : List ℕ) (fault : LoadFault) → ReadsWhole contents path 16777216 bytes → IsWrong bytes fault → fault ≢ NoMemory
+    → LacksModel contents path (BadModel fault)
+lacks_by_fault contents path bytes fault reads (inl none) other = absurd (other none)
+lacks_by_fault contents path bytes fault reads (inr wrong) other = has_fault bytes fault reads wrong refl
 
 -- what comes of a setting that was loaded, of want of memory, and of any other fault
 by_found : (P : Result (Result Setting Answer) Failure → Type 0) (loaded : Result Setting LoadFault) (told : Result (Result Setting Answer) Failure) → IfOk loaded (λ s. P (Ok (Ok s)))
@@ -69,9 +70,9 @@ found_no_memory loaded told is =
 pub model_loads : (contents : Contents) (source : Source) (bytes : List ℕ) (loaded : Result Setting LoadFault) → HasBytes contents source bytes → IfOk loaded (λ s. ReadsSetting bytes s []) → IfOk loaded (HasModel contents source)
 model_loads contents source bytes loaded reads loads = if_ok loaded (λ s p. let has : HasModel contents source s = record { bytes = bytes; reads = reads; loads = p } in has) loads
 
-pub model_lacks : (contents : Contents) (source : Source) (bytes : List ℕ) (loaded : Result Setting LoadFault) → HasBytes contents source bytes → IfErr loaded (IsWrong bytes)
-    → IfErr loaded (λ fault. fault ≢ NoMemory → LacksModel contents source (BadModel fault))
-model_lacks contents source bytes loaded reads wrong = if_err loaded (λ fault w. lacks_by_fault contents source bytes fault reads w) wrong
+pub model_lacks : (contents : Contents) (path bytes : List ℕ) (loaded : Result Setting LoadFault) → ReadsWhole contents path 16777216 bytes → IfErr loaded (IsWrong bytes)
+    → IfErr loaded (λ fault. fault ≢ NoMemory → LacksModel contents path (BadModel fault))
+model_lacks contents path bytes loaded reads wrong = if_err loaded (λ fault w. lacks_by_fault contents path bytes fault reads w) wrong
 
 -- What is wrong with bytes, where it is not want of memory.
 pub bytes_lack : (bytes : List ℕ) (loaded : Result Setting LoadFault) → IfErr loaded (IsWrong bytes) → IfErr loaded (λ fault. fault ≢ NoMemory → IsRefusedFor bytes (BadModel fault))

@@ -49,9 +49,13 @@ source_of (Checks model) = File model
 source_of (Prints model) = File model
 source_of (Generates n) = Generator n
 
+-- The words name the path of a model.
+abbrev pub NameModel : List (List ℕ) → List ℕ → Type 0
+NameModel words path = (meaning : Meaning) × Means words meaning × (source_of meaning ≡ File path)
+
 -- The words name the path: it is the model's, or the journal's of a judgement.
 abbrev pub NamePath : List (List ℕ) → List ℕ → Type 0
-NamePath words path = (meaning : Meaning) × Means words meaning × ((source_of meaning ≡ File path) ⊎ ((model : List ℕ) × (meaning ≡ Judges model path)))
+NamePath words path = NameModel words path ⊎ ((model : List ℕ) × Means words (Judges model path))
 
 -- It is told what the paths hold that the words name.
 abbrev pub IsTold : List (List ℕ) → Contents → Type 0
@@ -63,17 +67,13 @@ ReadFailed words before after = (path : List ℕ) × NamePath words path × Rose
 
 -- ---- the model
 
--- The model has more bytes than it may have. (A generated one never has.)
-abbrev pub IsLarge : Contents → Source → Type 0
-IsLarge contents (File path) = HoldsMore contents path most_bytes
-IsLarge contents (Generator n) = ⊥
-
 -- These are the model's bytes: all that the file holds, or the generated text.
 abbrev pub HasBytes : Contents → Source → List ℕ → Type 0
 HasBytes contents (File path) bytes = ReadsWhole contents path most_bytes bytes
 HasBytes contents (Generator n) bytes = bytes ≡ generated_text n
 
--- There is a model, in the flat form or as a model file, with this setting, which breaks no rule of models.
+-- There is a model, in the flat form or as a model file, with this setting, which breaks no rule of models. (A file may be
+-- too large, or no model; a generated model is always there.)
 pub record HasModel (contents : Contents) (source : Source) (setting : Setting) : Type 0 where
   pub bytes : List ℕ
   pub reads : HasBytes contents source bytes
@@ -130,9 +130,9 @@ IsDueForModel contents setting (Generates n) answer = IsDueForGenerated setting 
 -- The answer is owed for the words and the files.
 pub data IsOwed (words : List (List ℕ)) (contents : Contents) (answer : Answer) : Type 0 where
   usage : IsUsage words → answer ≡ Usage → IsOwed words contents answer
-  large_model : (meaning : Meaning) → Means words meaning → IsLarge contents (source_of meaning) → answer ≡ TooLarge → IsOwed words contents answer
-  bad_model : (meaning : Meaning) (bytes : List ℕ) (fault : LoadFault) → Means words meaning → HasBytes contents (source_of meaning) bytes
-      → IsLoadFault bytes fault → answer ≡ BadModel fault → IsOwed words contents answer
+  large_model : (path : List ℕ) → NameModel words path → HoldsMore contents path most_bytes → answer ≡ TooLarge → IsOwed words contents answer
+  bad_model : (path bytes : List ℕ) (fault : LoadFault) → NameModel words path → ReadsWhole contents path most_bytes bytes → IsLoadFault bytes fault
+      → answer ≡ BadModel fault → IsOwed words contents answer
   on_model : (meaning : Meaning) (setting : Setting) → Means words meaning → HasModel contents (source_of meaning) setting
       → IsDueForModel contents setting meaning answer → IsOwed words contents answer
 

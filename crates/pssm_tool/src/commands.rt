@@ -167,7 +167,8 @@ pub fn generate_and_run(alloc: Global, number: u16) -> Result<Answer, Failure>
     drop(text);
     match found {
         Ok(Ok(setting)) => run_generated(alloc, setting, stimuli.as_slice(), number),
-        Ok(Err(answer)) => Ok(answer),
+        // the text is read as a setting, and so it has no fault
+        Ok(Err(_answer)) => unreachable!(),
         Err(failure) => Err(failure),
     }
 }

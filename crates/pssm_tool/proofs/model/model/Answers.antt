@@ -21,8 +21,8 @@ returns-clause-spelled g c = found_with HasSpelledNames c.load-loaded.result c.f
 
 pub returns-clause-lacks : goal.returns-clause-lacks
 returns-clause-lacks g c =
-    found_lacks (LacksModel (g.I.Inputs.content c.args.inputs.now) (File c.args.path.now)) c.load-loaded.result c.found.result
-    (model_lacks (g.I.Inputs.content c.args.inputs.now) (File c.args.path.now) c.in-Ok.bytes.items c.load-loaded.result (record { told = c.in-Ok.ensures.whole; at_most = omega (arith, c.in-Ok.bytes.ok, c.in-Ok.ensures.at_most) })
+    found_lacks (LacksModel (g.I.Inputs.content c.args.inputs.now) c.args.path.now) c.load-loaded.result c.found.result
+    (model_lacks (g.I.Inputs.content c.args.inputs.now) c.args.path.now c.in-Ok.bytes.items c.load-loaded.result (record { told = c.in-Ok.ensures.whole; at_most = omega (arith, c.in-Ok.bytes.ok, c.in-Ok.ensures.at_most) })
     (subst (λ (bytes : List ℕ). IfErr c.load-loaded.result (IsWrong bytes)) c.as_slice.ensures.value c.load-loaded.ensures.fault)) c.found.ensures
 
 pub returns-clause-failed : goal.returns-clause-failed
