@@ -17,8 +17,9 @@ ghost use Rattle.pssm_tool.specs.Headline.{AcceptsPrefixes, IsContinued, IsAccep
 ghost use Rattle.pssm_tool.specs.inner.Failures.{FailedFor, GoesOn};
 
 use crate::answer::Answer;
-use crate::commands::{check_model, generate_and_run, judge_journal, print_model, run_model};
+use crate::commands::{check_model, judge_journal, print_model, run_model};
 use crate::failure::Failure;
+use crate::generated_run::generate_and_run;
 use crate::status::Status;
 use crate::words::{Command, command_of};
 use pssm_base::{Gate, Inputs, Sink, put_all};

@@ -1,6 +1,6 @@
 use Rattle.std.proofs.Common.{refl}
 use Rattle.pssm_tool.proofs.GeneratedLaws.{full_due, quiet_due}
-use Rattle.pssm_tool.proofs.commands.run_generated.Goals as goal
+use Rattle.pssm_tool.proofs.generated_run.run_generated.Goals as goal
 
 -- The journal is full.
 pub returns-in-Limit-clause-owed : goal.returns-in-Limit-clause-owed

@@ -4,7 +4,7 @@ use Rattle.pssm_semantics.specs.Proper.{IsWellFormed}
 use Rattle.pssm_load.specs.Loads.{ReadsSetting}
 use Rattle.pssm_tool.specs.inner.Failures.{IsRefusedFor}
 use Rattle.pssm_tool.proofs.GeneratedLaws.{generated_known, generated_owed, never_refused}
-use Rattle.pssm_tool.proofs.commands.generate_and_run.Goals as goal
+use Rattle.pssm_tool.proofs.generated_run.generate_and_run.Goals as goal
 
 -- The text has few bytes.
 pub setting_of-found-requires : goal.setting_of-found-requires
