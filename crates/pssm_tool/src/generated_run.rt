@@ -16,14 +16,12 @@ use crate::failure::Failure;
 use crate::model::setting_of;
 use crate::run::{Ended, run};
 use crate::text::text_of;
+use pssm_judge::MOST_ENTRIES;
 use pssm_load::one_load;
 use pssm_semantics::{Entry, Setting, Stimulus};
 use pssm_suite::{generate, generated_settings, generated_texts};
 use sha2::{Digest, Sha256};
 use std::alloc::Global;
-
-// The most entries that the journal of a generated model's run may have.
-const MOST_ENTRIES: u32 = 1_000_000;
 
 /// Runs the generated model of this number, with the stimuli for it and the number as seed.
 pub fn generate_and_run(alloc: Global, number: u16) -> Result<Answer, Failure>
