@@ -38,9 +38,9 @@ pub fn model<I: Inputs>(
         Err(WholeFault::ReadFault) => return Err(Failure::ReadFault),
         Err(WholeFault::NoMemory) => return Err(Failure::NoMemory),
     };
-    let loaded = load(alloc, bytes.as_slice());
+    let found = setting_of(alloc, bytes.as_slice());
     drop(bytes);
-    found(loaded)
+    found
 }
 
 /// The setting that the bytes of a model have; or the answer that they have none.
