@@ -12,7 +12,7 @@ use pssm_spelling::number_of;
 use std::alloc::{AllocError as NoMemory, Global};
 
 /// What may be chosen for a run.
-#[derive(Clone, Copy, PartialEq, Eq, Debug)]
+#[derive(Clone, Copy, PartialEq, Eq)]
 pub struct Options {
     /// What the free choices are made from.
     pub seed: u64,
