@@ -2,12 +2,12 @@
 ghost use Rattle.std.specs.Prelude.{◌≡◌, map, IfOk};
 ghost use Rattle.pssm_journal.specs.inner.Places.{HoldsMarks};
 
-use crate::keys::KeptName;
 use crate::names::{Names, mark_id, object_id, signal_id};
 use crate::places::{place_of, places_of};
 use indexmap::IndexMap;
 use pssm_model::{MarkId, SignalId};
 use pssm_semantics::{Class, ObjectDecl, ObjectId, Setting};
+use pssm_spelling::KeptName;
 use std::alloc::{AllocError as NoMemory, Global};
 use std::marker::Model;
 use std::snapshot::Snapshot;
