@@ -66,6 +66,9 @@ def limited(call):
     """Which limit was come to."""
     if call.command == 'run':
         return ['the run came to its limit of entries; --limit sets it, up to 1000000 (docs/FORMATS.md, section 3)']
+    if call.command == 'gen':
+        return ['the run of the generated model came to the limit of a journal, 1,000,000 entries, and its journal is '
+                'written']
     return ['by this entry the journal passes 1,000,000 entries, or 2,000,000 posts, sends and marks, and no entry '
             'before it breaks a rule']
 

@@ -116,6 +116,14 @@ class Unproved(InRepository):
         self.assertEqual(self.repository.read('standin/words'), 'check\n%s/go.flat\n' % os.path.realpath(
             self.repository.path('examples')))
 
+    def test_no_paths(self):
+        self.repository.answer('gen 1 entries 26 takes 2 sha256 c3', 0)
+        self.repository.write('standin/words', '')
+        self.check(self.run_words('--try', 'gen', '1'), 0, 'gen 1 entries 26 takes 2 sha256 c3\n',
+                   'unproved: this answer')
+        self.assertEqual(self.repository.read('standin/words'), 'gen\n1\n')
+        self.assertEqual(self.repository.builds(), 0)
+
     def test_large_model_file(self):
         self.repository.write('large.xmi', b'<' * 70000)
         self.check(self.run_words('--try', 'check', 'large.xmi'), 0, 'accept 9\n',

@@ -120,6 +120,7 @@ class Journals(Explained):
         self.judged('limit 1000001', 8, 'passes 1,000,000 entries')
         self.judged('too large', 9, 'a file has at most 16,777,216 bytes', 'journal has %d bytes' % len(JOURNAL))
         self.said(['run', 'model'], 'pssm-journal 1', 8, '--limit sets it', model=GO)
+        self.said(['gen', '1'], 'pssm-journal 1', 8, 'the run of the generated model came to the limit of a journal')
         self.repository.answer('', 7)
         self.check(self.run_words('check', 'model'), 7, '', 'there was not enough memory')
 

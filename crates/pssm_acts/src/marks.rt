@@ -1,10 +1,12 @@
 //! `Marks`: the names of marks in the order in which they are first named.
-ghost use Rattle.std.specs.Prelude.{◌≡◌, ◌<◌, ◌++◌, ◌∷◌, [], List, ℕ, None, length, take, position, bytes_eq, IfOk, IfErr, IfSome};
+ghost use Rattle.std.specs.Prelude.{◌≡◌, ◌<◌, ◌++◌, ◌∷◌, [], List, ℕ, None, length, take, position, bytes_eq};
+ghost use Rattle.std.specs.Prelude.{IfOk, IfErr, IfSome};
 ghost use Rattle.pssm_acts.specs.Marks.{mark_of, with_mark};
 
 use crate::expr_reader::place_of;
 use indexmap::IndexSet;
 use pssm_model::{MarkId, Text};
+use pssm_spelling::{KeptName, LentName};
 use std::alloc::{AllocError as NoMemory, Global};
 use std::marker::Model;
 
@@ -14,9 +16,8 @@ use std::marker::Model;
 #[derive(Drop)]
 pub struct Marks {
     names: Vec<Text>,
-    // the same names, where they are indexed
-    places: IndexSet<Vec<u8>>,
-    indexed: bool,
+    // the same names once more, where they are sought by their hashes
+    index: Option<IndexSet<KeptName>>,
 }
 
 impl Model for Marks {
@@ -27,7 +28,7 @@ impl Model for Marks {
 
     ghost view = { λ m. m.names.items };
 
-    ghost invariant = { λ m. IsIndexed m.indexed m.names.items m.places.keys };
+    ghost invariant = { λ m. IsIndexed m.names.items m.index };
 }
 
 impl Marks {
@@ -37,20 +38,15 @@ impl Marks {
     {
         Marks {
             names: Vec::new(alloc),
-            places: IndexSet::new(alloc),
-            indexed: true,
+            index: Some(IndexSet::new(alloc)),
         }
     }
 
     // These marks, perhaps some of them alike. A name is compared with each of them.
-    pub(crate) fn listed(alloc: Global, names: Vec<Text>) -> Marks
+    pub(crate) fn listed(names: Vec<Text>) -> Marks
         ensures { result ≡ names.items }
     {
-        Marks {
-            names,
-            places: IndexSet::new(alloc),
-            indexed: false,
-        }
+        Marks { names, index: None }
     }
 
     /// How many there are.
@@ -71,32 +67,31 @@ impl Marks {
     pub fn into_vec(self) -> Vec<Text>
         ensures { result.items ≡ self }
     {
-        let Marks {
-            names,
-            places,
-            indexed: _,
-        } = self;
-        drop(places);
+        let Marks { names, index } = self;
+        drop(index);
         names
     }
 
     // Leaves the first so many.
+    #[tactic(auto, using(crate::proofs::IndexLaws::cut))]
     pub(crate) fn truncate(&mut self, known: usize)
         ensures { self.new ≡ take known self.old }
     {
         self.names.truncate(known);
-        self.places.truncate(known);
+        if let Some(index) = &mut self.index {
+            index.truncate(known);
+        }
     }
 
     // The place of the first mark with this name.
+    #[tactic(auto, using(crate::proofs::IndexLaws::same_place))]
     fn place(&self, name: &[u8]) -> Option<usize>
         ensures gives { result ≡ position (λ m. bytes_eq m name.now) self.now }
         ensures within { IfSome result (λ k. k < length self.now) }
     {
-        if self.indexed {
-            self.places.get_index_of(name)
-        } else {
-            place_of(self.names.as_slice(), name)
+        match &self.index {
+            Some(index) => index.get_index_of(LentName { bytes: name }),
+            None => place_of(self.names.as_slice(), name),
         }
     }
 
@@ -107,16 +102,12 @@ impl Marks {
         ensures left { IfErr result (λ _. self.new ≡ self.old) }
     {
         let text = Text::from_vec(name.to_vec(alloc)?);
-        if !self.indexed {
-            self.names.push(text)?;
-            return Ok(());
-        }
-        let key = name.to_vec(alloc)?;
-        self.places.reserve(1)?;
-        self.names.push(text)?;
-        match self.places.insert(key) {
-            Ok(_) => Ok(()),
-            Err(_) => unreachable!(),
+        match &mut self.index {
+            Some(index) => put(alloc, &mut self.names, index, text),
+            None => {
+                self.names.push(text)?;
+                Ok(())
+            }
         }
     }
 
@@ -135,5 +126,29 @@ impl Marks {
                 Ok(MarkId(next))
             }
         }
+    }
+}
+
+// Puts a name that is new behind the others, and behind the keys of their index.
+#[tactic(auto, using(crate::proofs::IndexLaws::one_more))]
+fn put(
+    alloc: Global,
+    names: &mut Vec<Text>,
+    index: &mut IndexSet<KeptName>,
+    name: Text,
+) -> Result<(), NoMemory>
+    requires same { index.old.keys ≡ names.old.items }
+    requires new { position (λ m. bytes_eq m name) names.old.items ≡ None }
+    ensures noted { IfOk result (λ _. names.new.items ≡ names.old.items ++ name ∷ []) }
+    ensures left { IfErr result (λ _. names.new.items ≡ names.old.items) }
+    ensures same { index.new.keys ≡ names.new.items }
+{
+    let key = KeptName::of(alloc, name.as_slice())?;
+    index.reserve(1)?;
+    names.push(name)?;
+    match index.insert(key) {
+        Ok(_) => Ok(()),
+        // there is room for it
+        Err(_) => unreachable!(),
     }
 }

@@ -1,6 +1,6 @@
 //! Reading an assignment, a send or a mark token by token: what has been read of it, and what the
 //! next token makes of that.
-ghost use Rattle.std.specs.Prelude.{◌≡◌, ◌≤◌, ◌<◌, length, position, bytes_eq, IfOk, IfErr, IfSome};
+ghost use Rattle.std.specs.Prelude.{◌≡◌, ◌≤◌, ◌<◌, length, position, bytes_eq, IfSome};
 ghost use Rattle.pssm_acts.specs.inner.ExprReading.{Answers, token_of};
 ghost use Rattle.pssm_acts.specs.Marks.{KeepsMarks};
 ghost use Rattle.pssm_acts.specs.inner.PhraseReading.{AnswersWith, argument_read, became, call_made, called_ended, dotted, mark_read, named, phrase_begun, phrase_step, receiver_read, signal_found, signal_read, value_read};

@@ -267,7 +267,7 @@ pub fn read_act(
     ensures unchanged { IsCanonicalAct names.now text.now
         → IfOk result (λ act. act_text names.now marks.new.items act ≡ text.now) }
 {
-    let mut noted = Marks::listed(alloc, mem::replace(marks, Vec::new(alloc)));
+    let mut noted = Marks::listed(mem::replace(marks, Vec::new(alloc)));
     let read = read_act_noting(alloc, text, names, &mut noted);
     *marks = noted.into_vec();
     read
@@ -300,7 +300,7 @@ pub fn read_steps(
     ensures refused { IfErr result (λ _. marks.new.items ≡ marks.old.items) }
     ensures kept { KeepsMarks marks.old.items marks.new.items }
 {
-    let mut noted = Marks::listed(alloc, mem::replace(marks, Vec::new(alloc)));
+    let mut noted = Marks::listed(mem::replace(marks, Vec::new(alloc)));
     let read = read_steps_noting(alloc, text, names, &mut noted);
     *marks = noted.into_vec();
     read

@@ -97,7 +97,12 @@ fn with_acts(
 }
 
 // The behaviour that a text spells behind these marks, and the marks behind it.
-fn act_of(alloc: Global, names: &Names, text: &[u8], marks: Marks) -> Result<(Act, Marks), ActFault>
+fn act_of(
+    alloc: Global,
+    names: &Names,
+    text: &[u8],
+    mut marks: Marks,
+) -> Result<(Act, Marks), ActFault>
     requires vars { length names.now.vars ≤ 64 }
     requires objects { length names.now.objects ≤ 64 }
     requires signals { length names.now.signals ≤ 256 }
@@ -105,7 +110,6 @@ fn act_of(alloc: Global, names: &Names, text: &[u8], marks: Marks) -> Result<(Ac
     ensures spelled { IfOk result (λ r. SpellsAct names.now marks text.now r.0 r.1) }
     ensures fault { IfErr result (λ f. Faults (HasTextFault names.now readings.Behaviour text.now) f) }
 {
-    let mut marks = marks;
     let act = read_act_noting(alloc, text, names, &mut marks)?;
     Ok((act, marks))
 }
@@ -115,7 +119,7 @@ fn steps_of(
     alloc: Global,
     names: &Names,
     text: &[u8],
-    marks: Marks,
+    mut marks: Marks,
 ) -> Result<(Vec<Act>, Marks), ActFault>
     requires vars { length names.now.vars ≤ 64 }
     requires objects { length names.now.objects ≤ 64 }
@@ -124,7 +128,6 @@ fn steps_of(
     ensures spelled { IfOk result (λ r. SpellsSteps names.now marks text.now r.0.items r.1) }
     ensures fault { IfErr result (λ f. Faults (HasTextFault names.now readings.Steps text.now) f) }
 {
-    let mut marks = marks;
     let acts = read_steps_noting(alloc, text, names, &mut marks)?;
     Ok((acts, marks))
 }

@@ -11,7 +11,6 @@ mod brief;
 mod entry;
 mod entry_lines;
 mod judged;
-mod keys;
 mod known;
 mod laws;
 mod names;

@@ -2,20 +2,20 @@
 ghost use Rattle.std.specs.Prelude.{◌≡◌, map, IfOk};
 ghost use Rattle.pssm_journal.specs.inner.Places.{HoldsMarks};
 
-use crate::keys::KeptName;
 use crate::names::{Names, mark_id, object_id, signal_id};
 use crate::places::{place_of, places_of};
 use indexmap::IndexMap;
 use pssm_model::{MarkId, SignalId};
 use pssm_semantics::{Class, ObjectDecl, ObjectId, Setting};
+use pssm_spelling::KeptName;
 use std::alloc::{AllocError as NoMemory, Global};
 use std::marker::Model;
 use std::snapshot::Snapshot;
 
 /// What the names of a setting's objects, signals and marks stand for (UML 2.5.1, 7.4.3, namespaces).
 ///
-/// It is made once of a setting, which clauses see. A look-up goes by the hash of a name, or compares it with the names
-/// where they are few, and takes no memory.
+/// It is made once of a setting, which clauses see. A look-up compares a name with few others: with all of them where
+/// there are at most four, and otherwise with those that its hash leads to. It takes no memory.
 #[derive(Drop)]
 pub struct Namespace {
     setting: Snapshot<Setting>,

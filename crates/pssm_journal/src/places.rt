@@ -1,12 +1,11 @@
 //! Where names stand among those of their kind.
 ghost use Rattle.std.specs.Prelude.{◌≡◌, ℕ, List, IfOk, OnOk};
-ghost use Rattle.std.specs.Option.{option_copied};
-ghost use Rattle.pssm_journal.specs.inner.Places.{place_in, place_noted, place_among, HoldsPlaces};
+ghost use Rattle.pssm_journal.specs.inner.Places.{place_in, place_noted, HoldsPlaces};
 
-use crate::keys::{KeptName, LentName};
 use indexmap::{Equivalent, IndexMap};
 use pssm_model::Text;
 use pssm_semantics::{ObjectDecl, SignalDecl};
+use pssm_spelling::{KeptName, LentName};
 use std::alloc::{AllocError as NoMemory, Global};
 
 /// What has a name.

@@ -16,5 +16,6 @@ mod verdict;
 
 pub use judging::judge;
 pub use laws::some_judgement;
+pub use limits::MOST_ENTRIES;
 pub use pssm_journal::{LineFault, Rule};
 pub use verdict::{JudgeFault, Verdict};

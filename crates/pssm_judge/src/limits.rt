@@ -7,8 +7,8 @@ ghost use Rattle.pssm_journal.specs.Judged.{line_output_count};
 
 use pssm_journal::{BriefAct, BriefParts, LineParts, OutsText};
 
-// The most entries that a journal may have.
-const MOST_ENTRIES: usize = 1_000_000;
+/// The most entries that a journal may have.
+pub const MOST_ENTRIES: u32 = 1_000_000;
 
 // The most posts, sends and marks that a journal may have.
 const MOST_OUTPUTS: usize = 2_000_000;
@@ -56,5 +56,5 @@ pub fn passes_limits(entries: usize, outputs: usize, further: usize) -> bool
     requires { outputs ≤ 2000000 }
     ensures { IsTrue result ↔ ((1000000 < entries + 1) ⊎ (2000000 < outputs + further)) }
 {
-    entries >= MOST_ENTRIES || further > MOST_OUTPUTS - outputs
+    entries >= MOST_ENTRIES as usize || further > MOST_OUTPUTS - outputs
 }

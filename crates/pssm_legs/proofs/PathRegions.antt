@@ -23,9 +23,9 @@ use Rattle.pssm_model.specs.Items.PathBefore.{next, after}
 use Rattle.pssm_model.specs.Paths.{IsJunctionPath, LeadsOn}
 use Rattle.pssm_model.specs.Paths.IsJunctionPath.{one, more}
 use Rattle.pssm_model.specs.Paths.LeadsOn.{after as leads_after}
-use Rattle.pssm_model.specs.RouteWords.{IsThrough}
 use Rattle.pssm_model.specs.WellFormed.{KeepsModelRules, ShareRegion}
 use Rattle.pssm_model.specs.WellFormed.Breaks.{E21}
+use Rattle.pssm_model_laws.specs.inner.RouteWords.{IsThrough}
 use Rattle.pssm_model.proofs.ElementLaws.{mapped_some, leaves_one, nothing_in_nil}
 use Rattle.pssm_model.proofs.RouteLaws.{in_one, is_one}
 use Rattle.pssm_model_laws.proofs.Known.{sure, known_either}

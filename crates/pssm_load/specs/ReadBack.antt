@@ -1,5 +1,5 @@
--- What it is that the flat text of a setting is read again, and when it is: the spellings of its behaviours and guards keep within the limits of the action language. The one spelling of
--- a behaviour can be longer than the text of a model file from which it was read, and nest deeper.
+-- When the flat text of a setting is read as it again, and what that means. It is where the spellings of its behaviours and guards keep within the limits
+-- of the action language: the one spelling of a behaviour can be longer than the text of a model file from which it was read, and nest deeper.
 use Rattle.std.specs.Prelude.{◌≡◌, ◌≤◌, ◌⊎◌, ℕ, List, [], length}
 use Rattle.std.specs.List.{AllByRecursion}
 use Rattle.pssm_semantics.specs.declared.tree.Act.{Act}

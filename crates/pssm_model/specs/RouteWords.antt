@@ -1,18 +1,11 @@
--- Words for a whole route: by which routes steps go, through which vertices a route goes on, where it exits and enters, and where it is
--- anchored.
-use Rattle.std.specs.Prelude.{◌≡◌, ◌⊎◌, [], ◌∷◌, Contains}
+-- By which routes steps go.
+use Rattle.std.specs.Prelude.{◌≡◌, ◌⊎◌, [], ◌∷◌}
 use Rattle.pssm_model.specs.declared.ids.VertexId.{VertexId}
 use Rattle.pssm_model.specs.declared.ids.TransId.{TransId}
 use Rattle.pssm_model.specs.declared.elements.DraftMachine.{DraftMachine}
-use Rattle.pssm_model.specs.declared.elements.TransKind.{TransKind}
-use Rattle.pssm_model.specs.declared.elements.TransKind.TheVariants.{External, Local, Internal}
-use Rattle.pssm_model.specs.declared.elements.VertexKind.TheVariants as kinds
-use Rattle.pssm_model.specs.declared.elements.Owner.TheVariants.{State}
 use Rattle.pssm_model.specs.declared.steps.Route.{Route}
-use Rattle.pssm_model.specs.Forest.{HasKind, owner_of, IsScope, LiesInState}
-use Rattle.pssm_model.specs.Legs.{Leaves, Enters, Goes, On, IsCut, Scope}
-use Rattle.pssm_model.specs.Legs.Scope.{Nowhere, Inside, Within}
-use Rattle.pssm_model.specs.Routes.{IsRoute, IsStateRoute, IsSource}
+use Rattle.pssm_model.specs.Legs.{Leaves}
+use Rattle.pssm_model.specs.Routes.{IsRoute, IsStateRoute}
 use Rattle.pssm_model.specs.FiringSets.{IsLateOrigin}
 
 -- a route that starts with one transition out of a vertex from which a step goes on within itself
@@ -23,35 +16,3 @@ IsRouteWithin m p = (v : VertexId) × (t : TransId) × IsLateOrigin m v × IsRou
 -- a route by which steps go: out of States, or from where a step goes on within itself (UML 2.5.1 14.2.3.8, compound transitions)
 abbrev pub IsStepRoute : DraftMachine → Route → Type 0
 IsStepRoute m p = IsStateRoute m p ⊎ IsRouteWithin m p
-
--- a vertex through which a route goes on: a junction, fork, join, entry or exit point (UML 2.5.1 14.2.3.7, pseudostates)
-abbrev pub IsThrough : DraftMachine → VertexId → Type 0
-IsThrough m v = HasKind m v kinds.Junction ⊎ IsCut m v
-
--- A start of the route is external, local or internal (UML 2.5.1 14.5.12, transition kinds).
-abbrev pub GoesAs : DraftMachine → Route → TransKind → Type 0
-GoesAs m p kind = (t : TransId) × Contains p.starts t × Goes m t kind
-
--- a vertex at which a transition of the route begins or ends (UML 2.5.1 14.2.3.8, compound transitions)
-abbrev pub IsEndOf : DraftMachine → Route → VertexId → Type 0
-IsEndOf m p v = (t : TransId) × On p t × (Leaves m t v ⊎ Enters m t v)
-
--- where the route exits and enters: nowhere where it is internal, in the State that it leaves where it is local, and else in the innermost region
--- in which all its vertices lie (UML 2.5.1 14.2.3.9, transition execution sequence: the least common ancestor)
-abbrev pub IsAreaOf : DraftMachine → Route → Scope → Type 0
-IsAreaOf m p Nowhere = GoesAs m p Internal
-IsAreaOf m p (Inside s) = GoesAs m p Local × IsSource m p s
-IsAreaOf m p (Within r) = GoesAs m p External × IsScope m (IsEndOf m p) r
-
--- The route starts with one transition, which leaves this State (UML 2.5.1 14.2.3.8, compound transitions).
-pub record IsFrom (m : DraftMachine) (p : Route) (t : TransId) (s : VertexId) : Type 0 where
-  pub starts : p.starts ≡ t ∷ []
-  pub leaves : Leaves m t s
-  pub state : HasKind m s kinds.State
-
--- the State from which the route starts: its one source, or the State beside its join in which the sources lie (UML 2.5.1 14.2.3.7, join)
-abbrev pub IsAnchorOf : DraftMachine → Route → VertexId → Type 0
-IsAnchorOf m p s =
-    ((t : TransId) × IsFrom m p t s × ((v : VertexId) → Enters m t v → HasKind m v kinds.Join → ⊥))
-    ⊎ ((j : VertexId) × (t : TransId) × Contains p.starts t × Enters m t j × HasKind m j kinds.Join × HasKind m s kinds.State
-    × (owner_of m (State s) ≡ owner_of m (State j)) × ((q : VertexId) → IsSource m p q → LiesInState m q s))

@@ -13,7 +13,8 @@ use Rattle.pssm_model.specs.Legs.Scope.{Nowhere, Inside, Within}
 use Rattle.pssm_model.specs.Routes.{IsSource, IsStateRoute, Conflict}
 use Rattle.pssm_model.specs.Shapes.{HasShape}
 use Rattle.pssm_model.specs.WellFormed.{KeepsModelRules}
-use Rattle.pssm_model.specs.RouteWords.{IsStepRoute, IsAreaOf, IsAnchorOf}
+use Rattle.pssm_model.specs.RouteWords.{IsStepRoute}
+use Rattle.pssm_model_laws.specs.inner.RouteWords.{IsAreaOf, IsAnchorOf}
 use Rattle.pssm_model.proofs.ElementLaws.{kind_unique, leaves_one}
 use Rattle.pssm_model.proofs.RouteLaws.{in_one, is_one}
 use Rattle.pssm_model.proofs.OwnerChains.{under_further}

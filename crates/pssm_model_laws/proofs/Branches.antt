@@ -21,7 +21,7 @@ use Rattle.pssm_model.specs.Paths.LeadsOn.{next, after}
 use Rattle.pssm_model.specs.Shapes.{HasShape}
 use Rattle.pssm_model.specs.WellFormed.{KeepsModelRules}
 use Rattle.pssm_model.specs.WellFormed.Breaks.{E05, E08, E15, E16, E19}
-use Rattle.pssm_model.specs.RouteWords.{IsThrough}
+use Rattle.pssm_model_laws.specs.inner.RouteWords.{IsThrough}
 use Rattle.pssm_model.proofs.ElementLaws.{enters_one}
 use Rattle.pssm_model.proofs.RouteLaws.{is_one, reached_is_on}
 use Rattle.pssm_model_laws.proofs.Known.{known_transition}

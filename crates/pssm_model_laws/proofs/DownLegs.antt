@@ -17,7 +17,8 @@ use Rattle.pssm_model.specs.Routes.IsReached.{start, on}
 use Rattle.pssm_model.specs.Shapes.{HasShape}
 use Rattle.pssm_model.specs.WellFormed.{KeepsModelRules}
 use Rattle.pssm_model.specs.WellFormed.Breaks.{E08, E15}
-use Rattle.pssm_model.specs.RouteWords.{IsStepRoute, IsEndOf}
+use Rattle.pssm_model.specs.RouteWords.{IsStepRoute}
+use Rattle.pssm_model_laws.specs.inner.RouteWords.{IsEndOf}
 use Rattle.pssm_model.proofs.ElementLaws.{leaves_one}
 use Rattle.pssm_model.proofs.RouteLaws.{reached_is_on}
 use Rattle.pssm_model.proofs.OwnerChains.{under_further}

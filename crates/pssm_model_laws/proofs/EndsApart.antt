@@ -15,7 +15,7 @@ use Rattle.pssm_model.specs.Routes.{IsRoute, EndsAt}
 use Rattle.pssm_model.specs.Shapes.{HasShape}
 use Rattle.pssm_model.specs.WellFormed.{KeepsModelRules}
 use Rattle.pssm_model.specs.RouteWords.{IsStepRoute}
-use Rattle.pssm_model_laws.specs.inner.RouteEnds.{EndsOn}
+use Rattle.pssm_model_laws.specs.inner.RouteWords.{EndsOn}
 use Rattle.pssm_model.proofs.ElementLaws.{enters_one}
 use Rattle.pssm_model.proofs.Nesting.{region_cases, lies_within}
 use Rattle.pssm_model_laws.proofs.Known.{Known, sure, known_as, known_both, known_not, known_below, known_region, known_vertex, known_transition}

@@ -16,7 +16,7 @@ use Rattle.pssm_model.specs.Items.{PathBefore}
 use Rattle.pssm_model.specs.Items.PathBefore.{next, after}
 use Rattle.pssm_model.specs.Routes.{IsReached, IsSource, EndsAt}
 use Rattle.pssm_model.specs.Routes.IsReached.{start as reached_first, on as reached_after}
-use Rattle.pssm_model_laws.specs.inner.RouteEnds.{EndsOn}
+use Rattle.pssm_model_laws.specs.inner.RouteWords.{EndsOn}
 use Rattle.pssm_model.proofs.ElementLaws.{nothing_in_nil}
 use Rattle.pssm_model.proofs.RouteLaws.{is_one}
 use Rattle.pssm_model_laws.proofs.Known.{Known, known_as, known_both, known_either, known_not, known_among, known_all, known_inside, known_vertex, known_transition}

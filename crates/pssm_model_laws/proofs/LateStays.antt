@@ -24,7 +24,7 @@ use Rattle.pssm_model.specs.Routes.IsReached.{start, on}
 use Rattle.pssm_model.specs.Shapes.{HasShape}
 use Rattle.pssm_model.specs.WellFormed.{KeepsModelRules}
 use Rattle.pssm_model.specs.WellFormed.Breaks.{E13, E14}
-use Rattle.pssm_model.specs.RouteWords.{IsEndOf, IsAreaOf}
+use Rattle.pssm_model_laws.specs.inner.RouteWords.{IsEndOf, IsAreaOf}
 use Rattle.pssm_model.proofs.ElementLaws.{mapped_some, mapped_at, leaves_one, enters_one}
 use Rattle.pssm_model.proofs.RouteLaws.{in_one, is_one, reached_is_on}
 use Rattle.pssm_model.proofs.OwnerChains.{under_further}

@@ -15,7 +15,8 @@ use Rattle.pssm_model.specs.Routes.IsReached.{start, on}
 use Rattle.pssm_model.specs.FiringSets.{IsLateOrigin}
 use Rattle.pssm_model.specs.Shapes.{HasShape}
 use Rattle.pssm_model.specs.WellFormed.{KeepsModelRules}
-use Rattle.pssm_model.specs.RouteWords.{IsStepRoute, IsThrough}
+use Rattle.pssm_model.specs.RouteWords.{IsStepRoute}
+use Rattle.pssm_model_laws.specs.inner.RouteWords.{IsThrough}
 use Rattle.pssm_model.proofs.ElementLaws.{kind_unique, leaves_one, enters_one}
 use Rattle.pssm_model.proofs.RouteLaws.{is_one, reached_is_on}
 use Rattle.pssm_model_laws.proofs.InnerPaths.{late_is_kind, join_from_state}

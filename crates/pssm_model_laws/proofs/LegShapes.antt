@@ -17,7 +17,8 @@ use Rattle.pssm_model.specs.Routes.{IsRoute}
 use Rattle.pssm_model.specs.Shapes.{HasShape}
 use Rattle.pssm_model.specs.WellFormed.{KeepsModelRules}
 use Rattle.pssm_model.specs.WellFormed.Breaks.{E05}
-use Rattle.pssm_model.specs.RouteWords.{IsStepRoute, IsThrough}
+use Rattle.pssm_model.specs.RouteWords.{IsStepRoute}
+use Rattle.pssm_model_laws.specs.inner.RouteWords.{IsThrough}
 use Rattle.pssm_model.proofs.ElementLaws.{leaves_one, enters_one}
 use Rattle.pssm_model_laws.proofs.Known.{sure, known_transition, known_inside}
 use Rattle.pssm_model_laws.proofs.KnownPlaces.{known_vertex_kind}

@@ -12,7 +12,8 @@ use Rattle.pssm_model.specs.Legs.LaterLeg.{next as next_leg, after as after_leg}
 use Rattle.pssm_model.specs.Legs.LegScope.{internal, local, point, other}
 use Rattle.pssm_model.specs.Shapes.{HasShape}
 use Rattle.pssm_model.specs.WellFormed.{KeepsModelRules}
-use Rattle.pssm_model.specs.RouteWords.{IsStepRoute, IsAreaOf, IsEndOf}
+use Rattle.pssm_model.specs.RouteWords.{IsStepRoute}
+use Rattle.pssm_model_laws.specs.inner.RouteWords.{IsAreaOf, IsEndOf}
 use Rattle.pssm_model.proofs.ElementLaws.{leaves_one, enters_one}
 use Rattle.pssm_model.proofs.Scopes.{one_scope as one_span}
 use Rattle.pssm_model_laws.proofs.Branches.{of_starts}

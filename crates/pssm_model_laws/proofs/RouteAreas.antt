@@ -15,8 +15,8 @@ use Rattle.pssm_model.specs.Legs.SameLeg.{itself as itself_leg, joined}
 use Rattle.pssm_model.specs.Legs.LaterLeg.{next as next_leg, after as after_leg}
 use Rattle.pssm_model.specs.Shapes.{HasShape}
 use Rattle.pssm_model.specs.WellFormed.{KeepsModelRules}
-use Rattle.pssm_model.specs.RouteWords.{IsStepRoute, IsAreaOf}
-use Rattle.pssm_model_laws.specs.inner.RouteEnds.{IsDownLeg}
+use Rattle.pssm_model.specs.RouteWords.{IsStepRoute}
+use Rattle.pssm_model_laws.specs.inner.RouteWords.{IsAreaOf, IsDownLeg}
 use Rattle.pssm_model.proofs.OwnerChains.{under_further}
 use Rattle.pssm_model_laws.proofs.Branches.{of_rest, of_starts, along_ends, stand}
 use Rattle.pssm_model_laws.proofs.EndsApart.{step_is_route}

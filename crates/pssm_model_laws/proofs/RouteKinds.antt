@@ -22,7 +22,8 @@ use Rattle.pssm_model.specs.Paths.IsJunctionPath.{one}
 use Rattle.pssm_model.specs.Shapes.{HasShape}
 use Rattle.pssm_model.specs.WellFormed.{KeepsModelRules}
 use Rattle.pssm_model.specs.WellFormed.Breaks.{E05, E07, E13, E14, E16}
-use Rattle.pssm_model.specs.RouteWords.{IsStepRoute, IsThrough}
+use Rattle.pssm_model.specs.RouteWords.{IsStepRoute}
+use Rattle.pssm_model_laws.specs.inner.RouteWords.{IsThrough}
 use Rattle.pssm_model.proofs.ElementLaws.{mapped_at, kind_unique, leaves_one, enters_one, nothing_in_nil}
 use Rattle.pssm_model.proofs.RouteLaws.{in_one, is_one, reached_is_on}
 use Rattle.pssm_model.proofs.OwnerChains.{under_further}

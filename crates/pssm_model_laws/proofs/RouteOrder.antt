@@ -20,7 +20,8 @@ use Rattle.pssm_model.specs.Routes.IsReached.{start as reached_first, on as reac
 use Rattle.pssm_model.specs.FiringSets.{IsLateOrigin}
 use Rattle.pssm_model.specs.Shapes.{HasShape}
 use Rattle.pssm_model.specs.WellFormed.{KeepsModelRules}
-use Rattle.pssm_model.specs.RouteWords.{IsStepRoute, IsThrough}
+use Rattle.pssm_model.specs.RouteWords.{IsStepRoute}
+use Rattle.pssm_model_laws.specs.inner.RouteWords.{IsThrough}
 use Rattle.pssm_model.proofs.ElementLaws.{mapped_at, some_at, leaves_one, enters_one}
 use Rattle.pssm_model.proofs.RouteLaws.{is_one, reached_is_on}
 use Rattle.pssm_model_laws.proofs.Known.{known_transition}

@@ -19,7 +19,8 @@ use Rattle.pssm_model.specs.Routes.IsReached.{start, on}
 use Rattle.pssm_model.specs.Shapes.{HasShape}
 use Rattle.pssm_model.specs.WellFormed.{KeepsModelRules}
 use Rattle.pssm_model.specs.WellFormed.Breaks.{E21}
-use Rattle.pssm_model.specs.RouteWords.{IsStepRoute, IsEndOf}
+use Rattle.pssm_model.specs.RouteWords.{IsStepRoute}
+use Rattle.pssm_model_laws.specs.inner.RouteWords.{IsEndOf}
 use Rattle.pssm_model.proofs.ElementLaws.{kind_unique, leaves_one, enters_one}
 use Rattle.pssm_model.proofs.RouteLaws.{is_one}
 use Rattle.pssm_model.proofs.OwnerChains.{one_count, owner_above}

@@ -15,7 +15,8 @@ use Rattle.pssm_model.specs.Routes.{IsStateRoute}
 use Rattle.pssm_model.specs.Shapes.{HasShape}
 use Rattle.pssm_model.specs.WellFormed.{KeepsModelRules}
 use Rattle.pssm_model.specs.WellFormed.Breaks.{E07}
-use Rattle.pssm_model.specs.RouteWords.{IsStepRoute, IsAnchorOf}
+use Rattle.pssm_model.specs.RouteWords.{IsStepRoute}
+use Rattle.pssm_model_laws.specs.inner.RouteWords.{IsAnchorOf}
 use Rattle.pssm_model.proofs.ElementLaws.{kind_unique, leaves_one}
 use Rattle.pssm_model.proofs.RouteLaws.{in_one}
 use Rattle.pssm_model_laws.proofs.Known.{Known, sure, known_as, known_both, known_below, known_all}

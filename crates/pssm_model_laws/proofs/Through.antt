@@ -23,7 +23,7 @@ use Rattle.pssm_model.specs.Paths.LeadsOn.{next as leads_next, after as leads_af
 use Rattle.pssm_model.specs.Shapes.{HasShape, OwnsVertex}
 use Rattle.pssm_model.specs.WellFormed.{KeepsModelRules, LieApart, LieApartBeside, KeepsToOneRegion}
 use Rattle.pssm_model.specs.WellFormed.Breaks.{E05, E06, E08, E15, E16, E19, E20, E21}
-use Rattle.pssm_model.specs.RouteWords.{IsThrough}
+use Rattle.pssm_model_laws.specs.inner.RouteWords.{IsThrough}
 use Rattle.pssm_model.proofs.ElementLaws.{mapped_some, mapped_at, kind_unique, enters_one}
 use Rattle.pssm_model.proofs.RouteLaws.{in_one}
 use Rattle.pssm_model.proofs.OwnerChains.{under_further, circle_is_endless}

@@ -18,7 +18,8 @@ use Rattle.pssm_model.specs.Paths.{ComesAfter}
 use Rattle.pssm_model.specs.Shapes.{HasShape}
 use Rattle.pssm_model.specs.WellFormed.{KeepsModelRules}
 use Rattle.pssm_model.specs.WellFormed.Breaks.{E05, E16}
-use Rattle.pssm_model.specs.RouteWords.{IsStepRoute, IsThrough}
+use Rattle.pssm_model.specs.RouteWords.{IsStepRoute}
+use Rattle.pssm_model_laws.specs.inner.RouteWords.{IsThrough}
 use Rattle.pssm_model.proofs.ElementLaws.{some_at, mapped_at, kind_unique, leaves_one, enters_one, nothing_in_nil}
 use Rattle.pssm_model.proofs.RouteLaws.{in_one, is_one, reached_is_on}
 use Rattle.pssm_model_laws.proofs.Known.{Known}

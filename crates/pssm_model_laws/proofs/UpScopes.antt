@@ -19,7 +19,8 @@ use Rattle.pssm_model.specs.Legs.LegScope.{internal, local, point, other}
 use Rattle.pssm_model.specs.Shapes.{HasShape}
 use Rattle.pssm_model.specs.WellFormed.{KeepsModelRules}
 use Rattle.pssm_model.specs.WellFormed.Breaks.{E13}
-use Rattle.pssm_model.specs.RouteWords.{IsStepRoute, IsEndOf, IsAreaOf}
+use Rattle.pssm_model.specs.RouteWords.{IsStepRoute}
+use Rattle.pssm_model_laws.specs.inner.RouteWords.{IsEndOf, IsAreaOf}
 use Rattle.pssm_model.proofs.ElementLaws.{kind_unique, leaves_one, enters_one}
 use Rattle.pssm_model.proofs.OwnerChains.{under_further}
 use Rattle.pssm_model.proofs.Nesting.{lies_within}

@@ -1,1 +1,1 @@
-pub mod RouteEnds
+pub mod RouteWords

@@ -20,8 +20,9 @@ use Rattle.pssm_model.specs.WellFormed.{KeepsModelRules}
 use Rattle.pssm_model.specs.Configuration.{Configuration}
 use Rattle.pssm_model.specs.Legs.{transitions_of, Enters, On, Scope, LiesInScope}
 use Rattle.pssm_model.specs.Routes.{Truth, IsAscending, IsRoute, IsStateRoute, IsSource, IsEnabled, Conflict}
-use Rattle.pssm_model.specs.RouteWords.{IsStepRoute, IsAreaOf, GoesAs}
+use Rattle.pssm_model.specs.RouteWords.{IsStepRoute}
 use Rattle.pssm_model.specs.FiringSets.{StartsBefore, IsListed, IsFiring}
+use Rattle.pssm_model_laws.specs.inner.RouteWords.{IsAreaOf, GoesAs}
 use Rattle.pssm_model.proofs.ElementLaws.{nothing_in_nil, same_transition}
 use Rattle.pssm_model.proofs.RouteLaws.{conflict_from_source}
 use Rattle.pssm_model_laws.proofs.RouteOrder.{route_of, of_start, of_rest, start_or_rest, source_of, target_of}

@@ -20,8 +20,8 @@ use Rattle.pssm_model.specs.Items.{restored_mode}
 use Rattle.pssm_model.specs.Legs.{Scope, LiesInScope}
 use Rattle.pssm_model.specs.Legs.Scope.{Within}
 use Rattle.pssm_model.specs.WellFormed.{KeepsModelRules}
-use Rattle.pssm_model.specs.RouteWords.{IsStepRoute, IsAreaOf}
-use Rattle.pssm_model_laws.specs.inner.RouteEnds.{EndsOn, IsEnteredBy}
+use Rattle.pssm_model.specs.RouteWords.{IsStepRoute}
+use Rattle.pssm_model_laws.specs.inner.RouteWords.{IsAreaOf, EndsOn, IsEnteredBy}
 use Rattle.pssm_plan.specs.inner.OverRoutes.{GoesBy, OpensFor, IsCalledOver}
 use Rattle.pssm_model.proofs.OwnerChains.{one_owner, under_further}
 use Rattle.pssm_model.proofs.Nesting.{region_cases}

@@ -26,7 +26,7 @@ use Rattle.pssm_model.specs.Legs.{On, transitions_of, LaterLeg}
 use Rattle.pssm_model.specs.Items.{CanExit, LegEnds, LegOpens, IsCalledInLeg, IsItemOfLeg, PathBefore, HasRunOut, IsExit, IsEffect, IsEnter, Before, IsWaiting, IsCleared}
 use Rattle.pssm_model.specs.Items.Before.{inner_exit, outer_enter, exit_effect, path as effect_path, effect_enter, effect_end, enter_end, later as by_later}
 use Rattle.pssm_model.specs.Order.{HasGone, IsReady, IsAtOrBefore, HasReadyAtOrBefore, KnownConfiguration, course_by, known_course}
-use Rattle.pssm_model_laws.specs.inner.RouteEnds.{IsEnteredBy}
+use Rattle.pssm_model_laws.specs.inner.RouteWords.{IsEnteredBy}
 use Rattle.pssm_legs.specs.Calls.{IsItemIn}
 use Rattle.pssm_plan.specs.Steadiness.{BeginsWell}
 use Rattle.pssm_plan.specs.Steps.{IsStep}

@@ -17,10 +17,10 @@ use Rattle.pssm_model.specs.Forest.{HasKind, owner_of, LiesInRegion, LiesInState
 use Rattle.pssm_model.specs.Legs.{Leaves, Enters, Goes, On, transitions_of, SameLeg, LaterLeg, IsLastVertex, IsInternal, IsEnteredFor, IsEndState, Scope, LiesInScope, LegScope, WouldExit, LegExits, LegEnters}
 use Rattle.pssm_model.specs.Items.{IsAimedAt, LegEnds, LegOpens}
 use Rattle.pssm_model.specs.Routes.{EndsAt}
-use Rattle.pssm_model.specs.RouteWords.{IsStepRoute, GoesAs}
-use Rattle.pssm_model_laws.specs.inner.RouteEnds.{EndsOn, EndsIn, IsEnteredBy}
+use Rattle.pssm_model.specs.RouteWords.{IsStepRoute}
 use Rattle.pssm_model.specs.Shapes.{HasShape}
 use Rattle.pssm_model.specs.WellFormed.{KeepsModelRules}
+use Rattle.pssm_model_laws.specs.inner.RouteWords.{GoesAs, EndsOn, EndsIn, IsEnteredBy}
 use Rattle.pssm_plan.specs.inner.OverRoutes.{LiesInArea, LeavesOwner, OpensBeside, EndsOnChoice, IsHistoryFor, EndsOnHistory}
 use Rattle.pssm_model_laws.proofs.LegRoots.{leg_begins}
 use Rattle.pssm_model_laws.proofs.LegShapes.{later_begins_on}

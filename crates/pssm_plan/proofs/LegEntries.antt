@@ -17,7 +17,8 @@ use Rattle.pssm_model.specs.Routes.{IsRoute}
 use Rattle.pssm_model.specs.Shapes.{HasShape}
 use Rattle.pssm_model.specs.WellFormed.{KeepsModelRules}
 use Rattle.pssm_model.specs.WellFormed.Breaks.{E15}
-use Rattle.pssm_model.specs.RouteWords.{IsStepRoute, IsThrough}
+use Rattle.pssm_model.specs.RouteWords.{IsStepRoute}
+use Rattle.pssm_model_laws.specs.inner.RouteWords.{IsThrough}
 use Rattle.pssm_model.proofs.ElementLaws.{kind_unique, leaves_one, enters_one}
 use Rattle.pssm_model.proofs.OwnerChains.{under_further}
 use Rattle.pssm_model_laws.proofs.RegionChains.{under_state}

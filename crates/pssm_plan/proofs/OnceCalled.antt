@@ -18,7 +18,7 @@ use Rattle.pssm_model.specs.Items.{LegCalls, LegEnds, LegOpens}
 use Rattle.pssm_model.specs.Shapes.{HasShape}
 use Rattle.pssm_model.specs.WellFormed.{KeepsModelRules}
 use Rattle.pssm_model.specs.RouteWords.{IsStepRoute}
-use Rattle.pssm_model_laws.specs.inner.RouteEnds.{EndsOn}
+use Rattle.pssm_model_laws.specs.inner.RouteWords.{EndsOn}
 use Rattle.pssm_model.proofs.ElementLaws.{kind_unique}
 use Rattle.pssm_model_laws.proofs.Branches.{stand}
 use Rattle.pssm_model_laws.proofs.EndsApart.{step_is_route, one_way_in, alone_at_home}

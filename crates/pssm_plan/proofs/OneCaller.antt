@@ -27,8 +27,8 @@ use Rattle.pssm_model.specs.Items.Before.{outer_enter}
 use Rattle.pssm_model.specs.Order.{HasGone, course_by}
 use Rattle.pssm_model.specs.Order.HasGone.{begun as gone_begun, more as gone_more}
 use Rattle.pssm_model.specs.Routes.{IsStateRoute}
-use Rattle.pssm_model.specs.RouteWords.{IsStepRoute, GoesAs, IsAreaOf}
-use Rattle.pssm_model_laws.specs.inner.RouteEnds.{EndsOn}
+use Rattle.pssm_model.specs.RouteWords.{IsStepRoute}
+use Rattle.pssm_model_laws.specs.inner.RouteWords.{GoesAs, IsAreaOf, EndsOn}
 use Rattle.pssm_plan.specs.Steadiness.{BeginsWell}
 use Rattle.pssm_plan.specs.inner.OverRoutes.{LiesInArea, GoesBy, OpensAfterEntry, IsOpenedOver, IsOpenedFor, IsCalledOver}
 use Rattle.pssm_model.proofs.ElementLaws.{leaves_one, nothing_in_nil}

@@ -18,7 +18,7 @@ use Rattle.pssm_model.specs.Course.Head.{Starts, Fires}
 use Rattle.pssm_model.specs.Items.{restored_mode, StartOpens, IsWaiting, HasRunOut}
 use Rattle.pssm_model.specs.Order.{HasGone, IsReady, course_by}
 use Rattle.pssm_model.specs.WellFormed.{KeepsModelRules}
-use Rattle.pssm_model_laws.specs.inner.RouteEnds.{EndsIn, IsEnteredBy}
+use Rattle.pssm_model_laws.specs.inner.RouteWords.{EndsIn, IsEnteredBy}
 use Rattle.pssm_plan.specs.Steadiness.{BeginsWell}
 use Rattle.pssm_plan.specs.inner.OverRoutes.{GoesByRoutes, OpensBeside, EndsOnHistory, OpensFor, OpensAfterEntry, IsOpenedOver, IsOpenedFor, IsCalledOver}
 use Rattle.pssm_model_laws.proofs.Known.{Known, known_as, known_both, known_either, known_not, known_below}

@@ -18,7 +18,7 @@ use Rattle.pssm_model.specs.declared.steps.Item.TheVariants as items
 use Rattle.pssm_model.specs.Shapes.{HasShape}
 use Rattle.pssm_model.specs.WellFormed.{KeepsModelRules}
 use Rattle.pssm_model.specs.RouteWords.{IsStepRoute}
-use Rattle.pssm_model_laws.specs.inner.RouteEnds.{IsEnteredBy}
+use Rattle.pssm_model_laws.specs.inner.RouteWords.{IsEnteredBy}
 use Rattle.pssm_model.specs.Forest.{vertex_at, transition_at}
 use Rattle.pssm_model.specs.Forest.LiesUnder.{owned}
 use Rattle.pssm_model.specs.Legs.{transitions_of}

@@ -19,7 +19,7 @@ use Rattle.pssm_model.specs.Course.{Head, Course, Leg, IsLeg, HasRun}
 use Rattle.pssm_model.specs.Course.Head.{Starts, Fires}
 use Rattle.pssm_model.specs.Items.{CanExit, LegEnds, LegOpens, IsCalledInLeg, OpensByEntering, EnterOpens, StartOpens, Called}
 use Rattle.pssm_model.specs.Items.Called.{start, run, ends, opens, restored, entered}
-use Rattle.pssm_model_laws.specs.inner.RouteEnds.{IsEnteredBy}
+use Rattle.pssm_model_laws.specs.inner.RouteWords.{IsEnteredBy}
 use Rattle.pssm_plan.specs.inner.OverRoutes.{GoesBy, GoesByRoutes, CallsAtEnd, IsExitedOver, OpensFor, OpensAfterEntry, IsOpenedOver, IsCalledOver}
 use Rattle.pssm_model_laws.proofs.LegRoots.{leg_ends}
 use Rattle.pssm_plan.proofs.Stations.{aims}

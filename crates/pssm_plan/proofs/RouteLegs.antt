@@ -17,8 +17,8 @@ use Rattle.pssm_model.specs.Legs.{Leaves, On, IsLastVertex, IsLocalFrom, LegExit
 use Rattle.pssm_model.specs.Legs.SameLeg.{itself}
 use Rattle.pssm_model.specs.Items.{LegEnds, LegOpens}
 use Rattle.pssm_model.specs.Routes.{IsRoute, IsSource}
-use Rattle.pssm_model.specs.RouteWords.{IsStepRoute, GoesAs}
-use Rattle.pssm_model_laws.specs.inner.RouteEnds.{EndsOn, IsEnteredBy}
+use Rattle.pssm_model.specs.RouteWords.{IsStepRoute}
+use Rattle.pssm_model_laws.specs.inner.RouteWords.{GoesAs, EndsOn, IsEnteredBy}
 use Rattle.pssm_plan.specs.inner.OverRoutes.{LiesInArea, CallsAtEnd, OpensBeside}
 use Rattle.pssm_model.proofs.ElementLaws.{kind_unique}
 use Rattle.pssm_model_laws.proofs.Branches.{of_starts}

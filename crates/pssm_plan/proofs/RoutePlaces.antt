@@ -19,11 +19,11 @@ use Rattle.pssm_model.specs.Legs.LegScope.{local as local_scope}
 use Rattle.pssm_model.specs.Legs.Scope.{Nowhere, Inside, Within}
 use Rattle.pssm_model.specs.FiringSets.{IsLateOrigin}
 use Rattle.pssm_model.specs.Routes.{IsRoute, IsSource}
-use Rattle.pssm_model.specs.RouteWords.{IsThrough, IsStepRoute, GoesAs, IsEndOf, IsAreaOf}
-use Rattle.pssm_model_laws.specs.inner.RouteEnds.{EndsOn, EndsIn, IsStation, IsEnteredBy}
+use Rattle.pssm_model.specs.RouteWords.{IsStepRoute}
 use Rattle.pssm_model.specs.Shapes.{HasShape}
 use Rattle.pssm_model.specs.WellFormed.{KeepsModelRules}
 use Rattle.pssm_model.specs.WellFormed.Breaks.{E05, E13, E15, E16}
+use Rattle.pssm_model_laws.specs.inner.RouteWords.{IsThrough, GoesAs, IsEndOf, IsAreaOf, EndsOn, EndsIn, IsStation, IsEnteredBy}
 use Rattle.pssm_plan.specs.inner.OverRoutes.{LiesInArea, OpensBeside}
 use Rattle.pssm_model.proofs.ElementLaws.{leaves_one, enters_one}
 use Rattle.pssm_model.proofs.OwnerChains.{one_owner, under_further}

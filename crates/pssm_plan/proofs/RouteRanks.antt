@@ -37,7 +37,7 @@ use Rattle.pssm_model.specs.Items.Before.{inner_exit, outer_enter, exit_effect, 
 use Rattle.pssm_model.specs.Items.PathBefore.{next as path_next, after as path_on}
 use Rattle.pssm_model.specs.Order.{HasGone, course_by}
 use Rattle.pssm_model.specs.RouteWords.{IsStepRoute}
-use Rattle.pssm_model_laws.specs.inner.RouteEnds.{IsEnteredBy}
+use Rattle.pssm_model_laws.specs.inner.RouteWords.{IsEnteredBy}
 use Rattle.pssm_plan.specs.Steadiness.{BeginsWell}
 use Rattle.pssm_plan.specs.inner.OverRoutes.{GoesByRoutes, IsExitedOver, IsRestoredOver}
 use Rattle.pssm_model.proofs.ElementLaws.{mapped_some, same_vertex, same_transition, nothing_in_nil}

@@ -20,8 +20,8 @@ use Rattle.pssm_model.specs.Routes.{IsRoute, IsReached}
 use Rattle.pssm_model.specs.Routes.IsReached.{start, on}
 use Rattle.pssm_model.specs.Shapes.{HasShape}
 use Rattle.pssm_model.specs.WellFormed.{KeepsModelRules}
-use Rattle.pssm_model.specs.RouteWords.{IsStepRoute, GoesAs, IsAreaOf}
-use Rattle.pssm_model_laws.specs.inner.RouteEnds.{EndsOn, EndsIn, IsEnteredBy}
+use Rattle.pssm_model.specs.RouteWords.{IsStepRoute}
+use Rattle.pssm_model_laws.specs.inner.RouteWords.{GoesAs, IsAreaOf, EndsOn, EndsIn, IsEnteredBy}
 use Rattle.pssm_model.proofs.ElementLaws.{kind_unique, leaves_one, enters_one}
 use Rattle.pssm_model.proofs.RouteLaws.{reached_is_on}
 use Rattle.pssm_model.proofs.OwnerChains.{under_further}

@@ -22,12 +22,12 @@ use Rattle.pssm_model.specs.Items.Before.{inner_exit, outer_enter}
 use Rattle.pssm_model.specs.Order.HasGone.{begun as gone_begun, more as gone_more}
 use Rattle.pssm_model.specs.WellFormed.{KeepsModelRules}
 use Rattle.pssm_model.specs.Routes.{IsSource}
-use Rattle.pssm_model.specs.RouteWords.{IsAreaOf}
 use Rattle.pssm_config.specs.Tables.{CanEnter}
 use Rattle.pssm_plan.specs.Steadiness.{IsConsistent, BeginsWell, changed_by_item, changed_along}
 use Rattle.pssm_plan.specs.inner.OverRoutes.{IsEnteredOver, IsOpenedFor, IsCalledOver}
 use Rattle.pssm_model.specs.Legs.{Scope}
 use Rattle.pssm_model.specs.Legs.Scope.{Nowhere, Inside, Within}
+use Rattle.pssm_model_laws.specs.inner.RouteWords.{IsAreaOf}
 use Rattle.pssm_model.proofs.OwnerChains.{one_owner, owner_above, under_further}
 use Rattle.pssm_model.proofs.Nesting.{region_cases, lies_within}
 use Rattle.pssm_plan.proofs.RouteItems.{called_is, called_of}

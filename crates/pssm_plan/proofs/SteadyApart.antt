@@ -14,7 +14,7 @@ use Rattle.pssm_model.specs.Course.{Head, FiresBy}
 use Rattle.pssm_model.specs.Legs.{Exits, Scope, LiesInScope}
 use Rattle.pssm_model.specs.Legs.Scope.{Nowhere, Inside, Within}
 use Rattle.pssm_model.specs.Routes.{IsSource, IsStateRoute}
-use Rattle.pssm_model.specs.RouteWords.{IsAreaOf, IsAnchorOf}
+use Rattle.pssm_model_laws.specs.inner.RouteWords.{IsAreaOf, IsAnchorOf}
 use Rattle.pssm_plan.specs.Steadiness.{BeginsWell}
 use Rattle.pssm_plan.specs.inner.OverRoutes.{LiesInArea}
 use Rattle.pssm_model.proofs.RouteLaws.{same_route, conflict_from_source}

@@ -17,8 +17,7 @@ use Rattle.pssm_model.specs.Course.{Head, Course, FiresBy}
 use Rattle.pssm_model.specs.Items.{StartOpens}
 use Rattle.pssm_model.specs.Order.{HasGone, course_by}
 use Rattle.pssm_model.specs.WellFormed.{KeepsModelRules}
-use Rattle.pssm_model.specs.RouteWords.{IsAreaOf}
-use Rattle.pssm_model_laws.specs.inner.RouteEnds.{EndsIn}
+use Rattle.pssm_model_laws.specs.inner.RouteWords.{IsAreaOf, EndsIn}
 use Rattle.pssm_plan.specs.Steadiness.{BeginsWell}
 use Rattle.pssm_plan.specs.inner.OverRoutes.{OpensAfterEntry, IsOpenedOver, IsOpenedFor}
 use Rattle.pssm_model.proofs.OwnerChains.{one_owner}

@@ -22,10 +22,11 @@ use Rattle.pssm_model.specs.Items.{StartOpens, LegOpens, Before}
 use Rattle.pssm_model.specs.Items.Before.{exit_effect, effect_enter, effect_end, later}
 use Rattle.pssm_model.specs.Order.{HasGone, IsReady, course_by}
 use Rattle.pssm_model.specs.Order.HasGone.{begun as gone_begun, more as gone_more}
-use Rattle.pssm_model.specs.RouteWords.{IsStepRoute, IsAreaOf}
+use Rattle.pssm_model.specs.RouteWords.{IsStepRoute}
 use Rattle.pssm_plan.specs.Steadiness.{BeginsWell}
 use Rattle.pssm_model.specs.Legs.{On, LegExits, Scope, LiesInScope}
 use Rattle.pssm_model.specs.Legs.SameLeg.{itself as itself_leg}
+use Rattle.pssm_model_laws.specs.inner.RouteWords.{IsAreaOf}
 use Rattle.pssm_plan.specs.inner.OverRoutes.{LiesInArea, GoesByRoutes, GoesBy, IsExitedOver, IsOpenedOver, IsOpenedFor, IsCalledOver}
 use Rattle.pssm_model.proofs.ElementLaws.{nothing_in_nil}
 use Rattle.pssm_model_laws.proofs.LegRoots.{leg_ends}

@@ -12,9 +12,10 @@ use Rattle.pssm_model.specs.Forest.{owner_of, HasKind, LiesUnder, LiesInState}
 use Rattle.pssm_model.specs.Forest.LiesUnder.{owned, further}
 use Rattle.pssm_model.specs.Legs.{Leaves, Enters}
 use Rattle.pssm_model.specs.Routes.{IsStateRoute}
-use Rattle.pssm_model.specs.RouteWords.{IsStepRoute, IsAnchorOf}
+use Rattle.pssm_model.specs.RouteWords.{IsStepRoute}
 use Rattle.pssm_model.specs.Shapes.{HasShape}
 use Rattle.pssm_model.specs.WellFormed.{KeepsModelRules}
+use Rattle.pssm_model_laws.specs.inner.RouteWords.{IsAnchorOf}
 use Rattle.pssm_model.proofs.ElementLaws.{leaves_one, enters_one}
 use Rattle.pssm_model.proofs.RouteLaws.{is_one}
 use Rattle.pssm_model.proofs.OwnerChains.{under_further}

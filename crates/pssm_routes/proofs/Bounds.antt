@@ -11,8 +11,9 @@ use Rattle.pssm_model.specs.Shapes.{HasShape}
 use Rattle.pssm_model.specs.Legs.{Leaves, Enters, On}
 use Rattle.pssm_model.specs.Routes.{Truth, IsReached}
 use Rattle.pssm_model.specs.Routes.IsReached.{start as begins, on as goes_on}
-use Rattle.pssm_model.specs.RouteWords.{IsStepRoute, IsThrough}
+use Rattle.pssm_model.specs.RouteWords.{IsStepRoute}
 use Rattle.pssm_model.specs.WellFormed.{KeepsModelRules}
+use Rattle.pssm_model_laws.specs.inner.RouteWords.{IsThrough}
 use Rattle.pssm_model.proofs.ElementLaws.{enters_one}
 use Rattle.pssm_model.proofs.RouteLaws.{is_one}
 use Rattle.pssm_model_laws.proofs.RouteOrder.{route_of, of_rest}

@@ -13,8 +13,9 @@ use Rattle.pssm_model.specs.Forest.LiesUnder.{further}
 use Rattle.pssm_model.specs.Legs.{Goes, Enters, On, Scope}
 use Rattle.pssm_model.specs.Legs.Scope.{Nowhere as nowhere, Inside as inside, Within as within}
 use Rattle.pssm_model.specs.Routes.{IsSource, IsStateRoute, Conflict}
-use Rattle.pssm_model.specs.RouteWords.{IsStepRoute, IsEndOf, IsAreaOf}
+use Rattle.pssm_model.specs.RouteWords.{IsStepRoute}
 use Rattle.pssm_model.specs.WellFormed.{KeepsModelRules}
+use Rattle.pssm_model_laws.specs.inner.RouteWords.{IsEndOf, IsAreaOf}
 use Rattle.pssm_model.proofs.ElementLaws.{leaves_one}
 use Rattle.pssm_model.proofs.OwnerChains.{under_further}
 use Rattle.pssm_model_laws.proofs.RegionChains.{on_one_chain}

@@ -10,8 +10,8 @@ use Rattle.pssm_model.specs.Shapes.{HasShape}
 use Rattle.pssm_model.specs.Forest.{HasKind}
 use Rattle.pssm_model.specs.Legs.{Leaves, On}
 use Rattle.pssm_model.specs.Routes.{Truth, IsRoute, IsStateRoute, IsTrueAt}
-use Rattle.pssm_model.specs.RouteWords.{IsThrough}
 use Rattle.pssm_model.specs.WellFormed.{KeepsModelRules}
+use Rattle.pssm_model_laws.specs.inner.RouteWords.{IsThrough}
 use Rattle.pssm_model.proofs.ElementLaws.{leaves_one}
 use Rattle.pssm_model_laws.proofs.Through.{not_through}
 use Rattle.pssm_model_laws.proofs.StateRoutes.{leaves_some}

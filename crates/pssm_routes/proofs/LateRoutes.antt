@@ -12,10 +12,10 @@ use Rattle.pssm_model.specs.Forest.{vertex_at, transition_at, HasKind}
 use Rattle.pssm_model.specs.Legs.{Leaves, On}
 use Rattle.pssm_model.specs.Routes.{Truth, IsTrueAt, IsRoute}
 use Rattle.pssm_model.specs.FiringSets.{IsLateOrigin, IsLateRoute}
+use Rattle.pssm_model_laws.specs.inner.RouteWords.{IsThrough}
 use Rattle.pssm_model.proofs.ElementLaws.{mapped_some, leaves_one}
 use Rattle.pssm_model_laws.proofs.Through.{not_through}
 use Rattle.pssm_model.proofs.RouteLaws.{is_one, one_in_order, all_of_one}
-use Rattle.pssm_model.specs.RouteWords.{IsThrough}
 use Rattle.pssm_routes.specs.inner.Fitting.{route_with, AreInOrder, StartsOutside, StartsLate}
 
 -- a transition that leaves a vertex is there

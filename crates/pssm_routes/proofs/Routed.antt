@@ -13,8 +13,8 @@ use Rattle.pssm_model.specs.Shapes.{HasShape}
 use Rattle.pssm_model.specs.Legs.{Leaves, Enters, On, IsCut, transitions_of}
 use Rattle.pssm_model.specs.Paths.LeadsOn.{after}
 use Rattle.pssm_model.specs.Routes.{Truth, IsRoute, IsStateRoute, IsTrueAt, HasStarts, IsAscending}
-use Rattle.pssm_model.specs.RouteWords.{IsThrough}
 use Rattle.pssm_model.specs.WellFormed.{KeepsModelRules}
+use Rattle.pssm_model_laws.specs.inner.RouteWords.{IsThrough}
 use Rattle.pssm_model.proofs.ElementLaws.{leaves_one, enters_one}
 use Rattle.pssm_model.proofs.RouteLaws.{is_one, one_in_order}
 use Rattle.pssm_model_laws.proofs.Known.{known_transition}

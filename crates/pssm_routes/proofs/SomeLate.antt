@@ -17,10 +17,10 @@ use Rattle.pssm_model.specs.Paths.{HasOut, IsInner, IsPseudostate, ComesAfter, R
 use Rattle.pssm_model.specs.Paths.ComesAfter.{end as comes_end, inner as comes_inner}
 use Rattle.pssm_model.specs.Paths.Reaches.{by as reaches_by, on as reaches_on}
 use Rattle.pssm_model.specs.Routes.{Truth, IsTrueAt, guard_of}
-use Rattle.pssm_model.specs.RouteWords.{IsThrough}
 use Rattle.pssm_model.specs.FiringSets.{IsLateOrigin, IsLateRoute}
 use Rattle.pssm_model.specs.WellFormed.{KeepsModelRules, HasElse, HasSureBranch, IsComeToLate}
 use Rattle.pssm_model.specs.WellFormed.Breaks.{E18}
+use Rattle.pssm_model_laws.specs.inner.RouteWords.{IsThrough}
 use Rattle.pssm_model.proofs.ElementLaws.{leaves_one}
 use Rattle.pssm_model_laws.proofs.KnownPlaces.{known_vertex_kind}
 use Rattle.pssm_model_laws.proofs.Through.{known_through, target_there, join_from_state}

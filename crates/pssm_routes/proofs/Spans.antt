@@ -17,9 +17,9 @@ use Rattle.pssm_model.specs.Forest.LiesUnder.{owned, further}
 use Rattle.pssm_model.specs.Shapes.{HasShape}
 use Rattle.pssm_model.specs.Legs.{Leaves, Enters, Goes, On}
 use Rattle.pssm_model.specs.Routes.{IsStateRoute}
-use Rattle.pssm_model.specs.RouteWords.{IsEndOf}
 use Rattle.pssm_model.specs.WellFormed.{KeepsModelRules}
 use Rattle.pssm_model.specs.WellFormed.Breaks.{E07}
+use Rattle.pssm_model_laws.specs.inner.RouteWords.{IsEndOf}
 use Rattle.pssm_model.proofs.ElementLaws.{mapped_at, leaves_one, enters_one, nothing_in_nil}
 use Rattle.pssm_model.proofs.RouteLaws.{is_one}
 use Rattle.pssm_model.proofs.OwnerChains.{under_further}

@@ -13,7 +13,7 @@ use Rattle.pssm_model.specs.Legs.{Leaves, Enters}
 use Rattle.pssm_model.specs.Paths.{LeadsOn}
 use Rattle.pssm_model.specs.Paths.LeadsOn.{after}
 use Rattle.pssm_model.specs.Routes.{Truth, IsTrueAt, guard_of}
-use Rattle.pssm_model.specs.RouteWords.{IsThrough}
+use Rattle.pssm_model_laws.specs.inner.RouteWords.{IsThrough}
 use Rattle.pssm_model.proofs.ElementLaws.{mapped_some, leaves_one, enters_one, nothing_in_nil}
 use Rattle.pssm_model.proofs.RouteLaws.{in_one, is_one}
 use Rattle.pssm_model_laws.proofs.Through.{step_leads}

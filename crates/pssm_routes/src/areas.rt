@@ -5,8 +5,8 @@ ghost use Rattle.pssm_model.specs.declared.elements.TransKind.TheVariants.{Exter
 ghost use Rattle.pssm_model.specs.Forest.{IsScope, IsHome, LiesInState, IsOrLiesIn};
 ghost use Rattle.pssm_model.specs.Legs.Scope.{Within};
 ghost use Rattle.pssm_model.specs.Routes.{IsStateRoute};
-ghost use Rattle.pssm_model.specs.RouteWords.{GoesAs, IsAreaOf};
 ghost use Rattle.pssm_model.specs.WellFormed.{KeepsModelRules, ShareRegion};
+ghost use Rattle.pssm_model_laws.specs.inner.RouteWords.{GoesAs, IsAreaOf};
 ghost use Rattle.pssm_legs.specs.Areas.{scope_of, IsAreaIn};
 ghost use Rattle.pssm_routes.specs.inner.Footprints.{IsFootprintOf, IsFootprintIn, IsAnchorBy, Clash};
 ghost use Rattle.pssm_routes.specs.inner.Spans.{IsMetBy, AreAllNear, IsWiderFor, IsBeside};

@@ -6,8 +6,8 @@ ghost use Rattle.pssm_model.specs.declared.elements.VertexKind.TheVariants as ki
 ghost use Rattle.pssm_model.specs.Forest.{HasKind};
 ghost use Rattle.pssm_model.specs.Legs.{Leaves, Enters};
 ghost use Rattle.pssm_model.specs.Routes.{Truth, IsTrueAt, IsAscending};
-ghost use Rattle.pssm_model.specs.RouteWords.{IsThrough};
 ghost use Rattle.pssm_model.specs.WellFormed.{KeepsModelRules};
+ghost use Rattle.pssm_model_laws.specs.inner.RouteWords.{IsThrough};
 ghost use Rattle.pssm_routes.specs.Telling.{CanBeAsked, Tells};
 ghost use Rattle.pssm_routes.specs.inner.Fitting.{IsMarked};
 ghost use Rattle.pssm_routes.specs.inner.Passing.{IsPassedOver, KnowsWays, IsFoundOnce};

@@ -1,5 +1,5 @@
--- Entries that name what the setting has.
-use Rattle.std.specs.Prelude.{◌<◌, length, All}
+-- Entries and stimuli that name what the setting has.
+use Rattle.std.specs.Prelude.{◌≡◌, ◌<◌, length, Some, All}
 use Rattle.pssm_model.specs.declared.ids.VertexId.{VertexId}
 use Rattle.pssm_model.specs.declared.elements.DraftMachine.{DraftMachine}
 use Rattle.pssm_model.specs.declared.steps.Route.{Route}
@@ -13,7 +13,8 @@ use Rattle.pssm_semantics.specs.declared.entry.Entry.{Entry}
 use Rattle.pssm_semantics.specs.declared.entry.Entry.TheVariants.{Post, Start, Take, Done, Exit, Effect, Enter, Opened, Pick, DoStep}
 use Rattle.pssm_semantics.specs.declared.setting.Class.{Class}
 use Rattle.pssm_semantics.specs.declared.setting.Setting.{Setting}
-use Rattle.pssm_semantics.specs.Settings.{HasCount}
+use Rattle.pssm_semantics.specs.declared.stimulus.Stimulus.{Stimulus}
+use Rattle.pssm_semantics.specs.Settings.{class_of, HasCount}
 
 -- The transitions of the route are those of the machine (this profile's choice).
 abbrev pub IsRouteOf : DraftMachine → Route → Type 0
@@ -50,3 +51,7 @@ NamesKnown setting class (Enter o state outs) = IsVertexOf class.machine state �
 NamesKnown setting class (Opened o region mode how) = (region.0 < length class.machine.regions) × IsWayOf class.machine how
 NamesKnown setting class (Pick o choice route) = IsVertexOf class.machine choice × IsRouteOf class.machine route
 NamesKnown setting class (DoStep o state step outs) = IsVertexOf class.machine state × All (IsOutOf setting class) outs
+
+-- The stimulus names an object of the setting, and a signal with as many parameters as it has arguments (this profile's choice).
+abbrev pub IsStimulusOf : Setting → Stimulus → Type 0
+IsStimulusOf setting x = (class : Class) × (class_of setting x.object ≡ Some class) × HasCount setting x.signal (length x.args)

@@ -23,7 +23,7 @@ use Rattle.pssm_acts.proofs.BlockBack.{act_read_back}
 use Rattle.pssm_flat.specs.Flat.{Leads, is_inner, is_label_byte, IsLabel, IsLineText, IsWrittenVertex, IsWrittenTransition, IsWrittenMachine, IsNextAct, LeadsVertex, LeadsTransition, first_program, IsNumbered, IsWrittenClass, IsWritten, IsFlat}
 use Rattle.pssm_flat.proofs.RightTexts.{line_text_is}
 use Rattle.pssm_suite.specs.Generated.{next_state}
-use Rattle.pssm_suite.specs.GeneratedSetting.{vertex, transition, on_go, nothing, send_on, front_machine, front, back_machine, back, generated}
+use Rattle.pssm_suite.specs.GeneratedSetting.{vertex, transition, on_go, nothing, send_on, front_machine, front, back_machine, back, generated_setting}
 use Rattle.pssm_suite.proofs.PlainMachines.{plain_shape}
 use Rattle.pssm_suite.proofs.PlainFront.{step, next_within, front_plain}
 use Rattle.pssm_suite.proofs.PlainBack.{back_plain}
@@ -242,8 +242,8 @@ front_class n few = record { var_names = tt; few_vars = omega arith; firsts = tt
 back_class : IsWrittenClass names back
 back_class = record { var_names = tt; few_vars = omega arith; firsts = tt; machine = back_written; numbered = back_numbered }
 
-generated_written : (n : ℕ) → n ≤ 4000 → IsWritten (generated n)
-unfolding generated
+generated_written : (n : ℕ) → n ≤ 4000 → IsWritten (generated_setting n)
+unfolding generated_setting
 generated_written n few = record {
   signal_names = (record { name_is = record { spelled = refl; short = omega arith }; new = tt }, tt);
   few_signals = omega arith;
@@ -256,8 +256,8 @@ generated_written n few = record {
   classes = (front_class n few, (back_class, tt));
 }
 
-pub generated_flat : (n : ℕ) → 1 ≤ n → n ≤ 4000 → IsFlat (generated n)
-unfolding generated
+pub generated_flat : (n : ℕ) → 1 ≤ n → n ≤ 4000 → IsFlat (generated_setting n)
+unfolding generated_setting
 generated_flat n some few = record {
   written = generated_written n few;
   shape = (plain_shape (front_machine n) (front_plain n some few), (plain_shape back_machine back_plain, tt));

@@ -25,7 +25,7 @@ use Rattle.pssm_semantics_laws.proofs.Objects.{same_object}
 use Rattle.pssm_object.specs.Standing.{HasNotStarted}
 use Rattle.pssm_object.specs.Coming.{HasCourse}
 use Rattle.pssm_system.proofs.Coming.{has_come}
-use Rattle.pssm_suite.specs.GeneratedSetting.{front_machine, front, generated}
+use Rattle.pssm_suite.specs.GeneratedSetting.{front_machine, front, generated_setting}
 use Rattle.pssm_suite.proofs.PlainFront.{front_plain, initial_is}
 use Rattle.pssm_suite.proofs.LoadedSetting.{generated_well_formed}
 use Rattle.pssm_suite.proofs.CalmFront.{front_source, front_calm}
@@ -149,7 +149,7 @@ module _ (n : ℕ) (some : 1 ≤ n) (few : n ≤ 4000) where
   weighs [] = tt
   weighs (e ∷ J) = ((λ other. refl), weighs J)
 
-  module _ (J : List Entry) (admissible : IsAdmissibleIn (generated n) J) where
+  module _ (J : List Entry) (admissible : IsAdmissibleIn (generated_setting n) J) where
     abbrev Course : Type 0
     Course = HasCourse (front_machine n) J front_object
 
@@ -191,7 +191,7 @@ module _ (n : ℕ) (some : 1 ≤ n) (few : n ≤ 4000) where
         by (Pick q v route) heads e = absurd (cc)
         by (DoStep q v k outs) heads e = absurd (cc)
 
-    sends_each : (sum_by item_weight J ≡ 0) ⊎ EndsWithin (IsAdmissibleIn (generated n)) item_weight (own_head front_object 0 1) J
+    sends_each : (sum_by item_weight J ≡ 0) ⊎ EndsWithin (IsAdmissibleIn (generated_setting n)) item_weight (own_head front_object 0 1) J
     sends_each =
         ⊎_elim
         (λ (none : HasNotStarted (front_machine n) J front_object).
@@ -206,5 +206,5 @@ module _ (n : ℕ) (some : 1 ≤ n) (few : n ≤ 4000) where
         }))
         (has_come (generated_well_formed n some few) front_object (front n) (front_class n) J admissible)
 
-  pub sends_below : (J : List Entry) → IsAdmissibleIn (generated n) J → sum_by item_weight J ≤ sum_by (own_head front_object 0 1) J
-  sends_below = steps_below (IsAdmissibleIn (generated n)) item_weight (own_head front_object 0 1) sends_each
+  pub sends_below : (J : List Entry) → IsAdmissibleIn (generated_setting n) J → sum_by item_weight J ≤ sum_by (own_head front_object 0 1) J
+  sends_below = steps_below (IsAdmissibleIn (generated_setting n)) item_weight (own_head front_object 0 1) sends_each

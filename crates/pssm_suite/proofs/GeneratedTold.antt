@@ -19,7 +19,7 @@ use Rattle.pssm_semantics.specs.Rules.{KeepsDoSteps, KeepsOuts}
 use Rattle.pssm_semantics.specs.Admissible.{IsAdmissibleIn, FitsStimuli}
 use Rattle.pssm_semantics.proofs.Appended.{AllByRecursion-front, AllByRecursion-back}
 use Rattle.pssm_suite.specs.Generated.{go, generated_stimuli}
-use Rattle.pssm_suite.specs.GeneratedSetting.{front, back, generated}
+use Rattle.pssm_suite.specs.GeneratedSetting.{front, back, generated_setting}
 use Rattle.pssm_suite.proofs.CalmMachines.{IsCalm}
 use Rattle.pssm_suite.proofs.CalmFront.{front_calm}
 use Rattle.pssm_suite.proofs.CalmBack.{back_calm}
@@ -98,7 +98,7 @@ sent_to_back (suc k) =
 abbrev pub SendsAsItem : Entry → Type 0
 SendsAsItem e = outs_of e ≡ replicate (option_map_or sends_of (item_by front_object e) 0) go_on
 
-module _ (n : ℕ) (some : 1 ≤ n) (few : n ≤ 4000) (J : List Entry) (admissible : IsAdmissibleIn (generated n) J) where
+module _ (n : ℕ) (some : 1 ≤ n) (few : n ≤ 4000) (J : List Entry) (admissible : IsAdmissibleIn (generated_setting n) J) where
   no_do : (class : Class) (first count : ℕ) → IsCalm class.machine first count → (before : List Entry) (e : Entry) → KeepsDoSteps class.machine before e → IsNoDoStep e
   no_do class first count calm before (DoStep q v k outs) h = no_do_step class.machine first count calm (configuration_after class.machine before q) v k h
   no_do class first count calm before (Post q g args) h = tt
@@ -118,10 +118,10 @@ module _ (n : ℕ) (some : 1 ≤ n) (few : n ≤ 4000) (J : List Entry) (admissi
   by_other : (e : Entry) → object_of e ≡ back_object → item_by front_object e ≡ None
   by_other e own = ap (λ (q : ObjectId). if q.0 == 0 then item_of e else None) own
 
-  front_entry : (before : List Entry) (e : Entry) → object_of e ≡ front_object → NamesKnown (generated n) (front n) e → KeepsDoSteps (front n).machine before e
+  front_entry : (before : List Entry) (e : Entry) → object_of e ≡ front_object → NamesKnown (generated_setting n) (front n) e → KeepsDoSteps (front n).machine before e
       → KeepsOuts (front n) (told_by before) before e → SendsAsItem e
   front_entry before e own known steps keeps =
-      front_sends n (front_calm n some few) (generated n) (told_by before) before e (no_do (front n) 0 1 (front_calm n some few) before e steps) known keeps
+      front_sends n (front_calm n some few) (generated_setting n) (told_by before) before e (no_do (front n) 0 1 (front_calm n some few) before e steps) known keeps
       ∙ ap (λ r. replicate (option_map_or sends_of r 0) go_on) (sym (by_own e own))
 
   back_entry : (before : List Entry) (e : Entry) → object_of e ≡ back_object → KeepsDoSteps back.machine before e
@@ -138,7 +138,7 @@ module _ (n : ℕ) (some : 1 ≤ n) (few : n ≤ 4000) (J : List Entry) (admissi
       let keeps = admissible before after e splits A12 class known.1 in
       ⊎_elim
       (λ one.
-      front_entry before e one.0 (subst (λ c. NamesKnown (generated n) c e) one.1 known.2) (subst (λ (c : Class). KeepsDoSteps c.machine before e) one.1 steps)
+      front_entry before e one.0 (subst (λ c. NamesKnown (generated_setting n) c e) one.1 known.2) (subst (λ (c : Class). KeepsDoSteps c.machine before e) one.1 steps)
       (subst (λ c. KeepsOuts c (told_by before) before e) one.1 keeps))
       (λ other.
       back_entry before e other.0 (subst (λ (c : Class). KeepsDoSteps c.machine before e) other.1 steps)

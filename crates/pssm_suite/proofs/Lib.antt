@@ -1,4 +1,5 @@
 pub mod TextLaws
+pub mod GeneratedSize
 pub mod SettingText
 pub mod PlainMachines
 pub mod PlainFront

@@ -22,7 +22,7 @@ use Rattle.pssm_semantics_laws.proofs.Admissible.{IsAdmissible-front, IsAdmissib
 use Rattle.pssm_semantics_laws.proofs.Objects.{same_object}
 use Rattle.pssm_suite.specs.Counts.{takes_signal, take_count, IsGeneratedRun, HasFewEntries}
 use Rattle.pssm_suite.specs.Generated.{go, generated_stimuli}
-use Rattle.pssm_suite.specs.GeneratedSetting.{front, back, generated}
+use Rattle.pssm_suite.specs.GeneratedSetting.{front, back, generated_setting}
 use Rattle.pssm_suite.proofs.LoadedSetting.{generated_well_formed}
 use Rattle.pssm_suite.proofs.CalmFront.{front_calm}
 use Rattle.pssm_suite.proofs.CalmBack.{back_calm}
@@ -84,7 +84,7 @@ module _ (setting : Setting) (o : ObjectId) where
 abbrev pub IsOfTwo : ObjectId → Type 0
 IsOfTwo q = (q ≡ front_object) ⊎ (q ≡ back_object)
 
-pub all_of_two : (n : ℕ) (J : List Entry) → IsAdmissibleIn (generated n) J → AllByRecursion (λ e. IsOfTwo (object_of e)) J
+pub all_of_two : (n : ℕ) (J : List Entry) → IsAdmissibleIn (generated_setting n) J → AllByRecursion (λ e. IsOfTwo (object_of e)) J
 all_of_two n J admissible =
     each_entry (λ e. IsOfTwo (object_of e)) J
     (λ before after e splits.
@@ -178,15 +178,15 @@ module _ (n : ℕ) (some : 1 ≤ n) (few : n ≤ 4000) (J : List Entry) (run : I
         entries = entries_are J of_two;
         front_entries = (let a = front_bound in let b = split_heads front_object 4 4 J in omega (arith, a, b));
         back_entries = (let a = back_bound in let b = split_heads back_object 10 7 J in omega (arith, a, b));
-        front_starts = starts_once (generated n) front_object J run.admissible;
-        back_starts = starts_once (generated n) back_object J run.admissible;
+        front_starts = starts_once (generated_setting n) front_object J run.admissible;
+        back_starts = starts_once (generated_setting n) back_object J run.admissible;
         front_takes = (
-            let a = few_taken (generated n) front_object J run.admissible in
+            let a = few_taken (generated_setting n) front_object J run.admissible in
             let b = told_to_front J sends in
             omega (arith, a, b)
             );
         back_takes = (
-            let a = few_taken (generated n) back_object J run.admissible in
+            let a = few_taken (generated_setting n) back_object J run.admissible in
             let b = told_to_back J (posts_go n J run.fits) sends in
             let c = sends_below n some few J run.admissible in
             omega (arith, a, b, c)

@@ -14,7 +14,7 @@ use Rattle.pssm_semantics.specs.Pool.{outs_of, signals_of_out, posts_of_entry, s
 use Rattle.pssm_semantics.proofs.Appended.{AllByRecursion-append}
 use Rattle.pssm_suite.specs.Counts.{IsGeneratedRun, IsGeneratedEnd, HasAllEntries}
 use Rattle.pssm_suite.specs.Generated.{go}
-use Rattle.pssm_suite.specs.GeneratedSetting.{front, back, generated}
+use Rattle.pssm_suite.specs.GeneratedSetting.{front, back, generated_setting}
 use Rattle.pssm_suite.proofs.LoadedSetting.{generated_well_formed}
 use Rattle.pssm_suite.proofs.CalmFront.{front_calm}
 use Rattle.pssm_suite.proofs.CalmBack.{back_calm}
@@ -170,7 +170,7 @@ module _ (n : ℕ) (some : 1 ≤ n) (few : n ≤ 4000) (J : List Entry) (end : I
 
   front_takes : takes_of front_object J ≡ length (posts_of J)
   front_takes =
-      let a = all_taken (generated n) front_object J end.admissible in
+      let a = all_taken (generated_setting n) front_object J end.admissible in
       let none = ap (λ (ws : List (ℕ × Stimulus)). length ws) front_empty in
       let told = all_told_to_front J posts in
       let p = (run_parts n some few J run).front_takes in
@@ -178,7 +178,7 @@ module _ (n : ℕ) (some : 1 ≤ n) (few : n ≤ 4000) (J : List Entry) (end : I
 
   back_takes : takes_of back_object J ≡ takes_of front_object J
   back_takes =
-      let a = all_taken (generated n) back_object J end.admissible in
+      let a = all_taken (generated_setting n) back_object J end.admissible in
       let none = ap (λ (ws : List (ℕ × Stimulus)). length ws) back_empty in
       let told = all_told_to_back J sends in
       let sent = sends_exactly n some few J front_done in

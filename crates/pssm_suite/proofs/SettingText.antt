@@ -8,7 +8,7 @@ use Rattle.std.proofs.lemmas.List.{append-nil}
 use Rattle.pssm_flat.specs.Text.{text_of, numbered, vertex_lines, transition_lines, names_of, block_lines, flat_lines, flat_text}
 use Rattle.pssm_flat.specs.Text.{head_lines as first_lines}
 use Rattle.pssm_suite.specs.Generated.{up_to, next_state, state_line, step_lines, head_lines, front_lines, back_lines, generated_lines, generated_text}
-use Rattle.pssm_suite.specs.GeneratedSetting.{vertex, transition, on_go, nothing, send_on, front, back, generated}
+use Rattle.pssm_suite.specs.GeneratedSetting.{vertex, transition, on_go, nothing, send_on, front, back, generated_setting}
 use Rattle.pssm_model.specs.declared.elements.VertexKind.TheVariants.{State}
 
 -- the lines of equal items, each of one line
@@ -41,8 +41,8 @@ step_act n zero le lt = absurd (omega arith)
 step_act n (suc i) le lt = one_of_equal send_on n i (omega arith)
 
 -- the lines of a step
-step_text : (n i : ℕ) → 1 ≤ i → i < 1 + n → transition_lines (names_of (generated n) (front n)) (front n) i (transition i (next_state n i) on_go i) ≡ step_lines n i
-unfolding generated
+step_text : (n i : ℕ) → 1 ≤ i → i < 1 + n → transition_lines (names_of (generated_setting n) (front n)) (front n) i (transition i (next_state n i) on_go i) ≡ step_lines n i
+unfolding generated_setting
 step_text n i le lt = rw (step_act n i le lt) refl
 
 -- ---- numbers of one digit
@@ -73,10 +73,10 @@ seven_is = decimal_digit 7 (omega arith)
 
 -- ---- the blocks
 
-front_text : (n : ℕ) → block_lines (names_of (generated n) (front n)) (front n) ≡ front_lines n
-unfolding generated
+front_text : (n : ℕ) → block_lines (names_of (generated_setting n) (front n)) (front n) ≡ front_lines n
+unfolding generated_setting
 front_text n =
-    let names = names_of (generated n) (front n) in
+    let names = names_of (generated_setting n) (front n) in
     let steps = map (λ i. transition i (next_state n i) on_go i) (up_to n) in
     let states_are : numbered (vertex_lines names (front n)) 1 (replicate n (vertex 0 State [])) ≡ map state_line (up_to n) =
     lines_of_equal (vertex_lines names (front n)) state_line (vertex 0 State []) (λ i. rw zero_is refl) 1 n in
@@ -86,26 +86,26 @@ front_text n =
     (ap (λ ls. codes "machine Front" ∷ codes "region r0 top" ∷ codes "vertex v0 r0 initial" ∷ (ls ++ (codes "transition t0 v0 v1 external" ∷ numbered (transition_lines names (front n)) 1 steps))) states_are
     ∙ ap (λ ls. codes "machine Front" ∷ codes "region r0 top" ∷ codes "vertex v0 r0 initial" ∷ (map state_line (up_to n) ++ (codes "transition t0 v0 v1 external" ∷ ls))) steps_are))
 
-back_text : (n : ℕ) → block_lines (names_of (generated n) back) back ≡ back_lines
-unfolding generated
+back_text : (n : ℕ) → block_lines (names_of (generated_setting n) back) back ≡ back_lines
+unfolding generated_setting
 back_text n = rw zero_is (rw one_is (rw two_is (rw three_is (rw four_is (rw five_is (rw six_is (rw seven_is refl)))))))
 
-head_text : (n : ℕ) → first_lines (generated n) ≡ head_lines
-unfolding generated
+head_text : (n : ℕ) → first_lines (generated_setting n) ≡ head_lines
+unfolding generated_setting
 head_text n = rw zero_is refl
 
-generated_lines_are : (n : ℕ) → flat_lines (generated n) ≡ generated_lines n
-unfolding generated flat_lines generated_lines
+generated_lines_are : (n : ℕ) → flat_lines (generated_setting n) ≡ generated_lines n
+unfolding generated_setting flat_lines generated_lines
 generated_lines_are n =
     let end : List (List ℕ) = codes "end" ∷ [] in
-    let front_block = block_lines (names_of (generated n) (front n)) (front n) in
-    let back_block = block_lines (names_of (generated n) back) back in
+    let front_block = block_lines (names_of (generated_setting n) (front n)) (front n) in
+    let back_block = block_lines (names_of (generated_setting n) back) back in
     ap (λ ls. ls ++ ((front_block ++ (back_block ++ [])) ++ end)) (head_text n)
     ∙ ap (λ ls. head_lines ++ ((ls ++ (back_block ++ [])) ++ end)) (front_text n)
     ∙ ap (λ ls. head_lines ++ ((front_lines n ++ (ls ++ [])) ++ end)) (back_text n)
     ∙ ap (λ ls. head_lines ++ ((front_lines n ++ ls) ++ end)) (append-nil back_lines)
     ∙ ap (λ ls. head_lines ++ ls) (append_assoc (front_lines n) back_lines end)
 
-pub generated_text_is : (n : ℕ) → flat_text (generated n) ≡ generated_text n
+pub generated_text_is : (n : ℕ) → flat_text (generated_setting n) ≡ generated_text n
 unfolding flat_text generated_text
 generated_text_is n = ap text_of (generated_lines_are n)

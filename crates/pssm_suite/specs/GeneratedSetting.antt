@@ -1,5 +1,5 @@
 -- The setting of the generated model.
-use Rattle.std.specs.Prelude.{◌≡◌, ℕ, List, [], ◌∷◌, length, map, replicate, codes, Some}
+use Rattle.std.specs.Prelude.{ℕ, List, [], ◌∷◌, map, replicate, codes, Some}
 use Rattle.pssm_model.specs.declared.ids.SignalId.{SignalId}
 use Rattle.pssm_model.specs.declared.elements.DraftMachine.{DraftMachine}
 use Rattle.pssm_model.specs.declared.elements.Vertex.{Vertex}
@@ -11,10 +11,8 @@ use Rattle.pssm_model.specs.declared.elements.Guard.TheVariants.{Always}
 use Rattle.pssm_model.specs.declared.elements.Owner.TheVariants as owners
 use Rattle.pssm_semantics.specs.declared.setting.Class.{Class}
 use Rattle.pssm_semantics.specs.declared.setting.Setting.{Setting}
-use Rattle.pssm_semantics.specs.declared.stimulus.Stimulus.{Stimulus}
 use Rattle.pssm_semantics.specs.declared.tree.Act.{Act}
 use Rattle.pssm_semantics.specs.declared.tree.Stmt.{Send}
-use Rattle.pssm_semantics.specs.Settings.{class_of, HasCount}
 use Rattle.pssm_suite.specs.Generated.{up_to, next_state}
 
 -- a vertex of a region that neither behaves nor defers
@@ -24,8 +22,14 @@ vertex r kind label =
 
 -- an external transition without a guard, with the effect of a number
 abbrev pub transition : ℕ → ℕ → List SignalId → ℕ → Transition
-transition source target triggers effect =
-    record { source = record { 0 = source }; target = record { 0 = target }; kind = External; triggers = triggers; guard = Always; effect = record { 0 = effect } }
+transition source target triggers effect = record {
+  source = record { 0 = source };
+  target = record { 0 = target };
+  kind = External;
+  triggers = triggers;
+  guard = Always;
+  effect = record { 0 = effect };
+}
 
 -- the signal `Go` alone
 abbrev pub on_go : List SignalId
@@ -50,7 +54,12 @@ front_machine n = record {
 
 -- each step has a behaviour of its own, and all of them are alike
 abbrev pub front : ℕ → Class
-front n = record { name = codes "Front"; vars = []; machine = front_machine n; program = record { acts = nothing ∷ replicate n send_on; guards = []; marks = [] } }
+front n = record {
+  name = codes "Front";
+  vars = [];
+  machine = front_machine n;
+  program = record { acts = nothing ∷ replicate n send_on; guards = []; marks = [] };
+}
 
 -- ---- the class `Back`
 
@@ -70,15 +79,9 @@ back = record { name = codes "Back"; vars = []; machine = back_machine; program 
 -- ---- the setting
 
 -- the signal `Go` without parameters, the two classes, and an object of each
-unfoldable pub generated : ℕ → Setting
-generated n = record {
+unfoldable pub generated_setting : ℕ → Setting
+generated_setting n = record {
   signals = record { name = codes "Go"; count = 0 } ∷ [];
   classes = front n ∷ back ∷ [];
   objects = record { name = codes "a"; class = 0 } ∷ record { name = codes "b"; class = 1 } ∷ [];
 }
-
--- The object is one of the setting's, of some class, and the signal is one with as many parameters as there are arguments.
-pub record IsStimulusFor (setting : Setting) (x : Stimulus) : Type 0 where
-  pub class : Class
-  pub object : class_of setting x.object ≡ Some class
-  pub signal : HasCount setting x.signal (length x.args)

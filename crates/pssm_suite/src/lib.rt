@@ -1,4 +1,4 @@
-//! Generated models: for each number a model, which grows with it, and stimuli for it.
+//! Generated models: for each number a model and stimuli for it.
 //!
 //! What the model of a number is stands in this crate's `specs/`, as a text and as a setting.
 //! This crate knows nothing of how a run is made.

@@ -3,7 +3,8 @@ ghost use Rattle.std.specs.Prelude.{◌≡◌, ◌≤◌, ◌++◌, OnOk, IfOk, 
 ghost use Rattle.std.specs.List.{flat_map};
 ghost use Rattle.std.specs.Fmt.{decimal};
 ghost use Rattle.pssm_flat.specs.Text.{line, text_of};
-ghost use Rattle.pssm_suite.specs.Generated.{up_to, state_line, next_state, step_lines, generated_text, generated_stimuli};
+ghost use Rattle.pssm_suite.specs.Generated.{up_to, state_line, next_state, step_lines};
+ghost use Rattle.pssm_suite.specs.Generated.{generated_text, generated_stimuli};
 
 use pssm_model::SignalId;
 use pssm_semantics::{Args, ObjectId, Stimulus};

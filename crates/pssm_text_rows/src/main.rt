@@ -45,10 +45,10 @@ mod row;
 mod stop;
 mod worth;
 
-use pssm_cases::{Outcome, Tally, all_hold, names_in, report};
+use pssm_cases::{Outcome, Tally, all_hold, folder_of, names_in, report};
 use std::alloc::AllocError;
 use std::process::ExitCode;
-use std::{env, fs, io};
+use std::{fs, io};
 
 fn main(rt: HostRuntime) -> io::Result<ExitCode> {
     let folder = folder_of(&rt)?;
@@ -62,14 +62,6 @@ fn main(rt: HostRuntime) -> io::Result<ExitCode> {
         Ok(ExitCode::SUCCESS)
     } else {
         Ok(ExitCode::FAILURE)
-    }
-}
-
-// The folder of the files of texts: the first word, or this folder where there is none.
-fn folder_of(rt: &HostRuntime) -> io::Result<String> {
-    match env::args(rt)?.nth(1) {
-        Some(folder) => Ok(folder),
-        None => Ok(String::from_str(rt.alloc(), ".")?),
     }
 }
 

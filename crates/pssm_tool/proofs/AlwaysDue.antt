@@ -1,5 +1,5 @@
 -- Something is owed for all words and files.
-use Rattle.std.proofs.Common.{◌≡◌, ◌<◌, ◌≤◌, ℕ, List, [], ◌∷◌, length, refl, sym, subst, inl, inr, arith}
+use Rattle.std.proofs.Common.{◌≡◌, ◌<◌, ◌≤◌, ℕ, List, [], ◌∷◌, length, refl, sym, subst, inl, inr}
 use Rattle.std.specs.Prelude.{Option, Some, IfSome}
 use Rattle.std.proofs.lemmas.Bool.{cases_lt}
 use Rattle.pssm_base.specs.Reading.{Contents, ReadsWhole, HoldsMore}
@@ -12,17 +12,22 @@ use Rattle.pssm_load.specs.declared.fault.LoadFault.{LoadFault}
 use Rattle.pssm_load.specs.declared.fault.LoadFault.TheVariants as faults
 use Rattle.pssm_load.specs.Loads.{ReadsSetting, IsLoadFault, rules}
 use Rattle.pssm_suite.specs.Generated.{generated_text, generated_stimuli}
+use Rattle.pssm_suite.specs.GeneratedSetting.{generated_setting}
 use Rattle.pssm_tool.specs.declared.answer.Answer.{Answer}
 use Rattle.pssm_tool.specs.declared.answer.Answer.TheVariants.{WellFormed, Usage, TooLarge, Flat, BadModel}
 use Rattle.pssm_tool.specs.Words.{Meaning, Judges, Runs, Checks, Prints, Generates, Means}
-use Rattle.pssm_tool.specs.Due.{most_bytes, Source, File, Generator, source_of, IsLarge, HasBytes, HasModel, answer_to, large_journal, judged, unfit, IsOwed, usage, large_model, bad_model, on_model, IsTold, IsRunOwed, named, generated}
+use Rattle.pssm_tool.specs.Due.{most_bytes, Source, File, source_of, HasModel, answer_to, large_journal, judged, unfit, IsOwed, usage, large_model, bad_model, on_model, IsTold, IsRunOwed, named, generated}
+use Rattle.pssm_tool.proofs.WordLaws.{gen_in_range}
 use Rattle.pssm_tool.proofs.DueLaws.{model_named, journal_named}
 use Rattle.pssm_tool.proofs.DueOnce.{told_bytes}
-use Rattle.pssm_tool.proofs.GeneratedSize.{generated_small}
 
 -- Bytes have a setting, with the rules that its machines break, or a fault.
 abbrev pub SettingOrFault : Type 0
 SettingOrFault = (bytes : List ℕ) → length bytes ≤ most_bytes → ((setting : Setting) (list : List ClassFault) → ReadsSetting bytes setting list → ⊥) → ((fault : LoadFault) → IsLoadFault bytes fault → ⊥) → ⊥
+
+-- The text of each generated model is read as its setting.
+abbrev pub GeneratedReads : Type 0
+GeneratedReads = (n : ℕ) → 1 ≤ n → n ≤ 4000 → ReadsSetting (generated_text n) (generated_setting n) []
 
 -- A path of which it is told what it holds holds more than may be read, or is read whole.
 large_or_read : (contents : Contents) (path : List ℕ) → ((held : List ℕ) × (contents path ≡ Some held)) → (HoldsMore contents path most_bytes → ⊥) → ((bytes : List ℕ) → ReadsWhole contents path most_bytes bytes → ⊥) → ⊥
@@ -31,14 +36,6 @@ large_or_read contents path told not_large not_read =
       | inl more ↦ not_large (subst (λ (o : Option (List ℕ)). IfSome o (λ held. most_bytes < length held)) (sym told.1) more)
       | inr few ↦ not_read told.0 (record { told = subst (λ (o : Option (List ℕ)). IfSome o (λ held. told.0 ≡ held)) (sym told.1) refl; at_most = few })
     ]
-
--- The number of a generated model is in its range.
-generated_number : (words : List (List ℕ)) (meaning : Meaning) → Means words meaning → (n : ℕ) → source_of meaning ≡ Generator n → n ≤ 4000
-generated_number words (Generates k) is n same = let e : k ≡ n = cc in let high = is.number.high in omega (arith, e, high)
-generated_number words (Judges model journal) is n same = absurd cc
-generated_number words (Runs options model names) is n same = absurd cc
-generated_number words (Checks model) is n same = absurd cc
-generated_number words (Prints model) is n same = absurd cc
 
 module _ (words : List (List ℕ)) (contents : Contents) (told : IsTold words contents) (no_answer : (answer : Answer) → IsOwed words contents answer → ⊥)
     (no_run : (setting : Setting) (stimuli : List Stimulus) → IsRunOwed words contents setting stimuli → ⊥) where
@@ -59,26 +56,35 @@ module _ (words : List (List ℕ)) (contents : Contents) (told : IsTold words co
   never_loaded (Generates n) is setting has = no_run setting (generated_stimuli n) (generated n is has refl)
 
   -- A model that was read, with the rules that its machines break.
-  never_read : (meaning : Meaning) → Means words meaning → (bytes : List ℕ) → HasBytes contents (source_of meaning) bytes → (setting : Setting) (list : List ClassFault) → ReadsSetting bytes setting list → ⊥
-  never_read meaning is bytes reads setting [] loads = never_loaded meaning is setting (record { bytes = bytes; reads = reads; loads = loads })
-  never_read meaning is bytes reads setting (f ∷ list) loads =
-      no_answer (BadModel (faults.Faults (f ∷ list))) (bad_model meaning bytes (faults.Faults (f ∷ list)) is reads (rules setting loads (λ none. absurd cc)) refl)
+  never_read : (meaning : Meaning) → Means words meaning → (path : List ℕ) → source_of meaning ≡ File path → (bytes : List ℕ) → ReadsWhole contents path most_bytes bytes
+      → (setting : Setting) (list : List ClassFault) → ReadsSetting bytes setting list → ⊥
+  never_read meaning is path same bytes reads setting [] loads =
+      let has : HasModel contents (File path) setting = record { bytes = bytes; reads = reads; loads = loads } in
+      never_loaded meaning is setting (subst (λ (s : Source). HasModel contents s setting) (sym same) has)
+  never_read meaning is path same bytes reads setting (f ∷ list) loads =
+      no_answer (BadModel (faults.Faults (f ∷ list))) (bad_model path bytes (faults.Faults (f ∷ list)) (meaning, is, same) reads (rules setting loads (λ none. absurd cc)) refl)
 
-  never_meant : SettingOrFault → (meaning : Meaning) → Means words meaning → ⊥
-  never_meant some_load meaning is = by_source (source_of meaning) refl where
-    has_text : (source : Source) → source_of meaning ≡ source → (bytes : List ℕ) → HasBytes contents source bytes → length bytes ≤ most_bytes → ⊥
-    has_text source same bytes has few =
-        let here : HasBytes contents (source_of meaning) bytes = subst (λ (s : Source). HasBytes contents s bytes) (sym same) has in
-        some_load bytes few (never_read meaning is bytes here) (λ fault wrong. no_answer (BadModel fault) (bad_model meaning bytes fault is here wrong refl))
+  never_file : SettingOrFault → (meaning : Meaning) → Means words meaning → (path : List ℕ) → source_of meaning ≡ File path → ⊥
+  never_file some_load meaning is path same =
+      large_or_read contents path (told_bytes (contents path) (told path (model_named words meaning path is same)))
+      (λ large. no_answer TooLarge (large_model path (meaning, is, same) large refl))
+      (λ bytes reads. some_load bytes reads.at_most (never_read meaning is path same bytes reads)
+      (λ fault wrong. no_answer (BadModel fault) (bad_model path bytes fault (meaning, is, same) reads wrong refl)))
 
-    by_source : (source : Source) → source_of meaning ≡ source → ⊥
-    by_source (File path) same =
-        large_or_read contents path (told_bytes (contents path) (told path (model_named words meaning path is same)))
-        (λ large. no_answer TooLarge (large_model meaning is (subst (λ (s : Source). IsLarge contents s) (sym same) large) refl))
-        (λ bytes reads. has_text (File path) same bytes reads reads.at_most)
-    by_source (Generator n) same = has_text (Generator n) same (generated_text n) refl (generated_small n (generated_number words meaning is n same))
+  -- A generated model.
+  never_generated : GeneratedReads → (n : ℕ) → Means words (Generates n) → ⊥
+  never_generated reads n is =
+      let range = gen_in_range words n is in
+      never_loaded (Generates n) is (generated_setting n) (record { bytes = generated_text n; reads = refl; loads = reads n range.0 range.1 })
+
+  never_meant : SettingOrFault → GeneratedReads → (meaning : Meaning) → Means words meaning → ⊥
+  never_meant some_load reads (Judges model journal) is = never_file some_load (Judges model journal) is model refl
+  never_meant some_load reads (Runs options model names) is = never_file some_load (Runs options model names) is model refl
+  never_meant some_load reads (Checks model) is = never_file some_load (Checks model) is model refl
+  never_meant some_load reads (Prints model) is = never_file some_load (Prints model) is model refl
+  never_meant some_load reads (Generates n) is = never_generated reads n is
 
 -- Where it is told what the files hold, an answer or a run is owed.
-pub always_due : SettingOrFault → (words : List (List ℕ)) (contents : Contents) → IsTold words contents → ((answer : Answer) → IsOwed words contents answer → ⊥)
+pub always_due : SettingOrFault → GeneratedReads → (words : List (List ℕ)) (contents : Contents) → IsTold words contents → ((answer : Answer) → IsOwed words contents answer → ⊥)
     → ((setting : Setting) (stimuli : List Stimulus) → IsRunOwed words contents setting stimuli → ⊥) → ⊥
-always_due some_load words contents told no_answer no_run = no_answer Usage (usage (never_meant words contents told no_answer no_run some_load) refl)
+always_due some_load reads words contents told no_answer no_run = no_answer Usage (usage (never_meant words contents told no_answer no_run some_load reads) refl)

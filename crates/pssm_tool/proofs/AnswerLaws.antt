@@ -150,9 +150,9 @@ no_end a x code e never = absurd (never (subst (λ (y : Answer). IsEnd y) e code
 pub run_accepted : (words : List (List ℕ)) (contents : Contents) (before after : Option (List ℕ)) (a : Answer) (options : Options) (model : List ℕ) (names : List (List ℕ))
     → IsOwed words contents a → Appends before after (text_of a) → Means words (Runs options model names) → IsEnd a → IsAcceptedText contents model before after
 run_accepted words contents before after a options model names (usage none e) written is code = absurd (none (Runs options model names) is)
-run_accepted words contents before after a options model names (large_model m also large e) written is code =
+run_accepted words contents before after a options model names (large_model path also large e) written is code =
     no_end a TooLarge code e (λ ended. elim ended [ inl zero ↦ omega arith | inr eight ↦ omega arith ])
-run_accepted words contents before after a options model names (bad_model m bytes fault also reads wrong e) written is code =
+run_accepted words contents before after a options model names (bad_model path bytes fault also reads wrong e) written is code =
     no_end a (BadModel fault) code e (λ ended. elim ended [ inl zero ↦ omega arith | inr eight ↦ omega arith ])
 run_accepted words contents before after a options model names (on_model m s also has due) written is code =
     by_run (moved words contents (Runs options model names) is (λ x. IsDueForModel contents s x a) m also due) where
@@ -172,8 +172,8 @@ run_accepted words contents before after a options model names (on_model m s als
 -- An answer of status 0 that is owed for a judgement accepts.
 judgement_accepts : (words : List (List ℕ)) (contents : Contents) (a : Answer) (model journal : List ℕ) → IsOwed words contents a → code_of a ≡ 0 → Means words (Judges model journal) → (n : ℕ) × (a ≡ Accept n)
 judgement_accepts words contents a model journal (usage none e) zero is = absurd (none (Judges model journal) is)
-judgement_accepts words contents a model journal (large_model m also large e) zero is = let c : code_of a ≡ 9 = ap code_of e in absurd (omega (arith, c, zero))
-judgement_accepts words contents a model journal (bad_model m bytes fault also reads wrong e) zero is = let c : code_of a ≡ 3 = ap code_of e in absurd (omega (arith, c, zero))
+judgement_accepts words contents a model journal (large_model path also large e) zero is = let c : code_of a ≡ 9 = ap code_of e in absurd (omega (arith, c, zero))
+judgement_accepts words contents a model journal (bad_model path bytes fault also reads wrong e) zero is = let c : code_of a ≡ 3 = ap code_of e in absurd (omega (arith, c, zero))
 judgement_accepts words contents a model journal (on_model m s also has due) zero is =
     by_journal (moved words contents (Judges model journal) is (λ x. IsDueForModel contents s x a) m also due) where
       by_said : (said : Judged) → a ≡ answer_to said → (n : ℕ) × (a ≡ Accept n)

@@ -12,6 +12,7 @@ use Rattle.pssm_semantics.specs.declared.line.Line.{Line}
 use Rattle.pssm_semantics.specs.declared.line.Line.TheVariants.{Post}
 use Rattle.pssm_semantics.specs.declared.setting.Setting.{Setting}
 use Rattle.pssm_semantics.specs.declared.stimulus.Stimulus.{Stimulus}
+use Rattle.pssm_semantics.specs.Known.{IsStimulusOf}
 use Rattle.pssm_lines.specs.declared.parts.LineParts.{LineParts}
 use Rattle.pssm_lines.specs.declared.parts.LineParts.TheVariants as parts
 use Rattle.pssm_lines.specs.declared.fault.LineFault.{LineFault}
@@ -25,8 +26,9 @@ use Rattle.pssm_lines.proofs.OneFault.{no_line_fault}
 use Rattle.pssm_journal.specs.Entries.{◌>>=◌, IsEntryOf, KeepsNames, BreaksNames, entry_named, entry_at, object_named, signal_named}
 use Rattle.pssm_journal.proofs.LineLengths.{short_line}
 use Rattle.pssm_tool.specs.inner.Calls.{post_text, IsPost, ShowsCall}
-use Rattle.pssm_tool.specs.Words.{lent, IsCall, IsStimulusText}
-use Rattle.pssm_tool.specs.inner.Running.{IsKnown, NameNoStimuli}
+use Rattle.pssm_tool.specs.Words.{IsCall, IsStimulusText}
+use Rattle.pssm_tool.specs.inner.Commands.{lent}
+use Rattle.pssm_tool.specs.inner.Running.{NameNoStimuli}
 use Rattle.pssm_tool.specs.Stimuli.{post_of, Names, AreStimuli}
 
 -- ---- one word
@@ -142,13 +144,14 @@ names_posted setting word parts e shown found known r is =
     let writes = found (Post shown.object shown.signal shown.args) (posts_line word shown.object shown.signal shown.args call) shown.shows in
     let posts = post_entry setting shown.object shown.signal shown.args e writes in
     let same : r ≡ Some posts.0 = is ∙ ap (λ (f : Entry). slice_get (posts_of_entry f) 0) posts.1 in
+    let kept : KeepsNames setting (post_of posts.0) = subst (λ (f : Entry). KeepsNames setting f) posts.1 known in
     let names : Names setting word posts.0 = record {
       object = shown.object;
       signal = shown.signal;
       args = shown.args;
       call = call;
       writes = subst (λ (f : Entry). IsEntryOf setting (Post shown.object shown.signal shown.args) f) posts.1 writes;
-      known = subst (λ (f : Entry). KeepsNames setting f) posts.1 known;
+      known = kept [];
     } in
     subst (λ (o : Option Stimulus). IfSome o (Names setting word) × IfNone o ((x : Stimulus) → Names setting word x → ⊥)) (sym same) (names, tt)
 
@@ -158,7 +161,7 @@ pub names_none : (setting : Setting) (word : List ℕ) (parts : LineParts) → (
 names_none setting word parts shown breaks x names =
     let line = posts_line word shown.object shown.signal shown.args shown.call in
     let same = one_call word names.object names.signal shown.object shown.signal names.args shown.args names.call shown.call in
-    breaks (Post shown.object shown.signal shown.args) line shown.shows (post_of x) (subst (λ (l : Line). IsEntryOf setting l (post_of x)) same names.writes) names.known
+    breaks (Post shown.object shown.signal shown.args) line shown.shows (post_of x) (subst (λ (l : Line). IsEntryOf setting l (post_of x)) same names.writes) (λ J. names.known)
 
 -- A word that is spelled otherwise names nothing.
 pub names_not_spelled : (setting : Setting) (word : List ℕ) → (IsStimulusText word → ⊥) → (x : Stimulus) → Names setting word x → ⊥
@@ -206,7 +209,7 @@ more_named setting words i d text stimuli more s within is are names e =
     (subst (λ (t : List (List ℕ)). AreStimuli setting t (stimuli ++ s ∷ [])) (sym (lent_more words i d within)) (are_more setting (lent (take i words)) (get_or words i d).now stimuli s are named))
 
 -- Stimuli that are named are known.
-pub all_known : (setting : Setting) (words : List (List ℕ)) (stimuli : List Stimulus) → AreStimuli setting words stimuli → AllByRecursion (IsKnown setting) stimuli
+pub all_known : (setting : Setting) (words : List (List ℕ)) (stimuli : List Stimulus) → AreStimuli setting words stimuli → AllByRecursion (IsStimulusOf setting) stimuli
 all_known setting [] [] are = tt
 all_known setting [] (x ∷ stimuli) are = absurd are
 all_known setting (word ∷ words) [] are = absurd are

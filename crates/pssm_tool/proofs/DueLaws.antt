@@ -22,20 +22,22 @@ use Rattle.pssm_tool.specs.inner.Failures.{LacksModel, holds_more, has_fault, Fa
 -- ---- the model
 
 pub model_named : (words : List (List ℕ)) (meaning : Meaning) (path : List ℕ) → Means words meaning → source_of meaning ≡ File path → NamePath words path
-model_named words meaning path means is = (meaning, means, inl is)
+model_named words meaning path means is = inl (meaning, means, is)
 
 pub journal_named : (words : List (List ℕ)) (model journal : List ℕ) → Means words (Judges model journal) → NamePath words journal
-journal_named words model journal is = (Judges model journal, is, inr (model, refl))
+journal_named words model journal is = inr (model, is)
 
 -- An answer that is owed, and that accepts no journal or one that goes on.
 abbrev pub IsGiven : List (List ℕ) → Contents → Answer → Type 0
 IsGiven words contents answer = IsOwed words contents answer × GoesOn words contents answer
 
 -- What is answered where there is no model is owed.
-pub lacks_owed : (words : List (List ℕ)) (meaning : Meaning) (contents : Contents) (answer : Answer) → Means words meaning → LacksModel contents (source_of meaning) answer → IsGiven words contents answer
-lacks_owed words meaning contents answer means (holds_more more is) = subst (λ (a : Answer). IsGiven words contents a) (sym is) (large_model meaning means more refl, tt)
-lacks_owed words meaning contents answer means (has_fault bytes fault reads wrong is) =
-    subst (λ (a : Answer). IsGiven words contents a) (sym is) (bad_model meaning bytes fault means reads wrong refl, tt)
+pub lacks_owed : (words : List (List ℕ)) (meaning : Meaning) (path : List ℕ) (contents : Contents) (answer : Answer) → Means words meaning → source_of meaning ≡ File path
+    → LacksModel contents path answer → IsGiven words contents answer
+lacks_owed words meaning path contents answer means is (holds_more more e) =
+    subst (λ (a : Answer). IsGiven words contents a) (sym e) (large_model path (meaning, means, is) more refl, tt)
+lacks_owed words meaning path contents answer means is (has_fault bytes fault reads wrong e) =
+    subst (λ (a : Answer). IsGiven words contents a) (sym e) (bad_model path bytes fault (meaning, means, is) reads wrong refl, tt)
 
 -- Reading the model failed.
 pub failed_at_model : (words : List (List ℕ)) (meaning : Meaning) (path : List ℕ) (before after : List ℕ → ℕ) (failure : Failure) → Means words meaning → source_of meaning ≡ File path

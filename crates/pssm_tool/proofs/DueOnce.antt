@@ -1,5 +1,5 @@
 -- One answer is owed for the words and what the files hold, but for what a run comes to by the order of its choices.
-use Rattle.std.proofs.Common.{◌≡◌, ◌⊎◌, ◌<◌, ℕ, List, [], length, refl, sym, ap, subst, ◌∙◌, inl, inr, arith}
+use Rattle.std.proofs.Common.{◌≡◌, ◌⊎◌, ◌<◌, ◌+◌, ◌*◌, ℕ, List, [], length, refl, sym, ap, subst, ◌∙◌, inl, inr, arith}
 use Rattle.std.specs.Prelude.{Option, Some, None, IsSome, IfSome}
 use Rattle.pssm_base.specs.Reading.{Contents, ReadsWhole, HoldsMore}
 use Rattle.sha2.specs.Sha256.{sha256}
@@ -16,8 +16,7 @@ use Rattle.pssm_tool.specs.declared.answer.Answer.TheVariants.{WellFormed, Usage
 use Rattle.pssm_tool.specs.Words.{Meaning, Judges, Runs, Checks, Prints, Generates, Means}
 use Rattle.pssm_tool.specs.Stimuli.{AreStimuli}
 use Rattle.pssm_tool.specs.Answers.{code_of}
-use Rattle.pssm_suite.specs.Counts.{take_count}
-use Rattle.pssm_tool.specs.Due.{Source, File, Generator, source_of, IsLarge, HasBytes, HasModel, answer_to, IsDueForJournal, large_journal, judged, IsDueForRun, unfit, ran, IsDueForGenerated, IsDueForModel, IsOwed, usage, large_model, bad_model, on_model, IsTold, IsRunOwed, named, generated, IsOfRun}
+use Rattle.pssm_tool.specs.Due.{Source, File, Generator, source_of, NameModel, HasBytes, HasModel, answer_to, IsDueForJournal, large_journal, judged, IsDueForRun, unfit, ran, IsDueForGenerated, IsDueForModel, IsOwed, usage, large_model, bad_model, on_model, IsTold, IsRunOwed, named, generated, IsOfRun}
 use Rattle.pssm_tool.proofs.WordLaws.{one_meaning}
 use Rattle.pssm_tool.proofs.DueLaws.{model_named, journal_named}
 
@@ -67,11 +66,6 @@ same_model : (contents : Contents) (source : Source) (bytes others : List ℕ) �
 same_model contents (File path) bytes others told read also = same_read contents path told.0 bytes others told.1 read also
 same_model contents (Generator n) bytes others told read also = also ∙ sym read
 
--- A model that has bytes is not too large.
-fits_model : (contents : Contents) (source : Source) (bytes : List ℕ) → IsSourceTold contents source → HasBytes contents source bytes → IsLarge contents source → ⊥
-fits_model contents (File path) bytes told read large = not_large contents path bytes told.0 told.1 read large
-fits_model contents (Generator n) bytes told read large = large
-
 module _ (law : HasOneLoad) (contents : Contents) (source : Source) (told : IsSourceTold contents source) where
   -- A model has one setting.
   pub model_once : (s t : Setting) → HasModel contents source s → HasModel contents source t → s ≡ t
@@ -79,10 +73,15 @@ module _ (law : HasOneLoad) (contents : Contents) (source : Source) (told : IsSo
       let same : q.bytes ≡ p.bytes = same_model contents source p.bytes q.bytes told p.reads q.reads in
       law.setting p.bytes s t p.loads.reads (subst (λ (bytes : List ℕ). Reads bytes t) same q.loads.reads)
 
-  -- Nothing is wrong with a model that loads.
-  fault_or_loads : (bytes : List ℕ) (fault : LoadFault) (s : Setting) → HasBytes contents source bytes → IsLoadFault bytes fault → HasModel contents source s → ⊥
-  fault_or_loads bytes fault s reads wrong has =
-      let same : has.bytes ≡ bytes = same_model contents source bytes has.bytes told reads has.reads in
+module _ (law : HasOneLoad) (contents : Contents) (path held : List ℕ) (told : contents path ≡ Some held) (s : Setting) (has : HasModel contents (File path) s) where
+  -- A file that has a model is not too large.
+  fits_model : HoldsMore contents path 16777216 → ⊥
+  fits_model large = not_large contents path has.bytes held told has.reads large
+
+  -- Nothing is wrong with it.
+  loads_well : (bytes : List ℕ) (fault : LoadFault) → ReadsWhole contents path 16777216 bytes → IsLoadFault bytes fault → ⊥
+  loads_well bytes fault reads wrong =
+      let same : has.bytes ≡ bytes = same_read contents path held bytes has.bytes told reads has.reads in
       law.apart bytes s fault (subst (λ (read : List ℕ). ReadsSetting read s []) same has.loads) wrong
 
 -- ---- two answers
@@ -98,7 +97,7 @@ of_run : (a b : Answer) → a ≡ b → IsOfRun b → IsOfRun a
 of_run a b e run = subst IsOfRun (sym e) run
 
 generated_answered : (s : Setting) (n : ℕ) (a : Answer) → IsDueForGenerated s n a → IsOfRun a
-generated_answered s n a p = of_run a (Generated n (length p.run.journal) (take_count p.run.journal) (sha256 p.text)) p.answered tt
+generated_answered s n a p = of_run a (Generated n (12 * n + 14) (2 * n) (sha256 p.text)) p.answered tt
 
 run_once : (s : Setting) (options : Options) (names : List (List ℕ)) (a b : Answer) → IsDueForRun s options names a → IsDueForRun s options names b → AreAlike a b
 run_once s options names a b (unfit none e) (unfit also f) = same_code a b Usage Usage refl e f
@@ -134,17 +133,34 @@ module _ (law : HasOneLoad) (words : List (List ℕ)) (contents : Contents) (tol
   model_answer_once (Prints m) s a b means p d = same_code a b (Flat (flat_text s)) (Flat (flat_text s)) refl p d
   model_answer_once (Generates n) s a b means p d = generated_once s n a b p d
 
-  size_or_fault : (a b : Meaning) (bytes : List ℕ) → Means words a → Means words b → IsLarge contents (source_of a) → HasBytes contents (source_of b) bytes → ⊥
-  size_or_fault a b bytes p q more reads =
-      fits_model contents (source_of a) bytes (model_told a p) (moved (λ m. HasBytes contents (source_of m) bytes) a b p q reads) more
+  -- Words that name the path of a model name no other.
+  same_source : (path : List ℕ) (m : Meaning) → NameModel words path → Means words m → source_of m ≡ File path
+  same_source path m names also = ap source_of (one_meaning words m names.0 also names.1) ∙ names.2
 
-  size_or_loads : (a b : Meaning) (s : Setting) → Means words a → Means words b → IsLarge contents (source_of a) → HasModel contents (source_of b) s → ⊥
-  size_or_loads a b s p q more has = size_or_fault a b has.bytes p q more has.reads
+  same_path : (path other : List ℕ) → NameModel words path → NameModel words other → path ≡ other
+  same_path path other names also = let e : File path ≡ File other = sym (same_source path also.0 names also.1) ∙ also.2 in cc
 
-  faults_or_loads : (a b : Meaning) (bytes : List ℕ) (fault : LoadFault) (s : Setting) → Means words a → Means words b → HasBytes contents (source_of a) bytes → IsLoadFault bytes fault
-      → HasModel contents (source_of b) s → ⊥
-  faults_or_loads a b bytes fault s p q reads wrong has =
-      fault_or_loads law contents (source_of a) (model_told a p) bytes fault s reads wrong (moved (λ m. HasModel contents (source_of m) s) a b p q has)
+  path_told : (path : List ℕ) → NameModel words path → (held : List ℕ) × (contents path ≡ Some held)
+  path_told path names = told_bytes (contents path) (told path (inl names))
+
+  size_or_fault : (path other bytes : List ℕ) → NameModel words path → NameModel words other → HoldsMore contents path 16777216 → ReadsWhole contents other 16777216 bytes → ⊥
+  size_or_fault path other bytes names also more reads =
+      let held = path_told path names in
+      let here : ReadsWhole contents path 16777216 bytes = subst (λ (p : List ℕ). ReadsWhole contents p 16777216 bytes) (same_path other path also names) reads in
+      not_large contents path bytes held.0 held.1 here more
+
+  size_or_loads : (path : List ℕ) (m : Meaning) (s : Setting) → NameModel words path → Means words m → HoldsMore contents path 16777216 → HasModel contents (source_of m) s → ⊥
+  size_or_loads path m s names means more has =
+      let held = path_told path names in
+      let here : HasModel contents (File path) s = subst (λ (x : Source). HasModel contents x s) (same_source path m names means) has in
+      fits_model law contents path held.0 held.1 s here more
+
+  faults_or_loads : (path bytes : List ℕ) (fault : LoadFault) (m : Meaning) (s : Setting) → NameModel words path → Means words m → ReadsWhole contents path 16777216 bytes
+      → IsLoadFault bytes fault → HasModel contents (source_of m) s → ⊥
+  faults_or_loads path bytes fault m s names means reads wrong has =
+      let held = path_told path names in
+      let here : HasModel contents (File path) s = subst (λ (x : Source). HasModel contents x s) (same_source path m names means) has in
+      loads_well law contents path held.0 held.1 s here bytes fault reads wrong
 
   model_or_model : (a b : Meaning) (s t : Setting) (r q : Answer) → Means words a → Means words b → HasModel contents (source_of a) s → HasModel contents (source_of b) t
       → IsDueForModel contents s a r → IsDueForModel contents t b q → AreAlike r q
@@ -156,27 +172,27 @@ module _ (law : HasOneLoad) (words : List (List ℕ)) (contents : Contents) (tol
   -- Two answers that are owed are alike.
   pub owed_once : (r q : Answer) → IsOwed words contents r → IsOwed words contents q → AreAlike r q
   owed_once r q (usage p e) (usage o f) = same_code r q Usage Usage refl e f
-  owed_once r q (usage p e) (large_model b o more f) = absurd (p b o)
-  owed_once r q (usage p e) (bad_model b bytes fault o reads wrong f) = absurd (p b o)
+  owed_once r q (usage p e) (large_model path o more f) = absurd (p o.0 o.1)
+  owed_once r q (usage p e) (bad_model path bytes fault o reads wrong f) = absurd (p o.0 o.1)
   owed_once r q (usage p e) (on_model b t o has due) = absurd (p b o)
-  owed_once r q (large_model a p more e) (usage o f) = absurd (o a p)
-  owed_once r q (large_model a p more e) (large_model b o also f) = same_code r q TooLarge TooLarge refl e f
-  owed_once r q (large_model a p more e) (bad_model b bytes fault o reads wrong f) = absurd (size_or_fault a b bytes p o more reads)
-  owed_once r q (large_model a p more e) (on_model b t o has due) = absurd (size_or_loads a b t p o more has)
-  owed_once r q (bad_model a bytes fault p reads wrong e) (usage o f) = absurd (o a p)
-  owed_once r q (bad_model a bytes fault p reads wrong e) (large_model b o more f) = absurd (size_or_fault b a bytes o p more reads)
-  owed_once r q (bad_model a bytes fault p reads wrong e) (bad_model b others also o read so f) = same_code r q (BadModel fault) (BadModel also) refl e f
-  owed_once r q (bad_model a bytes fault p reads wrong e) (on_model b t o has due) = absurd (faults_or_loads a b bytes fault t p o reads wrong has)
+  owed_once r q (large_model path p more e) (usage o f) = absurd (o p.0 p.1)
+  owed_once r q (large_model path p more e) (large_model other o also f) = same_code r q TooLarge TooLarge refl e f
+  owed_once r q (large_model path p more e) (bad_model other bytes fault o reads wrong f) = absurd (size_or_fault path other bytes p o more reads)
+  owed_once r q (large_model path p more e) (on_model b t o has due) = absurd (size_or_loads path b t p o more has)
+  owed_once r q (bad_model path bytes fault p reads wrong e) (usage o f) = absurd (o p.0 p.1)
+  owed_once r q (bad_model path bytes fault p reads wrong e) (large_model other o more f) = absurd (size_or_fault other path bytes o p more reads)
+  owed_once r q (bad_model path bytes fault p reads wrong e) (bad_model other others also o read so f) = same_code r q (BadModel fault) (BadModel also) refl e f
+  owed_once r q (bad_model path bytes fault p reads wrong e) (on_model b t o has due) = absurd (faults_or_loads path bytes fault b t p o reads wrong has)
   owed_once r q (on_model a s p has due) (usage o f) = absurd (o a p)
-  owed_once r q (on_model a s p has due) (large_model b o more f) = absurd (size_or_loads b a s o p more has)
-  owed_once r q (on_model a s p has due) (bad_model b bytes fault o reads wrong f) = absurd (faults_or_loads b a bytes fault s o p reads wrong has)
+  owed_once r q (on_model a s p has due) (large_model path o more f) = absurd (size_or_loads path a s o p more has)
+  owed_once r q (on_model a s p has due) (bad_model path bytes fault o reads wrong f) = absurd (faults_or_loads path bytes fault a s o p reads wrong has)
   owed_once r q (on_model a s p has due) (on_model b t o also done) = model_or_model a b s t r q p o has also due done
 
   -- On a model that breaks no rule, what is owed is what its command owes.
   due_for : (m : Meaning) (s : Setting) (a : Answer) → Means words m → HasModel contents (source_of m) s → IsOwed words contents a → IsDueForModel contents s m a
   due_for m s a is has (usage none e) = absurd (none m is)
-  due_for m s a is has (large_model b o more e) = absurd (size_or_loads b m s o is more has)
-  due_for m s a is has (bad_model b bytes fault o reads wrong e) = absurd (faults_or_loads b m bytes fault s o is reads wrong has)
+  due_for m s a is has (large_model path o more e) = absurd (size_or_loads path m s o is more has)
+  due_for m s a is has (bad_model path bytes fault o reads wrong e) = absurd (faults_or_loads path bytes fault m s o is reads wrong has)
   due_for m s a is has (on_model b t o also due) =
       let same = model_once law contents (source_of m) (model_told m is) t s (moved (λ x. HasModel contents (source_of x) t) m b is o also) has in
       subst (λ (x : Setting). IsDueForModel contents x m a) same (moved (λ x. IsDueForModel contents t x a) m b is o due)

@@ -1,17 +1,18 @@
 -- The generated setting is what the generated text is read as, and its stimuli are known.
-use Rattle.std.proofs.Common.{◌≡◌, ℕ, List, [], ◌∷◌, length, Result, Ok, Err, IfOk, refl, sym, subst}
+use Rattle.std.proofs.Common.{◌≡◌, ◌+◌, ◌*◌, ℕ, List, [], length, Result, Ok, Err, IfOk, refl, sym, ap, subst, ◌∙◌}
 use Rattle.std.specs.List.{AllByRecursion}
 use Rattle.sha2.specs.Sha256.{sha256}
 use Rattle.pssm_base.specs.Reading.{Contents}
 use Rattle.pssm_semantics.specs.declared.entry.Entry.{Entry}
 use Rattle.pssm_semantics.specs.declared.setting.Setting.{Setting}
 use Rattle.pssm_semantics.specs.declared.stimulus.Stimulus.{Stimulus}
-use Rattle.pssm_load.specs.Loads.{Reads, ReadsSetting}
-use Rattle.pssm_semantics.specs.Admissible.{IsAdmissibleIn, IsFull, FitsStimuli}
-use Rattle.pssm_suite.specs.Counts.{take_count, IsGeneratedRun}
+use Rattle.pssm_semantics.specs.Known.{IsStimulusOf}
+use Rattle.pssm_semantics.specs.Admissible.{IsAdmissibleIn, IsFull, IsQuiet, FitsStimuli}
+use Rattle.pssm_load.specs.declared.fault.LoadFault.{LoadFault}
+use Rattle.pssm_load.specs.Loads.{Reads, ReadsSetting, IsLoadFault}
+use Rattle.pssm_suite.specs.Counts.{take_count, IsGeneratedRun, IsGeneratedEnd, HasAllEntries}
 use Rattle.pssm_suite.specs.Generated.{generated_text, generated_stimuli}
-use Rattle.pssm_suite.specs.GeneratedSetting.{IsStimulusFor}
-use Rattle.pssm_suite.specs.GeneratedSetting.{generated as generated_setting}
+use Rattle.pssm_suite.specs.GeneratedSetting.{generated_setting}
 use Rattle.pssm_tool.specs.declared.answer.Answer.{Answer}
 use Rattle.pssm_tool.specs.declared.answer.Answer.TheVariants.{Generated}
 use Rattle.pssm_tool.specs.declared.run.Ended.{Ended}
@@ -19,23 +20,18 @@ use Rattle.pssm_tool.specs.declared.run.Ended.TheVariants.{Quiet, Limit}
 use Rattle.pssm_tool.specs.RunTexts.{EndsRun}
 use Rattle.pssm_tool.specs.declared.failure.Failure.{Failure}
 use Rattle.pssm_tool.specs.Words.{Generates, Means}
-use Rattle.pssm_tool.specs.Due.{IsDueForGenerated, IsOwed, bad_model, on_model}
+use Rattle.pssm_tool.specs.Due.{IsDueForGenerated, IsOwed, on_model}
 use Rattle.pssm_tool.specs.inner.Failures.{IsRefusedFor}
-use Rattle.pssm_tool.specs.inner.Running.{IsKnown, IsTextOf}
-
--- Stimuli for a setting are known.
-all_known : (s : Setting) (stimuli : List Stimulus) → AllByRecursion (IsStimulusFor s) stimuli → AllByRecursion (IsKnown s) stimuli
-all_known s [] all = tt
-all_known s (x ∷ stimuli) all = ((λ J. (all.0.class, all.0.object, all.0.signal)), all_known s stimuli all.1)
+use Rattle.pssm_tool.specs.inner.Running.{IsTextOf}
 
 -- The stimuli for a generated model are known to the setting that its text is read as.
 pub generated_known : ((bytes : List ℕ) (a b : Setting) → Reads bytes a → Reads bytes b → a ≡ b) → (n : ℕ) (s : Setting) (stimuli : List Stimulus) → ReadsSetting (generated_text n) s []
-    → ReadsSetting (generated_text n) (generated_setting n) [] → AllByRecursion (IsStimulusFor (generated_setting n)) (generated_stimuli n) → stimuli ≡ generated_stimuli n
-    → AllByRecursion (IsKnown s) stimuli
+    → ReadsSetting (generated_text n) (generated_setting n) [] → AllByRecursion (IsStimulusOf (generated_setting n)) (generated_stimuli n) → stimuli ≡ generated_stimuli n
+    → AllByRecursion (IsStimulusOf s) stimuli
 generated_known one n s stimuli reads is for same =
     let here : generated_setting n ≡ s = one (generated_text n) (generated_setting n) s is.reads reads.reads in
-    subst (λ (t : List Stimulus). AllByRecursion (IsKnown s) t) (sym same)
-    (subst (λ (t : Setting). AllByRecursion (IsKnown t) (generated_stimuli n)) here (all_known (generated_setting n) (generated_stimuli n) for))
+    subst (λ (t : List Stimulus). AllByRecursion (IsStimulusOf s) t) (sym same)
+    (subst (λ (t : Setting). AllByRecursion (IsStimulusOf t) (generated_stimuli n)) here for)
 
 -- The setting that the generated text is read as is the generated one.
 pub generated_read_as : ((bytes : List ℕ) (a b : Setting) → Reads bytes a → Reads bytes b → a ≡ b) → (n : ℕ) (s : Setting) → ReadsSetting (generated_text n) s []
@@ -48,9 +44,10 @@ pub generated_owed : (r : Result Answer Failure) (n : ℕ) (s : Setting) → Rea
 generated_owed (Ok a) n s loads due = λ words is contents. on_model (Generates n) s is (record { bytes = generated_text n; reads = refl; loads = loads }) due
 generated_owed (Err e) n s loads due = tt
 
--- A refusal of the text is owed.
-pub refusal_owed : (n : ℕ) (a : Answer) → IsRefusedFor (generated_text n) a → (words : List (List ℕ)) → Means words (Generates n) → (contents : Contents) → IsOwed words contents a
-refusal_owed n a (fault, wrong, e) words is contents = bad_model (Generates n) (generated_text n) fault is refl wrong e
+-- Nothing is wrong with the text.
+pub never_refused : ((bytes : List ℕ) (setting : Setting) (fault : LoadFault) → ReadsSetting bytes setting [] → IsLoadFault bytes fault → ⊥) → (n : ℕ) (a : Answer)
+    → ReadsSetting (generated_text n) (generated_setting n) [] → IsRefusedFor (generated_text n) a → ⊥
+never_refused apart n a reads (fault, wrong, e) = apart (generated_text n) (generated_setting n) fault reads wrong
 
 -- ---- the run
 
@@ -69,11 +66,24 @@ module _ (s own : Setting) (n : ℕ) (given : List Stimulus) (J : List Entry) (b
       })
       run.ends
 
-  -- The run ended quietly.
-  pub quiet_due : (ended : Ended) → EndsRun s given 1000000 J ended → ended ≡ Quiet → (a : Answer) → a ≡ Generated n (length J) (take_count J) (sha256 bytes) → IsDueForGenerated s n a
-  quiet_due Limit run is a e = absurd cc
-  quiet_due Quiet run is a e = record {
-    text = bytes;
-    run = record { journal = J; lines = here.lines; text = here.text; kept = here.kept; run = subst (λ (t : List Stimulus). EndsRun s t 1000000 J Quiet) are run };
-    answered = e;
-  }
+  -- The run ended quietly, and so it has all its entries.
+  all_counted : own ≡ generated_setting n → ((K : List Entry) → IsGeneratedEnd n K → HasAllEntries n K) → EndsRun s given 1000000 J Quiet → HasAllEntries n J
+  all_counted is law run =
+      law J
+      (record {
+        admissible = subst (λ (t : Setting). IsAdmissibleIn t J) is text.kept.admissible;
+        all_posted = run.ends.all_posted ∙ are;
+        quiet = subst (λ (t : Setting). IsQuiet t J) (sym same ∙ is) run.ends.quiet;
+      })
+
+  pub quiet_due : own ≡ generated_setting n → ((K : List Entry) → IsGeneratedEnd n K → HasAllEntries n K) → (ended : Ended) → EndsRun s given 1000000 J ended → ended ≡ Quiet
+      → (a : Answer) → a ≡ Generated n (length J) (take_count J) (sha256 bytes) → IsDueForGenerated s n a
+  quiet_due is law Limit run at a e = absurd cc
+  quiet_due is law Quiet run at a e =
+      let all = all_counted is law run in
+      record {
+        text = bytes;
+        run = record { journal = J; lines = here.lines; text = here.text; kept = here.kept; run = subst (λ (t : List Stimulus). EndsRun s t 1000000 J Quiet) are run };
+        counted = all;
+        answered = e ∙ ap (λ k. Generated n k (take_count J) (sha256 bytes)) all.entries ∙ ap (λ k. Generated n (12 * n + 14) k (sha256 bytes)) all.takes;
+      }

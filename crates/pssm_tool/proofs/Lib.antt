@@ -11,6 +11,5 @@ pub mod DueLaws
 pub mod DueOnce
 pub mod AnswerLaws
 pub mod HeadlineLaws
-pub mod GeneratedSize
 pub mod GeneratedLaws
 pub mod AlwaysDue

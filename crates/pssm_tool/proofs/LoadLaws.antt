@@ -1,6 +1,6 @@
 -- How a model that is not there is told.
 use Rattle.std.proofs.Common.{◌≡◌, ◌≢◌, ◌⊎◌, ℕ, List, [], Result, Ok, Err, IfOk, IfErr, refl, sym, subst, inl, inr}
-use Rattle.pssm_base.specs.Reading.{Contents}
+use Rattle.pssm_base.specs.Reading.{Contents, ReadsWhole}
 use Rattle.pssm_semantics.specs.declared.setting.Setting.{Setting}
 use Rattle.pssm_load.specs.declared.fault.LoadFault.{LoadFault}
 use Rattle.pssm_load.specs.declared.fault.LoadFault.TheVariants.{NoMemory}
@@ -9,19 +9,14 @@ use Rattle.pssm_tool.specs.declared.answer.Answer.{Answer}
 use Rattle.pssm_tool.specs.declared.answer.Answer.TheVariants.{BadModel}
 use Rattle.pssm_tool.specs.declared.failure.Failure.{Failure}
 use Rattle.pssm_tool.specs.declared.failure.Failure.TheVariants as failures
-use Rattle.pssm_tool.specs.Due.{Source, HasBytes, HasModel}
+use Rattle.pssm_tool.specs.Due.{File, HasModel}
 use Rattle.pssm_tool.specs.inner.Failures.{LacksModel, has_fault, FailedAt, IsFound, IsRefusedFor}
 
 -- What is wrong with bytes.
 abbrev pub IsWrong : List ℕ → LoadFault → Type 0
 IsWrong bytes fault = (fault ≡ NoMemory) ⊎ IsLoadFault bytes fault
 
--- ---- the model
-
--- What is wrong with the bytes of a model, where it is not want of memory.
-pub lacks_by_fault : (contents : Contents) (source : Source) (bytes : List ℕ) (fault : LoadFault) → HasBytes contents source bytes → IsWrong bytes fault → fault ≢ NoMemory → LacksModel contents source (BadModel fault)
-lacks_by_fault contents source bytes fault reads (inl none) other = absurd (other none)
-lacks_by_fault contents source bytes fault reads (inr wrong) other = has_fault bytes fault reads wrong refl
+-- ---- what comes of what was loaded
 
 -- what comes of a setting that was loaded, of want of memory, and of any other fault
 by_found : (P : Result (Result Setting Answer) Failure → Type 0) (loaded : Result Setting LoadFault) (told : Result (Result Setting Answer) Failure) → IfOk loaded (λ s. P (Ok (Ok s)))
@@ -56,22 +51,9 @@ pub found_lacks : (P : Answer → Type 0) (loaded : Result Setting LoadFault) (t
 found_lacks P loaded told lacks is =
     by_found (λ r. IfOk r (λ found. IfErr found P)) loaded told (if_ok loaded (λ s u. tt) (no_setting loaded)) lacks tt is
 
-pub found_failed : (before after : ℕ) (loaded : Result Setting LoadFault) (told : Result (Result Setting Answer) Failure) → IsFound loaded told → IfErr told (FailedAt before after)
-found_failed before after loaded told is =
-    by_found (λ r. IfErr r (FailedAt before after)) loaded told (if_ok loaded (λ s u. tt) (no_setting loaded)) (if_err loaded (λ e u. λ other. tt) (no_fault loaded)) tt is
-
 pub found_no_memory : (loaded : Result Setting LoadFault) (told : Result (Result Setting Answer) Failure) → IsFound loaded told → IfErr told (λ failure. failure ≡ failures.NoMemory)
 found_no_memory loaded told is =
     by_found (λ r. IfErr r (λ failure. failure ≡ failures.NoMemory)) loaded told (if_ok loaded (λ s u. tt) (no_setting loaded)) (if_err loaded (λ e u. λ other. tt) (no_fault loaded)) refl is
-
--- ---- what the functions say of a model
-
-pub model_loads : (contents : Contents) (source : Source) (bytes : List ℕ) (loaded : Result Setting LoadFault) → HasBytes contents source bytes → IfOk loaded (λ s. ReadsSetting bytes s []) → IfOk loaded (HasModel contents source)
-model_loads contents source bytes loaded reads loads = if_ok loaded (λ s p. let has : HasModel contents source s = record { bytes = bytes; reads = reads; loads = p } in has) loads
-
-pub model_lacks : (contents : Contents) (source : Source) (bytes : List ℕ) (loaded : Result Setting LoadFault) → HasBytes contents source bytes → IfErr loaded (IsWrong bytes)
-    → IfErr loaded (λ fault. fault ≢ NoMemory → LacksModel contents source (BadModel fault))
-model_lacks contents source bytes loaded reads wrong = if_err loaded (λ fault w. lacks_by_fault contents source bytes fault reads w) wrong
 
 -- What is wrong with bytes, where it is not want of memory.
 pub bytes_lack : (bytes : List ℕ) (loaded : Result Setting LoadFault) → IfErr loaded (IsWrong bytes) → IfErr loaded (λ fault. fault ≢ NoMemory → IsRefusedFor bytes (BadModel fault))
@@ -79,3 +61,21 @@ bytes_lack bytes loaded wrong = if_err loaded (λ fault w other. lacks fault w o
   lacks : (fault : LoadFault) → IsWrong bytes fault → fault ≢ NoMemory → IsRefusedFor bytes (BadModel fault)
   lacks fault (inl none) other = absurd (other none)
   lacks fault (inr is) other = (fault, is, refl)
+
+-- ---- a file that was read
+
+module _ (contents : Contents) (path bytes : List ℕ) (reads : ReadsWhole contents path 16777216 bytes) where
+  pub model_loads : (found : Result (Result Setting Answer) Failure) → IfOk found (λ r. IfOk r (λ s. ReadsSetting bytes s [])) → IfOk found (λ r. IfOk r (HasModel contents (File path)))
+  model_loads (Ok (Ok s)) loads = record { bytes = bytes; reads = reads; loads = loads }
+  model_loads (Ok (Err a)) loads = tt
+  model_loads (Err f) loads = tt
+
+  pub model_lacks : (found : Result (Result Setting Answer) Failure) → IfOk found (λ r. IfErr r (IsRefusedFor bytes)) → IfOk found (λ r. IfErr r (LacksModel contents path))
+  model_lacks (Ok (Ok s)) lacks = tt
+  model_lacks (Ok (Err a)) (fault, wrong, is) = has_fault bytes fault reads wrong is
+  model_lacks (Err f) lacks = tt
+
+-- Want of memory is no fault of reading.
+pub memory_failed : (before after : ℕ) (found : Result (Result Setting Answer) Failure) → IfErr found (λ failure. failure ≡ failures.NoMemory) → IfErr found (FailedAt before after)
+memory_failed before after (Ok r) is = tt
+memory_failed before after (Err f) is = subst (λ (e : Failure). FailedAt before after e) (sym is) tt

@@ -6,12 +6,13 @@ use Rattle.pssm_semantics.specs.declared.entry.Rule.TheVariants.{A1, A2, A3, A4,
 use Rattle.pssm_semantics.specs.declared.setting.Setting.{Setting}
 use Rattle.pssm_semantics.specs.declared.stimulus.Stimulus.{Stimulus}
 use Rattle.pssm_semantics.specs.Rules.{Holds}
+use Rattle.pssm_semantics.specs.Known.{IsStimulusOf}
 use Rattle.pssm_system.specs.History.{History}
-use Rattle.pssm_tool.specs.inner.Running.{IsKnown, IsNext}
+use Rattle.pssm_tool.specs.inner.Running.{IsNext}
 use Rattle.pssm_tool.specs.Stimuli.{post_of}
 
-post_follows : (setting : Setting) (J : List Entry) (x : Stimulus) → IsKnown setting x → (rule : Rule) → Holds setting rule J (post_of x)
-post_follows setting K x known A1 = known K
+post_follows : (setting : Setting) (J : List Entry) (x : Stimulus) → IsStimulusOf setting x → (rule : Rule) → Holds setting rule J (post_of x)
+post_follows setting K x known A1 = known
 post_follows setting K x known A2 = λ class is. tt
 post_follows setting K x known A3 = λ class is. tt
 post_follows setting K x known A4 = λ class is. tt
@@ -24,7 +25,7 @@ post_follows setting K x known A10 = λ class is. tt
 post_follows setting K x known A11 = λ class is. tt
 post_follows setting K x known A12 = λ class is. refl
 
-pub posts_next : {E : Type 0} (run : History) (waiting : Option Stimulus) (x : Stimulus) (r : Result (Option Entry) E) → IsKnown run.setting x → waiting ≡ Some x
+pub posts_next : {E : Type 0} (run : History) (waiting : Option Stimulus) (x : Stimulus) (r : Result (Option Entry) E) → IsStimulusOf run.setting x → waiting ≡ Some x
     → IfOk r (λ o. o ≡ Some (post_of x)) → IfOk r (λ o. IfSome o (IsNext run waiting))
 posts_next run waiting x (Err fault) known is posted = tt
 posts_next run waiting x (Ok o) known is posted =

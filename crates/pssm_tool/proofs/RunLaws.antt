@@ -16,12 +16,13 @@ use Rattle.pssm_semantics.specs.Proper.{IsWellFormed}
 use Rattle.pssm_semantics.specs.Journal.{object_of}
 use Rattle.pssm_semantics.specs.Pool.{told_by, posts_of_entry, outs_of, posts_of, output_count}
 use Rattle.pssm_semantics.specs.Admissible.{MayFollow, IsQuiet, IsFull, KeepsJournalLimits, FitsStimuli}
+use Rattle.pssm_semantics.specs.Known.{IsStimulusOf}
 use Rattle.pssm_semantics_laws.proofs.SettingClasses.{class_of_object}
 use Rattle.pssm_semantics_laws.proofs.Outcomes.{few_outs}
 use Rattle.pssm_system.specs.History.{History}
 use Rattle.pssm_tool.specs.declared.run.Ended.TheVariants.{Quiet, Limit}
 use Rattle.pssm_tool.specs.RunTexts.{EndsRun}
-use Rattle.pssm_tool.specs.inner.Running.{IsKnown, IsFullAt, PostsNext, IsNext, IsOver, IsRunning}
+use Rattle.pssm_tool.specs.inner.Running.{IsFullAt, PostsNext, IsNext, IsOver, IsRunning}
 
 -- An entry that may follow has at most 64 sends and marks.
 few_made : (setting : Setting) (J : List Entry) (e : Entry) → IsWellFormed setting → MayFollow setting J e → length (outs_of e) ≤ 64
@@ -50,17 +51,17 @@ got Q xs i None here past = sym (slice_get_past xs i past)
 got Q xs i (Some x) here within = sym (slice_get_read xs (length xs) i x.now refl within.0 here)
 
 -- The stimulus that waits is known.
-waiting_known : (setting : Setting) (stimuli : List Stimulus) (i : ℕ) → AllByRecursion (IsKnown setting) stimuli → IfSome (slice_get stimuli i) (IsKnown setting)
+waiting_known : (setting : Setting) (stimuli : List Stimulus) (i : ℕ) → AllByRecursion (IsStimulusOf setting) stimuli → IfSome (slice_get stimuli i) (IsStimulusOf setting)
 waiting_known setting [] i all = tt
 waiting_known setting (x ∷ stimuli) zero all = all.0
 waiting_known setting (x ∷ stimuli) (suc i) all = waiting_known setting stimuli i all.1
 
-pub got_known : (setting own : Setting) (stimuli : List Stimulus) (i : ℕ) (r : Option (Bor Stimulus)) → own ≡ setting → option_copied r ≡ slice_get stimuli i → AllByRecursion (IsKnown setting) stimuli
-    → IfSome r (λ x. IsKnown own x.now)
+pub got_known : (setting own : Setting) (stimuli : List Stimulus) (i : ℕ) (r : Option (Bor Stimulus)) → own ≡ setting → option_copied r ≡ slice_get stimuli i → AllByRecursion (IsStimulusOf setting) stimuli
+    → IfSome r (λ x. IsStimulusOf own x.now)
 got_known setting own stimuli i None same is all = tt
 got_known setting own stimuli i (Some x) same is all =
-    let known : IfSome (Some x.now) (IsKnown setting) = subst (λ (o : Option Stimulus). IfSome o (IsKnown setting)) (sym is) (waiting_known setting stimuli i all) in
-    subst (λ (s : Setting). IsKnown s x.now) (sym same) known
+    let known : IfSome (Some x.now) (IsStimulusOf setting) = subst (λ (o : Option Stimulus). IfSome o (IsStimulusOf setting)) (sym is) (waiting_known setting stimuli i all) in
+    subst (λ (s : Setting). IsStimulusOf s x.now) (sym same) known
 
 take_next : {X : Type 0} (xs : List X) (i : ℕ) (x : X) → slice_get xs i ≡ Some x → take (i + 1) xs ≡ take i xs ++ x ∷ []
 take_next xs i x is = rw add-one (by_place xs i is) where

@@ -7,8 +7,8 @@ use Rattle.clap.specs.declared.parser.matches.Found.{Found}
 use Rattle.clap.proofs.WalkLemmas.{first_value-rows, raw_values-rows}
 use Rattle.pssm_tool.specs.declared.run_words.Options.{Options}
 use Rattle.pssm_tool.specs.declared.run_words.RunWords.{RunWords}
-use Rattle.pssm_tool.specs.Words.{lent, BeginWith, IsStimulusText, HasOptions, AsksFor, IsUsage, Means, run_command}
-use Rattle.pssm_tool.specs.inner.Commands.{meaning_of_run}
+use Rattle.pssm_tool.specs.Words.{BeginWith, IsStimulusText, HasOptions, AsksFor, IsUsage, Means, run_command}
+use Rattle.pssm_tool.specs.inner.Commands.{meaning_of_run, lent}
 use Rattle.pssm_tool.proofs.WordLaws.{no_run}
 
 -- ---- what the getters read

@@ -65,8 +65,8 @@ limit_low words options model stimuli run =
 -- The words `gen` and a number mean what was read.
 pub gen_read : (read : Option Command) (words : List (List ℕ)) (word : List ℕ) → words ≡ codes "gen" ∷ word ∷ []
     → IfSome read (λ command. (n : ℕ) × (meaning_of command ≡ Generates n) × IsNumber word 1 4000 n) → IfSome read (λ command. Means words (meaning_of command))
-gen_read None words word two is = tt
-gen_read (Some command) words word two (n, same, number) = subst (λ (m : Meaning). Means words m) (sym same) (record { word = word; two = two; number = number })
+gen_read None words word are is = tt
+gen_read (Some command) words word are (n, same, number) = subst (λ (m : Meaning). Means words m) (sym same) (record { word = word; words_are = are; number = number })
 
 -- The number of `gen` is in its range.
 pub gen_in_range : (words : List (List ℕ)) (n : ℕ) → IsGen words n → (1 ≤ n) × (n ≤ 4000)
@@ -87,7 +87,7 @@ begins words (Judges model journal) is = (model ∷ journal ∷ [], is)
 begins words (Runs options model stimuli) is = is.verb
 begins words (Checks model) is = (model ∷ [], is)
 begins words (Prints model) is = (model ∷ [], is)
-begins words (Generates n) is = (is.word ∷ [], is.two)
+begins words (Generates n) is = (is.word ∷ [], is.words_are)
 
 one_begin : (words : List (List ℕ)) (v w : List ℕ) → BeginWith words v → BeginWith words w → v ≡ w
 one_begin words v w p q = let e : v ∷ p.0 ≡ w ∷ q.0 = sym p.1 ∙ q.1 in cc
@@ -106,12 +106,12 @@ no_run words run none (Runs options model stimuli) is = none options model stimu
 no_run words run none (Judges model journal) is = let e : codes "run" ≡ codes "judge" = one_begin words (codes "run") (codes "judge") run (model ∷ journal ∷ [], is) in cc
 no_run words run none (Checks model) is = let e : codes "run" ≡ codes "check" = one_begin words (codes "run") (codes "check") run (model ∷ [], is) in cc
 no_run words run none (Prints model) is = let e : codes "run" ≡ codes "flat" = one_begin words (codes "run") (codes "flat") run (model ∷ [], is) in cc
-no_run words run none (Generates n) is = run_is_not_gen (one_begin words (codes "run") (codes "gen") run (is.word ∷ [], is.two))
+no_run words run none (Generates n) is = run_is_not_gen (one_begin words (codes "run") (codes "gen") run (is.word ∷ [], is.words_are))
 
 -- Words spell one number.
 one_gen : (words : List (List ℕ)) (k n : ℕ) → IsGen words k → IsGen words n → Generates k ≡ Generates n
 one_gen words k n p q =
-    let both : codes "gen" ∷ p.word ∷ [] ≡ codes "gen" ∷ q.word ∷ [] = sym p.two ∙ q.two in
+    let both : codes "gen" ∷ p.word ∷ [] ≡ codes "gen" ∷ q.word ∷ [] = sym p.words_are ∙ q.words_are in
     let same : p.word ≡ q.word = cc in
     ap Generates (one_number q.word 1 4000 k n (omega arith) (subst (λ (w : List ℕ). IsNumber w 1 4000 k) same p.number) q.number)
 

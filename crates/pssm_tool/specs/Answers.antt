@@ -5,7 +5,8 @@ use Rattle.hex.specs.Hex.{encode_lower}
 use Rattle.pssm_semantics.specs.Verdict.{number_of}
 use Rattle.pssm_flat.specs.Text.{line}
 use Rattle.pssm_tool.specs.declared.answer.Answer.{Answer}
-use Rattle.pssm_tool.specs.declared.answer.Answer.TheVariants.{Accept, Refuse, Limit, WellFormed, Usage, BadLine, NoEnd, TooLarge, Journal, Flat, Generated, BadModel}
+use Rattle.pssm_tool.specs.declared.answer.Answer.TheVariants.{Accept, Refuse, Limit, WellFormed, Usage, BadLine, NoEnd, TooLarge}
+use Rattle.pssm_tool.specs.declared.answer.Answer.TheVariants.{Journal, Flat, Generated, BadModel}
 use Rattle.pssm_tool.specs.declared.run.Ended.TheVariants as ends
 use Rattle.pssm_tool.specs.Refusals.{load_fault_text}
 

@@ -1,6 +1,6 @@
 -- What the program owes for its words and files: first the words decide, then the model, then the stimuli, and then the journal or the run.
 -- A model stands in a file, or is the generated one of a number.
-use Rattle.std.specs.Prelude.{◌≡◌, ◌⊎◌, ℕ, List, [], length, Option, IsSome}
+use Rattle.std.specs.Prelude.{◌≡◌, ◌⊎◌, ◌+◌, ◌*◌, ℕ, List, [], Option, IsSome}
 use Rattle.std.specs.Io.KnownBytes.{Appends}
 use Rattle.sha2.specs.Sha256.{sha256}
 use Rattle.pssm_base.specs.Faults.{Rose}
@@ -13,11 +13,12 @@ use Rattle.pssm_lines.specs.declared.fault.LineFault.TheVariants as faults
 use Rattle.pssm_journal.specs.Judged.{Judged, Accepted, Refused, Limited, BadText, IsJudged}
 use Rattle.pssm_load.specs.declared.fault.LoadFault.{LoadFault}
 use Rattle.pssm_load.specs.Loads.{ReadsSetting, IsLoadFault}
-use Rattle.pssm_suite.specs.Counts.{take_count}
+use Rattle.pssm_suite.specs.Counts.{HasAllEntries}
 use Rattle.pssm_suite.specs.Generated.{generated_text, generated_stimuli}
 use Rattle.pssm_tool.specs.declared.run_words.Options.{Options}
 use Rattle.pssm_tool.specs.declared.answer.Answer.{Answer}
-use Rattle.pssm_tool.specs.declared.answer.Answer.TheVariants.{Accept, Refuse, Limit, WellFormed, Usage, BadLine, NoEnd, TooLarge, Journal, Flat, Generated, BadModel}
+use Rattle.pssm_tool.specs.declared.answer.Answer.TheVariants.{Accept, Refuse, Limit, WellFormed, Usage, BadLine, NoEnd, TooLarge}
+use Rattle.pssm_tool.specs.declared.answer.Answer.TheVariants.{Journal, Flat, Generated, BadModel}
 use Rattle.pssm_tool.specs.declared.run.Ended.{Ended}
 use Rattle.pssm_tool.specs.declared.run.Ended.TheVariants as ends
 use Rattle.pssm_tool.specs.Words.{Meaning, Judges, Runs, Checks, Prints, Generates, Means, IsUsage}
@@ -48,9 +49,13 @@ source_of (Checks model) = File model
 source_of (Prints model) = File model
 source_of (Generates n) = Generator n
 
+-- The words name the path of a model.
+abbrev pub NameModel : List (List ℕ) → List ℕ → Type 0
+NameModel words path = (meaning : Meaning) × Means words meaning × (source_of meaning ≡ File path)
+
 -- The words name the path: it is the model's, or the journal's of a judgement.
 abbrev pub NamePath : List (List ℕ) → List ℕ → Type 0
-NamePath words path = (meaning : Meaning) × Means words meaning × ((source_of meaning ≡ File path) ⊎ ((model : List ℕ) × (meaning ≡ Judges model path)))
+NamePath words path = NameModel words path ⊎ ((model : List ℕ) × Means words (Judges model path))
 
 -- It is told what the paths hold that the words name.
 abbrev pub IsTold : List (List ℕ) → Contents → Type 0
@@ -62,17 +67,13 @@ ReadFailed words before after = (path : List ℕ) × NamePath words path × Rose
 
 -- ---- the model
 
--- The model has more bytes than it may have. (A generated one never has.)
-abbrev pub IsLarge : Contents → Source → Type 0
-IsLarge contents (File path) = HoldsMore contents path most_bytes
-IsLarge contents (Generator n) = ⊥
-
 -- These are the model's bytes: all that the file holds, or the generated text.
 abbrev pub HasBytes : Contents → Source → List ℕ → Type 0
 HasBytes contents (File path) bytes = ReadsWhole contents path most_bytes bytes
 HasBytes contents (Generator n) bytes = bytes ≡ generated_text n
 
--- There is a model, in the flat form or as a model file, with this setting, which breaks no rule of models.
+-- There is a model, in the flat form or as a model file, with this setting, which breaks no rule of models. (A file may be
+-- too large, or no model; a generated model is always there.)
 pub record HasModel (contents : Contents) (source : Source) (setting : Setting) : Type 0 where
   pub bytes : List ℕ
   pub reads : HasBytes contents source bytes
@@ -106,11 +107,12 @@ pub data IsDueForRun (setting : Setting) (options : Options) (names : List (List
       → answer ≡ Journal text ended → IsDueForRun setting options names answer
 
 -- The answer is owed for a run of a generated model with the stimuli for it: the line on its journal, when nothing more can happen.
--- (With a limit of a million entries no such journal is ever full.)
+-- Whichever way the run went, it has 12 n + 14 entries and 2 n takes. (So with a limit of a million entries no such journal is ever full.)
 pub record IsDueForGenerated (setting : Setting) (n : ℕ) (answer : Answer) : Type 0 where
   pub text : List ℕ
   pub run : IsRunText setting (generated_stimuli n) most_entries text ends.Quiet
-  pub answered : answer ≡ Generated n (length run.journal) (take_count run.journal) (sha256 text)
+  pub counted : HasAllEntries n run.journal
+  pub answered : answer ≡ Generated n (12 * n + 14) (2 * n) (sha256 text)
 
 -- The answer is owed for a command on a model that breaks no rule.
 abbrev pub IsDueForModel : Contents → Setting → Meaning → Answer → Type 0
@@ -123,11 +125,11 @@ IsDueForModel contents setting (Generates n) answer = IsDueForGenerated setting 
 -- The answer is owed for the words and the files.
 pub data IsOwed (words : List (List ℕ)) (contents : Contents) (answer : Answer) : Type 0 where
   usage : IsUsage words → answer ≡ Usage → IsOwed words contents answer
-  large_model : (meaning : Meaning) → Means words meaning → IsLarge contents (source_of meaning) → answer ≡ TooLarge → IsOwed words contents answer
-  bad_model : (meaning : Meaning) (bytes : List ℕ) (fault : LoadFault) → Means words meaning → HasBytes contents (source_of meaning) bytes
-      → IsLoadFault bytes fault → answer ≡ BadModel fault → IsOwed words contents answer
-  on_model : (meaning : Meaning) (setting : Setting) → Means words meaning → HasModel contents (source_of meaning) setting → IsDueForModel contents setting meaning answer
-      → IsOwed words contents answer
+  large_model : (path : List ℕ) → NameModel words path → HoldsMore contents path most_bytes → answer ≡ TooLarge → IsOwed words contents answer
+  bad_model : (path bytes : List ℕ) (fault : LoadFault) → NameModel words path → ReadsWhole contents path most_bytes bytes → IsLoadFault bytes fault
+      → answer ≡ BadModel fault → IsOwed words contents answer
+  on_model : (meaning : Meaning) (setting : Setting) → Means words meaning → HasModel contents (source_of meaning) setting
+      → IsDueForModel contents setting meaning answer → IsOwed words contents answer
 
 -- The answer is owed, and its text was written.
 abbrev pub Gives : List (List ℕ) → Contents → Option (List ℕ) → Option (List ℕ) → Answer → Type 0
@@ -139,9 +141,10 @@ Gives words contents before after answer = IsOwed words contents answer × Appen
 pub data IsRunOwed (words : List (List ℕ)) (contents : Contents) (setting : Setting) (stimuli : List Stimulus) : Type 0 where
   named : (options : Options) (model : List ℕ) (names : List (List ℕ)) → Means words (Runs options model names) → HasModel contents (File model) setting
       → AreStimuli setting names stimuli → IsRunOwed words contents setting stimuli
-  generated : (n : ℕ) → Means words (Generates n) → HasModel contents (Generator n) setting → stimuli ≡ generated_stimuli n → IsRunOwed words contents setting stimuli
+  generated : (n : ℕ) → Means words (Generates n) → HasModel contents (Generator n) setting → stimuli ≡ generated_stimuli n
+      → IsRunOwed words contents setting stimuli
 
--- The answer is what a run came to: its journal, or the line on it. (Which of the runs that may be it was, the words do not tell.)
+-- The answer is what a run came to: its journal, or the line on it. (Several runs may be owed; the words do not tell which it is.)
 abbrev pub IsOfRun : Answer → Type 0
 IsOfRun (Journal text ended) = Unit {0}
 IsOfRun (Generated n entries takes digest) = Unit {0}

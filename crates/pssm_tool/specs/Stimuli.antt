@@ -5,7 +5,8 @@ use Rattle.pssm_semantics.specs.declared.entry.Entry.TheVariants.{Post}
 use Rattle.pssm_semantics.specs.declared.line.Line.TheVariants as lines
 use Rattle.pssm_semantics.specs.declared.setting.Setting.{Setting}
 use Rattle.pssm_semantics.specs.declared.stimulus.Stimulus.{Stimulus}
-use Rattle.pssm_journal.specs.Entries.{IsEntryOf, KeepsNames}
+use Rattle.pssm_semantics.specs.Known.{IsStimulusOf}
+use Rattle.pssm_journal.specs.Entries.{IsEntryOf}
 use Rattle.pssm_tool.specs.Words.{IsCall}
 
 -- the entry that posts a stimulus
@@ -20,7 +21,7 @@ pub record Names (setting : Setting) (word : List ℕ) (x : Stimulus) : Type 0 w
   pub args : List ℤ
   pub call : IsCall word object signal args
   pub writes : IsEntryOf setting (lines.Post object signal args) (post_of x)
-  pub known : KeepsNames setting (post_of x)
+  pub known : IsStimulusOf setting x
 
 -- The words name these stimuli, one each.
 abbrev pub AreStimuli : Setting → List (List ℕ) → List Stimulus → Type 0

@@ -1,6 +1,5 @@
 -- The words of the command line, and the command that they mean.
 use Rattle.std.specs.Prelude.{◌≡◌, ℕ, ℤ, List, [], ◌∷◌, map, codes, String, string_bytes, Option, Some, None, true}
-use Rattle.std.specs.Borrow.{Bor}
 use Rattle.std.specs.List.{AllByRecursion}
 use Rattle.std.specs.declared.alloc.Global.{Global}
 use Rattle.clap.specs.Lexer.{usize_max}
@@ -14,10 +13,6 @@ use Rattle.pssm_tool.specs.declared.run_words.Options.{Options}
 -- words as texts
 abbrev pub texts : List (String Global) → List (List ℕ)
 texts words = map string_bytes words
-
--- the same of words that are lent
-abbrev pub lent : List (Bor (List ℕ)) → List (List ℕ)
-lent words = map (λ word. word.now) words
 
 -- The first of the words is this one.
 abbrev pub BeginWith : List (List ℕ) → List ℕ → Type 0
@@ -56,7 +51,7 @@ run_command = record {
   subs = [];
 }
 
--- The word that is given, if one is, is a number of the range; the number for an option that is left out is the other one.
+-- The word that is given is this number, of the range; where none is given it is the one for an option that is left out.
 abbrev pub HasNumber : ℕ → ℕ → ℕ → Option (List ℕ) → ℕ → Type 0
 HasNumber least greatest otherwise (Some word) n = IsNumber word least greatest n
 HasNumber least greatest otherwise None n = n ≡ otherwise
@@ -85,7 +80,7 @@ pub record IsRun (words : List (List ℕ)) (options : Options) (model : List ℕ
 -- `gen` and a number from 1 to 4000
 pub record IsGen (words : List (List ℕ)) (n : ℕ) : Type 0 where
   pub word : List ℕ
-  pub two : words ≡ codes "gen" ∷ word ∷ []
+  pub words_are : words ≡ codes "gen" ∷ word ∷ []
   pub number : IsNumber word 1 4000 n
 
 -- what words can mean: to judge a journal of a model, to run a model with stimuli, to check a model, to print its flat text, or to run a generated model

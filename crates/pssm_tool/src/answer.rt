@@ -31,8 +31,8 @@ pub enum Answer {
     },
     /// The model reads, in either form, and its machines keep the rules of models.
     WellFormed,
-    /// The words mean no command, or a stimulus among them does not fit the model: it names what the model does not have,
-    /// or has not as many arguments as its signal has parameters.
+    /// The words mean no command, or a stimulus among them does not fit the model: it names what
+    /// the model does not have, or has not as many arguments as its signal has parameters.
     Usage,
     /// The line of the journal, counted from 1, goes wrong at this byte, counted from 1, and no earlier line breaks a
     /// rule.
@@ -174,7 +174,8 @@ fn counted_line(
     takes: usize,
     digits: &str,
 ) -> Result<String, NoMemory>
-    ensures { IfOk result (λ text. string_bytes text ≡ line (codes "gen " ++ decimal number ++ codes " entries " ++ decimal entries
+    ensures { IfOk result (λ text. string_bytes text
+        ≡ line (codes "gen " ++ decimal number ++ codes " entries " ++ decimal entries
         ++ codes " takes " ++ decimal takes ++ codes " sha256 " ++ digits.now)) }
 {
     format!(in alloc; "gen {number} entries {entries} takes {takes} sha256 {digits}\n")

@@ -7,6 +7,7 @@ ghost use Rattle.pssm_tool.specs.declared.answer.Answer.{Answer};
 ghost use Rattle.pssm_tool.specs.Due.{IsOwed, IsRunOwed, IsTold};
 
 use pssm_load::some_load;
+use pssm_suite::generated_texts;
 
 /// Where it is told what the files hold that words name, something is owed: an answer, or a run
 /// (what is owed is this profile's choice). So one of the clauses `exactly` and `runs` of
@@ -17,4 +18,5 @@ pub fn always_due()
         → ((setting : Setting) (stimuli : List Stimulus) → IsRunOwed words contents setting stimuli → ⊥) → ⊥ }
 {
     some_load();
+    generated_texts();
 }

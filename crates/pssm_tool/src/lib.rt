@@ -12,6 +12,7 @@ mod commands;
 mod failure;
 mod fault_words;
 mod file_refusal;
+mod generated_run;
 mod laws;
 mod model;
 mod refusal;

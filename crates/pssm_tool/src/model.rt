@@ -27,7 +27,7 @@ pub fn model<I: Inputs>(
     ensures loads { IfOk result (λ found. IfOk found (HasModel (I.content inputs.old) (File path.now))) }
     ensures well_formed { IfOk result (λ found. IfOk found IsWellFormed) }
     ensures spelled { IfOk result (λ found. IfOk found HasSpelledNames) }
-    ensures lacks { IfOk result (λ found. IfErr found (LacksModel (I.content inputs.old) (File path.now))) }
+    ensures lacks { IfOk result (λ found. IfErr found (LacksModel (I.content inputs.old) path.now)) }
     ensures failed { IfErr result (FailedAt (I.faults inputs.old path.now) (I.faults inputs.new path.now)) }
     ensures counts { NoneFell (I.faults inputs.old) (I.faults inputs.new) }
     ensures same { SameContent (I.content inputs.old) (I.content inputs.new) }
@@ -38,9 +38,9 @@ pub fn model<I: Inputs>(
         Err(WholeFault::ReadFault) => return Err(Failure::ReadFault),
         Err(WholeFault::NoMemory) => return Err(Failure::NoMemory),
     };
-    let loaded = load(alloc, bytes.as_slice());
+    let found = setting_of(alloc, bytes.as_slice());
     drop(bytes);
-    found(loaded)
+    found
 }
 
 /// The setting that the bytes of a model have; or the answer that they have none.

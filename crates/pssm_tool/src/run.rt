@@ -4,9 +4,10 @@ ghost use Rattle.std.specs.List.{AllByRecursion};
 ghost use Rattle.std.specs.Option.{option_copied};
 ghost use Rattle.pssm_semantics.specs.Proper.{IsWellFormed};
 ghost use Rattle.pssm_semantics.specs.Pool.{posts_of_entry, outs_of};
+ghost use Rattle.pssm_semantics.specs.Known.{IsStimulusOf};
 ghost use Rattle.pssm_tool.specs.RunTexts.{EndsRun};
 ghost use Rattle.pssm_tool.specs.Stimuli.{post_of};
-ghost use Rattle.pssm_tool.specs.inner.Running.{IsNext, IsOver, IsKnown, IsFullAt};
+ghost use Rattle.pssm_tool.specs.inner.Running.{IsNext, IsOver, IsFullAt};
 
 use pssm_semantics::{Entry, Setting, Stimulus};
 use pssm_system::System;
@@ -36,7 +37,7 @@ pub fn run(
     limit: u32,
 ) -> Result<(System, Ended), NoMemory>
     requires well_formed { IsWellFormed setting }
-    requires known { AllByRecursion (IsKnown setting) stimuli.now }
+    requires known { AllByRecursion (IsStimulusOf setting) stimuli.now }
     requires limit { limit ≤ 1000000 }
     ensures setting { IfOk result (λ run. run.0.setting ≡ setting) }
     ensures ends { IfOk result (λ run. EndsRun setting stimuli.now limit run.0.journal run.1) }
@@ -71,7 +72,7 @@ fn next(
     waiting: Option<&Stimulus>,
     words: &mut Pcg64,
 ) -> Result<Option<Entry>, NoMemory>
-    requires { IfSome waiting (λ x. IsKnown system.now.setting x.now) }
+    requires { IfSome waiting (λ x. IsStimulusOf system.now.setting x.now) }
     ensures next { IfOk result (λ o. IfSome o (IsNext system.now (option_copied waiting.entry))) }
     ensures over { IfOk result (λ o. IfNone o (IsOver system.now (option_copied waiting.entry))) }
 {

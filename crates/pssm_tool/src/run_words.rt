@@ -1,9 +1,9 @@
 //! The words of `run`, as clap reads them.
 ghost use Rattle.std.specs.Prelude.{◌≡◌, ◌≤◌, [], false, List, ℕ, codes, IfOk, IfSome, IfNone};
 ghost use Rattle.clap.specs.Words.{app_of, fault_of, first_of, found_of, matches_of, rows_of, rule_of};
-ghost use Rattle.pssm_tool.specs.Words.{texts, lent, BeginWith, Means, IsUsage};
-ghost use Rattle.pssm_tool.specs.inner.Commands.{meaning_of_run};
-ghost use Rattle.pssm_tool.specs.Words.{option_rule, list_rule, run_command as command_of_run, HasNumber, HasOptions, AsksFor};
+ghost use Rattle.pssm_tool.specs.Words.{texts, BeginWith, Means, IsUsage, HasNumber, HasOptions, AsksFor};
+ghost use Rattle.pssm_tool.specs.Words.{option_rule, list_rule, run_command};
+ghost use Rattle.pssm_tool.specs.inner.Commands.{meaning_of_run, lent};
 
 use crate::stimuli::are_spelled;
 use clap::error::ErrorKind;
@@ -12,7 +12,7 @@ use pssm_spelling::number_of;
 use std::alloc::{AllocError as NoMemory, Global};
 
 /// What may be chosen for a run.
-#[derive(Clone, Copy, PartialEq, Eq, Debug)]
+#[derive(Clone, Copy, PartialEq, Eq)]
 pub struct Options {
     /// What the free choices are made from.
     pub seed: u64,
@@ -50,9 +50,9 @@ pub fn run_of(alloc: Global, words: &[String]) -> Result<Option<RunWords<'_>>, N
 
 // What clap finds in the words, of which it takes the first for the program's name, if it takes them.
 fn matches_in(alloc: Global, words: &[String]) -> Result<Option<ArgMatches<'_>>, NoMemory>
-    ensures takes { IfOk result (λ o. IfSome o (λ matches. (fault_of command_of_run (texts words.now) ≡ [])
-        × (rows_of (found_of matches) ≡ matches_of command_of_run (texts words.now)))) }
-    ensures refuses { IfOk result (λ o. IfNone o (fault_of command_of_run (texts words.now) ≡ [] → ⊥)) }
+    ensures takes { IfOk result (λ o. IfSome o (λ matches. (fault_of run_command (texts words.now) ≡ [])
+        × (rows_of (found_of matches) ≡ matches_of run_command (texts words.now)))) }
+    ensures refuses { IfOk result (λ o. IfNone o (fault_of run_command (texts words.now) ≡ [] → ⊥)) }
 {
     let command = run_command(alloc)?;
     match command.try_get_matches_from(words) {
@@ -66,7 +66,7 @@ fn matches_in(alloc: Global, words: &[String]) -> Result<Option<ArgMatches<'_>>,
 
 // The command of the words of a run.
 fn run_command<'a>(alloc: Global) -> Result<Command<'a>, NoMemory>
-    ensures { IfOk result (λ command. app_of command ≡ command_of_run) }
+    ensures { IfOk result (λ command. app_of command ≡ run_command) }
 {
     Command::new(alloc, "run")
         .disable_help_flag(true)

@@ -3,7 +3,8 @@ ghost use Rattle.std.specs.Prelude.{◌≡◌, ◌↔◌, [], slice_get, IfOk, I
 ghost use Rattle.std.specs.List.{AllByRecursion};
 ghost use Rattle.pssm_semantics.specs.declared.stimulus.Stimulus.{Stimulus};
 ghost use Rattle.pssm_semantics.specs.Pool.{posts_of_entry};
-ghost use Rattle.pssm_tool.specs.Words.{lent, IsStimulusText};
+ghost use Rattle.pssm_tool.specs.Words.{IsStimulusText};
+ghost use Rattle.pssm_tool.specs.inner.Commands.{lent};
 ghost use Rattle.pssm_tool.specs.Stimuli.{Names, AreStimuli};
 ghost use Rattle.pssm_tool.specs.inner.Calls.{post_text as post_text_of, IsPost, ShowsCall};
 ghost use Rattle.pssm_tool.specs.inner.Running.{NameNoStimuli};

@@ -17,8 +17,9 @@ ghost use Rattle.pssm_tool.specs.Headline.{AcceptsPrefixes, IsContinued, IsAccep
 ghost use Rattle.pssm_tool.specs.inner.Failures.{FailedFor, GoesOn};
 
 use crate::answer::Answer;
-use crate::commands::{check_model, generate_and_run, judge_journal, print_model, run_model};
+use crate::commands::{check_model, judge_journal, print_model, run_model};
 use crate::failure::Failure;
+use crate::generated_run::generate_and_run;
 use crate::status::Status;
 use crate::words::{Command, command_of};
 use pssm_base::{Gate, Inputs, Sink, put_all};
@@ -29,12 +30,15 @@ use std::alloc::Global;
 /// texts and the statuses are this profile's choice). `words` are those after the program's name.
 ///
 /// `judge MODEL JOURNAL` judges a journal of a run of the model, and writes one line.
-/// `run [--seed N] [--workers W] [--limit L] MODEL STIMULUS*` runs the model and writes the journal. `check MODEL` says
-/// whether the model is well formed, and `flat MODEL` writes its flat text. `gen N` runs the generated model of a
-/// number from 1 to 4000, and writes a line with the counts and the digest of its journal. A model is in the flat form,
-/// where its bytes begin with `pssm-flat`, and otherwise a model file as an editor writes it. What is written goes to
-/// `out` at once, after all else is done; before that nothing is written. `rt` and `gate` are for commands
-/// that start workers, of which there is none.
+/// `run [--seed N] [--workers W] [--limit L] MODEL STIMULUS*` runs the model and writes the
+/// journal; the options may stand anywhere before `--`. `check MODEL` says whether the model is
+/// well formed, and `flat MODEL` writes its flat text. `gen N` runs the generated model of a number
+/// from 1 to 4000, and writes a line with the counts and the digest of its journal.
+///
+/// A model is in the flat form, where its bytes begin with `pssm-flat`, and otherwise a model file
+/// as an editor writes it. What is written goes to `out` at once, after all else is done; before
+/// that nothing is written. `rt` and `gate` are for commands that start workers, of which there is
+/// none.
 pub fn pssm<R, I: Inputs, S: Sink, G: Gate + Sync>(
     _rt: &R,
     alloc: Global,
@@ -63,7 +67,8 @@ pub fn pssm<R, I: Inputs, S: Sink, G: Gate + Sync>(
 
     // 0: the journal is admissible, and `accept N` says how many entries it has; or the journal was written of a run
     // that ended where nothing more can happen; or the model, of either form, keeps the rules of models, and
-    // `well formed` or its flat text was written; or the line was written on a generated model's run, which ended so.
+    // `well formed` or its flat text was written; or the line was written on a run of a generated model that ended
+    // where nothing more can happen.
     ensures accepted { result.code ≡ 0
         → ((n : ℕ) × Gives (texts words.now) (I.content inputs.old)
         (S.taken out.old) (S.taken out.new) (Answer.Accept n))
@@ -89,8 +94,8 @@ pub fn pssm<R, I: Inputs, S: Sink, G: Gate + Sync>(
     ensures bad_model { result.code ≡ 3 → (fault : LoadFault) × Gives (texts words.now) (I.content inputs.old)
         (S.taken out.old) (S.taken out.new) (Answer.BadModel fault) }
 
-    // 4: `journal line L byte B` names the first byte at which the journal's text goes wrong, and `journal line L no end`
-    // the line within which it ends; no earlier line breaks a rule.
+    // 4: `journal line L byte B` names the first byte at which the journal's text goes wrong, and
+    // `journal line L no end` the line within which it ends; no earlier line breaks a rule.
     ensures bad_journal { result.code ≡ 4
         → ((line : ℕ) × (byte : ℕ) × Gives (texts words.now) (I.content inputs.old)
         (S.taken out.old) (S.taken out.new) (Answer.BadLine line byte))
@@ -129,7 +134,8 @@ pub fn pssm<R, I: Inputs, S: Sink, G: Gate + Sync>(
 
     // 6: writing failed in this call. A front of the text that was owed was taken.
     ensures write_fault { result.code ≡ 6 → Rose (S.faults out.old) (S.faults out.new) }
-    ensures write_fault_part { result.code ≡ 6 → (answer : Answer) × IsOwed (texts words.now) (I.content inputs.old) answer
+    ensures write_fault_part { result.code ≡ 6 → (answer : Answer)
+        × IsOwed (texts words.now) (I.content inputs.old) answer
         × TookPart (S.taken out.old) (S.taken out.new) (text_of answer) }
 
     // 7: there was not enough memory. Nothing is written.

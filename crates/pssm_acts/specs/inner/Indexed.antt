@@ -1,7 +1,7 @@
--- Names that have an index beside them.
-use Rattle.std.specs.Prelude.{◌≡◌, ℕ, List, map, Bool, IsTrue, Vec}
-use Rattle.std.specs.declared.alloc.Global.{Global}
+-- Names that may have an index beside them.
+use Rattle.std.specs.Prelude.{◌≡◌, ℕ, List, Option, IfSome}
+use Rattle.indexmap.specs.IndexSet.{IndexSet}
 
--- Where names are indexed, the keys of the index are these names in their order.
-abbrev pub IsIndexed : Bool → List (List ℕ) → List (Vec ℕ Global) → Type 0
-IsIndexed indexed names keys = IsTrue indexed → map (λ key. key.items) keys ≡ names
+-- Where there is an index, its keys are the names in their order. (S hashes them.)
+abbrev pub IsIndexed : {S : Type 0} → List (List ℕ) → Option (IndexSet (List ℕ) S) → Type 0
+IsIndexed {S} names index = IfSome index (λ (kept : IndexSet (List ℕ) S). kept.keys ≡ names)

@@ -29,4 +29,5 @@ HoldsPlaces name_of named places = (name : List ℕ) → place_in places name �
 abbrev pub HoldsMarks : {S : Type 0} → List Class → List (Places S) → Type 0
 HoldsMarks {S} classes kept =
     (length kept ≡ length classes)
-    × ((i : ℕ) (class : Class) (places : Places S) → slice_get classes i ≡ Some class → slice_get kept i ≡ Some places → HoldsPlaces (λ mark. mark) class.program.marks places)
+    × ((i : ℕ) (class : Class) (places : Places S) → slice_get classes i ≡ Some class → slice_get kept i ≡ Some places
+    → HoldsPlaces (λ mark. mark) class.program.marks places)

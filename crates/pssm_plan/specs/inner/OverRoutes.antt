@@ -16,8 +16,8 @@ use Rattle.pssm_model.specs.Legs.{On, Scope, LiesInScope}
 use Rattle.pssm_model.specs.Course.{Course, FiresBy, HasGoneBy, HasRun, HasRestored}
 use Rattle.pssm_model.specs.Items.{StartOpens, OpensByRestoring}
 use Rattle.pssm_model.specs.Routes.{IsSource}
-use Rattle.pssm_model.specs.RouteWords.{IsStepRoute, GoesAs, IsAreaOf}
-use Rattle.pssm_model_laws.specs.inner.RouteEnds.{EndsOn, EndsIn, IsEnteredBy}
+use Rattle.pssm_model.specs.RouteWords.{IsStepRoute}
+use Rattle.pssm_model_laws.specs.inner.RouteWords.{GoesAs, IsAreaOf, EndsOn, EndsIn, IsEnteredBy}
 
 -- The vertex lies where the route exits and enters.
 abbrev pub LiesInArea : DraftMachine → Route → VertexId → Type 0

@@ -9,7 +9,7 @@ use Rattle.pssm_model.specs.Forest.{HasKind}
 use Rattle.pssm_model.specs.Legs.{Leaves, Enters}
 use Rattle.pssm_model.specs.Paths.{LeadsOn}
 use Rattle.pssm_model.specs.Routes.{Truth, IsAscending, IsTrueAt}
-use Rattle.pssm_model.specs.RouteWords.{IsThrough}
+use Rattle.pssm_model_laws.specs.inner.RouteWords.{IsThrough}
 use Rattle.pssm_routes.specs.declared.passing.Points.{Points}
 use Rattle.pssm_routes.specs.inner.Fitting.{PassesBy}
 use Rattle.pssm_routes.specs.inner.Starts.{AreStartsWith}

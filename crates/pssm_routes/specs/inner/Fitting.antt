@@ -9,7 +9,7 @@ use Rattle.pssm_model.specs.Forest.{HasKind}
 use Rattle.pssm_model.specs.Legs.{Leaves, Enters, On, IsCut}
 use Rattle.pssm_model.specs.Routes.{IsAscending}
 use Rattle.pssm_model.specs.FiringSets.{IsLateOrigin}
-use Rattle.pssm_model.specs.RouteWords.{IsThrough}
+use Rattle.pssm_model_laws.specs.inner.RouteWords.{IsThrough}
 
 -- the route of these starts and other transitions
 abbrev pub route_with : List TransId → List TransId → Route

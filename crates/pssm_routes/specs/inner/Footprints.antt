@@ -8,7 +8,7 @@ use Rattle.pssm_model.specs.declared.elements.Owner.TheVariants.{State}
 use Rattle.pssm_model.specs.declared.steps.Route.{Route}
 use Rattle.pssm_model.specs.Forest.{owner_of, HasKind, LiesInState, IsOrLiesIn}
 use Rattle.pssm_model.specs.Legs.{Leaves, Enters, LiesInScope}
-use Rattle.pssm_model.specs.RouteWords.{IsAnchorOf, IsAreaOf}
+use Rattle.pssm_model_laws.specs.inner.RouteWords.{IsAnchorOf, IsAreaOf}
 use Rattle.pssm_legs.specs.Areas.{scope_of, IsAreaIn}
 use Rattle.pssm_routes.specs.declared.areas.Footprint.{Footprint}
 

@@ -1,8 +1,14 @@
 -- Commands that were read.
+use Rattle.std.specs.Prelude.{ℕ, List, map}
+use Rattle.std.specs.Borrow.{Bor}
 use Rattle.pssm_tool.specs.declared.run_words.RunWords.{RunWords}
 use Rattle.pssm_tool.specs.declared.words.Command.{Command}
 use Rattle.pssm_tool.specs.declared.words.Command.TheVariants.{Judge, Run, Check, Flat, Generate}
-use Rattle.pssm_tool.specs.Words.{lent, Meaning, Judges, Runs, Checks, Prints, Generates}
+use Rattle.pssm_tool.specs.Words.{Meaning, Judges, Runs, Checks, Prints, Generates}
+
+-- words that are lent, as texts
+abbrev pub lent : List (Bor (List ℕ)) → List (List ℕ)
+lent words = map (λ word. word.now) words
 
 -- what the words of a run that were read mean
 abbrev pub meaning_of_run : RunWords → Meaning

@@ -1,7 +1,7 @@
 -- What is known of an answer that comes early, and why there is none.
 use Rattle.std.specs.Prelude.{◌≡◌, ◌≢◌, ◌⊎◌, ℕ, List, Result, Ok, Err}
 use Rattle.pssm_base.specs.Faults.{Rose}
-use Rattle.pssm_base.specs.Reading.{Contents}
+use Rattle.pssm_base.specs.Reading.{Contents, ReadsWhole, HoldsMore}
 use Rattle.pssm_semantics.specs.declared.setting.Setting.{Setting}
 use Rattle.pssm_load.specs.declared.fault.LoadFault.{LoadFault}
 use Rattle.pssm_load.specs.declared.fault.LoadFault.TheVariants as faults
@@ -11,14 +11,14 @@ use Rattle.pssm_tool.specs.declared.answer.Answer.TheVariants.{Accept, TooLarge,
 use Rattle.pssm_tool.specs.declared.failure.Failure.{Failure}
 use Rattle.pssm_tool.specs.declared.failure.Failure.TheVariants.{ReadFault, NoMemory}
 use Rattle.pssm_tool.specs.Words.{Judges, Means}
-use Rattle.pssm_tool.specs.Due.{Source, IsLarge, HasBytes, ReadFailed}
+use Rattle.pssm_tool.specs.Due.{most_bytes, ReadFailed}
 use Rattle.pssm_tool.specs.Headline.{IsContinued}
 
--- what is answered where there is no model: it is too large, or this is wrong with it
-pub data LacksModel (contents : Contents) (source : Source) (answer : Answer) : Type 0 where
-  holds_more : IsLarge contents source → answer ≡ TooLarge → LacksModel contents source answer
-  has_fault : (bytes : List ℕ) (fault : LoadFault) → HasBytes contents source bytes → IsLoadFault bytes fault → answer ≡ BadModel fault
-      → LacksModel contents source answer
+-- what is answered where the path holds no model: it is too large, or this is wrong with it
+pub data LacksModel (contents : Contents) (path : List ℕ) (answer : Answer) : Type 0 where
+  holds_more : HoldsMore contents path most_bytes → answer ≡ TooLarge → LacksModel contents path answer
+  has_fault : (bytes : List ℕ) (fault : LoadFault) → ReadsWhole contents path most_bytes bytes → IsLoadFault bytes fault → answer ≡ BadModel fault
+      → LacksModel contents path answer
 
 -- This is wrong with the bytes of a model, and is answered.
 abbrev pub IsRefusedFor : List ℕ → Answer → Type 0

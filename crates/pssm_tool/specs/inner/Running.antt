@@ -6,15 +6,10 @@ use Rattle.pssm_semantics.specs.declared.stimulus.Stimulus.{Stimulus}
 use Rattle.pssm_semantics.specs.Pool.{posts_of_entry, posts_of, output_count}
 use Rattle.pssm_semantics.specs.Admissible.{MayFollow, IsQuiet}
 use Rattle.pssm_semantics.specs.declared.line.Line.{Line}
-use Rattle.pssm_journal.specs.Entries.{KeepsNames}
 use Rattle.pssm_lines.specs.LineText.{journal_text}
 use Rattle.pssm_journal.specs.Judged.{IsKept}
 use Rattle.pssm_system.specs.History.{History}
-use Rattle.pssm_tool.specs.Stimuli.{post_of, AreStimuli}
-
--- What the stimulus names is the setting's.
-abbrev pub IsKnown : Setting → Stimulus → Type 0
-IsKnown setting x = KeepsNames setting (post_of x)
+use Rattle.pssm_tool.specs.Stimuli.{AreStimuli}
 
 -- With so many entries and outputs a journal is full.
 abbrev pub IsFullAt : ℕ → ℕ → ℕ → Type 0

@@ -1,7 +1,7 @@
 -- the source is the one vertex that the transition leaves
 use Rattle.std.proofs.Common.{subst}
 use Rattle.pssm_model.specs.declared.ids.VertexId.{VertexId}
-use Rattle.pssm_model.specs.RouteWords.{IsThrough}
+use Rattle.pssm_model_laws.specs.inner.RouteWords.{IsThrough}
 use Rattle.pssm_model.proofs.ElementLaws.{leaves_one}
 use Rattle.pssm_routes.specs.inner.Fitting.{IsMarked}
 use Rattle.pssm_routes.proofs.route.leaves_seen.Goals as goal

@@ -10,8 +10,8 @@ use Rattle.pssm_tool.proofs.commands.print_model.Goals as goal
 -- There is no model.
 pub returns-in-Ok-Err-clause-owed : goal.returns-in-Ok-Err-clause-owed
 returns-in-Ok-Err-clause-owed g c = λ words is.
-    let lacks : LacksModel (g.I.Inputs.content c.args.inputs.now) (File c.args.path.now) c.in-Ok-Err.answer = (rw c.in-Ok-Err.field-0-is at c.in-Ok-Err.ensures.lacks) in
-    (lacks_owed words (Prints c.args.path.now) (g.I.Inputs.content c.args.inputs.now) c.in-Ok-Err.answer is lacks).0
+    let lacks : LacksModel (g.I.Inputs.content c.args.inputs.now) c.args.path.now c.in-Ok-Err.answer = (rw c.in-Ok-Err.field-0-is at c.in-Ok-Err.ensures.lacks) in
+    (lacks_owed words (Prints c.args.path.now) c.args.path.now (g.I.Inputs.content c.args.inputs.now) c.in-Ok-Err.answer is refl lacks).0
 
 -- Reading the model failed.
 pub returns-in-Err-clause-failed : goal.returns-in-Err-clause-failed

@@ -5,11 +5,11 @@ use Rattle.pssm_semantics.specs.declared.setting.Setting.{Setting}
 use Rattle.pssm_semantics.specs.declared.stimulus.Stimulus.{Stimulus}
 use Rattle.pssm_semantics.specs.Names.{HasSpelledNames}
 use Rattle.pssm_semantics.specs.Proper.{IsWellFormed}
-use Rattle.pssm_tool.specs.Words.{lent}
-use Rattle.pssm_tool.specs.inner.Commands.{meaning_of_run}
+use Rattle.pssm_semantics.specs.Known.{IsStimulusOf}
+use Rattle.pssm_tool.specs.inner.Commands.{meaning_of_run, lent}
 use Rattle.pssm_tool.specs.Due.{File, HasModel, unfit, ran, on_model}
 use Rattle.pssm_tool.specs.Stimuli.{AreStimuli}
-use Rattle.pssm_tool.specs.inner.Running.{IsKnown, NameNoStimuli}
+use Rattle.pssm_tool.specs.inner.Running.{NameNoStimuli}
 use Rattle.pssm_tool.specs.inner.Failures.{LacksModel}
 use Rattle.pssm_tool.proofs.CallLaws.{all_known}
 use Rattle.pssm_tool.proofs.DueLaws.{lacks_owed, failed_at_model}
@@ -19,8 +19,8 @@ use Rattle.pssm_tool.proofs.commands.run_model.Goals as goal
 -- There is no model.
 pub returns-in-Ok-Err-clause-owed : goal.returns-in-Ok-Err-clause-owed
 returns-in-Ok-Err-clause-owed g c = λ words is.
-    let lacks : LacksModel (g.I.Inputs.content c.args.inputs.now) (File c.args.asked.now.model.now) c.in-Ok-Err.answer = (rw c.in-Ok-Err.field-0-is at c.in-Ok-Err.ensures.lacks) in
-    (lacks_owed words (meaning_of_run c.args.asked.now) (g.I.Inputs.content c.args.inputs.now) c.in-Ok-Err.answer is lacks).0
+    let lacks : LacksModel (g.I.Inputs.content c.args.inputs.now) c.args.asked.now.model.now c.in-Ok-Err.answer = (rw c.in-Ok-Err.field-0-is at c.in-Ok-Err.ensures.lacks) in
+    (lacks_owed words (meaning_of_run c.args.asked.now) c.args.asked.now.model.now (g.I.Inputs.content c.args.inputs.now) c.in-Ok-Err.answer is refl lacks).0
 
 -- Reading the model failed.
 pub returns-in-Err-clause-failed : goal.returns-in-Err-clause-failed
@@ -42,7 +42,7 @@ run-requires-clause-well_formed g c =
 pub run-requires-clause-known : goal.run-requires-clause-known
 run-requires-clause-known g c =
     let named = rw c.in-Some.is at c.in_ok-stimuli.ensures.name in
-    subst (λ (t : List Stimulus). AllByRecursion (IsKnown c.in-Ok-Ok.setting) t) (sym c.as_slice.ensures.value) (all_known c.in-Ok-Ok.setting (lent c.deref.result.now) c.in-Some.stimuli.items named)
+    subst (λ (t : List Stimulus). AllByRecursion (IsStimulusOf c.in-Ok-Ok.setting) t) (sym c.as_slice.ensures.value) (all_known c.in-Ok-Ok.setting (lent c.deref.result.now) c.in-Some.stimuli.items named)
 
 -- Its names are names.
 pub text_of-text-requires : goal.text_of-text-requires

@@ -1,5 +1,5 @@
 use Rattle.std.proofs.Common.{take}
-use Rattle.pssm_tool.specs.Words.{lent}
+use Rattle.pssm_tool.specs.inner.Commands.{lent}
 use Rattle.pssm_tool.specs.Stimuli.{AreStimuli}
 use Rattle.pssm_tool.proofs.stimuli.all_named.Given as goal
 

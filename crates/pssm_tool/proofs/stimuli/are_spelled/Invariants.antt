@@ -1,6 +1,7 @@
 use Rattle.std.proofs.Common.{take}
 use Rattle.std.specs.List.{AllByRecursion}
-use Rattle.pssm_tool.specs.Words.{lent, IsStimulusText}
+use Rattle.pssm_tool.specs.Words.{IsStimulusText}
+use Rattle.pssm_tool.specs.inner.Commands.{lent}
 use Rattle.pssm_tool.proofs.stimuli.are_spelled.Given as goal
 
 -- the words so far are spelled as stimuli

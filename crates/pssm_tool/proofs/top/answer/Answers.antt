@@ -1,7 +1,7 @@
 use Rattle.std.proofs.Common.{IfSome, subst}
 use Rattle.pssm_base.specs.Reading.{Contents}
-use Rattle.pssm_tool.specs.Words.{texts, lent, Means, Judges, Checks, Prints, Generates}
-use Rattle.pssm_tool.specs.inner.Commands.{meaning_of, meaning_of_run}
+use Rattle.pssm_tool.specs.Words.{texts, Means, Judges, Checks, Prints, Generates}
+use Rattle.pssm_tool.specs.inner.Commands.{meaning_of, meaning_of_run, lent}
 use Rattle.pssm_tool.specs.Due.{IsOwed}
 use Rattle.pssm_tool.specs.inner.Failures.{GoesOn}
 use Rattle.pssm_tool.proofs.DueLaws.{at_words, at_any, no_memory_failed}

@@ -2,18 +2,15 @@ use Rattle.std.proofs.Common.{◌∙◌, codes, ap, sym}
 use Rattle.std.proofs.lemmas.Slice.Eq.{bytes_eq-Decides}
 use Rattle.pssm_tool.specs.Words.{texts}
 use Rattle.pssm_tool.proofs.Three.{two_items, three_items}
-use Rattle.pssm_tool.proofs.WordLaws.{first_and_rest, words_first, one_meaning, gen_read}
+use Rattle.pssm_tool.proofs.WordLaws.{first_and_rest, words_first, gen_read}
 use Rattle.pssm_tool.proofs.words.command_of.Goals as goal
 
 -- The first word is `run`.
-pub command_of_run-requires : goal.command_of_run-requires
-command_of_run-requires c =
+pub run_of-requires : goal.run_of-requires
+run_of-requires c =
     let all = first_and_rest c.args.words.now c.verb-item.result c.in-len1-up.len_at_least c.verb-item.is in
     let verb = (bytes_eq-Decides c.as_str.result.now (codes "run")).0 (sym (c.if-eq.ensures {u = tt})) in
     (texts _, words_first c.args.words.now _ c.verb-item.result (codes "run") all (sym c.as_str.ensures.value ∙ verb))
-
-pub returns-in-len1-up-clause-once : goal.returns-in-len1-up-clause-once
-returns-in-len1-up-clause-once c = one_meaning (texts c.args.words.now)
 
 -- The three words are the verb and the two paths that were read.
 pub returns-in-len3-clause-reads : goal.returns-in-len3-clause-reads
@@ -46,6 +43,3 @@ returns-in-len2-3-clause-reads c =
     let read = ap texts all in
     gen_read c.generated.result (texts c.args.words.now) c.as_str-in-len2-3.result.now (cc (read, verb, c.as_str-then-words-lt3-3.ensures.value, c.as_str-in-len2-3.ensures.value))
     c.generated.ensures.reads
-
-pub returns-in-len2-3-clause-once : goal.returns-in-len2-3-clause-once
-returns-in-len2-3-clause-once c = one_meaning (texts c.args.words.now)

@@ -1,6 +1,6 @@
 use Rattle.std.proofs.Common.{refl, ◌∙◌}
 use Rattle.pssm_tool.proofs.GeneratedLaws.{never_full, quiet_due}
-use Rattle.pssm_tool.proofs.commands.run_generated.Goals as goal
+use Rattle.pssm_tool.proofs.generated_run.run_generated.Goals as goal
 
 -- The journal is not full.
 pub unreachable-requires : goal.unreachable-requires
@@ -9,9 +9,10 @@ unreachable-requires c =
     c.in_ok-text.ensures (c.in_ok-system.ensures.setting ∙ c.requires.generated) (c.generated_runs.ensures.never_full c.args.number c.requires.some c.requires.few)
     c.in_ok-system.ended c.in_ok-system.ensures.ends c.in-Limit.is
 
--- The run ended quietly.
+-- The run ended quietly, with all its entries.
 pub returns-clause-owed : goal.returns-clause-owed
 returns-clause-owed c =
     quiet_due c.args.setting c.in_ok-system.system.setting c.args.number c.args.stimuli.now c.in_ok-system.system.journal c.in_ok-text.text c.in_ok-system.ensures.setting c.requires.stimuli
-    c.in_ok-text.ensures c.in_ok-system.ended c.in_ok-system.ensures.ends c.in-Quiet.is _
+    c.in_ok-text.ensures (c.in_ok-system.ensures.setting ∙ c.requires.generated) (c.generated_ends.ensures c.args.number c.requires.some c.requires.few)
+    c.in_ok-system.ended c.in_ok-system.ensures.ends c.in-Quiet.is _
     (cc (c.entries.ensures.journal, c.entries-in-Quiet.ensures.journal, c.take_count_of.ensures, c.digest.ensures, c.as_slice.ensures))

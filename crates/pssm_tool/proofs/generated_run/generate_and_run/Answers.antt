@@ -1,17 +1,15 @@
-use Rattle.std.proofs.Common.{◌≡◌, ◌∙◌, ◌≤◌, List, ℕ, [], length, subst, sym}
+use Rattle.std.proofs.Common.{◌∙◌, ◌≤◌, List, ℕ, [], length, subst, sym}
 use Rattle.pssm_semantics.specs.Names.{HasSpelledNames}
 use Rattle.pssm_semantics.specs.Proper.{IsWellFormed}
 use Rattle.pssm_load.specs.Loads.{ReadsSetting}
-use Rattle.pssm_suite.specs.Generated.{generated_text}
 use Rattle.pssm_tool.specs.inner.Failures.{IsRefusedFor}
-use Rattle.pssm_tool.proofs.GeneratedSize.{generated_small}
-use Rattle.pssm_tool.proofs.GeneratedLaws.{generated_known, generated_read_as, generated_owed, refusal_owed}
-use Rattle.pssm_tool.proofs.commands.generate_and_run.Goals as goal
+use Rattle.pssm_tool.proofs.GeneratedLaws.{generated_known, generated_read_as, generated_owed, never_refused}
+use Rattle.pssm_tool.proofs.generated_run.generate_and_run.Goals as goal
 
 -- The text has few bytes.
 pub setting_of-found-requires : goal.setting_of-found-requires
 setting_of-found-requires c =
-    subst (λ (t : List ℕ). length t ≤ 16777216) (sym (c.as_slice.ensures.value ∙ c.in_ok-text.ensures.text)) (generated_small c.args.number c.requires.few)
+    subst (λ (t : List ℕ). length t ≤ 16777216) (sym (c.as_slice.ensures.value ∙ c.in_ok-text.ensures.text)) (c.generated_texts.ensures.small c.args.number c.requires.few)
 
 pub run_generated-requires-clause-well_formed : goal.run_generated-requires-clause-well_formed
 run_generated-requires-clause-well_formed c =
@@ -45,7 +43,9 @@ returns-in-Ok-Ok-clause-owed c =
     let here = subst (λ (t : List ℕ). ReadsSetting t c.in-Ok-Ok.setting []) (c.as_slice.ensures.value ∙ c.in_ok-text.ensures.text) reads in
     generated_owed c.run_generated.result c.args.number c.in-Ok-Ok.setting here c.run_generated.ensures.owed
 
-pub returns-in-Ok-Err-clause-owed : goal.returns-in-Ok-Err-clause-owed
-returns-in-Ok-Err-clause-owed c =
-    let lacks : IsRefusedFor c.as_slice.result.now c.in-Ok-Err.answer = (rw c.in-Ok-Err.field-0-is at c.in-Ok-Err.ensures.lacks) in
-    refusal_owed c.args.number c.in-Ok-Err.answer (subst (λ (t : List ℕ). IsRefusedFor t c.in-Ok-Err.answer) (c.as_slice.ensures.value ∙ c.in_ok-text.ensures.text) lacks)
+-- The text is read as a setting, and so it has no fault.
+pub unreachable-requires : goal.unreachable-requires
+unreachable-requires c =
+    let lacks : IsRefusedFor c.as_slice.result.now c.in-Ok-Err._answer = (rw c.in-Ok-Err.field-0-is at c.in-Ok-Err.ensures.lacks) in
+    never_refused c.one_load.ensures.apart c.args.number c.in-Ok-Err._answer (c.generated_texts.ensures.read c.args.number c.requires.some c.requires.few)
+    (subst (λ (t : List ℕ). IsRefusedFor t c.in-Ok-Err._answer) (c.as_slice.ensures.value ∙ c.in_ok-text.ensures.text) lacks)
