@@ -1,0 +1,9 @@
+pub mod StoreLengths
+pub mod ListLaws
+pub mod PostLaws
+pub mod RunLaws
+pub mod TaskLaws
+pub mod DeskLaws
+pub mod CompareLaws
+pub mod AnswerLaws
+pub mod SeenLaws

@@ -1,0 +1,12 @@
+-- what the comparison says is what is answered
+use Rattle.std.proofs.Common.{refl}
+use Rattle.pssm_book.proofs.committing.Desk.settle.Goals as goal
+
+pub returns-in-Apart-clause-commits : goal.returns-in-Apart-clause-commits
+returns-in-Apart-clause-commits c = let says = rw c.in-Apart.is at c.compare.ensures in (refl, says, refl)
+
+pub returns-in-Differing-clause-commits : goal.returns-in-Differing-clause-commits
+returns-in-Differing-clause-commits c = let says = rw c.in-Differing.is at c.compare.ensures in (says, refl)
+
+pub append_if_room-requires-clause-up_to_date : goal.append_if_room-requires-clause-up_to_date
+append_if_room-requires-clause-up_to_date c = rw c.in-Same.is at c.compare.ensures

@@ -1,0 +1,5 @@
+pub mod Claims
+pub mod Keeping
+pub mod Nexts
+pub mod Comparing
+pub mod Coming

@@ -1,0 +1,107 @@
+//! What the work for a task is worth now.
+ghost use Rattle.std.specs.Prelude.{◌≡◌, ◌<◌, ◌↔◌, length, IsTrue, Contains};
+ghost use Rattle.pssm_semantics.specs.Values.{no_params};
+ghost use Rattle.pssm_system.specs.Tasks.{IsReadyOf};
+ghost use Rattle.pssm_book.specs.Works.{params_in};
+ghost use Rattle.pssm_book.specs.inner.Comparing.{HasItsForm, ComparesStores, Compares};
+
+use crate::behaviours::behaviour;
+use crate::claims::same_claim;
+use crate::desk::Desk;
+use pssm_model::Same;
+use pssm_semantics::{Args, ObjectId, Task, Worked};
+
+/// How the work for a task stands to the task: it is not its work, it was run on other values, or
+/// it is what the task would come to now.
+#[derive(Clone, Copy)]
+pub enum Compared {
+    Apart,
+    Differing {
+        variable: u16,
+        kept: i64,
+        carried: i64,
+    },
+    Same,
+}
+
+impl Desk {
+    ghost use Rattle.pssm_book.specs.inner.Keeping.{IsInOrder};
+
+    /// How what was run stands to a task that is handed out.
+    pub fn compare(&self, task: Task, worked: &Worked) -> Compared
+        requires order { IsInOrder self.now }
+        requires claimed { Contains self.now.claims.items (worked.now.own, task) }
+        ensures { Compares self.now.system self.now.claims.items task worked.now result }
+    {
+        let object = worked.own();
+        if !self.is_ready(object, task) || !self.has_its_form(task, worked) {
+            return Compared::Apart;
+        }
+        compare_stores(self.system.store(object), worked.store())
+    }
+
+    // Whether a task of the object is ready.
+    fn is_ready(&self, object: ObjectId, task: Task) -> bool
+        requires { IsInOrder self.now }
+        ensures { IsTrue result ↔ IsReadyOf self.now.system.setting self.now.system.journal object task }
+    {
+        for i in 0..self.system.task_count() {
+            if same_claim(self.system.task_at(i), (object, task)) {
+                return true;
+            }
+        }
+        false
+    }
+
+    // Whether what was run is the behaviour of a ready task, on the parameters of the task's entry.
+    fn has_its_form(&self, task: Task, worked: &Worked) -> bool
+        requires order { IsInOrder self.now }
+        requires ready { IsReadyOf self.now.system.setting self.now.system.journal worked.now.own task }
+        ensures { IsTrue result ↔ HasItsForm self.now.system task worked.now }
+    {
+        match behaviour(self.system.setting(), worked.own(), task) {
+            Some(act) => act.same(worked.act()) && self.has_params(task, worked),
+            None => false,
+        }
+    }
+
+    // Whether it was run on the parameters of the task's entry.
+    fn has_params(&self, task: Task, worked: &Worked) -> bool
+        requires { worked.now.own.0 < length self.now.system.setting.objects }
+        ensures { IsTrue result ↔ (worked.now.params ≡ params_in self.now.system.journal worked.now.own task) }
+    {
+        match task {
+            Task::DoStep(_, _) => are_zeros(worked.params()),
+            Task::Exit(_) | Task::Effect(_) | Task::Enter(_) => {
+                worked.params().same(self.system.params(worked.own()))
+            }
+        }
+    }
+}
+
+// Whether these are eight zeros.
+fn are_zeros(params: &Args) -> bool
+    ensures { IsTrue result ↔ (params.now ≡ no_params) }
+{
+    params.as_slice() == [0i64; 8].as_slice()
+}
+
+// How the values that were carried stand to those that are kept.
+fn compare_stores(kept: &[i64], carried: &[i64]) -> Compared
+    requires { length kept.now < 65536 }
+    ensures { ComparesStores kept.now carried.now result }
+{
+    if kept.len() != carried.len() {
+        return Compared::Apart;
+    }
+    for i in 0..kept.len() {
+        if kept[i] != carried[i] {
+            return Compared::Differing {
+                variable: i as u16,
+                kept: kept[i],
+                carried: carried[i],
+            };
+        }
+    }
+    Compared::Same
+}
