@@ -1,6 +1,6 @@
 -- what the comparison says is what is answered
 use Rattle.std.proofs.Common.{refl}
-use Rattle.pssm_book.proofs.committing.Desk.settle.Goals as goal
+use Rattle.pssm_book.proofs.desk.Desk.settle.Goals as goal
 
 pub returns-in-Apart-clause-commits : goal.returns-in-Apart-clause-commits
 returns-in-Apart-clause-commits c = let says = rw c.in-Apart.is at c.compare.ensures in (refl, says, refl)

@@ -1,7 +1,7 @@
 -- a task is ready exactly where it is listed
 use Rattle.std.proofs.Common.{◌+◌, Some, ap, refl, arith, ◌∙◌}
 use Rattle.pssm_book.proofs.CompareLaws.{listed_ready, unlisted, not_so_far, true_and_false}
-use Rattle.pssm_book.proofs.comparing.Desk.is_ready.Goals as goal
+use Rattle.pssm_book.proofs.desk.Desk.is_ready.Goals as goal
 
 pub returns-then-same_claim : goal.returns-then-same_claim
 returns-then-same_claim c = (
