@@ -34,7 +34,8 @@ use Rattle.pssm_system.proofs.Choices.{move-no_post}
 use Rattle.pssm_book.specs.declared.desk.Desk.{Desk}
 use Rattle.pssm_book.specs.declared.answers.Job.{Job}
 use Rattle.pssm_book.specs.declared.answers.Claimed.TheVariants as claimed
-use Rattle.pssm_book.specs.Stimuli.{IsKnown, post_of}
+use Rattle.pssm_semantics.specs.Known.{IsStimulusOf}
+use Rattle.pssm_book.specs.Stimuli.{post_of}
 use Rattle.pssm_book.specs.Counts.{IsFullAt}
 use Rattle.pssm_book.specs.Contents.{Contents, IsKept}
 use Rattle.pssm_book.specs.Works.{behaviour_in, store_in, params_in}
@@ -51,7 +52,7 @@ use Rattle.pssm_book.proofs.TaskLaws.{work_follows, store_is, ready_unquiet, qui
 -- ---- a new desk
 
 pub new_order : (desk : Desk) (setting : Setting) (stimuli : List Stimulus) (limit : ℕ) → IsFresh setting stimuli limit desk → desk.posted ≡ 0 → desk.outputs ≡ 0
-    → IsWellFormed setting → AllByRecursion (IsKnown setting) stimuli → limit ≤ 1000000 → IsInOrder desk
+    → IsWellFormed setting → AllByRecursion (IsStimulusOf setting) stimuli → limit ≤ 1000000 → IsInOrder desk
 new_order desk setting stimuli limit fresh posted outputs formed known low = record {
   well_formed = subst IsWellFormed (sym fresh.setting_is) formed;
   admissible = subst (IsAdmissibleIn desk.system.setting) (sym fresh.journal) (admissible_none desk.system.setting);
@@ -60,8 +61,8 @@ new_order desk setting stimuli limit fresh posted outputs formed known low = rec
       (subst (λ n. IsRunning desk.system.setting desk.stimuli.items desk.limit desk.system 0 n) (sym outputs)
       (running_start desk.system.setting desk.stimuli.items desk.limit desk.system refl fresh.journal));
   known =
-      subst (λ s. AllByRecursion (IsKnown s) desk.stimuli.items) (sym fresh.setting_is)
-      (subst (AllByRecursion (IsKnown setting)) (sym fresh.stimuli_are) known);
+      subst (λ s. AllByRecursion (IsStimulusOf s) desk.stimuli.items) (sym fresh.setting_is)
+      (subst (AllByRecursion (IsStimulusOf setting)) (sym fresh.stimuli_are) known);
   low = subst (λ n. n ≤ 1000000) (sym fresh.limit_is) low;
   few_claims = let none = ap (λ (xs : List (ObjectId × Task)). length xs) fresh.claims in omega (arith, none);
   apart = subst (AllPairs (λ a b. a ≢ b)) (sym fresh.claims) (none_in_order (λ (a b : ObjectId × Task). a ≢ b));
@@ -80,8 +81,8 @@ order_same old new order run stimuli limit posted outputs few apart = record {
       (subst (λ n. IsRunning old.system.setting old.stimuli.items old.limit old.system n new.outputs) (sym posted)
       (subst (λ n. IsRunning old.system.setting old.stimuli.items old.limit old.system old.posted n) (sym outputs) order.running))));
   known =
-      subst (λ (h : History). AllByRecursion (IsKnown h.setting) new.stimuli.items) (sym run)
-      (subst (AllByRecursion (IsKnown old.system.setting)) (sym stimuli) order.known);
+      subst (λ (h : History). AllByRecursion (IsStimulusOf h.setting) new.stimuli.items) (sym run)
+      (subst (AllByRecursion (IsStimulusOf old.system.setting)) (sym stimuli) order.known);
   low = subst (λ n. n ≤ 1000000) (sym limit) order.low;
   few_claims = few;
   apart = apart;
@@ -150,8 +151,8 @@ module _ (old new : Desk) (order : IsInOrder old) (e : Entry) (room : IsFull old
       admissible = admissible;
       running = running;
       known =
-          subst (λ s. AllByRecursion (IsKnown s) new.stimuli.items) (sym same)
-          (subst (AllByRecursion (IsKnown old.system.setting)) (sym stimuli) order.known);
+          subst (λ s. AllByRecursion (IsStimulusOf s) new.stimuli.items) (sym same)
+          (subst (AllByRecursion (IsStimulusOf old.system.setting)) (sym stimuli) order.known);
       low = subst (λ n. n ≤ 1000000) (sym limit) order.low;
       few_claims = subst (λ (xs : List (ObjectId × Task)). length xs ≤ 65536) (sym claims) order.few_claims;
       apart = subst (AllPairs (λ a b. a ≢ b)) (sym claims) order.apart;
@@ -166,13 +167,13 @@ module _ (old new : Desk) (order : IsInOrder old) (e : Entry) (room : IsFull old
 -- ---- what may come next
 
 -- the stimulus that waits is known
-pub post_known : (desk : Desk) → IsInOrder desk → (x : Stimulus) → waiting_at desk ≡ Some x → IsKnown desk.system.setting x
+pub post_known : (desk : Desk) → IsInOrder desk → (x : Stimulus) → waiting_at desk ≡ Some x → IsStimulusOf desk.system.setting x
 post_known desk order x waits =
-    subst (λ (o : Option Stimulus). IfSome o (IsKnown desk.system.setting)) waits
+    subst (λ (o : Option Stimulus). IfSome o (IsStimulusOf desk.system.setting)) waits
     (waiting_known desk.system.setting desk.stimuli.items desk.posted order.known)
 
 -- the post of the stimulus that waits
-pub post_next : (desk : Desk) → IsInOrder desk → (x : Stimulus) → waiting_at desk ≡ Some x → IsKnown desk.system.setting x → IsAppended desk (post_of x)
+pub post_next : (desk : Desk) → IsInOrder desk → (x : Stimulus) → waiting_at desk ≡ Some x → IsStimulusOf desk.system.setting x → IsAppended desk (post_of x)
 post_next desk order x waits known = record {
   next = record { follows = post_follows desk.system.setting desk.system.journal x known; posts = inr (x, waits, refl) };
   kind = inl tt;

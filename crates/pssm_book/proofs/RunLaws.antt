@@ -18,20 +18,20 @@ use Rattle.pssm_semantics.specs.Admissible.{MayFollow, IsFull, KeepsJournalLimit
 use Rattle.pssm_semantics_laws.proofs.SettingClasses.{class_of_object}
 use Rattle.pssm_semantics_laws.proofs.Outcomes.{few_outs}
 use Rattle.pssm_system.specs.History.{History}
-use Rattle.pssm_book.specs.Stimuli.{IsKnown}
+use Rattle.pssm_semantics.specs.Known.{IsStimulusOf}
 use Rattle.pssm_book.specs.Counts.{IsFullAt}
 use Rattle.pssm_book.specs.inner.Keeping.{IsRunning}
 use Rattle.pssm_book.specs.inner.Nexts.{PostsNext, IsNext}
 
 -- An entry that may follow has at most 64 sends and marks.
-few_made : (setting : Setting) (J : List Entry) (e : Entry) → IsWellFormed setting → MayFollow setting J e → length (outs_of e) ≤ 64
+pub few_made : (setting : Setting) (J : List Entry) (e : Entry) → IsWellFormed setting → MayFollow setting J e → length (outs_of e) ≤ 64
 few_made setting J e formed may =
     let there = may A1 in
     let runs = (class_of_object setting formed (object_of e) there.0 there.1).0 in
     few_outs there.0 runs.proper (told_by J) J e (may A12 there.0 there.1)
 
 -- An entry that has so few has no more outputs: a post sends and marks nothing.
-few_outputs : (e : Entry) → length (outs_of e) ≤ 64 → length (posts_of_entry e) + length (outs_of e) ≤ 64
+pub few_outputs : (e : Entry) → length (outs_of e) ≤ 64 → length (posts_of_entry e) + length (outs_of e) ≤ 64
 few_outputs (Post o signal args) few = omega arith
 few_outputs (Start o) few = omega arith
 few_outputs (Take o number firing) few = omega arith
@@ -50,19 +50,19 @@ got Q xs i None here past = sym (slice_get_past xs i past)
 got Q xs i (Some x) here within = sym (slice_get_read xs (length xs) i x.now refl within.0 here)
 
 -- The stimulus that waits is known.
-pub waiting_known : (setting : Setting) (stimuli : List Stimulus) (i : ℕ) → AllByRecursion (IsKnown setting) stimuli → IfSome (slice_get stimuli i) (IsKnown setting)
+pub waiting_known : (setting : Setting) (stimuli : List Stimulus) (i : ℕ) → AllByRecursion (IsStimulusOf setting) stimuli → IfSome (slice_get stimuli i) (IsStimulusOf setting)
 waiting_known setting [] i all = tt
 waiting_known setting (x ∷ stimuli) zero all = all.0
 waiting_known setting (x ∷ stimuli) (suc i) all = waiting_known setting stimuli i all.1
 
-pub got_known : (setting own : Setting) (stimuli : List Stimulus) (i : ℕ) (r : Option (Bor Stimulus)) → own ≡ setting → option_copied r ≡ slice_get stimuli i → AllByRecursion (IsKnown setting) stimuli
-    → IfSome r (λ x. IsKnown own x.now)
+pub got_known : (setting own : Setting) (stimuli : List Stimulus) (i : ℕ) (r : Option (Bor Stimulus)) → own ≡ setting → option_copied r ≡ slice_get stimuli i → AllByRecursion (IsStimulusOf setting) stimuli
+    → IfSome r (λ x. IsStimulusOf own x.now)
 got_known setting own stimuli i None same is all = tt
 got_known setting own stimuli i (Some x) same is all =
-    let known : IfSome (Some x.now) (IsKnown setting) = subst (λ (o : Option Stimulus). IfSome o (IsKnown setting)) (sym is) (waiting_known setting stimuli i all) in
-    subst (λ (s : Setting). IsKnown s x.now) (sym same) known
+    let known : IfSome (Some x.now) (IsStimulusOf setting) = subst (λ (o : Option Stimulus). IfSome o (IsStimulusOf setting)) (sym is) (waiting_known setting stimuli i all) in
+    subst (λ (s : Setting). IsStimulusOf s x.now) (sym same) known
 
-take_next : {X : Type 0} (xs : List X) (i : ℕ) (x : X) → slice_get xs i ≡ Some x → take (i + 1) xs ≡ take i xs ++ x ∷ []
+pub take_next : {X : Type 0} (xs : List X) (i : ℕ) (x : X) → slice_get xs i ≡ Some x → take (i + 1) xs ≡ take i xs ++ x ∷ []
 take_next xs i x is = rw add-one (by_place xs i is) where
   by_place : (xs : List _) (i : ℕ) → slice_get xs i ≡ Some x → take (suc i) xs ≡ take i xs ++ x ∷ []
   by_place [] i is = absurd cc
@@ -76,16 +76,16 @@ none_past (y ∷ ys) (suc i) is = let past = none_past ys i is in omega arith
 
 -- ---- the posts and outputs of a journal with one entry more
 
-posts_more : (J : List Entry) (e : Entry) → posts_of (J ++ e ∷ []) ≡ posts_of J ++ posts_of_entry e
+pub posts_more : (J : List Entry) (e : Entry) → posts_of (J ++ e ∷ []) ≡ posts_of J ++ posts_of_entry e
 posts_more J e = flat_map-append posts_of_entry J (e ∷ []) ∙ ap (λ (t : List Stimulus). posts_of J ++ t) (append-nil (posts_of_entry e))
 
-outputs_more : (J : List Entry) (e : Entry) → output_count (J ++ e ∷ []) ≡ output_count J + (length (posts_of_entry e) + length (outs_of e))
+pub outputs_more : (J : List Entry) (e : Entry) → output_count (J ++ e ∷ []) ≡ output_count J + (length (posts_of_entry e) + length (outs_of e))
 outputs_more J e =
     let more = sum_by-append (λ (x : Entry). length (posts_of_entry x) + length (outs_of x)) J (e ∷ []) in
     omega (arith, more)
 
 -- an entry posts one signal at most, so a journal has no more posts than entries
-one_post : (e : Entry) → length (posts_of_entry e) ≤ 1
+pub one_post : (e : Entry) → length (posts_of_entry e) ≤ 1
 one_post (Post o signal args) = omega arith
 one_post (Start o) = omega arith
 one_post (Take o number firing) = omega arith
@@ -133,7 +133,7 @@ module _ (setting : Setting) (stimuli : List Stimulus) (limit : ℕ) (run : Hist
       by_posts (inl none) = let n = ap length none in let within = running.within in omega arith
       by_posts (inr some) = let n = ap length some.2 in let within = slice_get_within stimuli posted some.0 some.1 in omega arith
 
-    posts_are : posts_of (run.journal ++ e ∷ []) ≡ take (posted + length (posts_of_entry e)) stimuli
+    pub posts_are : posts_of (run.journal ++ e ∷ []) ≡ take (posted + length (posts_of_entry e)) stimuli
     posts_are = posts_more run.journal e ∙ by_posts next.posts where
       by_posts : PostsNext (slice_get stimuli posted) e → posts_of run.journal ++ posts_of_entry e ≡ take (posted + length (posts_of_entry e)) stimuli
       by_posts (inl none) =
@@ -143,12 +143,12 @@ module _ (setting : Setting) (stimuli : List Stimulus) (limit : ℕ) (run : Hist
           ap (λ (t : List Stimulus). posts_of run.journal ++ t) some.2 ∙ ap (λ (t : List Stimulus). t ++ some.0 ∷ []) running.posts ∙ sym (take_next stimuli posted some.0 some.1)
           ∙ ap (λ (n : ℕ). take n stimuli) (let n = ap length some.2 in omega arith)
 
-    shorter : length run.journal < limit
+    pub shorter : length run.journal < limit
     shorter = by_length refl where
       by_length : length run.journal ≡ length run.journal → length run.journal < limit
       by_length e = let few = running.few in let apart : length run.journal ≢ limit = λ same. room (inl same) in omega arith
 
-    roomy : outputs ≤ 1999936
+    pub roomy : outputs ≤ 1999936
     roomy = let apart : (1999936 < outputs) → ⊥ = λ many. room (inr many) in omega arith
 
     pub running_more : (after : History) (a b c : ℕ) → after.setting ≡ run.setting → after.journal ≡ run.journal ++ e ∷ [] → a ≡ length (posts_of_entry e) → b ≡ length (posts_of_entry e)

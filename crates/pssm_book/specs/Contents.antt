@@ -7,7 +7,7 @@ use Rattle.pssm_semantics.specs.declared.stimulus.Task.{Task}
 use Rattle.pssm_semantics.specs.Proper.{IsWellFormed}
 use Rattle.pssm_semantics.specs.Admissible.{IsAdmissibleIn, FitsStimuli}
 use Rattle.pssm_system.specs.History.{History}
-use Rattle.pssm_book.specs.Stimuli.{IsKnown}
+use Rattle.pssm_semantics.specs.Known.{IsStimulusOf}
 
 -- a run so far, the stimuli for it, how many entries it may have, the tasks that are handed out, each with its object, and the total of all shares
 -- of the ledger (this profile's choice)
@@ -23,7 +23,7 @@ pub record Contents : Type 0 where
 pub record IsKept (c : Contents) : Type 0 where
   pub well_formed : IsWellFormed c.run.setting
   pub admissible : IsAdmissibleIn c.run.setting c.run.journal
-  pub known : AllByRecursion (IsKnown c.run.setting) c.stimuli
+  pub known : AllByRecursion (IsStimulusOf c.run.setting) c.stimuli
   pub fits : FitsStimuli c.run.journal c.stimuli
   pub low : c.limit ≤ 1000000
   pub few : length c.run.journal ≤ c.limit

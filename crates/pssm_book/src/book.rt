@@ -50,7 +50,7 @@ impl<L: Ledger> Book<L> {
     ghost use Rattle.pssm_semantics.specs.Proper.{IsWellFormed};
     ghost use Rattle.pssm_semantics.specs.Admissible.{IsFull, HasEndedQuietly};
     ghost use Rattle.pssm_book.specs.declared.answers.Job.{Job as AJob};
-    ghost use Rattle.pssm_book.specs.Stimuli.{IsKnown};
+    ghost use Rattle.pssm_semantics.specs.Known.{IsStimulusOf};
     ghost use Rattle.pssm_book.specs.Contents.{IsKept, KeepsTerms};
     ghost use Rattle.pssm_book.specs.Claiming.{IsBusy, HasMoved, HasClaimed, CarriesWork, MayRun, IsRefusal};
     ghost use Rattle.pssm_book.specs.Committing.{IsItsWork, IsStale, IsUpToDate, HasDone, IsWithout};
@@ -69,7 +69,7 @@ impl<L: Ledger> Book<L> {
         requires name { blank.name ≡ L.name }
         requires parts { blank.parts ≡ L.parts }
         requires well_formed { IsWellFormed setting }
-        requires known { AllByRecursion (IsKnown setting) stimuli.items }
+        requires known { AllByRecursion (IsStimulusOf setting) stimuli.items }
         requires limit { limit ≤ 1000000 }
         ensures setting { IfOk result (λ made. made.0.run.setting ≡ setting) }
         ensures start { IfOk result (λ made. made.0.run.journal ≡ []) }
@@ -194,7 +194,7 @@ impl<L: Ledger> Book<L> {
     /// The stimuli, in the order in which they are posted.
     pub fn stimuli(&self) -> &[Stimulus]
         ensures stimuli { result.now ≡ self.now.stimuli }
-        ensures known { AllByRecursion (IsKnown self.now.run.setting) self.now.stimuli }
+        ensures known { AllByRecursion (IsStimulusOf self.now.run.setting) self.now.stimuli }
     {
         self.desk.stimuli.as_slice()
     }

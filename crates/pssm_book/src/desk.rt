@@ -3,7 +3,7 @@ ghost use Rattle.std.specs.Prelude.{◌≡◌, ◌≤◌, ◌↔◌, [], IsTrue,
 ghost use Rattle.std.specs.List.{AllByRecursion};
 ghost use Rattle.pssm_semantics.specs.Proper.{IsWellFormed};
 ghost use Rattle.pssm_semantics.specs.Admissible.{IsFull};
-ghost use Rattle.pssm_book.specs.Stimuli.{IsKnown};
+ghost use Rattle.pssm_semantics.specs.Known.{IsStimulusOf};
 
 use crate::counts::{is_full, out_count, post_count};
 use pssm_semantics::{Entry, ObjectId, Setting, Stimulus, Task};
@@ -39,7 +39,7 @@ impl Desk {
         limit: u32,
     ) -> Result<Desk, NoMemory>
         requires well_formed { IsWellFormed setting }
-        requires known { AllByRecursion (IsKnown setting) stimuli.items }
+        requires known { AllByRecursion (IsStimulusOf setting) stimuli.items }
         requires limit { limit ≤ 1000000 }
         ensures order { IfOk result IsInOrder }
         ensures fresh { IfOk result (IsFresh setting stimuli.items limit) }

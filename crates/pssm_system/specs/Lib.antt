@@ -1,3 +1,4 @@
 pub mod History
 pub mod Tasks
+pub mod Works
 pub mod inner

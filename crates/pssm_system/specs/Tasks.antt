@@ -1,5 +1,5 @@
 -- What can be done next in a run.
-use Rattle.std.specs.Prelude.{◌≡◌, ◌≢◌, ◌≤◌, ◌↔◌, List, Some, Contains, AllPairs}
+use Rattle.std.specs.Prelude.{◌≡◌, ◌≢◌, ◌≤◌, ◌↔◌, ◌==◌, List, filter_map, if◌then◌else◌, Some, None, Contains, AllPairs}
 use Rattle.pssm_semantics.specs.declared.entry.ObjectId.{ObjectId}
 use Rattle.pssm_semantics.specs.declared.entry.Entry.{Entry}
 use Rattle.pssm_semantics.specs.declared.setting.Class.{Class}
@@ -21,6 +21,15 @@ pub record AreReady (setting : Setting) (J : List Entry) (tasks : List (ObjectId
   pub each : (o : ObjectId) (task : Task) → Contains tasks (o, task) ↔ IsReadyOf setting J o task
   pub once : AllPairs (λ a b. a ≢ b) tasks
   pub in_order : AllPairs (λ (a b : ObjectId × Task). a.0.0 ≤ b.0.0) tasks
+
+-- of the tasks of all objects those of one, in the same order (this profile's choice)
+abbrev pub own_tasks : ObjectId → List (ObjectId × Task) → List Task
+own_tasks o tasks = filter_map (λ at. if at.0.0 == o.0 then Some at.1 else None) tasks
+
+-- the ready tasks of one object, each once; none where the setting has no such object (this profile's choice)
+pub record AreReadyFor (setting : Setting) (J : List Entry) (o : ObjectId) (tasks : List Task) : Type 0 where
+  pub each : (task : Task) → Contains tasks task ↔ IsReadyOf setting J o task
+  pub once : AllPairs (λ a b. a ≢ b) tasks
 
 -- No start, take, done, opening or pick may follow (this profile's choice).
 abbrev pub HasNoMove : Setting → List Entry → Type 0

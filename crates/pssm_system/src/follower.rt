@@ -4,7 +4,7 @@ ghost use Rattle.std.specs.List.{AllByRecursion};
 
 use crate::choosing::Wanted;
 use crate::situation::Situation;
-use pssm_semantics::{Args, Entry, ObjectId, Rule, Setting, Task};
+use pssm_semantics::{Args, Entry, ObjectId, Rule, Setting, Task, Worked};
 use std::alloc::{AllocError as NoMemory, Global};
 use std::marker::Model;
 use std::snapshot::Snapshot;
@@ -66,7 +66,8 @@ impl Follower {
     ghost use Rattle.pssm_semantics.specs.declared.setting.Class.{Class};
     ghost use Rattle.pssm_object.specs.Following.{IsMove};
     ghost use Rattle.pssm_semantics.specs.Forms.{IsRunEntry};
-    ghost use Rattle.pssm_system.specs.Tasks.{AreReady, HasNoMove};
+    ghost use Rattle.pssm_system.specs.Tasks.{IsReadyOf, AreReady, AreReadyFor, own_tasks, HasNoMove};
+    ghost use Rattle.pssm_system.specs.Works.{HasMade};
 
     /// A follower of a journal with no entry yet.
     ///
@@ -147,6 +148,22 @@ impl Follower {
         Ok(())
     }
 
+    /// Goes on by an entry that breaks no rule after the journal, and keeps it within the limits, where
+    /// the behaviour of the entry was run elsewhere and made the same: it is not run again (UML
+    /// 2.5.1, 13.2.3, executions of behaviours; the rules and the limits are this profile's choice).
+    ///
+    /// `NoMemory`: memory ran out; the follower is as before.
+    pub fn settle(&mut self, entry: &Entry, worked: &Worked) -> Result<(), NoMemory>
+        requires follows { MayFollow self.old.setting self.old.journal entry.now }
+        requires limits { KeepsJournalLimits (self.old.journal ++ entry.now ∷ []) }
+        requires works { HasMade self.old.setting self.old.journal entry.now worked.now }
+        ensures setting { self.new.setting ≡ self.old.setting }
+        ensures ok { OnOk result (self.new.journal ≡ self.old.journal ++ entry.now ∷ []) }
+        ensures err { OnErr result (self.new ≡ self.old) }
+    {
+        unreachable!()
+    }
+
     /// Whether no entry but a post may follow (UML 2.5.1, 14.2.3.9, run to completion).
     pub fn quiet(&self) -> bool
         ensures { IsTrue result ↔ IsQuiet self.now.setting self.now.journal }
@@ -197,6 +214,32 @@ impl Follower {
         ensures { slice_get self.now.tasks i ≡ Some result }
     {
         self.situation.task_at(&self.setting, i)
+    }
+
+    /// Whether a task of an object is ready: an exit, effect or entry whose turn has come, or the next do step of an
+    /// active State; none of an object that has ended, and none that the setting does not have (UML 2.5.1, 14.2.3.9
+    /// and 14.2.3.4). It takes no memory.
+    pub fn is_ready(&self, object: ObjectId, task: Task) -> bool
+        ensures { IsTrue result ↔ IsReadyOf self.now.setting self.now.journal object task }
+    {
+        unreachable!()
+    }
+
+    /// How many tasks of an object are ready; none where there is no such object (UML 2.5.1, 14.2.3.9 and 14.2.3.4).
+    pub fn task_count_of(&self, object: ObjectId) -> u32
+        ensures count { result ≡ length (own_tasks object self.now.tasks) }
+        ensures listed { AreReadyFor self.now.setting self.now.journal object (own_tasks object self.now.tasks) }
+    {
+        unreachable!()
+    }
+
+    /// The ready task of an object with a number: the exits, effects and entries first, and then the
+    /// do steps (this order is this profile's choice).
+    pub fn task_of(&self, object: ObjectId, i: u32) -> Task
+        requires { i < length (own_tasks object self.now.tasks) }
+        ensures { slice_get (own_tasks object self.now.tasks) i ≡ Some result }
+    {
+        unreachable!()
     }
 
     /// The values of the object's variables, as they are now (UML 2.5.1, 9.5.3, properties).

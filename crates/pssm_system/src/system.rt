@@ -3,7 +3,7 @@ ghost use Rattle.std.specs.Prelude.{◌≡◌, ◌<◌, ◌↔◌, ◌++◌, ◌
 ghost use Rattle.std.specs.List.{AllByRecursion};
 
 use crate::follower::Follower;
-use pssm_semantics::{Args, Entry, ObjectId, Rule, Setting, Task};
+use pssm_semantics::{Args, Entry, ObjectId, Rule, Setting, Task, Worked};
 use std::alloc::{AllocError as NoMemory, Global};
 use std::marker::Model;
 
@@ -50,7 +50,8 @@ impl System {
     ghost use Rattle.pssm_semantics.specs.declared.setting.Class.{Class};
     ghost use Rattle.pssm_object.specs.Following.{IsMove};
     ghost use Rattle.pssm_semantics.specs.Forms.{IsRunEntry};
-    ghost use Rattle.pssm_system.specs.Tasks.{AreReady, HasNoMove};
+    ghost use Rattle.pssm_system.specs.Tasks.{IsReadyOf, AreReady, AreReadyFor, own_tasks, HasNoMove};
+    ghost use Rattle.pssm_system.specs.Works.{HasMade};
 
     /// A system with no entry yet.
     ///
@@ -123,6 +124,25 @@ impl System {
         Ok(())
     }
 
+    /// Appends an entry that breaks no rule after the journal, and keeps it within the limits, where
+    /// the behaviour of the entry was run elsewhere and made the same: it is not run again (UML
+    /// 2.5.1, 13.2.3, executions of behaviours; the rules and the limits are this profile's choice).
+    ///
+    /// `NoMemory`: memory ran out; the system is as before, and the entry is dropped.
+    pub fn settle(&mut self, entry: Entry, worked: &Worked) -> Result<(), NoMemory>
+        requires follows { MayFollow self.old.setting self.old.journal entry }
+        requires limits { KeepsJournalLimits (self.old.journal ++ entry ∷ []) }
+        requires works { HasMade self.old.setting self.old.journal entry worked.now }
+        ensures setting { self.new.setting ≡ self.old.setting }
+        ensures ok { OnOk result (self.new.journal ≡ self.old.journal ++ entry ∷ []) }
+        ensures err { OnErr result (self.new ≡ self.old) }
+    {
+        self.entries.reserve(1)?;
+        self.follower.settle(&entry, worked)?;
+        self.entries.push_reserved(entry);
+        Ok(())
+    }
+
     /// Whether no entry but a post may follow (UML 2.5.1, 14.2.3.9, run to completion).
     pub fn quiet(&self) -> bool
         ensures { IsTrue result ↔ IsQuiet self.now.setting self.now.journal }
@@ -171,6 +191,32 @@ impl System {
         ensures { slice_get self.now.tasks i ≡ Some result }
     {
         self.follower.task_at(i)
+    }
+
+    /// Whether a task of an object is ready: an exit, effect or entry whose turn has come, or the next do step of an
+    /// active State; none of an object that has ended, and none that the setting does not have (UML 2.5.1, 14.2.3.9
+    /// and 14.2.3.4). It takes no memory.
+    pub fn is_ready(&self, object: ObjectId, task: Task) -> bool
+        ensures { IsTrue result ↔ IsReadyOf self.now.setting self.now.journal object task }
+    {
+        self.follower.is_ready(object, task)
+    }
+
+    /// How many tasks of an object are ready; none where there is no such object (UML 2.5.1, 14.2.3.9 and 14.2.3.4).
+    pub fn task_count_of(&self, object: ObjectId) -> u32
+        ensures count { result ≡ length (own_tasks object self.now.tasks) }
+        ensures listed { AreReadyFor self.now.setting self.now.journal object (own_tasks object self.now.tasks) }
+    {
+        self.follower.task_count_of(object)
+    }
+
+    /// The ready task of an object with a number: the exits, effects and entries first, and then the
+    /// do steps (this order is this profile's choice).
+    pub fn task_of(&self, object: ObjectId, i: u32) -> Task
+        requires { i < length (own_tasks object self.now.tasks) }
+        ensures { slice_get (own_tasks object self.now.tasks) i ≡ Some result }
+    {
+        self.follower.task_of(object, i)
     }
 
     /// The values of the object's variables, as they are now (UML 2.5.1, 9.5.3, properties).

@@ -8,12 +8,9 @@ use Rattle.pssm_semantics.specs.declared.stimulus.Stimulus.{Stimulus}
 use Rattle.pssm_semantics.specs.Pool.{posts_of, output_count}
 use Rattle.pssm_semantics.specs.Admissible.{IsQuiet}
 use Rattle.pssm_system.specs.History.{History}
-use Rattle.pssm_book.specs.Stimuli.{IsKnown, post_of}
 use Rattle.pssm_book.specs.Counts.{IsFullAt}
 use Rattle.pssm_book.specs.Contents.{Contents, IsKept}
 use Rattle.pssm_book.specs.inner.Keeping.{IsRunning}
-use Rattle.pssm_book.specs.inner.Nexts.{IsNext}
-use Rattle.pssm_book.proofs.PostLaws.{post_follows}
 use Rattle.pssm_book.proofs.RunLaws.{none_past, running_start, full_counted, counted_full, fits}
 use Rattle.pssm_workers.specs.declared.finishing.Course.{Course}
 use Rattle.pssm_workers.specs.declared.ended.Ended.TheVariants.{Quiet, Limit}
@@ -22,14 +19,6 @@ use Rattle.pssm_workers.specs.inner.Finishing.{IsOver, IsCourseOf}
 
 pub true_and_false : (b : Bool) → b ≡ true → b ≡ false → ⊥
 true_and_false b p q = let both : true ≡ false = sym p ∙ q in cc
-
--- the post of the stimulus that waits
-pub posts_next : {E : Type 0} (run : History) (waiting : Option Stimulus) (x : Stimulus) (r : Result (Option Entry) E) → IsKnown run.setting x → waiting ≡ Some x
-    → IfOk r (λ o. o ≡ Some (post_of x)) → IfOk r (λ o. IfSome o (IsNext run waiting))
-posts_next run waiting x (Err fault) known is posted = tt
-posts_next run waiting x (Ok o) known is posted =
-    let next : IsNext run waiting (post_of x) = record { follows = post_follows run.setting run.journal x known; posts = inr (x, is, refl) } in
-    subst (λ (o : Option Entry). IfSome o (IsNext run waiting)) (sym posted) next
 
 -- a journal goes on from itself, and one entry further
 pub from_itself : (J : List Entry) → GoesOnFrom J J

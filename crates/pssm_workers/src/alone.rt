@@ -3,7 +3,7 @@ ghost use Rattle.std.specs.Prelude.{◌≡◌, ◌≤◌, ◌<◌, length, IfOk}
 ghost use Rattle.std.specs.List.{AllByRecursion};
 ghost use Rattle.pssm_semantics.specs.Arguments.{ActArgsFit};
 ghost use Rattle.pssm_semantics.specs.Proper.{IsWellFormed};
-ghost use Rattle.pssm_book.specs.Stimuli.{IsKnown};
+ghost use Rattle.pssm_semantics.specs.Known.{IsStimulusOf};
 
 use crate::copies::copies;
 use crate::gathered::Gathered;
@@ -33,7 +33,7 @@ pub fn run_alone<L: Ledger>(
     requires parts { blank.parts ≡ L.parts }
     requires some { 0 < blank.parts }
     requires well_formed { IsWellFormed setting.now }
-    requires known { AllByRecursion (IsKnown setting.now) stimuli.now }
+    requires known { AllByRecursion (IsStimulusOf setting.now) stimuli.now }
     requires limit { limit ≤ 1000000 }
     ensures whole { IfOk result (λ gathered. gathered.share.parts ≡ L.parts) }
     ensures counted { IfOk result (λ gathered. gathered.share.amount ≡ length gathered.book.run.journal) }

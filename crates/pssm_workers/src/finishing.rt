@@ -3,7 +3,8 @@ ghost use Rattle.std.specs.Prelude.{◌≡◌, ◌≤◌, ◌↔◌, ◌⊎◌, 
 ghost use Rattle.std.specs.List.{AllByRecursion};
 ghost use Rattle.std.specs.Option.{option_copied};
 ghost use Rattle.pssm_semantics.specs.Proper.{IsWellFormed};
-ghost use Rattle.pssm_book.specs.Stimuli.{IsKnown, post_of};
+ghost use Rattle.pssm_semantics.specs.Known.{IsStimulusOf};
+ghost use Rattle.pssm_book.specs.Stimuli.{post_of};
 ghost use Rattle.pssm_book.specs.inner.Nexts.{IsNext};
 ghost use Rattle.pssm_workers.specs.Endings.{EndsRun, IsBookOf, GoesOnFrom};
 ghost use Rattle.pssm_workers.specs.inner.Finishing.{IsOver, IsCourseOf};
@@ -44,7 +45,7 @@ pub fn finish<L: Ledger>(
     gathered: Gathered<L>,
 ) -> Result<(System, Ended), NoMemory>
     requires well_formed { IsWellFormed setting.now }
-    requires known { AllByRecursion (IsKnown setting.now) stimuli.now }
+    requires known { AllByRecursion (IsStimulusOf setting.now) stimuli.now }
     requires limit { limit ≤ 1000000 }
     ensures setting { IfOk result (λ run. run.0.setting ≡ setting.now) }
     ensures ends { IfOk result (λ run. EndsRun setting.now stimuli.now limit run.0.journal run.1) }
@@ -120,7 +121,7 @@ fn go_on(
     seed: u64,
 ) -> Result<(System, Ended), NoMemory>
     requires well_formed { IsWellFormed course.system.setting }
-    requires known { AllByRecursion (IsKnown course.system.setting) stimuli.now }
+    requires known { AllByRecursion (IsStimulusOf course.system.setting) stimuli.now }
     requires limit { limit ≤ 1000000 }
     requires under_way { IsCourseOf course.system.setting stimuli.now limit course }
     ensures setting { IfOk result (λ run. run.0.setting ≡ course.system.setting) }
@@ -152,7 +153,7 @@ fn next(
     waiting: Option<&Stimulus>,
     words: &mut Pcg64,
 ) -> Result<Option<Entry>, NoMemory>
-    requires { IfSome waiting (λ x. IsKnown system.now.setting x.now) }
+    requires { IfSome waiting (λ x. IsStimulusOf system.now.setting x.now) }
     ensures next { IfOk result (λ o. IfSome o (IsNext system.now (option_copied waiting.entry))) }
     ensures over { IfOk result (λ o. IfNone o (IsOver system.now (option_copied waiting.entry))) }
 {

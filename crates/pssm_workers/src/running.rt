@@ -2,7 +2,7 @@
 ghost use Rattle.std.specs.Prelude.{◌≡◌, ◌≤◌, ◌+◌, length, vec_len, IfOk};
 ghost use Rattle.std.specs.List.{AllByRecursion};
 ghost use Rattle.pssm_semantics.specs.Proper.{IsWellFormed};
-ghost use Rattle.pssm_book.specs.Stimuli.{IsKnown};
+ghost use Rattle.pssm_semantics.specs.Known.{IsStimulusOf};
 
 use crate::copies::copies;
 use crate::floor::Floor;
@@ -45,7 +45,7 @@ pub fn run_workers<L: Ledger + Send + Sync, R: Threads + Wait + Sync, G: Gate + 
     requires parts { blank.parts ≡ L.parts }
     requires enough { workers + 1 ≤ blank.parts }
     requires well_formed { IsWellFormed setting.now }
-    requires known { AllByRecursion (IsKnown setting.now) stimuli.now }
+    requires known { AllByRecursion (IsStimulusOf setting.now) stimuli.now }
     requires limit { limit ≤ 1000000 }
     ensures whole { IfOk result (λ gathered. gathered.share.parts ≡ L.parts) }
     ensures counted { IfOk result (λ gathered. gathered.share.amount ≡ length gathered.book.run.journal) }

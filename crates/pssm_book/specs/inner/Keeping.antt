@@ -11,7 +11,7 @@ use Rattle.pssm_semantics.specs.Proper.{IsWellFormed}
 use Rattle.pssm_semantics.specs.Admissible.{IsAdmissibleIn}
 use Rattle.pssm_system.specs.History.{History}
 use Rattle.pssm_book.specs.declared.desk.Desk.{Desk}
-use Rattle.pssm_book.specs.Stimuli.{IsKnown}
+use Rattle.pssm_semantics.specs.Known.{IsStimulusOf}
 use Rattle.pssm_book.specs.Contents.{Contents}
 use Rattle.pssm_book.specs.Committing.{IsWithout}
 
@@ -28,7 +28,7 @@ pub record IsInOrder (desk : Desk) : Type 0 where
   pub well_formed : IsWellFormed desk.system.setting
   pub admissible : IsAdmissibleIn desk.system.setting desk.system.journal
   pub running : IsRunning desk.system.setting desk.stimuli.items desk.limit desk.system desk.posted desk.outputs
-  pub known : AllByRecursion (IsKnown desk.system.setting) desk.stimuli.items
+  pub known : AllByRecursion (IsStimulusOf desk.system.setting) desk.stimuli.items
   pub low : desk.limit ≤ 1000000
   pub few_claims : length desk.claims.items ≤ 65536
   pub apart : AllPairs (λ a b. a ≢ b) desk.claims.items

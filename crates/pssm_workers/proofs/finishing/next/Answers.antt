@@ -1,7 +1,7 @@
 -- the stimulus that waits is posted
 use Rattle.std.proofs.Common.{ap}
 use Rattle.std.specs.Option.{option_copied}
-use Rattle.pssm_workers.proofs.EndLaws.{posts_next}
+use Rattle.pssm_book.proofs.PostLaws.{posts_next}
 use Rattle.pssm_workers.proofs.finishing.next.Goals as goal
 
 pub returns-in-Some-clause-next : goal.returns-in-Some-clause-next

@@ -1,7 +1,7 @@
 -- what may be done next is what is done
 use Rattle.std.proofs.Common.{rules}
 use Rattle.pssm_book.proofs.DeskLaws.{busy_comes, quiet_comes}
-use Rattle.pssm_book.proofs.claiming.Desk.take.Goals as goal
+use Rattle.pssm_book.proofs.desk.Desk.take.Goals as goal
 
 pub go_on-requires-clause-next : goal.go_on-requires-clause-next
 go_on-requires-clause-next c = rw c.in-Append.is at c.requires.next

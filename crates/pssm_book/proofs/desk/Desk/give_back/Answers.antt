@@ -9,7 +9,7 @@ use Rattle.pssm_book.specs.Committing.{IsWithout}
 use Rattle.pssm_book.specs.inner.Claims.{is_claim}
 use Rattle.pssm_book.proofs.ListLaws.{others, filter_fewer, without_is, without_none}
 use Rattle.pssm_book.proofs.DeskLaws.{order_same}
-use Rattle.pssm_book.proofs.claims.Desk.give_back.Goals as goal
+use Rattle.pssm_book.proofs.desk.Desk.give_back.Goals as goal
 
 pub returns-clause-order : goal.returns-clause-order
 returns-clause-order c =
