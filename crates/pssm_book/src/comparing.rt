@@ -6,10 +6,9 @@ ghost use Rattle.pssm_book.specs.Works.{params_in};
 ghost use Rattle.pssm_book.specs.inner.Comparing.{HasItsForm, ComparesStores, Compares};
 
 use crate::behaviours::behaviour;
-use crate::claims::same_claim;
 use crate::desk::Desk;
 use pssm_model::Same;
-use pssm_semantics::{Args, ObjectId, Task, Worked};
+use pssm_semantics::{Args, Task, Worked};
 
 /// How the work for a task stands to the task: it is not its work, it was run on other values, or
 /// it is what the task would come to now.
@@ -34,23 +33,10 @@ impl Desk {
         ensures { Compares self.now.system self.now.claims.items task worked.now result }
     {
         let object = worked.own();
-        if !self.is_ready(object, task) || !self.has_its_form(task, worked) {
+        if !self.system.is_ready(object, task) || !self.has_its_form(task, worked) {
             return Compared::Apart;
         }
         compare_stores(self.system.store(object), worked.store())
-    }
-
-    // Whether a task of the object is ready.
-    fn is_ready(&self, object: ObjectId, task: Task) -> bool
-        requires { IsInOrder self.now }
-        ensures { IsTrue result ↔ IsReadyOf self.now.system.setting self.now.system.journal object task }
-    {
-        for i in 0..self.system.task_count() {
-            if same_claim(self.system.task_at(i), (object, task)) {
-                return true;
-            }
-        }
-        false
     }
 
     // Whether what was run is the behaviour of a ready task, on the parameters of the task's entry.
