@@ -1,11 +1,11 @@
 -- What a desk keeps, call by call.
-use Rattle.std.proofs.Common.{◌≡◌, ◌≢◌, ◌⊎◌, ◌≤◌, ◌<◌, ◌+◌, ◌++◌, ◌↔◌, ℕ, List, [], ◌∷◌, length, take, Contains, Option, Some, None, IfSome, slice_get, refl, sym, ap, subst, ◌∙◌, inl, inr, ⊎_elim, arith, length-append}
+use Rattle.std.proofs.Common.{◌≡◌, ◌≢◌, ◌⊎◌, ◌≤◌, ◌<◌, ◌+◌, ◌++◌, ◌↔◌, ℕ, List, [], ◌∷◌, length, take, Contains, Option, Some, None, IfSome, slice_get, refl, sym, ap, subst, ◌∙◌, inl, inr, ⊎_elim, arith, length-append, eq-eqb}
 use Rattle.std.specs.Prelude.{AllPairs}
 use Rattle.std.specs.List.{AllByRecursion}
 use Rattle.std.proofs.Math.Seq.{take-length}
 use Rattle.std.proofs.lemmas.Bool.{cases_lt}
 use Rattle.std.proofs.lemmas.List.{length-take-le}
-use Rattle.std.proofs.lemmas.Option.{slice_get_within, slice_get_past}
+use Rattle.std.proofs.lemmas.Option.{slice_get_within, slice_get_past, same_Some}
 use Rattle.pssm_model.proofs.RouteLaws.{none_in_order}
 use Rattle.pssm_semantics.specs.declared.entry.ObjectId.{ObjectId}
 use Rattle.pssm_semantics.specs.declared.entry.Out.{Out}
@@ -26,12 +26,17 @@ use Rattle.pssm_semantics.specs.Behaviours.{params_at, store_of}
 use Rattle.pssm_semantics.specs.Admissible.{MayFollow, IsAdmissibleIn, IsFull, FitsStimuli}
 use Rattle.pssm_semantics_laws.proofs.Appending.{admissible_push, admissible_none}
 use Rattle.pssm_semantics_laws.proofs.Members.{first_in}
+use Rattle.pssm_semantics_laws.proofs.Objects.{same_object}
 use Rattle.pssm_object.specs.Following.{IsMove}
 use Rattle.pssm_object.specs.Tasks.{entry_of}
 use Rattle.pssm_system.specs.History.{History}
-use Rattle.pssm_system.specs.Tasks.{IsReadyOf, AreReady}
+use Rattle.pssm_system.specs.Tasks.{IsReadyOf, AreReady, AreReadyFor, own_tasks}
+use Rattle.pssm_system.specs.Works.{HasMade}
 use Rattle.pssm_system.proofs.Choices.{move-no_post}
+use Rattle.pssm_system.proofs.Following.{object_there}
 use Rattle.pssm_book.specs.declared.desk.Desk.{Desk}
+use Rattle.pssm_book.specs.declared.choosing.Next.{Next}
+use Rattle.pssm_book.specs.declared.choosing.Next.TheVariants as nexts
 use Rattle.pssm_book.specs.declared.answers.Job.{Job}
 use Rattle.pssm_book.specs.declared.answers.Claimed.TheVariants as claimed
 use Rattle.pssm_semantics.specs.Known.{IsStimulusOf}
@@ -42,12 +47,12 @@ use Rattle.pssm_book.specs.Works.{behaviour_in, store_in, params_in}
 use Rattle.pssm_book.specs.Claiming.{IsOpen, AreAllOut, IsBusy, HasMoved, HasClaimed, CarriesWork}
 use Rattle.pssm_book.specs.Committing.{IsItsWork, IsUpToDate}
 use Rattle.pssm_book.specs.inner.Keeping.{IsRunning, IsInOrder, contents_of, bare, HasAppended, HasHandedOut, IsFresh}
-use Rattle.pssm_book.specs.inner.Nexts.{PostsNext, IsNext, waiting_at, IsAppended, HasNothingOpen, IsStill, AreOutAmong}
+use Rattle.pssm_book.specs.inner.Nexts.{PostsNext, IsNext, waiting_at, IsAppended, HasNothingOpen, IsStill, Finds, FindsWithin, AreOutOf, AreOutAmong, AreOutFirst}
 use Rattle.pssm_book.specs.inner.Coming.{IsQuietlyEnded, IsOpenEnded, Comes}
 use Rattle.pssm_book.proofs.ListLaws.{got_member, member_got, apart_more}
 use Rattle.pssm_book.proofs.PostLaws.{post_follows}
 use Rattle.pssm_book.proofs.RunLaws.{none_past, waiting_known, running_start, full_counted, counted_full, fits, running_more}
-use Rattle.pssm_book.proofs.TaskLaws.{work_follows, store_is, ready_unquiet, quiet_of_none}
+use Rattle.pssm_book.proofs.TaskLaws.{work_follows, work_makes, store_is, ready_unquiet, quiet_of_none}
 
 -- ---- a new desk
 
@@ -212,20 +217,64 @@ post_waits desk (Opened o r mode how) post h = absurd post
 post_waits desk (Pick o v route) post h = absurd post
 post_waits desk (DoStep o v k outs) post h = absurd post
 
--- a ready task that is listed and not among the claims
-pub open_of_listed : (desk : Desk) → AreReady desk.system.setting desk.system.journal desk.system.tasks → (at : ObjectId × Task) → Contains desk.system.tasks at
-    → (Contains desk.claims.items at → ⊥) → IsOpen desk.system desk.claims.items at.0 at.1
-open_of_listed desk listed at inside free = record { ready = (listed.each at.0 at.1).0 inside; free = free }
+-- what may come next beside a post may come next
+pub within_next : (desk : Desk) (next : Next) → FindsWithin desk (Some next) → Finds desk next
+within_next desk (nexts.Append e) found = move_next desk e found.0 found.1
+within_next desk (nexts.Work o task) found = found
+within_next desk nexts.Wait found = absurd found
+within_next desk nexts.End found = absurd found
 
--- where all that are listed are claimed, all that are ready are
-pub all_out_of : (desk : Desk) (count first : ℕ) → AreReady desk.system.setting desk.system.journal desk.system.tasks → count ≡ length desk.system.tasks
-    → AreOutAmong desk first count → AreOutAmong desk 0 first → AreAllOut desk.system desk.claims.items
-all_out_of desk count first listed all back front o task ready =
-    let at = member_got desk.system.tasks (o, task) ((listed.each o task).1 ready) in
-    let within = slice_get_within desk.system.tasks at.0 (o, task) at.1 in
-    ⊎_elim (λ (below : at.0 < first). front at.0 (o, task) (omega arith) below at.1)
-    (λ (past : first ≤ at.0). back at.0 (o, task) past (omega (arith, within, all)) at.1)
-    (cases_lt at.0 first)
+-- where all stimuli are posted, none waits
+pub none_waits : (desk : Desk) → length desk.stimuli.items ≤ desk.posted → waiting_at desk ≡ None
+none_waits desk past = slice_get_past desk.stimuli.items desk.posted past
+
+-- a ready task of an object that is not among the claims
+pub open_of_listed : (desk : Desk) (o : ObjectId) (i : ℕ) (task : Task)
+    → AreReadyFor desk.system.setting desk.system.journal o (own_tasks o desk.system.tasks) → slice_get (own_tasks o desk.system.tasks) i ≡ Some task
+    → (Contains desk.claims.items (o, task) → ⊥) → IsOpen desk.system desk.claims.items o task
+open_of_listed desk o i task listed at free = record { ready = (listed.each task).0 (got_member (own_tasks o desk.system.tasks) i task at); free = free }
+
+-- one more of the object's tasks is among the claims
+pub out_first_more : (desk : Desk) (o : ObjectId) (n : ℕ) (task : Task) → AreOutFirst desk o n → slice_get (own_tasks o desk.system.tasks) n ≡ Some task
+    → Contains desk.claims.items (o, task) → AreOutFirst desk o (n + 1)
+out_first_more desk o n task so_far at inside k other less there =
+    ⊎_elim (λ (below : k < n). so_far k other below there)
+    (λ (past : n ≤ k).
+    let place : k ≡ n = omega (arith, less, past) in
+    let same : task ≡ other = same_Some task other (sym at ∙ ap (λ (j : ℕ). slice_get (own_tasks o desk.system.tasks) j) (sym place) ∙ there) in
+    subst (λ (t : Task). Contains desk.claims.items (o, t)) same inside)
+    (cases_lt k n)
+
+-- where all that are listed are, all that are ready are
+pub out_of_first : (desk : Desk) (o : ObjectId) (n : ℕ) → AreReadyFor desk.system.setting desk.system.journal o (own_tasks o desk.system.tasks)
+    → n ≡ length (own_tasks o desk.system.tasks) → AreOutFirst desk o n → AreOutOf desk o
+out_of_first desk o n listed all first task ready =
+    let at = member_got (own_tasks o desk.system.tasks) task ((listed.each task).1 ready) in
+    let within = slice_get_within (own_tasks o desk.system.tasks) at.0 task at.1 in
+    first at.0 task (omega (arith, within, all)) at.1
+
+-- one object more
+pub out_among_more : (desk : Desk) (from : ℕ) (o : ObjectId) → AreOutAmong desk from o.0 → AreOutOf desk o → AreOutAmong desk from (o.0 + 1)
+out_among_more desk from o so_far here other le less =
+    ⊎_elim (λ (below : other.0 < o.0). so_far other le below)
+    (λ (past : o.0 ≤ other.0).
+    let place : o.0 ≡ other.0 = omega (arith, less, past) in
+    subst (AreOutOf desk) (same_object o other (eq-eqb o.0 other.0 place)) here)
+    (cases_lt other.0 o.0)
+
+-- all objects
+pub all_out_of : (desk : Desk) (count first : ℕ) → count ≡ length desk.system.setting.objects → AreOutAmong desk first count → AreOutAmong desk 0 first
+    → AreAllOut desk.system desk.claims.items
+all_out_of desk count first all back front o task ready =
+    let there = object_there desk.system.setting o ready.class ready.class_is in
+    ⊎_elim (λ (below : o.0 < first). front o (omega arith) below task ready)
+    (λ (past : first ≤ o.0). back o past (omega (arith, there, all)) task ready)
+    (cases_lt o.0 first)
+
+-- there is no object
+pub none_there : (desk : Desk) (count : ℕ) → count ≡ length desk.system.setting.objects → count ≡ 0 → AreAllOut desk.system desk.claims.items
+none_there desk count all none o task ready =
+    let there = object_there desk.system.setting o ready.class ready.class_is in absurd (omega (arith, there, all, none))
 
 -- no task is listed, so none is ready; or one is
 pub none_listed : (desk : Desk) → AreReady desk.system.setting desk.system.journal desk.system.tasks → length desk.system.tasks ≡ 0 → (o : ObjectId) (task : Task)
@@ -304,8 +353,8 @@ task_next desk order task work up =
     let r = up.work_is.ready in
     let class = r.class in
     let store : work.store ≡ store_of class (told_by desk.system.journal) desk.system.journal work.own =
-    up.store ∙ store_is order.well_formed order.admissible r.class_is in
-    let may = work_follows order.well_formed order.admissible r.class_is task work.act r.ready up.work_is.act in
+    up.store ∙ store_is order.well_formed order.admissible work.own r.class_is in
+    let may = work_follows order.well_formed order.admissible work.own r.class_is task work.act r.ready up.work_is.act in
     let by_store = subst (λ (xs : Store). MayFollow desk.system.setting desk.system.journal
     (entry_of work.own task (outcome_of work.act work.own xs (params_at (told_by desk.system.journal) desk.system.journal (entry_of work.own task []))).outs)) (sym store) may in
     record {
@@ -313,6 +362,17 @@ task_next desk order task work up =
           (sym up.work_is.params) by_store;
       posts = inl (task_posts_none work.own task (outcome_from work).outs);
     }
+
+-- what was run for it made what its behaviour makes
+pub task_made : (desk : Desk) → IsInOrder desk → (task : Task) (work : Work) → IsUpToDate desk.system desk.claims.items task work
+    → HasMade desk.system.setting desk.system.journal (entry_of work.own task (outcome_from work).outs) work
+task_made desk order task work up k there =
+    let r = up.work_is.ready in
+    let store : work.store ≡ store_of r.class (told_by desk.system.journal) desk.system.journal work.own =
+    up.store ∙ store_is order.well_formed order.admissible work.own r.class_is in
+    ap (λ (xs : Store). outcome_of work.act work.own xs work.params) store
+    ∙ ap (λ (ps : Params). outcome_of work.act work.own (store_of r.class (told_by desk.system.journal) desk.system.journal work.own) ps) up.work_is.params
+    ∙ work_makes order.well_formed order.admissible work.own r.class_is task (outcome_from work).outs work.act up.work_is.act k there
 
 -- ---- what the type keeps
 

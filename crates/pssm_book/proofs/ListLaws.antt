@@ -67,26 +67,26 @@ in_filter p xs x inside = (
 
 pub filter_in : {X : Type 0} (p : X → Bool) (xs : List X) (x : X) → Contains xs x → p x ≡ true → Contains (filter p xs) x
 filter_in p [] x inside passes = absurd (nothing_in_nil x inside)
-filter_in p (y ∷ ys) x inside passes = by (p y) refl (in_cases y ys x inside) where
-  by : (b : Bool) → p y ≡ b → (x ≡ y) ⊎ Contains ys x → Contains (cond b (y ∷ filter p ys) (filter p ys)) x
-  by true at (inl same) = subst (Contains (y ∷ filter p ys)) (sym same) (first_in y (filter p ys))
-  by true at (inr later) = later_in y (filter p ys) x (filter_in p ys x later passes)
-  by false at (inl same) = let clash : true ≡ false = sym passes ∙ ap p same ∙ at in absurd cc
-  by false at (inr later) = filter_in p ys x later passes
+filter_in p (y ∷ ys) x inside passes = by (λ later. filter_in p ys x later passes) (p y) refl (in_cases y ys x inside) where
+  by : (Contains ys x → Contains (filter p ys) x) → (b : Bool) → p y ≡ b → (x ≡ y) ⊎ Contains ys x → Contains (cond b (y ∷ filter p ys) (filter p ys)) x
+  by rest true at (inl same) = subst (Contains (y ∷ filter p ys)) (sym same) (first_in y (filter p ys))
+  by rest true at (inr later) = later_in y (filter p ys) x (rest later)
+  by rest false at (inl same) = let clash : true ≡ false = sym passes ∙ ap p same ∙ at in absurd cc
+  by rest false at (inr later) = rest later
 
 pub filter_fewer : {X : Type 0} (p : X → Bool) (xs : List X) → length (filter p xs) ≤ length xs
 filter_fewer p [] = omega arith
-filter_fewer p (y ∷ ys) = by (p y) where
-  by : (b : Bool) → length (cond b (y ∷ filter p ys) (filter p ys)) ≤ length (y ∷ ys)
-  by true = let few = filter_fewer p ys in omega (arith, few)
-  by false = let few = filter_fewer p ys in omega (arith, few)
+filter_fewer p (y ∷ ys) = by (filter_fewer p ys) (p y) where
+  by : length (filter p ys) ≤ length ys → (b : Bool) → length (cond b (y ∷ filter p ys) (filter p ys)) ≤ length (y ∷ ys)
+  by few true = omega (arith, few)
+  by few false = omega (arith, few)
 
 pub filter_keeps : {X : Type 0} (p : X → Bool) (xs : List X) → ((x : X) → Contains xs x → p x ≡ true) → filter p xs ≡ xs
 filter_keeps p [] all = refl
-filter_keeps p (y ∷ ys) all = by (p y) (all y (first_in y ys)) where
-  by : (b : Bool) → b ≡ true → cond b (y ∷ filter p ys) (filter p ys) ≡ y ∷ ys
-  by true is = ap (λ (zs : List _). y ∷ zs) (filter_keeps p ys (λ x inside. all x (later_in y ys x inside)))
-  by false is = absurd cc
+filter_keeps p (y ∷ ys) all = by (filter_keeps p ys (λ x inside. all x (later_in y ys x inside))) (p y) (all y (first_in y ys)) where
+  by : filter p ys ≡ ys → (b : Bool) → b ≡ true → cond b (y ∷ filter p ys) (filter p ys) ≡ y ∷ ys
+  by rest true is = ap (λ (zs : List _). y ∷ zs) rest
+  by rest false is = absurd cc
 
 -- ---- claims
 

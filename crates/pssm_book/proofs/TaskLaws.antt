@@ -1,7 +1,7 @@
 -- The entry of a ready task may follow, with what its behaviour makes; and what may follow, and is neither a post nor a move, does a ready task.
 use Rattle.std.proofs.Common.{◌≡◌, ◌<◌, ℕ, List, [], length, Contains, Option, Some, None, slice_get, refl, sym, ap, subst, ◌∙◌, ⊎_elim, arith}
 use Rattle.std.specs.Option.{option_and_then, option_map_or}
-use Rattle.std.proofs.lemmas.Option.{slice_get_within}
+use Rattle.std.proofs.lemmas.Option.{slice_get_within, same_Some}
 use Rattle.pssm_model.specs.declared.ids.VertexId.{VertexId}
 use Rattle.pssm_model.specs.declared.elements.DraftMachine.{DraftMachine}
 use Rattle.pssm_model.specs.declared.elements.Vertex.{Vertex}
@@ -25,6 +25,7 @@ use Rattle.pssm_semantics.specs.declared.entry.Rule.TheVariants.{A1, A2, A3, A4,
 use Rattle.pssm_semantics.specs.declared.stimulus.Task.{Task}
 use Rattle.pssm_semantics.specs.declared.stimulus.Task.TheVariants as tasks
 use Rattle.pssm_semantics.specs.declared.setting.Class.{Class}
+use Rattle.pssm_semantics.specs.declared.setting.Outcome.{Outcome}
 use Rattle.pssm_semantics.specs.declared.setting.Setting.{Setting}
 use Rattle.pssm_semantics.specs.declared.tree.Act.{Act}
 use Rattle.pssm_semantics.specs.Arguments.{ActArgsFit}
@@ -55,7 +56,7 @@ use Rattle.pssm_system.proofs.Judged.{known_by, no_pool, taken_none}
 use Rattle.pssm_book.specs.Works.{behaviour_in, store_in}
 
 -- an object of the setting, after an admissible journal
-module _ {setting : Setting} (b : IsWellFormed setting) {J : List Entry} (admissible : IsAdmissibleIn setting J) {o : ObjectId} {class : Class}
+module _ {setting : Setting} (b : IsWellFormed setting) {J : List Entry} (admissible : IsAdmissibleIn setting J) (o : ObjectId) {class : Class}
     (is : class_of setting o ≡ Some class) where
   abbrev m : DraftMachine
   m = class.machine
@@ -111,20 +112,26 @@ module _ {setting : Setting} (b : IsWellFormed setting) {J : List Entry} (admiss
   vertex_there s x at = slice_get_within m.vertices s.0 x at
 
   -- what the behaviour of an entry makes
+  abbrev pub makes : Entry → Outcome
+  makes e = outcome_at class (told_by J) J e (store_of class (told_by J) J (object_of e))
+
   abbrev pub made : Entry → List Out
-  made e = (outcome_at class (told_by J) J e (store_of class (told_by J) J (object_of e))).outs
+  made e = (makes e).outs
+
+  -- what a behaviour makes with the values and the parameters that a task has
+  abbrev pub made_by : Act → Task → Outcome
+  made_by act task = outcome_of act o (store_of class (told_by J) J o) (params_at (told_by J) J (entry_of o task []))
+
+  -- what one makes, if there is one
+  if_some : Task → Option Act → Outcome
+  if_some task found = option_map_or (λ act. made_by act task) found (record { store = store_of class (told_by J) J o; outs = [] })
 
   -- it is that of the behaviour of the task, whatever outputs the entry has
-  pub made_is : (task : Task) (outs : List Out) (act : Act) → act_of class (entry_of o task []) ≡ Some act
-      → made (entry_of o task outs) ≡ (outcome_of act o (store_of class (told_by J) J o) (params_at (told_by J) J (entry_of o task []))).outs
-  made_is (tasks.Exit s) outs act at =
-      ap (λ a. (option_map_or (λ x. outcome_of x o (store_of class (told_by J) J o) (params_of (told_by J) J o)) a (record { store = store_of class (told_by J) J o; outs = [] })).outs) at
-  made_is (tasks.Effect t) outs act at =
-      ap (λ a. (option_map_or (λ x. outcome_of x o (store_of class (told_by J) J o) (params_of (told_by J) J o)) a (record { store = store_of class (told_by J) J o; outs = [] })).outs) at
-  made_is (tasks.Enter s) outs act at =
-      ap (λ a. (option_map_or (λ x. outcome_of x o (store_of class (told_by J) J o) (params_of (told_by J) J o)) a (record { store = store_of class (told_by J) J o; outs = [] })).outs) at
-  made_is (tasks.DoStep s k) outs act at =
-      ap (λ a. (option_map_or (λ x. outcome_of x o (store_of class (told_by J) J o) (params_at (told_by J) J (DoStep o s k []))) a (record { store = store_of class (told_by J) J o; outs = [] })).outs) at
+  pub makes_is : (task : Task) (outs : List Out) (act : Act) → act_of class (entry_of o task []) ≡ Some act → makes (entry_of o task outs) ≡ made_by act task
+  makes_is (tasks.Exit s) outs act at = ap (if_some (tasks.Exit s)) at
+  makes_is (tasks.Effect t) outs act at = ap (if_some (tasks.Effect t)) at
+  makes_is (tasks.Enter s) outs act at = ap (if_some (tasks.Enter s)) at
+  makes_is (tasks.DoStep s k) outs act at = ap (if_some (tasks.DoStep s k)) at
 
   -- The rules, one by one; a task's entry is asked nothing by the first and the sixth.
   abbrev Own : Rule → Entry → Type 0
@@ -249,19 +256,29 @@ module _ {setting : Setting} (b : IsWellFormed setting) {J : List Entry} (admiss
 
   -- The entry with what some behaviour makes is that of the task, where it is the behaviour of the task.
   pub work_follows : (task : Task) (act : Act) → IsReadyTask m J o task → behaviour_in setting o task ≡ Some act
-      → MayFollow setting J (entry_of o task (outcome_of act o (store_of class (told_by J) J o) (params_at (told_by J) J (entry_of o task []))).outs)
+      → MayFollow setting J (entry_of o task (made_by act task).outs)
   work_follows task act r at =
-      let outs = (outcome_of act o (store_of class (told_by J) J o) (params_at (told_by J) J (entry_of o task []))).outs in
-      task_follows task outs r (sym (made_is task outs act (sym (behaviour_is task) ∙ at)))
+      let outs = (made_by act task).outs in
+      task_follows task outs r (sym (ap (λ (x : Outcome). x.outs) (makes_is task outs act (sym (behaviour_is task) ∙ at))))
+
+  -- What it makes is what the entry of the task makes, in whatever class the object is found.
+  pub work_makes : (task : Task) (outs : List Out) (act : Act) → behaviour_in setting o task ≡ Some act → (k : Class)
+      → class_of setting (object_of (entry_of o task outs)) ≡ Some k
+      → made_by act task ≡ outcome_at k (told_by J) J (entry_of o task outs) (store_of k (told_by J) J (object_of (entry_of o task outs)))
+  work_makes task outs act at k there =
+      let e = entry_of o task outs in
+      let own : object_of e ≡ o = (does-is o task e (outs, refl)).own in
+      let same : class ≡ k = same_Some class k (sym is ∙ ap (λ (q : ObjectId). class_of setting q) (sym own) ∙ there) in
+      subst (λ (c : Class). made_by act task ≡ outcome_at c (told_by J) J e (store_of c (told_by J) J (object_of e))) same
+      (sym (makes_is task outs act (sym (behaviour_is task) ∙ at)))
 
 -- Where a task is ready, the run is not quiet.
 pub ready_unquiet : {setting : Setting} → IsWellFormed setting → {J : List Entry} → IsAdmissibleIn setting J → (o : ObjectId) (task : Task) → IsReadyOf setting J o task
     → IsQuiet setting J → ⊥
-ready_unquiet b {J = J} admissible o task r quiet =
-    let class = r.class in
-    let act = has_behaviour b admissible r.class_is task r.ready in
-    let outs = (outcome_of act.0 o (store_of class (told_by J) J o) (params_at (told_by J) J (entry_of o task []))).outs in
-    let may = work_follows b admissible r.class_is task act.0 r.ready act.1 in
+ready_unquiet b admissible o task r quiet =
+    let act = has_behaviour b admissible o r.class_is task r.ready in
+    let outs = (made_by b admissible o r.class_is act.0 task).outs in
+    let may = work_follows b admissible o r.class_is task act.0 r.ready act.1 in
     quiet (entry_of o task outs) (does-is o task (entry_of o task outs) (outs, refl)).no_post may
 
 -- Where there is no move and no ready task, it is quiet.
@@ -269,5 +286,5 @@ pub quiet_of_none : {setting : Setting} → IsWellFormed setting → {J : List E
     → ((o : ObjectId) (task : Task) → IsReadyOf setting J o task → ⊥) → IsQuiet setting J
 quiet_of_none b admissible no_move no_task e no_post may =
     let there = may A1 in
-    let task = task_ready b admissible there.1 e refl may no_post (λ move. no_move e move may) in
+    let task = task_ready b admissible (object_of e) there.1 e refl may no_post (λ move. no_move e move may) in
     no_task (object_of e) task.0 (record { class = there.0; class_is = there.1; ready = task.1 })

@@ -1,7 +1,6 @@
 //! What may be done next at a desk.
-ghost use Rattle.std.specs.Prelude.{◌≡◌, ◌≤◌, ◌<◌, length, IfOk, IfSome, IfNone, IsTrue, Contains};
+ghost use Rattle.std.specs.Prelude.{◌≡◌, ◌<◌, length, IfOk, IfSome, IfNone};
 
-use crate::claims::has_claim;
 use crate::desk::Desk;
 use pssm_semantics::{Entry, ObjectId, Task};
 use std::alloc::{AllocError as NoMemory, Global};
@@ -19,9 +18,10 @@ pub enum Next {
 impl Desk {
     ghost use Rattle.pssm_book.specs.Claiming.{IsOpen, AreAllOut};
     ghost use Rattle.pssm_book.specs.inner.Keeping.{IsInOrder};
-    ghost use Rattle.pssm_book.specs.inner.Nexts.{Finds, FindsWithin, IsStill, AreOutAmong};
+    ghost use Rattle.pssm_book.specs.inner.Nexts.{Finds, FindsWithin, IsStill, AreOutOf, AreOutAmong};
 
     /// What may be done next. Where several things may, the word picks one.
+    #[tactic(auto, using(crate::proofs::DeskLaws::within_next, crate::proofs::DeskLaws::none_waits))]
     pub fn next(&self, alloc: Global, word: u64) -> Result<Next, NoMemory>
         requires { IsInOrder self.now }
         ensures { IfOk result (Finds self.now) }
@@ -70,6 +70,7 @@ impl Desk {
         }
     }
 
+    #[tactic(auto, using(crate::proofs::DeskLaws::none_listed, crate::proofs::DeskLaws::one_listed))]
     // Where no entry may be appended, and no task is left to be handed out: whether one is waited
     // for.
     fn nothing(&self) -> Next
@@ -84,34 +85,58 @@ impl Desk {
         }
     }
 
-    // A ready task that is not handed out, if there is one. The word says where the search begins.
+    // A ready task that is not handed out, if there is one. The word says at which object the search
+    // begins.
+    #[tactic(auto, using(crate::proofs::DeskLaws::all_out_of, crate::proofs::DeskLaws::none_there))]
     fn open_task(&self, word: u64) -> Option<(ObjectId, Task)>
         requires { IsInOrder self.now }
         ensures some { IfSome result (λ at. IsOpen self.now.system self.now.claims.items at.0 at.1) }
         ensures none { IfNone result (AreAllOut self.now.system self.now.claims.items) }
     {
-        let count = self.system.task_count();
+        let count = self.object_count();
         if count == 0 {
             return None;
         }
-        let first = (word % u64::from(count)) as u32;
+        let first = (word % u64::from(count)) as u8;
         match self.open_among(first, count) {
             Some(at) => Some(at),
             None => self.open_among(0, first),
         }
     }
 
-    // The same of the ready tasks from one place on and before another: the first of them.
-    fn open_among(&self, from: u32, to: u32) -> Option<(ObjectId, Task)>
-        requires { to ≤ length self.now.system.tasks }
-        ensures some { IfSome result (λ at. Contains self.now.system.tasks at
-            × (Contains self.now.claims.items at → ⊥)) }
+    // How many objects there are.
+    fn object_count(&self) -> u8
+        requires { IsInOrder self.now }
+        ensures { result ≡ length self.now.system.setting.objects }
+    {
+        self.system.setting().objects.as_slice().len() as u8
+    }
+
+    // Such a task of the objects from one number on and before another.
+    #[tactic(auto, using(crate::proofs::DeskLaws::out_among_more))]
+    fn open_among(&self, from: u8, to: u8) -> Option<(ObjectId, Task)>
+        ensures some { IfSome result (λ at. IsOpen self.now.system self.now.claims.items at.0 at.1) }
         ensures none { IfNone result (AreOutAmong self.now from to) }
     {
-        for i in from..to {
-            let at = self.system.task_at(i);
-            if !has_claim(self.claims.as_slice(), at) {
-                return Some(at);
+        for k in from..to {
+            if let Some(task) = self.open_of(ObjectId(k)) {
+                return Some((ObjectId(k), task));
+            }
+        }
+        None
+    }
+
+    // The first such task of an object.
+    #[tactic(auto, using(crate::proofs::DeskLaws::open_of_listed, crate::proofs::DeskLaws::out_first_more,
+        crate::proofs::DeskLaws::out_of_first))]
+    fn open_of(&self, object: ObjectId) -> Option<Task>
+        ensures some { IfSome result (λ task. IsOpen self.now.system self.now.claims.items object task) }
+        ensures none { IfNone result (AreOutOf self.now object) }
+    {
+        for i in 0..self.system.task_count_of(object) {
+            let task = self.system.task_of(object, i);
+            if !self.has_claim(object, task) {
+                return Some(task);
             }
         }
         None

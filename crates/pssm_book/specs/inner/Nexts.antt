@@ -9,7 +9,7 @@ use Rattle.pssm_semantics.specs.Pool.{posts_of_entry}
 use Rattle.pssm_semantics.specs.Admissible.{MayFollow}
 use Rattle.pssm_object.specs.Following.{IsMove}
 use Rattle.pssm_system.specs.History.{History}
-use Rattle.pssm_system.specs.Tasks.{IsReadyOf, HasNoMove}
+use Rattle.pssm_system.specs.Tasks.{IsReadyOf, own_tasks, HasNoMove}
 use Rattle.pssm_book.specs.declared.desk.Desk.{Desk}
 use Rattle.pssm_book.specs.declared.choosing.Next.{Next}
 use Rattle.pssm_book.specs.declared.choosing.Next.TheVariants.{Append, Work, Wait, End}
@@ -57,7 +57,15 @@ FindsWithin desk (Some (Append e)) = IsMove e × MayFollow desk.system.setting d
 FindsWithin desk (Some (Work o task)) = IsOpen desk.system desk.claims.items o task
 FindsWithin desk (Some _) = ⊥
 
--- The claims have the ready tasks from one place on and before another.
+-- The claims have every ready task of the object.
+abbrev pub AreOutOf : Desk → ObjectId → Type 0
+AreOutOf desk o = (task : Task) → IsReadyOf desk.system.setting desk.system.journal o task → Contains desk.claims.items (o, task)
+
+-- They have those of the objects from one number on and before another.
 abbrev pub AreOutAmong : Desk → ℕ → ℕ → Type 0
-AreOutAmong desk from to =
-    (i : ℕ) (at : ObjectId × Task) → from ≤ i → i < to → slice_get desk.system.tasks i ≡ Some at → Contains desk.claims.items at
+AreOutAmong desk from to = (o : ObjectId) → from ≤ o.0 → o.0 < to → AreOutOf desk o
+
+-- They have so many of the object's ready tasks, the first.
+abbrev pub AreOutFirst : Desk → ObjectId → ℕ → Type 0
+AreOutFirst desk o count =
+    (i : ℕ) (task : Task) → i < count → slice_get (own_tasks o desk.system.tasks) i ≡ Some task → Contains desk.claims.items (o, task)

@@ -12,7 +12,7 @@ use Rattle.pssm_book.proofs.desk.Desk.job.Goals as goal
 pub unreachable-requires : goal.unreachable-requires
 unreachable-requires c =
     let ready = c.requires.is_open.ready in
-    let has = has_behaviour c.requires.order.well_formed c.requires.order.admissible ready.class_is c.args.task ready.ready in
+    let has = has_behaviour c.requires.order.well_formed c.requires.order.admissible c.args.object ready.class_is c.args.task ready.ready in
     let clash : None ≡ Some has.0 =
     sym (ap option_copied c.in_default.is) ∙ c.behaviour.ensures
     ∙ ap (λ (s : Setting). behaviour_in s c.args.object c.args.task) c.setting.ensures.setting ∙ has.1 in
@@ -31,7 +31,7 @@ params-requires c =
 pub returns-clause-runs : goal.returns-clause-runs
 returns-clause-runs c =
     let ready = c.requires.is_open.ready in
-    let has = has_behaviour c.requires.order.well_formed c.requires.order.admissible ready.class_is c.args.task ready.ready in
+    let has = has_behaviour c.requires.order.well_formed c.requires.order.admissible c.args.object ready.class_is c.args.task ready.ready in
     let found : Some c.in-Some.act.now ≡ Some has.0 =
     sym (ap option_copied c.in-Some.is) ∙ c.behaviour.ensures
     ∙ ap (λ (s : Setting). behaviour_in s c.args.object c.args.task) c.setting.ensures.setting ∙ has.1 in
