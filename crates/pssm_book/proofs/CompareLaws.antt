@@ -1,5 +1,7 @@
 -- How the work for a task stands to the task, from how its parts do.
-use Rattle.std.proofs.Common.{◌≡◌, ◌≢◌, ◌<◌, ℕ, ℤ, List, length, Contains, Some, None, slice_get, sym, ap, subst, ◌∙◌}
+use Rattle.std.proofs.Common.{◌≡◌, ◌≢◌, ◌↔◌, ◌<◌, Bool, true, false, IsTrue, ℕ, ℤ, List, length, Contains, Some, None, slice_get, get_or, ◌≤◌, ◌+◌, sym, ap, subst, ◌∙◌, ⊎_elim, arith}
+use Rattle.std.proofs.lemmas.Bool.{cases_lt}
+use Rattle.std.proofs.lemmas.Option.{slice_get-get_or}
 use Rattle.pssm_semantics.specs.declared.entry.ObjectId.{ObjectId}
 use Rattle.pssm_semantics.specs.declared.stimulus.Task.{Task}
 use Rattle.pssm_semantics.specs.declared.tree.Act.{Act}
@@ -14,12 +16,21 @@ use Rattle.pssm_book.specs.inner.Comparing.{HasItsForm, ComparesStores, Compares
 use Rattle.pssm_book.proofs.ListLaws.{same_by_place}
 
 module _ (run : History) (claims : List (ObjectId × Task)) (task : Task) (work : Work) where
-  -- what is not ready, or has another form, is not its work
-  pub not_ready_apart : (IsReadyOf run.setting run.journal work.own task → ⊥) → Compares run claims task work Apart
-  not_ready_apart none w = none w.ready
+  -- what is asked of the object of the work
+  pub ready_of : (o : ObjectId) → o ≡ work.own → IsReadyOf run.setting run.journal o task → IsReadyOf run.setting run.journal work.own task
+  ready_of o own ready = subst (λ (q : ObjectId). IsReadyOf run.setting run.journal q task) own ready
 
-  pub not_form_apart : (HasItsForm run task work → ⊥) → Compares run claims task work Apart
-  not_form_apart none w = none (record { act = w.act; params = w.params })
+  pub unready : (o : ObjectId) → o ≡ work.own → (b : Bool) → IsTrue b ↔ IsReadyOf run.setting run.journal o task → b ≡ false → Compares run claims task work Apart
+  unready o own b asked no w =
+      let yes = asked.1 (subst (λ (q : ObjectId). IsReadyOf run.setting run.journal q task) (sym own) w.ready) in
+      let both : true ≡ false = sym yes ∙ no in
+      absurd cc
+
+  pub unformed : (b : Bool) → IsTrue b ↔ HasItsForm run task work → b ≡ false → Compares run claims task work Apart
+  unformed b asked no w =
+      let yes = asked.1 (record { act = w.act; params = w.params }) in
+      let both : true ≡ false = sym yes ∙ no in
+      absurd cc
 
   -- what is ready and has its form is as its values are
   pub compared : Contains claims (work.own, task) → IsReadyOf run.setting run.journal work.own task → HasItsForm run task work → (kept : List ℤ)
@@ -47,6 +58,24 @@ one_differs kept carried i here there long kept_is carried_is differ earlier = (
   long,
   record { kept_is = kept_is; carried_is = carried_is; differ = differ; earlier = earlier },
 )
+
+-- one more is
+pub same_more : (kept carried : List ℤ) (i : ℕ) (d : ℤ) → i < length kept → i < length carried → get_or kept i d ≡ get_or carried i d
+    → ((k : ℕ) → k < i → slice_get kept k ≡ slice_get carried k) → (k : ℕ) → k < i + 1 → slice_get kept k ≡ slice_get carried k
+same_more kept carried i d in_kept in_carried same earlier k less =
+    ⊎_elim (λ (below : k < i). earlier k below)
+    (λ (past : i ≤ k).
+    let place : i ≡ k = omega (arith, past, less) in
+    subst (λ (n : ℕ). slice_get kept n ≡ slice_get carried n) place
+    (slice_get-get_or kept i d in_kept ∙ ap (λ (x : ℤ). Some x) same ∙ sym (slice_get-get_or carried i d in_carried)))
+    (cases_lt k i)
+
+-- the first that differs, as it is read
+pub read_differs : (kept carried : List ℤ) (i : ℕ) (d : ℤ) → length kept ≡ length carried → i < length kept → get_or kept i d ≢ get_or carried i d
+    → ((k : ℕ) → k < i → slice_get kept k ≡ slice_get carried k) → ComparesStores kept carried (Differing i (get_or kept i d) (get_or carried i d))
+read_differs kept carried i d long inside differ earlier =
+    one_differs kept carried i (get_or kept i d) (get_or carried i d) long (slice_get-get_or kept i d inside)
+    (slice_get-get_or carried i d (omega (arith, long, inside))) differ earlier
 
 -- ---- the form
 

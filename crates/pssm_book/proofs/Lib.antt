@@ -5,5 +5,6 @@ pub mod RunLaws
 pub mod TaskLaws
 pub mod DeskLaws
 pub mod CompareLaws
+pub mod CommitLaws
 pub mod AnswerLaws
 pub mod SeenLaws

@@ -1,5 +1,5 @@
 -- What the calls of a book promise, in one piece: of the contents that a clause sees, from what the desk behind them has answered.
-use Rattle.std.proofs.Common.{◌≡◌, ◌↔◌, ◌+◌, ℕ, ℤ, length, subst}
+use Rattle.std.proofs.Common.{◌≡◌, ◌↔◌, ◌+◌, ℕ, ℤ, length, Contains, refl, sym, ap, subst, ◌∙◌, arith}
 use Rattle.pssm_semantics.specs.declared.entry.ObjectId.{ObjectId}
 use Rattle.pssm_semantics.specs.declared.stimulus.Task.{Task}
 use Rattle.pssm_semantics.specs.Work.{Work}
@@ -10,12 +10,13 @@ use Rattle.pssm_book.specs.declared.answers.Claimed.{Claimed}
 use Rattle.pssm_book.specs.declared.answers.Claimed.TheVariants as claimed
 use Rattle.pssm_book.specs.declared.answers.Committed.{Committed}
 use Rattle.pssm_book.specs.declared.answers.Committed.TheVariants as committed
-use Rattle.pssm_book.specs.Contents.{Contents}
+use Rattle.pssm_system.specs.History.{History}
+use Rattle.pssm_book.specs.Contents.{Contents, KeepsTerms}
 use Rattle.pssm_book.specs.Claiming.{IsBusy, HasMoved, HasClaimed, CarriesWork, MayRun, IsRefusal}
-use Rattle.pssm_book.specs.Committing.{IsItsWork, IsStale, IsUpToDate, HasDone}
-use Rattle.pssm_book.specs.inner.Keeping.{contents_of, bare}
+use Rattle.pssm_book.specs.Committing.{IsItsWork, IsStale, IsUpToDate, HasDone, IsWithout}
+use Rattle.pssm_book.specs.inner.Keeping.{contents_of, bare, IsUnchanged, HasGivenBack}
 use Rattle.pssm_book.specs.inner.Coming.{IsQuietlyEnded, Comes, entries_by_claim, Commits, entries_by_commit}
-use Rattle.pssm_book.proofs.AnswerLaws.{comes_with, commits_with, full_comes, quiet_comes, busy_comes, moved_comes, job_comes, only_job_comes, carries_comes, runs_comes, refused_comes, longer_by}
+use Rattle.pssm_book.proofs.AnswerLaws.{unchanged_contents, comes_with, commits_with, full_comes, quiet_comes, busy_comes, moved_comes, job_comes, only_job_comes, carries_comes, runs_comes, refused_comes, longer_by}
 use Rattle.pssm_book.proofs.AnswerLaws.{gone_commits, which_commits, stale_commits, full_commits, done_commits, appends_commits, refused_commits, committed_longer}
 
 -- what an answer of `claim` promises
@@ -80,3 +81,62 @@ pub commit_seen : (before after : Desk) (was now : ℕ) (seen : Contents) → co
 commit_seen before after was now seen view_is task work a commits =
     subst (λ (k : Contents). CommitSays k task work a (contents_of after now)) view_is
     (commit_says (contents_of before was) (contents_of after now) task work a (commits_with before after task work a was now commits))
+
+-- ---- where nothing is done
+
+pub unchanged_seen : (before after : Desk) (total : ℕ) (seen : Contents) → contents_of before total ≡ seen → IsUnchanged before after → contents_of after total ≡ seen
+unchanged_seen before after total seen view_is u = unchanged_contents before after total total u refl ∙ view_is
+
+pub unchanged_terms : (before after : Desk) (total : ℕ) (seen : Contents) → contents_of before total ≡ seen → IsUnchanged before after
+    → KeepsTerms seen (contents_of after total)
+unchanged_terms before after total seen view_is u =
+    subst (λ (k : Contents). KeepsTerms k (contents_of after total)) view_is
+    (record { setting = ap (λ (r : History). r.setting) u.run; stimuli = u.stimuli; limit = u.limit })
+
+pub unchanged_count : (before after : Desk) (total : ℕ) → IsUnchanged before after → total ≡ length before.system.journal → total ≡ length after.system.journal
+unchanged_count before after total u counted = counted ∙ sym (ap (λ (r : History). length r.journal) u.run)
+
+pub unchanged_length : (before after : Desk) (total : ℕ) (seen : Contents) → contents_of before total ≡ seen → IsUnchanged before after
+    → length after.system.journal ≡ length seen.run.journal
+unchanged_length before after total seen view_is u =
+    ap (λ (r : History). length r.journal) u.run ∙ ap (λ (k : Contents). length k.run.journal) view_is
+
+-- work for a task that is not handed out changes nothing
+no_entry : (old new : Contents) (task : Task) (work : Work) (a : Committed) → Commits old task work a new → (Contains old.claims (work.own, task) → ⊥)
+    → entries_by_commit a ≡ 0
+no_entry old new task work (committed.Gone other) h absent = refl
+no_entry old new task work (committed.Stale place here there) h absent = refl
+no_entry old new task work committed.Full h absent = refl
+no_entry old new task work committed.Done h absent = absurd (absent h.0.work_is.claimed)
+
+pub unclaimed_seen : (before after : Desk) (was now : ℕ) (seen : Contents) → contents_of before was ≡ seen → (task : Task) (work : Work) (a : Committed)
+    → Commits (bare before) task work a (bare after) → now ≡ was + entries_by_commit a
+    → ((Contains before.claims.items (work.own, task) → ⊥) → IsUnchanged before after) → (Contains seen.claims (work.own, task) → ⊥)
+    → contents_of after now ≡ seen
+unclaimed_seen before after was now seen view_is task work a commits total same absent =
+    let free : Contains before.claims.items (work.own, task) → ⊥ =
+    λ inside. absent (subst (λ (k : Contents). Contains k.claims (work.own, task)) view_is inside) in
+    let none = no_entry (bare before) (bare after) task work a commits free in
+    unchanged_contents before after was now (same free) (omega (arith, total, none)) ∙ view_is
+
+-- what `release` promises
+pub record ReleaseSays (old : Contents) (o : ObjectId) (task : Task) (new : Contents) : Type 0 where
+  pub given_back : IsWithout old.claims (o, task) new.claims
+  pub unclaimed : (Contains old.claims (o, task) → ⊥) → new ≡ old
+  pub run : new.run ≡ old.run
+  pub terms : KeepsTerms old new
+  pub total : new.total ≡ old.total
+
+pub release_seen : (before after : Desk) (total : ℕ) (seen : Contents) → contents_of before total ≡ seen → (o : ObjectId) (task : Task)
+    → HasGivenBack before o task after → ReleaseSays seen o task (contents_of after total)
+release_seen before after total seen view_is o task h =
+    subst (λ (k : Contents). ReleaseSays k o task (contents_of after total)) view_is
+    (record {
+      given_back = h.claims;
+      unclaimed = λ absent.
+          unchanged_contents before after total total
+          (record { run = h.run; stimuli = h.stimuli; limit = h.limit; claims = h.unclaimed absent }) refl;
+      run = h.run;
+      terms = record { setting = ap (λ (r : History). r.setting) h.run; stimuli = h.stimuli; limit = h.limit };
+      total = refl;
+    })

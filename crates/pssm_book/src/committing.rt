@@ -101,7 +101,11 @@ impl Desk {
         ensures err { OnErr result (self.new ≡ self.old) }
     {
         let outs = worked.outcome().outs.duplicate(alloc)?;
-        self.append(entry_of(worked.own(), task, outs))
+        let more = outs.as_slice().len();
+        let entry = entry_of(worked.own(), task, outs);
+        self.system.settle(entry, worked)?;
+        self.outputs += more;
+        Ok(())
     }
 }
 

@@ -33,7 +33,10 @@ impl Desk {
         ensures { Compares self.now.system self.now.claims.items task worked.now result }
     {
         let object = worked.own();
-        if !self.system.is_ready(object, task) || !self.has_its_form(task, worked) {
+        if !self.system.is_ready(object, task) {
+            return Compared::Apart;
+        }
+        if !self.has_its_form(task, worked) {
             return Compared::Apart;
         }
         compare_stores(self.system.store(object), worked.store())
@@ -73,6 +76,8 @@ fn are_zeros(params: &Args) -> bool
 }
 
 // How the values that were carried stand to those that are kept.
+#[tactic(auto, using(crate::proofs::CompareLaws::all_same, crate::proofs::CompareLaws::same_more,
+    crate::proofs::CompareLaws::read_differs))]
 fn compare_stores(kept: &[i64], carried: &[i64]) -> Compared
     requires { length kept.now < 65536 }
     ensures { ComparesStores kept.now carried.now result }
