@@ -1,6 +1,8 @@
 //! What the work for a task is worth now.
 ghost use Rattle.std.specs.Prelude.{◌≡◌, ◌<◌, ◌↔◌, length, IsTrue, Contains};
 ghost use Rattle.pssm_semantics.specs.Values.{no_params};
+ghost use Rattle.pssm_semantics.specs.Pool.{told_by};
+ghost use Rattle.pssm_semantics.specs.Behaviours.{params_of};
 ghost use Rattle.pssm_system.specs.Tasks.{IsReadyOf};
 ghost use Rattle.pssm_book.specs.Works.{params_in};
 ghost use Rattle.pssm_book.specs.inner.Comparing.{HasItsForm, ComparesStores, Compares};
@@ -61,10 +63,17 @@ impl Desk {
     {
         match task {
             Task::DoStep(_, _) => are_zeros(worked.params()),
-            Task::Exit(_) | Task::Effect(_) | Task::Enter(_) => {
-                worked.params().same(self.system.params(worked.own()))
-            }
+            Task::Exit(_) | Task::Effect(_) | Task::Enter(_) => self.has_own_params(worked),
         }
+    }
+
+    // Whether it was run on the parameters of the object's step.
+    fn has_own_params(&self, worked: &Worked) -> bool
+        requires { worked.now.own.0 < length self.now.system.setting.objects }
+        ensures { IsTrue result ↔ (worked.now.params
+            ≡ params_of (told_by self.now.system.journal) self.now.system.journal worked.now.own) }
+    {
+        worked.params().same(self.system.params(worked.own()))
     }
 }
 
@@ -76,8 +85,6 @@ fn are_zeros(params: &Args) -> bool
 }
 
 // How the values that were carried stand to those that are kept.
-#[tactic(auto, using(crate::proofs::CompareLaws::all_same, crate::proofs::CompareLaws::same_more,
-    crate::proofs::CompareLaws::read_differs))]
 fn compare_stores(kept: &[i64], carried: &[i64]) -> Compared
     requires { length kept.now < 65536 }
     ensures { ComparesStores kept.now carried.now result }

@@ -3,7 +3,7 @@ use Rattle.std.proofs.Common.{arith, refl, subst}
 use Rattle.pssm_book.specs.Contents.{Contents, KeepsTerms}
 use Rattle.pssm_book.specs.inner.Keeping.{contents_of}
 use Rattle.pssm_book.proofs.AnswerLaws.{terms_with}
-use Rattle.pssm_book.proofs.SeenLaws.{claim_seen}
+use Rattle.pssm_book.proofs.SeenLaws.{claim_seen, unchanged_count}
 use Rattle.pssm_book.proofs.book.Book.claim.Goals as goal
 
 pub returns-clause-full : goal.returns-clause-full
@@ -65,11 +65,17 @@ returns-clause-counted g c =
     omega (arith, longer, more)
 
 -- The desk is in order, and the total counts the entries.
-pub invariant_of-self : goal.invariant_of-self
-invariant_of-self g c =
+pub invariant_of-self-2 : goal.invariant_of-self-2
+invariant_of-self-2 g c =
     let says = claim_seen c.self.inside.desk c.claim.new.self c.self.inside.tally.total c.count_claim.new.tally.total
     (contents_of c.self.inside.desk c.self.inside.tally.total) refl c.in_ok-answer.answer c.in_ok-answer.ensures.comes c.count_claim.ensures.total in
     let longer = says.longer in
     let more = c.count_claim.ensures.total in
     let counted = c.self.invariant.1 in
     (c.claim.ensures.order, omega (arith, longer, more, counted))
+
+-- So it is where memory ran out.
+pub invariant_of-self : goal.invariant_of-self
+invariant_of-self g c =
+    let same = c.in_err-answer.ensures in
+    (c.claim.ensures.order, unchanged_count c.self.inside.desk c.claim.new.self c.self.inside.tally.total same.err c.self.invariant.1)

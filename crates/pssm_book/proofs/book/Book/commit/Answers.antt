@@ -4,7 +4,7 @@ use Rattle.pssm_book.specs.Contents.{Contents, KeepsTerms}
 use Rattle.pssm_book.specs.Committing.{IsWithout}
 use Rattle.pssm_book.specs.inner.Keeping.{contents_of}
 use Rattle.pssm_book.proofs.AnswerLaws.{terms_with}
-use Rattle.pssm_book.proofs.SeenLaws.{commit_seen}
+use Rattle.pssm_book.proofs.SeenLaws.{commit_seen, unchanged_count, unclaimed_seen}
 use Rattle.pssm_book.proofs.book.Book.commit.Goals as goal
 
 pub returns-clause-gone : goal.returns-clause-gone
@@ -68,11 +68,23 @@ returns-clause-counted g c =
     omega (arith, longer, more)
 
 -- The desk is in order, and the total counts the entries.
-pub invariant_of-self : goal.invariant_of-self
-invariant_of-self g c =
+pub invariant_of-self-2 : goal.invariant_of-self-2
+invariant_of-self-2 g c =
     let says = commit_seen c.self.inside.desk c.commit.new.self c.self.inside.tally.total c.count_commit.new.tally.total
     (contents_of c.self.inside.desk c.self.inside.tally.total) refl c.args.task c.args.worked.now c.in_ok-answer.answer c.in_ok-answer.ensures.commits in
     let longer = says.longer in
     let more = c.count_commit.ensures.total in
     let counted = c.self.invariant.1 in
     (c.commit.ensures.order, omega (arith, longer, more, counted))
+
+-- So it is where memory ran out.
+pub invariant_of-self : goal.invariant_of-self
+invariant_of-self g c =
+    let same = c.in_err-answer.ensures in
+    (c.commit.ensures.order, unchanged_count c.self.inside.desk c.commit.new.self c.self.inside.tally.total same.err c.self.invariant.1)
+
+-- Work for a task that is not handed out changes nothing.
+pub returns-clause-unclaimed : goal.returns-clause-unclaimed
+returns-clause-unclaimed g c =
+    unclaimed_seen c.self.inside.desk c.commit.new.self c.self.inside.tally.total c.count_commit.new.tally.total c.args.self.now c.self.view_is
+    c.args.task c.args.worked.now c.in_ok-answer.answer c.in_ok-answer.ensures.commits c.count_commit.ensures.total c.commit.ensures.unclaimed

@@ -2,33 +2,12 @@
 use Rattle.std.proofs.Common.{◌≡◌, ◌<◌, ℤ, ℕ, List, length, sym, ap, subst, ◌∙◌, arith}
 use Rattle.pssm_semantics.specs.declared.entry.ObjectId.{ObjectId}
 use Rattle.pssm_semantics.specs.Pool.{told_by}
-use Rattle.pssm_system.proofs.Following.{object_there}
 use Rattle.pssm_book.specs.Works.{store_in}
 use Rattle.pssm_book.specs.inner.Comparing.{ComparesStores}
 use Rattle.pssm_book.proofs.StoreLengths.{few_values}
 use Rattle.pssm_book.proofs.TaskLaws.{store_is}
-use Rattle.pssm_book.proofs.CompareLaws.{ready_of, unready, unformed, compared}
+use Rattle.pssm_book.proofs.CompareLaws.{ready_of, compared}
 use Rattle.pssm_book.proofs.desk.Desk.compare.Goals as goal
-
-pub returns-then-not-is_ready : goal.returns-then-not-is_ready
-returns-then-not-is_ready c =
-    unready c.args.self.now.system c.args.self.now.claims.items c.args.task c.args.worked.now c.own-object.result c.own-object.ensures c.is_ready.result
-    c.is_ready.ensures c.if-not-is_ready.true
-
-pub has_its_form-requires-clause-ready : goal.has_its_form-requires-clause-ready
-has_its_form-requires-clause-ready c =
-    ready_of c.args.self.now.system c.args.self.now.claims.items c.args.task c.args.worked.now c.own-object.result c.own-object.ensures
-    (c.is_ready.ensures.0 c.if-not-is_ready.false)
-
-pub returns-then-not-has_its_form : goal.returns-then-not-has_its_form
-returns-then-not-has_its_form c =
-    unformed c.args.self.now.system c.args.self.now.claims.items c.args.task c.args.worked.now c.has_its_form.result c.has_its_form.ensures
-    c.if-not-has_its_form.true
-
-pub store-requires : goal.store-requires
-store-requires c =
-    let ready = c.is_ready.ensures.0 c.if-not-is_ready.false in
-    object_there c.args.self.now.system.setting c.own-object.result ready.class ready.class_is
 
 pub compare_stores-requires : goal.compare_stores-requires
 compare_stores-requires c =
