@@ -247,7 +247,7 @@ out_first_more desk o n task so_far at inside k other less there =
 
 -- where all that are listed are, all that are ready are
 pub out_of_first : (desk : Desk) (o : ObjectId) (n : ℕ) → AreReadyFor desk.system.setting desk.system.journal o (own_tasks o desk.system.tasks)
-    → n ≡ length (own_tasks o desk.system.tasks) → AreOutFirst desk o n → AreOutOf desk o
+    → length (own_tasks o desk.system.tasks) ≤ n → AreOutFirst desk o n → AreOutOf desk o
 out_of_first desk o n listed all first task ready =
     let at = member_got (own_tasks o desk.system.tasks) task ((listed.each task).1 ready) in
     let within = slice_get_within (own_tasks o desk.system.tasks) at.0 task at.1 in
