@@ -1,5 +1,5 @@
 -- What a desk keeps, call by call.
-use Rattle.std.proofs.Common.{◌≡◌, ◌≢◌, ◌⊎◌, ◌≤◌, ◌<◌, ◌+◌, ◌++◌, ◌↔◌, ℕ, List, [], ◌∷◌, length, take, Contains, Option, Some, None, IfSome, slice_get, refl, sym, ap, subst, ◌∙◌, inl, inr, ⊎_elim, arith, length-append, eq-eqb}
+use Rattle.std.proofs.Common.{◌≡◌, ◌≢◌, ◌⊎◌, ◌≤◌, ◌<◌, ◌+◌, ◌++◌, ◌↔◌, ℕ, List, [], ◌∷◌, length, take, Contains, Option, Some, None, IfSome, IfNone, slice_get, refl, sym, ap, subst, ◌∙◌, inl, inr, ⊎_elim, arith, length-append, eq-eqb}
 use Rattle.std.specs.Prelude.{AllPairs}
 use Rattle.std.specs.List.{AllByRecursion}
 use Rattle.std.proofs.Math.Seq.{take-length}
@@ -270,6 +270,10 @@ all_out_of desk count first all back front o task ready =
     ⊎_elim (λ (below : o.0 < first). front o (omega arith) below task ready)
     (λ (past : first ≤ o.0). back o past (omega (arith, there, all)) task ready)
     (cases_lt o.0 first)
+
+pub none_all : {X : Type 0} {P Q : Type 0} (r : Option X) → (P → Q) → IfNone r P → IfNone r Q
+none_all None f p = f p
+none_all (Some x) f p = tt
 
 -- there is no object
 pub none_there : (desk : Desk) (count : ℕ) → count ≡ length desk.system.setting.objects → count ≡ 0 → AreAllOut desk.system desk.claims.items
