@@ -23,7 +23,7 @@ use Rattle.pssm_semantics.specs.Journal.{IsPost}
 use Rattle.pssm_semantics.specs.Pool.{told_by, posts_of_entry, outs_of, posts_of, output_count}
 use Rattle.pssm_semantics.specs.Values.{Store, Params, outcome_of}
 use Rattle.pssm_semantics.specs.Behaviours.{params_at, store_of}
-use Rattle.pssm_semantics.specs.Admissible.{MayFollow, IsAdmissibleIn, IsFull, FitsStimuli}
+use Rattle.pssm_semantics.specs.Admissible.{MayFollow, IsAdmissibleIn, IsFull, KeepsJournalLimits, FitsStimuli}
 use Rattle.pssm_semantics_laws.proofs.Appending.{admissible_push, admissible_none}
 use Rattle.pssm_semantics_laws.proofs.Members.{first_in}
 use Rattle.pssm_semantics_laws.proofs.Objects.{same_object}
@@ -51,7 +51,7 @@ use Rattle.pssm_book.specs.inner.Nexts.{PostsNext, IsNext, waiting_at, IsAppende
 use Rattle.pssm_book.specs.inner.Coming.{IsQuietlyEnded, IsOpenEnded, Comes}
 use Rattle.pssm_book.proofs.ListLaws.{got_member, member_got, apart_more}
 use Rattle.pssm_book.proofs.PostLaws.{post_follows}
-use Rattle.pssm_book.proofs.RunLaws.{none_past, waiting_known, running_start, full_counted, counted_full, fits, running_more}
+use Rattle.pssm_book.proofs.RunLaws.{none_past, waiting_known, running_start, full_counted, counted_full, fits, running_more, limits_more}
 use Rattle.pssm_book.proofs.TaskLaws.{work_follows, work_makes, store_is, ready_unquiet, quiet_of_none}
 
 -- ---- a new desk
@@ -168,6 +168,13 @@ module _ (old new : Desk) (order : IsInOrder old) (e : Entry) (room : IsFull old
     limit = limit;
     claims = claims;
   }
+
+-- the journal stays within its limits
+pub append_limits : (old : Desk) → IsInOrder old → (e : Entry) → (IsFull old.limit old.system.journal → ⊥) → IsNext old.system (waiting_at old) e
+    → KeepsJournalLimits (old.system.journal ++ e ∷ [])
+append_limits old order e room next =
+    limits_more old.system.setting old.stimuli.items old.limit old.system old.posted old.outputs order.running (λ full. room ((full_is old order).0 full)) e next
+    order.well_formed order.low
 
 -- ---- what may come next
 
@@ -309,11 +316,12 @@ module _ (old : Desk) (order : IsInOrder old) (room : IsFull old.limit old.syste
           ⊎_elim (λ post. some_waits old order (post_waits old e post next.next.posts) ended.all_posted)
           (λ move. ended.quiet e (move-no_post e move) next.next.follows) next.kind
 
-  pub job_comes : (new : Desk) (job : Job) → IsOpen old.system old.claims.items job.object job.task → HasHandedOut old job.object job.task new
-      → CarriesWork old.system job → ActArgsFit job.act → Comes (bare old) (claimed.Job job) (bare new)
-  job_comes new job is_open has carries runs = (
-    record { room = room; unended = λ ended. ready_unquiet order.well_formed order.admissible job.object job.task is_open.ready ended.quiet },
-    record { was_open = is_open; run = has.run; claims = has.claims },
+  pub job_comes : (new : Desk) (job : Job) (o : ObjectId) (task : Task) → IsOpen old.system old.claims.items o task → (job.object ≡ o) × (job.task ≡ task)
+      → HasHandedOut old o task new → CarriesWork old.system job → ActArgsFit job.act → Comes (bare old) (claimed.Job job) (bare new)
+  job_comes new job o task is_open names has carries runs = (
+    record { room = room; unended = λ ended. ready_unquiet order.well_formed order.admissible o task is_open.ready ended.quiet },
+    subst (λ (q : ObjectId). HasClaimed (bare old) q job.task (bare new)) (sym names.0)
+        (subst (λ (t : Task). HasClaimed (bare old) o t (bare new)) (sym names.1) (record { was_open = is_open; run = has.run; claims = has.claims })),
     carries,
     runs,
   )
