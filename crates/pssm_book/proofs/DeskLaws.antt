@@ -1,5 +1,5 @@
 -- What a desk keeps, call by call.
-use Rattle.std.proofs.Common.{◌≡◌, ◌≢◌, ◌⊎◌, ◌≤◌, ◌<◌, ◌+◌, ◌++◌, ◌↔◌, ℕ, List, [], ◌∷◌, length, take, Contains, Option, Some, None, IfSome, slice_get, refl, sym, ap, subst, ◌∙◌, inl, inr, ⊎_elim, arith, length-append, eq-eqb}
+use Rattle.std.proofs.Common.{◌≡◌, ◌≢◌, ◌⊎◌, ◌≤◌, ◌<◌, ◌+◌, ◌++◌, ◌↔◌, ℕ, List, [], ◌∷◌, length, take, Contains, Option, Some, None, IfSome, IfNone, slice_get, refl, sym, ap, subst, ◌∙◌, inl, inr, ⊎_elim, arith, length-append, eq-eqb}
 use Rattle.std.specs.Prelude.{AllPairs}
 use Rattle.std.specs.List.{AllByRecursion}
 use Rattle.std.proofs.Math.Seq.{take-length}
@@ -23,7 +23,7 @@ use Rattle.pssm_semantics.specs.Journal.{IsPost}
 use Rattle.pssm_semantics.specs.Pool.{told_by, posts_of_entry, outs_of, posts_of, output_count}
 use Rattle.pssm_semantics.specs.Values.{Store, Params, outcome_of}
 use Rattle.pssm_semantics.specs.Behaviours.{params_at, store_of}
-use Rattle.pssm_semantics.specs.Admissible.{MayFollow, IsAdmissibleIn, IsFull, FitsStimuli}
+use Rattle.pssm_semantics.specs.Admissible.{MayFollow, IsAdmissibleIn, IsFull, KeepsJournalLimits, FitsStimuli}
 use Rattle.pssm_semantics_laws.proofs.Appending.{admissible_push, admissible_none}
 use Rattle.pssm_semantics_laws.proofs.Members.{first_in}
 use Rattle.pssm_semantics_laws.proofs.Objects.{same_object}
@@ -51,7 +51,7 @@ use Rattle.pssm_book.specs.inner.Nexts.{PostsNext, IsNext, waiting_at, IsAppende
 use Rattle.pssm_book.specs.inner.Coming.{IsQuietlyEnded, IsOpenEnded, Comes}
 use Rattle.pssm_book.proofs.ListLaws.{got_member, member_got, apart_more}
 use Rattle.pssm_book.proofs.PostLaws.{post_follows}
-use Rattle.pssm_book.proofs.RunLaws.{none_past, waiting_known, running_start, full_counted, counted_full, fits, running_more}
+use Rattle.pssm_book.proofs.RunLaws.{none_past, waiting_known, running_start, full_counted, counted_full, fits, running_more, limits_more}
 use Rattle.pssm_book.proofs.TaskLaws.{work_follows, work_makes, store_is, ready_unquiet, quiet_of_none}
 
 -- ---- a new desk
@@ -169,6 +169,13 @@ module _ (old new : Desk) (order : IsInOrder old) (e : Entry) (room : IsFull old
     claims = claims;
   }
 
+-- the journal stays within its limits
+pub append_limits : (old : Desk) → IsInOrder old → (e : Entry) → (IsFull old.limit old.system.journal → ⊥) → IsNext old.system (waiting_at old) e
+    → KeepsJournalLimits (old.system.journal ++ e ∷ [])
+append_limits old order e room next =
+    limits_more old.system.setting old.stimuli.items old.limit old.system old.posted old.outputs order.running (λ full. room ((full_is old order).0 full)) e next
+    order.well_formed order.low
+
 -- ---- what may come next
 
 -- the stimulus that waits is known
@@ -247,7 +254,7 @@ out_first_more desk o n task so_far at inside k other less there =
 
 -- where all that are listed are, all that are ready are
 pub out_of_first : (desk : Desk) (o : ObjectId) (n : ℕ) → AreReadyFor desk.system.setting desk.system.journal o (own_tasks o desk.system.tasks)
-    → n ≡ length (own_tasks o desk.system.tasks) → AreOutFirst desk o n → AreOutOf desk o
+    → length (own_tasks o desk.system.tasks) ≤ n → AreOutFirst desk o n → AreOutOf desk o
 out_of_first desk o n listed all first task ready =
     let at = member_got (own_tasks o desk.system.tasks) task ((listed.each task).1 ready) in
     let within = slice_get_within (own_tasks o desk.system.tasks) at.0 task at.1 in
@@ -270,6 +277,10 @@ all_out_of desk count first all back front o task ready =
     ⊎_elim (λ (below : o.0 < first). front o (omega arith) below task ready)
     (λ (past : first ≤ o.0). back o past (omega (arith, there, all)) task ready)
     (cases_lt o.0 first)
+
+pub none_all : {X : Type 0} {P Q : Type 0} (r : Option X) → (P → Q) → IfNone r P → IfNone r Q
+none_all None f p = f p
+none_all (Some x) f p = tt
 
 -- there is no object
 pub none_there : (desk : Desk) (count : ℕ) → count ≡ length desk.system.setting.objects → count ≡ 0 → AreAllOut desk.system desk.claims.items
@@ -305,11 +316,12 @@ module _ (old : Desk) (order : IsInOrder old) (room : IsFull old.limit old.syste
           ⊎_elim (λ post. some_waits old order (post_waits old e post next.next.posts) ended.all_posted)
           (λ move. ended.quiet e (move-no_post e move) next.next.follows) next.kind
 
-  pub job_comes : (new : Desk) (job : Job) → IsOpen old.system old.claims.items job.object job.task → HasHandedOut old job.object job.task new
-      → CarriesWork old.system job → ActArgsFit job.act → Comes (bare old) (claimed.Job job) (bare new)
-  job_comes new job is_open has carries runs = (
-    record { room = room; unended = λ ended. ready_unquiet order.well_formed order.admissible job.object job.task is_open.ready ended.quiet },
-    record { was_open = is_open; run = has.run; claims = has.claims },
+  pub job_comes : (new : Desk) (job : Job) (o : ObjectId) (task : Task) → IsOpen old.system old.claims.items o task → (job.object ≡ o) × (job.task ≡ task)
+      → HasHandedOut old o task new → CarriesWork old.system job → ActArgsFit job.act → Comes (bare old) (claimed.Job job) (bare new)
+  job_comes new job o task is_open names has carries runs = (
+    record { room = room; unended = λ ended. ready_unquiet order.well_formed order.admissible o task is_open.ready ended.quiet },
+    subst (λ (q : ObjectId). HasClaimed (bare old) q job.task (bare new)) (sym names.0)
+        (subst (λ (t : Task). HasClaimed (bare old) o t (bare new)) (sym names.1) (record { was_open = is_open; run = has.run; claims = has.claims })),
     carries,
     runs,
   )

@@ -123,7 +123,7 @@ module _ {setting : Setting} (b : IsWellFormed setting) {J : List Entry} (admiss
   made_by act task = outcome_of act o (store_of class (told_by J) J o) (params_at (told_by J) J (entry_of o task []))
 
   -- what one makes, if there is one
-  if_some : Task → Option Act → Outcome
+  abbrev if_some : Task → Option Act → Outcome
   if_some task found = option_map_or (λ act. made_by act task) found (record { store = store_of class (told_by J) J o; outs = [] })
 
   -- it is that of the behaviour of the task, whatever outputs the entry has
