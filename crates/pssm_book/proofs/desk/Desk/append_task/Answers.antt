@@ -49,6 +49,5 @@ returns-clause-ok c =
     task_appended c.args.self.now c.requires.order c.requires.room c.args.task c.args.worked.now c.requires.up_to_date _ c.settle.ensures.setting
     (settled.ok ∙ ap (λ (e : Entry). c.args.self.now.system.journal ++ e ∷ []) form) refl
     (let long = ap (λ (xs : List Out). length xs) outs in
-    let is = c.len-more.ensures in
     let seen = ap (λ (xs : List Out). length xs) c.as_slice-more.ensures in
-    omega (arith, long, is, seen)) refl refl refl
+    omega (arith, long, seen)) refl refl refl
