@@ -127,8 +127,7 @@ impl Desk {
     }
 
     // The first such task of an object.
-    #[tactic(auto, using(crate::proofs::DeskLaws::open_of_listed, crate::proofs::DeskLaws::out_first_more,
-        crate::proofs::DeskLaws::out_of_first))]
+    #[tactic(auto, using(crate::proofs::DeskLaws::open_of_listed, crate::proofs::DeskLaws::out_first_more, crate::proofs::DeskLaws::out_of_first))]
     fn open_of(&self, object: ObjectId) -> Option<Task>
         ensures some { IfSome result (λ task. IsOpen self.now.system self.now.claims.items object task) }
         ensures none { IfNone result (AreOutOf self.now object) }
