@@ -70,9 +70,9 @@ impl Desk {
         }
     }
 
-    #[tactic(auto, using(crate::proofs::DeskLaws::none_listed, crate::proofs::DeskLaws::one_listed))]
     // Where no entry may be appended, and no task is left to be handed out: whether one is waited
     // for.
+    #[tactic(auto, using(crate::proofs::DeskLaws::one_listed))]
     fn nothing(&self) -> Next
         requires order { IsInOrder self.now }
         requires still { IsStill self.now }
@@ -87,7 +87,7 @@ impl Desk {
 
     // A ready task that is not handed out, if there is one. The word says at which object the search
     // begins.
-    #[tactic(auto, using(crate::proofs::DeskLaws::all_out_of, crate::proofs::DeskLaws::none_there))]
+    #[tactic(auto, using(crate::proofs::DeskLaws::none_there))]
     fn open_task(&self, word: u64) -> Option<(ObjectId, Task)>
         requires { IsInOrder self.now }
         ensures some { IfSome result (λ at. IsOpen self.now.system self.now.claims.items at.0 at.1) }
@@ -113,7 +113,6 @@ impl Desk {
     }
 
     // Such a task of the objects from one number on and before another.
-    #[tactic(auto, using(crate::proofs::DeskLaws::out_among_more))]
     fn open_among(&self, from: u8, to: u8) -> Option<(ObjectId, Task)>
         ensures some { IfSome result (λ at. IsOpen self.now.system self.now.claims.items at.0 at.1) }
         ensures none { IfNone result (AreOutAmong self.now from to) }
@@ -127,8 +126,7 @@ impl Desk {
     }
 
     // The first such task of an object.
-    #[tactic(auto, using(crate::proofs::DeskLaws::open_of_listed, crate::proofs::DeskLaws::out_first_more,
-        crate::proofs::DeskLaws::out_of_first))]
+    #[tactic(auto, using(crate::proofs::DeskLaws::open_of_listed, crate::proofs::DeskLaws::out_first_more))]
     fn open_of(&self, object: ObjectId) -> Option<Task>
         ensures some { IfSome result (λ task. IsOpen self.now.system self.now.claims.items object task) }
         ensures none { IfNone result (AreOutOf self.now object) }

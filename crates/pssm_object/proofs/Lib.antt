@@ -33,6 +33,7 @@ pub mod Choices
 pub mod Chosen
 pub mod Counting
 pub mod TaskLists
+pub mod TasksReady
 pub mod Eights
 pub mod Views
 pub mod Deferring

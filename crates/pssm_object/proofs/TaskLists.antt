@@ -70,7 +70,7 @@ module _ {X Y Z : Type 0} (key : X → Z) (f : Z → Option Y) (one : (a c : Z) 
   with_first None ys apart pairs = pairs
   with_first (Some y) ys apart pairs = AllPairs-cons (λ a c. a ≢ c) y ys (apart y refl) pairs
 
-  read_apart : (xs : List X) → AllPairs (λ a c. key a ≢ key c) xs → AllPairs (λ a c. a ≢ c) (filter_map read xs)
+  pub read_apart : (xs : List X) → AllPairs (λ a c. key a ≢ key c) xs → AllPairs (λ a c. a ≢ c) (filter_map read xs)
   read_apart [] pairs = none_in_order (λ a c. a ≢ c)
   read_apart (x ∷ xs) pairs =
       with_first (read x) (filter_map read xs)

@@ -30,10 +30,10 @@ use Rattle.pssm_object.specs.declared.situation.Situation.{Situation}
 use Rattle.pssm_object.specs.Queue.{CompletionQueue, IsQueueOf}
 use Rattle.pssm_object.specs.inner.Queueing.{QueueFits}
 use Rattle.pssm_object.specs.Standing.{Standing, StandsAfter, Stands}
-use Rattle.pssm_object.specs.Following.{NamesPlaces, KeepsRule, KeepsRules, IsCandidate, IsMove, IsQuiet, HasNext, IsHandedIn, IsTold, CanCome, Defers, TellsEnd, IsFirstCompletion, TellsCompletion, stimulus_for}
+use Rattle.pssm_object.specs.Following.{NamesPlaces, KeepsRule, KeepsRules, IsCandidate, IsMove, IsQuiet, HasNext, IsHandedIn, IsTold, CanCome, Defers, TellsEnd, IsFirstCompletion, TellsCompletion, TellsReady, stimulus_for, made_by}
 use Rattle.pssm_object.specs.Tasks.{ready_tasks, AreReadyTasks, Does}
 use Rattle.pssm_object.specs.inner.Situations.{standing_of}
-use Rattle.pssm_object.specs.inner.Judging.{Judges}
+use Rattle.pssm_object.specs.inner.Judging.{Judges, IsTaskReady}
 use Rattle.pssm_object.specs.inner.Advancing.{CanFollow, Advances}
 use Rattle.pssm_object.specs.inner.Choosing.{Chooses, DoesTask, IsDeferredHere, IsStill}
 use Rattle.pssm_object.proofs.QueueEntries.{queue_before_all}
@@ -48,6 +48,7 @@ use Rattle.pssm_object.proofs.Eights.{params_eight}
 use Rattle.pssm_object.proofs.Chosen.{IsGoodMove, good_move, chosen_keeps, quiet_is}
 use Rattle.pssm_object.proofs.TaskLists.{lists_tasks, does_task}
 use Rattle.pssm_object.proofs.TaskCounts.{few_tasks}
+use Rattle.pssm_object.proofs.TasksReady.{task_told}
 
 module _ (situation : Situation) (x : Standing) (view_is : standing_of situation ≡ x) where
   seen : (P : Standing → Type 0) → P (standing_of situation) → P x
@@ -83,6 +84,14 @@ module _ (situation : Situation) (x : Standing) (view_is : standing_of situation
     -- a ready task is ready by what is kept
     pub ready_seen : (task : Task) → Contains (ready_tasks class.machine x) task → Contains (ready_tasks class.machine (standing_of situation)) task
     ready_seen task ready = unseen (λ y. Contains (ready_tasks class.machine y) task) ready
+
+    -- it tells whether a task is ready
+    pub task_ready_seen : (task : Task) (answer : Bool) → (IsTrue answer ↔ IsTaskReady class.machine (standing_of situation) task) → TellsReady class x task answer
+    task_ready_seen task answer h J s = task_told class s task answer (seen (λ y. IsTrue answer ↔ IsTaskReady class.machine y task) h)
+
+    -- the values that a behaviour makes
+    pub made_seen : (e : Entry) (store : Store) → store ≡ (made_by class x e).store → store ≡ (made_by class (standing_of situation) e).store
+    made_seen e store made = unseen (λ y. store ≡ (made_by class y e).store) made
 
     module _ (b : IsWellFormedClass class) where
       -- the verdict is that of the rules

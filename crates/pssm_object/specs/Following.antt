@@ -1,5 +1,6 @@
--- Which entries of an object may follow, as far as the object itself shows it.
+-- Which entries of an object may follow and which tasks are ready, as far as the object itself shows it.
 use Rattle.std.specs.Prelude.{◌≡◌, ◌↔◌, ◌<◌, ◌++◌, List, [], ◌∷◌, length, Option, Some, None, option_map, IsSome, IsSomeAnd, Bool, IsTrue}
+use Rattle.std.specs.Option.{option_map_or}
 use Rattle.pssm_model.specs.declared.ids.VertexId.{VertexId}
 use Rattle.pssm_model.specs.declared.elements.DraftMachine.{DraftMachine}
 use Rattle.pssm_semantics.specs.declared.entry.ObjectId.{ObjectId}
@@ -7,9 +8,14 @@ use Rattle.pssm_semantics.specs.declared.entry.Entry.{Entry}
 use Rattle.pssm_semantics.specs.declared.entry.Entry.TheVariants.{Post, Start, Take, Done, Exit, Effect, Enter, Opened, Pick, DoStep}
 use Rattle.pssm_semantics.specs.declared.entry.Rule.{Rule}
 use Rattle.pssm_semantics.specs.declared.setting.Class.{Class}
+use Rattle.pssm_semantics.specs.declared.setting.Outcome.{Outcome}
 use Rattle.pssm_semantics.specs.declared.stimulus.Stimulus.{Stimulus}
+use Rattle.pssm_semantics.specs.declared.stimulus.Task.{Task}
 use Rattle.pssm_semantics.specs.Journal.{IsPost, object_of}
 use Rattle.pssm_semantics.specs.Pool.{told_by}
+use Rattle.pssm_semantics.specs.Values.{Params, no_params, outcome_of}
+use Rattle.pssm_semantics.specs.Behaviours.{act_of}
+use Rattle.pssm_semantics.specs.Tasks.{IsReadyTask}
 use Rattle.pssm_semantics.specs.Known.{IsFiringOf, IsRouteOf, IsVertexOf, IsWayOf}
 use Rattle.pssm_semantics.specs.Rules.{KeepsOwn}
 use Rattle.pssm_semantics.specs.Completion.{HasEnded, IsQueueEmpty, IsQueueHead}
@@ -137,3 +143,20 @@ IsFirstCompletion m J o (Some s) = IsQueueHead m J o s
 abbrev pub TellsCompletion : Class → Standing → Option VertexId → Type 0
 TellsCompletion class x answer =
     (J : List Entry) → StandsAfter class J x → IsFirstCompletion class.machine J x.own answer
+
+-- After all entries after which the object stands so, the answer is whether the task is ready
+-- (UML 2.5.1 14.2.3.9, transition execution sequence).
+abbrev pub TellsReady : Class → Standing → Task → Bool → Type 0
+TellsReady class x task answer = (J : List Entry) → StandsAfter class J x → IsTrue answer ↔ IsReadyTask class.machine J x.own task
+
+-- the parameters of an entry's behaviour where the object stands so: those of the step, and zeros for a do step
+-- (this profile's choice)
+abbrev pub params_in : Standing → Entry → Params
+params_in x (DoStep o s k outs) = no_params
+params_in x e = x.params
+
+-- what the behaviour of an entry makes where the object stands so; without behaviour nothing changes
+-- (UML 2.5.1 13.2.3, behaviours)
+abbrev pub made_by : Class → Standing → Entry → Outcome
+made_by class x e =
+    option_map_or (λ act. outcome_of act x.own x.store (params_in x e)) (act_of class e) (record { store = x.store; outs = [] })

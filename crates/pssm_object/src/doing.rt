@@ -6,10 +6,10 @@ ghost use Rattle.pssm_model.specs.Changes.{Agree, did_step};
 ghost use Rattle.pssm_config.specs.Tables.{Fits, configuration_of};
 ghost use Rattle.pssm_semantics.specs.Classes.{IsWellFormedClass};
 ghost use Rattle.pssm_semantics.specs.Arguments.{ActArgsFit};
-ghost use Rattle.pssm_semantics.specs.Values.{no_params, outcome_of};
+ghost use Rattle.pssm_semantics.specs.Values.{no_params};
 ghost use Rattle.pssm_object.specs.Doing.{next_do_step, do_task_of, do_tasks};
 ghost use Rattle.pssm_object.specs.inner.Situations.{standing_of};
-ghost use Rattle.pssm_object.specs.inner.Doing.{step_act as act_of_step, MakesInStep, MakesInStepBy, IsIdleStep, IsStepWorkOf, IsNextHere, JudgesDoStep, DoesStep};
+ghost use Rattle.pssm_object.specs.inner.Doing.{step_act as act_of_step, step_outcome, MakesInStep, MakesInStepBy, IsIdleStep, IsStepWorkOf, IsNextHere, JudgesDoStep, DoesStep};
 
 use crate::situation::Situation;
 use pssm_config::Config;
@@ -50,6 +50,14 @@ fn is_next(machine: &Machine, config: &Config, s: VertexId, step: u16) -> bool
         Some(next) => next == step,
         None => false,
     }
+}
+
+/// Whether a do step is the next one of a vertex; no step of one that the machine does not have is.
+pub fn is_next_there(machine: &Machine, config: &Config, s: VertexId, step: u16) -> bool
+    requires { Fits machine.now config.now }
+    ensures { IsTrue result ↔ IsNextHere machine.now config.now s step }
+{
+    s.0 < machine.vertices() && is_next(machine, config, s, step)
 }
 
 // The task to do the next do step of a vertex, if it has one.
@@ -257,21 +265,33 @@ impl Situation {
                 Ok(())
             }
             Some(act) => {
-                let store = self.store_after_step(alloc, act)?;
-                count_step(&mut self.config, class, s, step);
-                self.store = store;
-                Ok(())
+                let worked = self.work_in_step(alloc, act)?;
+                self.do_step_made(alloc, class, s, step, worked.outcome().store.as_slice())
             }
         }
     }
 
-    // The values of the variables after the behaviour in a do step.
-    fn store_after_step(&self, alloc: Global, act: &Act) -> Result<Vec<i64>, NoMemory>
-        requires { ActArgsFit act.now }
-        ensures { IfOk result (λ store. store.items ≡
-            (outcome_of act.now self.now.own self.now.store.items no_params).store) }
+    /// Does the next do step of a State, whose behaviour was run elsewhere and left the variables these values.
+    ///
+    /// On want of memory nothing has changed.
+    pub fn do_step_made(
+        &mut self,
+        alloc: Global,
+        class: &Class,
+        s: VertexId,
+        step: u16,
+        store: &[i64],
+    ) -> Result<(), NoMemory>
+        requires class { IsWellFormedClass class.now }
+        requires fits { Fits class.now.machine self.old.config }
+        requires next { IsNextHere class.now.machine self.old.config s step }
+        requires made { store.now ≡ (step_outcome class.now (standing_of self.old) s step).store }
+        ensures ok { OnOk result (DoesStep class.now (standing_of self.old) s step (standing_of self.new)) }
+        ensures err { OnErr result (standing_of self.new ≡ standing_of self.old) }
     {
-        let worked = self.work_in_step(alloc, act)?;
-        worked.outcome().store.as_slice().to_vec(alloc)
+        let store = store.to_vec(alloc)?;
+        count_step(&mut self.config, class, s, step);
+        self.store = store;
+        Ok(())
     }
 }

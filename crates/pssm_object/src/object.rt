@@ -40,7 +40,7 @@ impl Model for Object {
 impl Object {
     ghost use Rattle.pssm_pool.specs.declared.pools.Waiting.{Waiting as Signal};
     ghost use Rattle.pssm_object.specs.Standing.{StandsAfter, Stands};
-    ghost use Rattle.pssm_object.specs.Following.{NamesPlaces, IsCandidate, IsMove, IsQuiet, HasNext, IsHandedIn, CanCome, MayCome, BreaksFirst, HasNoMove, Brings, Defers, TellsEnd, TellsCompletion};
+    ghost use Rattle.pssm_object.specs.Following.{NamesPlaces, IsCandidate, IsMove, IsQuiet, HasNext, IsHandedIn, CanCome, MayCome, BreaksFirst, HasNoMove, Brings, Defers, TellsEnd, TellsCompletion, TellsReady, made_by};
     ghost use Rattle.pssm_object.specs.Tasks.{ready_tasks, AreReadyTasks, Does};
 
     /// An object of the class before its start, with the first values of the class's variables (UML
@@ -114,6 +114,28 @@ impl Object {
         self.situation.apply(self.alloc, class, entry, signal)
     }
 
+    /// Goes on by an entry of the object that may come next, whose behaviour was run elsewhere and left the variables
+    /// these values; it is not run again (UML 2.5.1, 13.2.3, executions of behaviours).
+    ///
+    /// `NoMemory`: memory ran out; nothing has changed.
+    pub fn settle(
+        &mut self,
+        class: &Class,
+        entry: &Entry,
+        signal: Option<&Waiting>,
+        store: &[i64],
+    ) -> Result<(), NoMemory>
+        requires class { IsWellFormedClass class.now }
+        requires can { CanCome class.now self.old (option_copied signal) entry.now }
+        requires made { store.now ≡ (made_by class.now self.old entry.now).store }
+        ensures own { self.new.own ≡ self.old.own }
+        ensures ok { OnOk result (Brings class.now self.old (option_copied signal.entry) entry.now self.new) }
+        ensures err { OnErr result (self.new ≡ self.old) }
+    {
+        self.situation
+            .apply_made(self.alloc, class, entry, signal, store)
+    }
+
     /// Which object it is.
     pub fn own(&self) -> ObjectId
         ensures { result ≡ self.now.own }
@@ -173,6 +195,15 @@ impl Object {
         ensures { slice_get (ready_tasks class.now.machine self.now) i ≡ Some result }
     {
         self.situation.nth_task(&class.machine, i)
+    }
+
+    /// Whether a task of the object is ready; none is once the object has ended, and none that names no place of the
+    /// machine (UML 2.5.1, 14.2.3.9 and 14.2.3.4). It takes no memory.
+    pub fn is_ready(&self, class: &Class, task: Task) -> bool
+        requires stands { Stands class.now self.now }
+        ensures { TellsReady class.now self.now task result }
+    {
+        self.situation.is_ready(&class.machine, task)
     }
 
     /// A start, a dispatch of a completion, a take of this signal, an opening or a pick that may

@@ -7,10 +7,10 @@ ghost use Rattle.pssm_config.specs.Tables.{Fits, configuration_of};
 ghost use Rattle.pssm_plan.specs.Steadiness.{changed_by_item};
 ghost use Rattle.pssm_semantics.specs.Classes.{IsWellFormedClass};
 ghost use Rattle.pssm_semantics.specs.Arguments.{ActArgsFit};
-ghost use Rattle.pssm_semantics.specs.Values.{outcome_of};
+ghost use Rattle.pssm_object.specs.Following.{made_by};
 ghost use Rattle.pssm_object.specs.inner.Queueing.{QueueFits};
-ghost use Rattle.pssm_object.specs.inner.Working.{HasPlace, act_for};
-ghost use Rattle.pssm_object.specs.inner.Doing.{IsNextHere};
+ghost use Rattle.pssm_object.specs.inner.Working.{HasPlace, act_for, outcome_for};
+ghost use Rattle.pssm_object.specs.inner.Doing.{IsNextHere, step_outcome};
 ghost use Rattle.pssm_object.specs.inner.Situations.{standing_of};
 ghost use Rattle.pssm_object.specs.inner.Advancing.{Begins, CanRun, HasRunOn, HasFired, CanChange, AreStateRoutes, CanTake, CanFollow, CanRunHere, Settles, RunsHere, WorksHere, StepsHere, Takes, Dispatches, Advances};
 
@@ -66,6 +66,45 @@ impl Situation {
             } => self.run_way(alloc, &class.machine, Item::Opened(*region, *mode), how),
             Entry::Pick { choice, route, .. } => self.pick(alloc, &class.machine, *choice, route),
             Entry::DoStep { state, step, .. } => self.step_on(alloc, class, *state, *step),
+        }
+    }
+
+    /// Goes on by an entry that may follow, whose behaviour was run elsewhere and left the variables these values.
+    ///
+    /// On want of memory nothing has changed.
+    pub fn apply_made(
+        &mut self,
+        alloc: Global,
+        class: &Class,
+        entry: &Entry,
+        signal: Option<&Waiting>,
+        store: &[i64],
+    ) -> Result<(), NoMemory>
+        requires class { IsWellFormedClass class.now }
+        requires fits { Fits class.now.machine self.old.config }
+        requires room { QueueFits class.now.machine self.old.queue }
+        requires eight { length self.old.params ≡ 8 }
+        requires follows { CanFollow class.now (standing_of self.old) (option_copied signal) entry.now }
+        requires made { store.now ≡ (made_by class.now (standing_of self.old) entry.now).store }
+        ensures ok { OnOk result (Advances class.now (standing_of self.old) (option_copied signal.entry) entry.now
+            (standing_of self.new)) }
+        ensures err { OnErr result (standing_of self.new ≡ standing_of self.old) }
+    {
+        match entry {
+            Entry::Exit { state, .. } => self.run_made(alloc, class, Item::Exit(*state), store),
+            Entry::Effect { transition, .. } => {
+                self.run_made(alloc, class, Item::Effect(*transition), store)
+            }
+            Entry::Enter { state, .. } => self.run_made(alloc, class, Item::Enter(*state), store),
+            Entry::DoStep { state, step, .. } => {
+                self.step_on_made(alloc, class, *state, *step, store)
+            }
+            Entry::Post { .. }
+            | Entry::Start { .. }
+            | Entry::Take { .. }
+            | Entry::Done { .. }
+            | Entry::Opened { .. }
+            | Entry::Pick { .. } => self.apply(alloc, class, entry, signal),
         }
     }
 
@@ -163,19 +202,30 @@ impl Situation {
         ensures ok { OnOk result (WorksHere class.now (standing_of self.old) item (standing_of self.new)) }
         ensures err { OnErr result (standing_of self.new ≡ standing_of self.old) }
     {
-        let store = self.changed_store(alloc, act)?;
+        let worked = self.work(alloc, act)?;
+        self.run_made(alloc, class, item, worked.outcome().store.as_slice())
+    }
+
+    // Runs a ready exit, effect or entry, whose behaviour was run and left the variables these values.
+    fn run_made(
+        &mut self,
+        alloc: Global,
+        class: &Class,
+        item: Item,
+        store: &[i64],
+    ) -> Result<(), NoMemory>
+        requires class { IsWellFormedClass class.now }
+        requires fits { Fits class.now.machine self.old.config }
+        requires room { QueueFits class.now.machine self.old.queue }
+        requires can { CanRunHere class.now.machine self.old.plan self.old.config item How.Nothing }
+        requires made { store.now ≡ (outcome_for class.now (standing_of self.old) item).store }
+        ensures ok { OnOk result (WorksHere class.now (standing_of self.old) item (standing_of self.new)) }
+        ensures err { OnErr result (standing_of self.new ≡ standing_of self.old) }
+    {
+        let store = store.to_vec(alloc)?;
         self.run(alloc, &class.machine, item, &How::Nothing)?;
         self.store = store;
         Ok(())
-    }
-
-    // The values of the variables after the behaviour.
-    fn changed_store(&self, alloc: Global, act: &Act) -> Result<Vec<i64>, NoMemory>
-        requires { ActArgsFit act.now }
-        ensures { IfOk result (λ store. store.items ≡ (outcome_of act.now self.now.own self.now.store.items self.now.params).store) }
-    {
-        let worked = self.work(alloc, act)?;
-        worked.outcome().store.as_slice().to_vec(alloc)
     }
 
     // Runs a ready pick by this route.
@@ -276,6 +326,29 @@ impl Situation {
     {
         let due = due_of(&class.machine, &self.config, None, Some(state));
         self.do_step(alloc, class, state, step)?;
+        self.queue.settle(&class.machine, &self.config, None, due);
+        Ok(())
+    }
+
+    // The same where the behaviour was run elsewhere and left the variables these values.
+    fn step_on_made(
+        &mut self,
+        alloc: Global,
+        class: &Class,
+        state: VertexId,
+        step: u16,
+        store: &[i64],
+    ) -> Result<(), NoMemory>
+        requires class { IsWellFormedClass class.now }
+        requires fits { Fits class.now.machine self.old.config }
+        requires room { QueueFits class.now.machine self.old.queue }
+        requires next { IsNextHere class.now.machine self.old.config state step }
+        requires made { store.now ≡ (step_outcome class.now (standing_of self.old) state step).store }
+        ensures ok { OnOk result (StepsHere class.now (standing_of self.old) state step (standing_of self.new)) }
+        ensures err { OnErr result (standing_of self.new ≡ standing_of self.old) }
+    {
+        let due = due_of(&class.machine, &self.config, None, Some(state));
+        self.do_step_made(alloc, class, state, step, store)?;
         self.queue.settle(&class.machine, &self.config, None, due);
         Ok(())
     }

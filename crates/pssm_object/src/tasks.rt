@@ -1,16 +1,20 @@
 //! The ready tasks of an object.
 ghost use Rattle.std.specs.Prelude.{◌≡◌, ◌≤◌, ◌<◌, ◌+◌, ◌-◌, ◌↔◌, length, slice_get, Some, IsTrue, IfSome, if◌then◌else◌, is_some};
+ghost use Rattle.pssm_model.specs.declared.elements.DraftMachine.{DraftMachine};
+ghost use Rattle.pssm_model.specs.Order.{IsReady};
 ghost use Rattle.pssm_config.specs.Tables.{Fits};
 ghost use Rattle.pssm_object.specs.Doing.{do_tasks};
 ghost use Rattle.pssm_object.specs.Tasks.{task_of as task_by, tasks_of_plan, ready_tasks};
+ghost use Rattle.pssm_plan.specs.Agenda.{course_of};
 ghost use Rattle.pssm_plan.specs.Plans.{IsPlanOf};
 ghost use Rattle.pssm_object.specs.inner.Situations.{standing_of};
 ghost use Rattle.pssm_object.specs.inner.Choosing.{HasNothingLeft, IsStill};
+ghost use Rattle.pssm_object.specs.inner.Judging.{IsReadyIn, IsWorkReady, IsTaskReady};
 
-use crate::doing::{count_do_tasks, nth_do_task};
+use crate::doing::{count_do_tasks, is_next_there, nth_do_task};
 use crate::situation::Situation;
 use pssm_model::{Item, Machine};
-use pssm_plan::Plan;
+use pssm_plan::{Plan, Standing};
 use pssm_semantics::Task;
 
 impl Situation {
@@ -87,6 +91,40 @@ impl Situation {
         }
     }
 
+    /// Whether a task is ready.
+    pub fn is_ready(&self, machine: &Machine, task: Task) -> bool
+        requires fits { Fits machine.now self.now.config }
+        requires plan { IfSome self.now.plan (IsPlanOf machine.now) }
+        ensures { IsTrue result ↔ IsTaskReady machine.now (standing_of self.now) task }
+    {
+        !self.ended && self.is_work_ready(machine, task)
+    }
+
+    // Whether the work of a task is ready.
+    fn is_work_ready(&self, machine: &Machine, task: Task) -> bool
+        requires fits { Fits machine.now self.now.config }
+        requires plan { IfSome self.now.plan (IsPlanOf machine.now) }
+        ensures { IsTrue result ↔ IsWorkReady machine.now (standing_of self.now) task }
+    {
+        match task {
+            Task::Exit(state) => self.is_item_ready(Item::Exit(state)),
+            Task::Effect(transition) => self.is_item_ready(Item::Effect(transition)),
+            Task::Enter(state) => self.is_item_ready(Item::Enter(state)),
+            Task::DoStep(state, step) => is_next_there(machine, &self.config, state, step),
+        }
+    }
+
+    // Whether an item of its step is ready.
+    fn is_item_ready(&self, item: Item) -> bool
+        ensures { (m : DraftMachine) → IfSome self.now.plan (IsPlanOf m)
+            → (IsTrue result ↔ IsReadyIn m self.now.plan item) }
+    {
+        match &self.plan {
+            Some(plan) => is_ready(plan, item),
+            None => false,
+        }
+    }
+
     /// Whether no entry of the object but a post may come next.
     pub fn is_quiet(&self, machine: &Machine, waiting: bool) -> bool
         requires fits { Fits machine.now self.now.config }
@@ -117,6 +155,17 @@ fn task_of(item: Item) -> Option<Task>
         Item::Effect(transition) => Some(Task::Effect(transition)),
         Item::Enter(state) => Some(Task::Enter(state)),
         Item::Opened(_, _) | Item::Pick(_) => None,
+    }
+}
+
+// Whether an item of the plan is ready.
+fn is_ready(plan: &Plan, item: Item) -> bool
+    ensures { (m : DraftMachine) → IsPlanOf m plan.now → (IsTrue result ↔ IsReady m (course_of plan.now) item) }
+{
+    match plan.standing(item) {
+        Standing::Ready => true,
+        Standing::NotCalled | Standing::Ran => false,
+        Standing::Waits { .. } => false,
     }
 }
 

@@ -57,7 +57,7 @@ module _ (setting : Setting) where
   tasks_at x = map (λ task. (x.own, task)) (tasks_for setting x)
 
   -- the objects are numbered in order, and the tasks of each differ
-  abbrev AreNumbered : ℕ → List Standing → Type 0
+  abbrev pub AreNumbered : ℕ → List Standing → Type 0
   AreNumbered n [] = Unit {0}
   AreNumbered n (x ∷ rest) = (x.own.0 ≡ n) × AllPairs (λ a b. a ≢ b) (tasks_for setting x) × AreNumbered (n + 1) rest
 
@@ -139,7 +139,7 @@ module _ {setting : Setting} (b : IsWellFormed setting) {J : List Entry} {object
       subst (ListsTasks class.machine J x.own) (sym (tasks-as setting class x (ap (class_of setting) object.own ∙ is)))
       (lists_tasks class (class_of_object setting b o class is).0 object.stands)
 
-  all_numbered : AreNumbered setting 0 objects
+  pub all_numbered : AreNumbered setting 0 objects
   all_numbered =
       numbered_by setting 0 objects
       (λ k x at.

@@ -1,11 +1,12 @@
 -- What a system tells of itself, from what it keeps.
-use Rattle.std.proofs.Common.{◌≡◌, ◌<◌, ◌++◌, ◌↔◌, ℕ, List, [], ◌∷◌, length, Bool, IsTrue, Option, Some, None, Result, Ok, Err, IfOk, IfNone, IfSome, get_or, sym, ap, subst, ◌∙◌, arith}
+use Rattle.std.proofs.Common.{◌≡◌, ◌<◌, ◌++◌, ◌↔◌, ℕ, ℤ, List, [], ◌∷◌, length, Bool, IsTrue, Option, Some, None, Result, Ok, Err, IfOk, IfNone, IfSome, get_or, sym, ap, subst, ◌∙◌, arith}
 use Rattle.pssm_semantics.specs.declared.entry.ObjectId.{ObjectId}
 use Rattle.pssm_semantics.specs.declared.entry.Entry.{Entry}
 use Rattle.pssm_semantics.specs.declared.entry.Rule.{Rule}
 use Rattle.pssm_semantics.specs.declared.entry.Rule.TheVariants.{A1}
 use Rattle.pssm_semantics.specs.declared.setting.Class.{Class}
 use Rattle.pssm_semantics.specs.declared.setting.Setting.{Setting}
+use Rattle.pssm_semantics.specs.declared.stimulus.Task.{Task}
 use Rattle.pssm_semantics.specs.Settings.{class_of}
 use Rattle.pssm_semantics.specs.Journal.{IsPost}
 use Rattle.pssm_semantics.specs.Pool.{told_by}
@@ -24,11 +25,16 @@ use Rattle.pssm_system.specs.declared.situation.Situation.{Situation}
 use Rattle.pssm_system.specs.declared.choosing.Wanted.TheVariants.{AnyEntry, Move}
 use Rattle.pssm_system.specs.History.{History}
 use Rattle.pssm_semantics.specs.Forms.{IsRunEntry}
-use Rattle.pssm_system.specs.Tasks.{AreReady, HasNoMove}
+use Rattle.pssm_semantics.specs.Work.{Work, outcome_from}
+use Rattle.pssm_system.specs.Tasks.{IsReadyOf, AreReady, AreReadyFor, own_tasks, HasNoMove}
+use Rattle.pssm_system.specs.Works.{HasMade}
 use Rattle.pssm_system.specs.inner.Keeping.{StandsSo, Stands, CanCome, IsUnchanged, KeepsRun, tasks_of}
 use Rattle.pssm_system.specs.inner.Judging.{IsKnown, IsVerdict}
 use Rattle.pssm_system.specs.inner.Choosing.{FindsAmong}
+use Rattle.pssm_system.specs.inner.Stepping.{AreMade}
 use Rattle.pssm_system.proofs.AllTasks.{are_ready}
+use Rattle.pssm_system.proofs.OwnTasks.{are_ready_for}
+use Rattle.pssm_system.proofs.Made.{made_here}
 use Rattle.pssm_system.proofs.Choices.{none-of_all}
 use Rattle.pssm_system.proofs.Completing.{completes}
 use Rattle.pssm_system.proofs.Regions.{keeps_regions, is_run_entry}
@@ -144,6 +150,18 @@ module _ (h : History) (setting : Setting) (J : List Entry) (s : Situation) (k :
 
   pub ready_seen : AreReady h.setting h.journal h.tasks
   ready_seen = subst (λ (v : History). AreReady v.setting v.journal v.tasks) view_is (are_ready k.well_formed k.stands.objects)
+
+  pub task_ready_seen : (o : ObjectId) (task : Task) (answer : Bool)
+      → ((K : List Entry) → StandsSo setting K s → (IsTrue answer ↔ IsReadyOf setting K o task)) → IsTrue answer ↔ IsReadyOf h.setting h.journal o task
+  task_ready_seen o task answer says = seen (λ x js. IsTrue answer ↔ IsReadyOf x js o task) (says J k.stands)
+
+  pub own_ready_seen : (o : ObjectId) → AreReadyFor h.setting h.journal o (own_tasks o h.tasks)
+  own_ready_seen o = are_ready_for o ready_seen
+
+  -- what was run elsewhere
+  pub made_seen : (e : Entry) (work : Work) → HasMade h.setting h.journal e work → (store : List ℤ) → store ≡ (outcome_from work).store
+      → AreMade setting s.objects.items e store
+  made_seen e work made store is = made_here k.stands.objects e work (unseen (λ x js. HasMade x js e work) made) store is
 
   -- the values of an object
   module _ (o : ObjectId) (x : Standing) (n : ℕ) (read : x ≡ get_or s.objects.items n x) (at : n ≡ o.0) where

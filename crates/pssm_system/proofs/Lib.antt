@@ -13,6 +13,8 @@ pub mod Stepped
 pub mod Regions
 pub mod Pairs
 pub mod AllTasks
+pub mod OwnTasks
+pub mod Made
 pub mod Named
 pub mod Choices
 pub mod Members

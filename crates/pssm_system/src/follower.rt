@@ -161,7 +161,14 @@ impl Follower {
         ensures ok { OnOk result (self.new.journal ≡ self.old.journal ++ entry.now ∷ []) }
         ensures err { OnErr result (self.new ≡ self.old) }
     {
-        unreachable!()
+        self.told.reserve(1)?;
+        let store = worked.outcome().store.as_slice();
+        self.situation
+            .settle(self.alloc, &self.setting, entry, store)?;
+        self.told.push_reserved(Told {
+            entry: Snapshot::of(entry),
+        });
+        Ok(())
     }
 
     /// Whether no entry but a post may follow (UML 2.5.1, 14.2.3.9, run to completion).
@@ -222,7 +229,7 @@ impl Follower {
     pub fn is_ready(&self, object: ObjectId, task: Task) -> bool
         ensures { IsTrue result ↔ IsReadyOf self.now.setting self.now.journal object task }
     {
-        unreachable!()
+        self.situation.is_ready(&self.setting, object, task)
     }
 
     /// How many tasks of an object are ready; none where there is no such object (UML 2.5.1, 14.2.3.9 and 14.2.3.4).
@@ -230,7 +237,7 @@ impl Follower {
         ensures count { result ≡ length (own_tasks object self.now.tasks) }
         ensures listed { AreReadyFor self.now.setting self.now.journal object (own_tasks object self.now.tasks) }
     {
-        unreachable!()
+        self.situation.task_count_of(&self.setting, object)
     }
 
     /// The ready task of an object with a number: the exits, effects and entries first, and then the
@@ -239,7 +246,7 @@ impl Follower {
         requires { i < length (own_tasks object self.now.tasks) }
         ensures { slice_get (own_tasks object self.now.tasks) i ≡ Some result }
     {
-        unreachable!()
+        self.situation.task_of(&self.setting, object, i)
     }
 
     /// The values of the object's variables, as they are now (UML 2.5.1, 9.5.3, properties).

@@ -1,10 +1,10 @@
 //! What is kept of the journal once one more entry has come that may follow.
-ghost use Rattle.std.specs.Prelude.{◌≡◌, ◌≤◌, ◌<◌, ◌+◌, [], length, OnOk, OnErr};
+ghost use Rattle.std.specs.Prelude.{◌≡◌, ◌≤◌, ◌<◌, ◌+◌, [], length, IfSome, OnOk, OnErr};
 ghost use Rattle.std.specs.Option.{option_copied};
 ghost use Rattle.pssm_semantics.specs.Pool.{signals_of_entry};
 ghost use Rattle.pssm_semantics.specs.Proper.{IsWellFormed};
 ghost use Rattle.pssm_pool.specs.Waits.{held_in};
-ghost use Rattle.pssm_system.specs.inner.Stepping.{CanStep, HaveStepped};
+ghost use Rattle.pssm_system.specs.inner.Stepping.{CanStep, HaveStepped, AreMade};
 
 use crate::entries::{class_of, object_of, sends_nothing, signals_of};
 use crate::pooling::{deliver, leave, leave_slot, signal_at, taken_signal, taken_slot};
@@ -36,7 +36,34 @@ impl Situation {
                 args,
             } => self.post(alloc, *object, *signal, args),
             _ if sends_nothing(entry) => self.go_on(setting, entry),
-            _ => self.send(alloc, setting, entry),
+            _ => self.send(alloc, setting, entry, None),
+        }
+    }
+
+    /// Goes on by an entry that may follow, whose behaviour was run elsewhere and left the variables of its object these
+    /// values.
+    ///
+    /// On want of memory nothing has changed but room.
+    pub fn settle(
+        &mut self,
+        alloc: Global,
+        setting: &Setting,
+        entry: &Entry,
+        store: &[i64],
+    ) -> Result<(), NoMemory>
+        requires well_formed { IsWellFormed setting.now }
+        requires can { CanCome setting.now self.old entry.now }
+        requires made { AreMade setting.now self.old.objects.items entry.now store.now }
+        ensures ok { OnOk result (Brings setting.now self.old entry.now self.new) }
+        ensures err { OnErr result (IsUnchanged self.old self.new) }
+    {
+        match entry {
+            Entry::Post {
+                object,
+                signal,
+                args,
+            } => self.post(alloc, *object, *signal, args),
+            _ => self.send(alloc, setting, entry, Some(store)),
         }
     }
 
@@ -82,11 +109,18 @@ impl Situation {
         Ok(())
     }
 
-    // Goes on by any entry.
+    // Goes on by any entry; the values that its behaviour left are handed in where it was run elsewhere.
     #[inline(never)]
-    fn send(&mut self, alloc: Global, setting: &Setting, entry: &Entry) -> Result<(), NoMemory>
+    fn send(
+        &mut self,
+        alloc: Global,
+        setting: &Setting,
+        entry: &Entry,
+        made: Option<&[i64]>,
+    ) -> Result<(), NoMemory>
         requires well_formed { IsWellFormed setting.now }
         requires can { CanCome setting.now self.old entry.now }
+        requires made { IfSome made (λ store. AreMade setting.now self.old.objects.items entry.now store.now) }
         ensures ok { OnOk result (Brings setting.now self.old entry.now self.new) }
         ensures err { OnErr result (IsUnchanged self.old self.new) }
     {
@@ -94,7 +128,7 @@ impl Situation {
         let count = signals.as_slice().len() as u32;
         self.pools.reserve(count)?;
         let taken = taken_signal(&self.pools, entry);
-        step(self.objects.as_mut_slice(), setting, entry, taken)?;
+        step_by(self.objects.as_mut_slice(), setting, entry, taken, made)?;
         leave(&mut self.pools, entry);
         deliver(&mut self.pools, self.told, signals);
         self.told += count;
@@ -118,4 +152,43 @@ fn step(
     let own = object_of(entry);
     let object = &mut objects[usize::from(own.0)];
     object.apply(class_of(setting, own), entry, signal)
+}
+
+// The same where the values that the behaviour of the entry left are handed in if it was run elsewhere.
+fn step_by(
+    objects: &mut [Object],
+    setting: &Setting,
+    entry: &Entry,
+    signal: Option<&Waiting>,
+    made: Option<&[i64]>,
+) -> Result<(), NoMemory>
+    requires well_formed { IsWellFormed setting.now }
+    requires can { CanStep setting.now objects.old (option_copied signal) entry.now }
+    requires made { IfSome made (λ store. AreMade setting.now objects.old entry.now store.now) }
+    ensures ok { OnOk result (HaveStepped setting.now objects.old (option_copied signal.entry) entry.now objects.new) }
+    ensures err { OnErr result (objects.new ≡ objects.old) }
+{
+    match made {
+        None => step(objects, setting, entry, signal),
+        Some(store) => settle(objects, setting, entry, signal, store),
+    }
+}
+
+// The object of the entry goes on by it; its behaviour was run elsewhere and left these values.
+fn settle(
+    objects: &mut [Object],
+    setting: &Setting,
+    entry: &Entry,
+    signal: Option<&Waiting>,
+    store: &[i64],
+) -> Result<(), NoMemory>
+    requires well_formed { IsWellFormed setting.now }
+    requires can { CanStep setting.now objects.old (option_copied signal) entry.now }
+    requires made { AreMade setting.now objects.old entry.now store.now }
+    ensures ok { OnOk result (HaveStepped setting.now objects.old (option_copied signal.entry) entry.now objects.new) }
+    ensures err { OnErr result (objects.new ≡ objects.old) }
+{
+    let own = object_of(entry);
+    let object = &mut objects[usize::from(own.0)];
+    object.settle(class_of(setting, own), entry, signal, store)
 }

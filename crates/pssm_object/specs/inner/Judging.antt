@@ -17,13 +17,15 @@ use Rattle.pssm_semantics.specs.declared.entry.Entry.TheVariants.{Post, Start, T
 use Rattle.pssm_semantics.specs.declared.entry.Rule.{Rule}
 use Rattle.pssm_semantics.specs.declared.entry.Rule.TheVariants.{A2, A3, A4, A5, A7, A8, A9, A10, A12}
 use Rattle.pssm_semantics.specs.declared.setting.Class.{Class}
+use Rattle.pssm_semantics.specs.declared.stimulus.Task.{Task}
+use Rattle.pssm_semantics.specs.declared.stimulus.Task.TheVariants as tasks
 use Rattle.pssm_semantics.specs.Values.{eight_of, no_params}
 use Rattle.pssm_pool.specs.declared.pools.Waiting.{Waiting}
 use Rattle.pssm_object.specs.Standing.{Standing}
 use Rattle.pssm_object.specs.inner.Firing.{Fires, IsWayFrom, IsOpeningWay}
 use Rattle.pssm_object.specs.inner.Situations.{IsAtRest, first_waiting}
 use Rattle.pssm_object.specs.inner.Working.{Makes}
-use Rattle.pssm_object.specs.inner.Doing.{JudgesDoStep}
+use Rattle.pssm_object.specs.inner.Doing.{IsNextHere, JudgesDoStep}
 
 -- something that the last step calls has not run
 abbrev pub IsBusy : DraftMachine → Option Agenda → Type 0
@@ -136,3 +138,18 @@ IsPastEnd x e = IsTrue x.ended
 abbrev pub Judges : Class → Standing → Option Waiting → Entry → Option Rule → Type 0
 Judges class x signal e answer =
     (IsPastEnd x e × (answer ≡ Some A2)) ⊎ ((IsPastEnd x e → ⊥) × JudgesLiving class x signal e answer)
+
+-- The item of the plan is ready.
+abbrev pub IsReadyIn : DraftMachine → Option Agenda → Item → Type 0
+IsReadyIn m plan item = (p : Agenda) × (plan ≡ Some p) × IsReady m (course_of p) item
+
+-- The work of the task is ready, where an object that has not ended stands so.
+abbrev pub IsWorkReady : DraftMachine → Standing → Task → Type 0
+IsWorkReady m x (tasks.Exit s) = IsReadyIn m x.plan (items.Exit s)
+IsWorkReady m x (tasks.Effect t) = IsReadyIn m x.plan (items.Effect t)
+IsWorkReady m x (tasks.Enter s) = IsReadyIn m x.plan (items.Enter s)
+IsWorkReady m x (tasks.DoStep s k) = IsNextHere m x.config s k
+
+-- The task is ready, where the object stands so.
+abbrev pub IsTaskReady : DraftMachine → Standing → Task → Type 0
+IsTaskReady m x task = (IsTrue x.ended → ⊥) × IsWorkReady m x task

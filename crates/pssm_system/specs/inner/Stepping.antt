@@ -1,5 +1,5 @@
 -- What is kept once one more entry has come.
-use Rattle.std.specs.Prelude.{◌≡◌, ◌+◌, ◌++◌, List, ℤ, [], ◌∷◌, Option, Some}
+use Rattle.std.specs.Prelude.{◌≡◌, ◌+◌, ◌++◌, List, ℤ, [], ◌∷◌, Option, Some, slice_get}
 use Rattle.pssm_model.specs.declared.ids.SignalId.{SignalId}
 use Rattle.pssm_semantics.specs.declared.entry.ObjectId.{ObjectId}
 use Rattle.pssm_semantics.specs.declared.entry.Entry.{Entry}
@@ -14,7 +14,7 @@ use Rattle.pssm_semantics.specs.Rules.{KeepsOwn}
 use Rattle.pssm_pool.specs.declared.pools.Waiting.{Waiting}
 use Rattle.pssm_pool.specs.Waits.{with_arrived}
 use Rattle.pssm_object.specs.Standing.{Standing}
-use Rattle.pssm_object.specs.Following.{NamesSignal, IsTold, stimulus_for}
+use Rattle.pssm_object.specs.Following.{NamesSignal, IsTold, stimulus_for, made_by}
 use Rattle.pssm_semantics.specs.Admissible.{MayFollow}
 use Rattle.pssm_system.specs.declared.situation.Situation.{Situation}
 use Rattle.pssm_system.specs.inner.Pooling.{waiting_as}
@@ -35,6 +35,12 @@ abbrev pub HaveStepped : Setting → List Standing → Option Waiting → Entry 
 HaveStepped setting old signal e new =
     (J : List Entry) → AreObjects setting J old → IsTold J (stimulus_for (object_of e) signal) e
     → AreObjects setting (J ++ e ∷ []) new
+
+-- These are the values that the behaviour of the entry leaves to the variables of its object, one of these.
+abbrev pub AreMade : Setting → List Standing → Entry → List ℤ → Type 0
+AreMade setting objects e store =
+    (class : Class) (x : Standing) → class_of setting (object_of e) ≡ Some class → slice_get objects (object_of e).0 ≡ Some x
+    → store ≡ (made_by class x e).store
 
 -- the signal that is posted so
 abbrev pub posted : ObjectId → SignalId → List ℤ → Stimulus
