@@ -1,16 +1,11 @@
 -- A task is ready after a journal exactly where it is ready by what is kept of the object.
-use Rattle.std.proofs.Common.{◌≡◌, ◌↔◌, ℕ, List, Bool, IsTrue, Option, Some, None, sym, ap, ◌∙◌, subst}
-use Rattle.pssm_model.specs.declared.ids.VertexId.{VertexId}
+use Rattle.std.proofs.Common.{◌≡◌, ◌↔◌, List, Bool, IsTrue, Option, Some, None, refl, sym, ◌∙◌, subst}
 use Rattle.pssm_model.specs.declared.elements.DraftMachine.{DraftMachine}
 use Rattle.pssm_model.specs.declared.steps.Item.{Item}
 use Rattle.pssm_model.specs.declared.steps.Item.TheVariants as items
-use Rattle.pssm_model.specs.Course.{Course}
 use Rattle.pssm_model.specs.Order.{IsReady}
 use Rattle.pssm_config.specs.Tables.{configuration_of}
-use Rattle.pssm_plan.specs.declared.standing.Standing.{Standing as ItemStanding}
-use Rattle.pssm_plan.specs.declared.standing.Standing.TheVariants.{Ready, NotCalled, Ran, Waits}
 use Rattle.pssm_plan.specs.Agenda.{Agenda, course_of}
-use Rattle.pssm_plan.specs.Standings.{StandsAs}
 use Rattle.pssm_semantics.specs.declared.entry.Entry.{Entry}
 use Rattle.pssm_semantics.specs.declared.stimulus.Task.{Task}
 use Rattle.pssm_semantics.specs.declared.stimulus.Task.TheVariants as tasks
@@ -25,14 +20,6 @@ use Rattle.pssm_object.proofs.Judged.{same_some}
 use Rattle.pssm_object.proofs.Rules.{no_step}
 use Rattle.pssm_object.proofs.Standings.{only_posts, step_of}
 use Rattle.pssm_object.proofs.UnderWay.{ready_item_is, item_ready}
-
--- An item that stands otherwise is not ready.
-pub not_ready : (m : DraftMachine) (course : Course) (item : Item) (answer : ItemStanding) → StandsAs m course item answer → (answer ≡ Ready → ⊥)
-    → IsReady m course item → ⊥
-not_ready m course item Ready h other ready = other refl
-not_ready m course item NotCalled h other ready = h ready.waiting.called
-not_ready m course item Ran h other ready = ready.waiting.not_run h.1
-not_ready m course item (Waits on) h other ready = h.1.not_run (ready.cleared on h.1.called h.2)
 
 -- the plan in which it is ready is this one
 pub ready_where : (m : DraftMachine) (plan : Option Agenda) (p : Agenda) (item : Item) → plan ≡ Some p → IsReadyIn m plan item → IsReady m (course_of p) item

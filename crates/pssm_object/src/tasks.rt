@@ -168,7 +168,8 @@ fn is_ready(plan: &Plan, item: Item) -> bool
 {
     match plan.standing(item) {
         Standing::Ready => true,
-        Standing::NotCalled | Standing::Ran | Standing::Waits { .. } => false,
+        Standing::NotCalled | Standing::Ran => false,
+        Standing::Waits { .. } => false,
     }
 }
 

@@ -47,47 +47,50 @@ impl Situation {
     }
 
     // Whether there is such an object.
-    fn has(&self, object: ObjectId) -> bool
-        ensures { IsTrue result ↔ (object.0 < length self.now.objects.items) }
+    fn has(&self, own: ObjectId) -> bool
+        ensures { IsTrue result ↔ (own.0 < length self.now.objects.items) }
     {
-        usize::from(object.0) < self.objects.as_slice().len()
+        usize::from(own.0) < self.objects.as_slice().len()
     }
 
     /// Whether a task of an object is ready; none is of an object that the setting does not have.
-    pub fn is_ready(&self, setting: &Setting, object: ObjectId, task: Task) -> bool
+    pub fn is_ready(&self, setting: &Setting, own: ObjectId, task: Task) -> bool
         requires well_formed { IsWellFormed setting.now }
         requires stands { Stands setting.now self.now }
         ensures { (J : List AnEntry) → StandsSo setting.now J self.now
-            → (IsTrue result ↔ IsReadyOf setting.now J object task) }
+            → (IsTrue result ↔ IsReadyOf setting.now J own task) }
     {
-        if !self.has(object) {
+        if !self.has(own) {
             return false;
         }
-        self.objects[usize::from(object.0)].is_ready(class_of(setting, object), task)
+        let object = &self.objects[usize::from(own.0)];
+        object.is_ready(class_of(setting, own), task)
     }
 
     /// How many tasks of an object are ready.
-    pub fn task_count_of(&self, setting: &Setting, object: ObjectId) -> u32
+    pub fn task_count_of(&self, setting: &Setting, own: ObjectId) -> u32
         requires well_formed { IsWellFormed setting.now }
         requires stands { Stands setting.now self.now }
-        ensures { result ≡ length (own_tasks object (tasks_of setting.now self.now.objects.items)) }
+        ensures { result ≡ length (own_tasks own (tasks_of setting.now self.now.objects.items)) }
     {
-        if !self.has(object) {
+        if !self.has(own) {
             return 0;
         }
-        self.objects[usize::from(object.0)].task_count(class_of(setting, object))
+        let object = &self.objects[usize::from(own.0)];
+        object.task_count(class_of(setting, own))
     }
 
     /// The ready task of an object with a number.
-    pub fn task_of(&self, setting: &Setting, object: ObjectId, i: u32) -> Task
+    pub fn task_of(&self, setting: &Setting, own: ObjectId, i: u32) -> Task
         requires well_formed { IsWellFormed setting.now }
         requires stands { Stands setting.now self.now }
-        requires there { i < length (own_tasks object (tasks_of setting.now self.now.objects.items)) }
-        ensures { slice_get (own_tasks object (tasks_of setting.now self.now.objects.items)) i ≡ Some result }
+        requires there { i < length (own_tasks own (tasks_of setting.now self.now.objects.items)) }
+        ensures { slice_get (own_tasks own (tasks_of setting.now self.now.objects.items)) i ≡ Some result }
     {
-        if !self.has(object) {
+        if !self.has(own) {
             unreachable!();
         }
-        self.objects[usize::from(object.0)].task_at(class_of(setting, object), i)
+        let object = &self.objects[usize::from(own.0)];
+        object.task_at(class_of(setting, own), i)
     }
 }
