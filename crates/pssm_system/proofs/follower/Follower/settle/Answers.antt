@@ -36,4 +36,4 @@ invariant_of-self-2 c =
 pub settle-requires-clause-made : goal.settle-requires-clause-made
 settle-requires-clause-made c =
     made_seen c.args.self.now c.self.inside.setting (entries_of c.self.inside.told.items) c.self.inside.situation c.self.invariant c.self.view_is
-    c.args.entry.now c.args.worked.now c.requires.works c.as_slice-store.result.now (c.as_slice-store.ensures.value ∙ ap (λ (o : Outcome). o.store) c.outcome.ensures)
+    c.args.entry.now c.args.worked.now c.requires.works c.as_slice-store.result.now (c.as_slice-store.ensures ∙ ap (λ (o : Outcome). o.store) c.outcome.ensures)

@@ -16,8 +16,8 @@ task_count-requires c =
     c.class_of.ensures c.from.ensures c.index-object.ensures in
     record { class = m.well_formed; stands = stands_somewhere m }
 
-pub returns-else-not-has : goal.returns-else-not-has
-returns-else-not-has c =
+pub returns : goal.returns
+returns c =
     let m = member c.requires.well_formed c.requires.stands.1.objects c.args.own c.class_of.result.now c.index-object.result.now c.from.result
     c.class_of.ensures c.from.ensures c.index-object.ensures in
     c.task_count.ensures.count
