@@ -54,8 +54,10 @@ module _ (m : DraftMachine) where
         ∙ counts_none m t (n + d) (none_at (n + d) (below.none (vertex (n + d)) (omega arith)) (do_task_of m t (vertex (n + d))) refl)
         ∙ as_many n below d
 
-    pub all_counted : (n : ℕ) → AreDoersBelow m n → length (do_tasks_below m t n) ≡ length (do_tasks m t)
-    all_counted n below =
+    pub all_counted : (n k : ℕ) → AreDoersBelow m n → n ≤ k → length (do_tasks_below m t k) ≡ length (do_tasks m t)
+    all_counted n k below past =
         let within = below.within in
-        sym (as_many n below (length m.vertices - n))
-        ∙ ap (λ k. length (do_tasks_below m t k)) (let same : n + (length m.vertices - n) ≡ length m.vertices = omega (arith, within) in same)
+        ap (λ j. length (do_tasks_below m t j)) (let same : k ≡ n + (k - n) = omega (arith, past) in same)
+        ∙ as_many n below (k - n)
+        ∙ sym (as_many n below (length m.vertices - n))
+        ∙ ap (λ j. length (do_tasks_below m t j)) (let same : n + (length m.vertices - n) ≡ length m.vertices = omega (arith, within) in same)
