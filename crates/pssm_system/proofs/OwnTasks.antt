@@ -95,9 +95,9 @@ module _ (o : ObjectId) where
     none_of_others n (x ∷ rest) h apart =
         both_own x rest
         ∙ ap (λ ts. ts ++ own_tasks o (tasks_of setting rest))
-        (none_own x.own (λ same. let own = h.0 in elim apart [ | inl below ↦ omega (arith, own, same, below) | inr past ↦ omega (arith, own, same, past) ])
+        (none_own x.own (λ same. let own = h.0 in elim apart [ inl below ↦ omega (arith, own, same, below) | inr past ↦ omega (arith, own, same, past) ])
         (tasks_for setting x))
-        ∙ none_of_others (n + 1) rest h.2 (elim apart [ | inl below ↦ inl (omega (arith, below)) | inr past ↦ inr (omega (arith, past)) ])
+        ∙ none_of_others (n + 1) rest h.2 (elim apart [ inl below ↦ inl (omega (arith, below)) | inr past ↦ inr (omega (arith, past)) ])
 
     -- those of one object are its ready ones
     pub own_at : (n : ℕ) (objects : List Standing) → AreNumbered setting n objects → (k : ℕ) (x : Standing) → slice_get objects k ≡ Some x → o.0 ≡ n + k
