@@ -52,6 +52,7 @@ use Rattle.pssm_object.proofs.Configurations.{configuration-changed, configurati
 use Rattle.pssm_semantics_laws.proofs.Stores.{head_own, told_by-more, store_of-own, store_of-other, params_of-begins, params_of-goes_on}
 use Rattle.pssm_pool.specs.declared.pools.Waiting.{Waiting}
 use Rattle.pssm_object.specs.Queue.{CompletionQueue, IsQueueOf}
+use Rattle.pssm_object.specs.Doing.{AreDoersBelow}
 use Rattle.pssm_object.specs.Standing.{Standing, IsUnderWay, IsStepOf, StandsAfter}
 use Rattle.pssm_object.specs.Following.{stimulus_of, stimulus_for, NamesSignal, IsTold}
 use Rattle.pssm_object.specs.inner.Doing.{step_act, step_outcome}
@@ -124,7 +125,7 @@ no_head_yet o J =
 
 -- where an object stands does not turn on by which name it goes
 abbrev standing_at : ObjectId → Standing → Standing
-standing_at o x = record { own = o; config = x.config; plan = x.plan; store = x.store; params = x.params; queue = x.queue; ended = x.ended }
+standing_at o x = record { own = o; config = x.config; plan = x.plan; store = x.store; params = x.params; queue = x.queue; ended = x.ended; doers = x.doers }
 
 stands_by : (class : Class) (J : List Entry) (x : Standing) (o : ObjectId) → x.own ≡ o → StandsAfter class J (standing_at o x) → StandsAfter class J x
 stands_by class J x o own s = subst (λ q. StandsAfter class J (standing_at q x)) (sym own) s
@@ -170,6 +171,7 @@ module _ (class : Class) {J : List Entry} {x : Standing} (s : StandsAfter class 
       room = s.room;
       queue_is = queue_other s.queue_is e other;
       ended_is = ended_left_is m J o e runs_none x.ended s.ended_is;
+      doers_is = s.doers_is;
     }
 
   -- a post of the object
@@ -238,6 +240,7 @@ module _ (class : Class) {J : List Entry} {x : Standing} (s : StandsAfter class 
       queue_is = queue_ran s.queue_is e y how own runs (configuration_of x.config) (configuration_of new.config) s.now_is now new.queue.states h.queue;
       ended_is = ended_by_is m J o e y how own runs living (configuration_of new.config)
           (Agree-symm (configuration_of new.config) (configuration_after m (with_one e) o) now) new.ended h.ended;
+      doers_is = subst (AreDoersBelow m) (sym h.doers) s.doers_is;
     })
 
   made_so : (act : Option Act) → (option_map_or (λ (a : Act). outcome_of a o x.store x.params) act (nothing_from x.store)).store
@@ -280,7 +283,8 @@ module _ (class : Class) {J : List Entry} {x : Standing} (s : StandsAfter class 
       (store_left : store_of class (told_by (with_one e)) (with_one e) o ≡ store_of class (told_by J) J o)
       (params : new.params ≡ params_of_head (told_by (with_one e)) (Some e))
       (taken : (n : ℕ) (firing : Firing) → e ≡ Take o n firing → (z : Stimulus) × (told_by J n ≡ Some z))
-      (room : new.queue.room ≡ x.queue.room) (queue : IsQueueOf m (with_one e) o new.queue.states) (ended : new.ended ≡ x.ended) where
+      (room : new.queue.room ≡ x.queue.room) (queue : IsQueueOf m (with_one e) o new.queue.states) (ended : new.ended ≡ x.ended)
+      (doers : new.doers ≡ x.doers) where
     begun_there : IsUnderWay m (with_one e) o plan.now.head (configuration_of plan.now.at_head) plan.now.ran
     begun_there =
         subst (λ a. IsUnderWay m (with_one e) o a (configuration_of plan.now.at_head) plan.now.ran) (sym plan.head_is)
@@ -302,6 +306,7 @@ module _ (class : Class) {J : List Entry} {x : Standing} (s : StandsAfter class 
       room = subst (λ (n : ℕ). length m.vertices ≤ n) (sym room) s.room;
       queue_is = queue;
       ended_is = subst (λ (is : Bool). IsTrue is ↔ HasEnded m (with_one e) o) (sym ended) (ended_left_is m J o e runs x.ended s.ended_is);
+      doers_is = subst (AreDoersBelow m) (sym doers) s.doers_is;
     })
 
   -- a do step
@@ -339,6 +344,7 @@ module _ (class : Class) {J : List Entry} {x : Standing} (s : StandsAfter class 
       queue_is = queue_stepped s.queue_is v k outs (configuration_of x.config) (configuration_of new.config) s.now_is stepped_here new.queue.states h.queue;
       ended_is = subst (λ (is : Bool). IsTrue is ↔ HasEnded m (with_one (DoStep o v k outs)) o) (sym h.ended)
           (ended_left_is m J o (DoStep o v k outs) step_runs_none x.ended s.ended_is);
+      doers_is = subst (AreDoersBelow m) (sym h.doers) s.doers_is;
     })
 
 module _ (class : Class) (b : IsWellFormedClass class) {J : List Entry} {x : Standing} (s : StandsAfter class J x) where
@@ -372,7 +378,7 @@ module _ (class : Class) (b : IsWellFormedClass class) {J : List Entry} {x : Sta
         (store_of-own class J (Start x.own) x.own (same_takes J (Start x.own) x.own s.told) refl)
         (h.params ∙ zeros_before) (λ n firing is. absurd (cc)) (ap (λ (q : CompletionQueue). q.room) h.queue)
         (subst (λ (q : CompletionQueue). IsQueueOf mach (J ++ Start x.own ∷ []) x.own q.states) (sym h.queue) (queue_kept s.queue_is (Start x.own) refl refl refl))
-        h.ended
+        h.ended h.doers
 
   -- routes that fire where the object rests
   module _ (new : Standing) (e : Entry) (routes : List Route) (params : Params) (event : Event) (rests : IsAtRest mach x.plan)
@@ -408,7 +414,7 @@ module _ (class : Class) (b : IsWellFormedClass class) {J : List Entry} {x : Sta
     fired_so =
         begun_so class s new e (Fires routes) heads kept runs h.plan
         (subst (λ a. IsUnderWay mach (J ++ e ∷ []) x.own (Fires routes) (configuration_of a) []) (sym h.at_head) fires_here)
-        h.own h.config h.store store_left (h.params_is ∙ params_told) taken room queue h.ended
+        h.own h.config h.store store_left (h.params_is ∙ params_told) taken room queue h.ended h.doers
 
   -- a take of this signal
   module _ (new : Standing) (number : ℕ) (firing : Firing) (w : Waiting) (rests : IsAtRest mach x.plan) (fires : FiresHere class x firing.routes w)

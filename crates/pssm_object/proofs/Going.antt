@@ -38,9 +38,9 @@ has_fired m config firing now (Err error) head at_head ran plan = tt
 
 -- a step has begun, by a start
 pub begins : (m : DraftMachine) (old new : Standing) (plan : Agenda) → new.own ≡ old.own → new.plan ≡ Some plan → new.config ≡ old.config
-    → new.store ≡ old.store → new.params ≡ old.params → new.queue ≡ old.queue → new.ended ≡ old.ended → plan.head ≡ Starts
+    → new.store ≡ old.store → new.params ≡ old.params → new.queue ≡ old.queue → new.ended ≡ old.ended → new.doers ≡ old.doers → plan.head ≡ Starts
     → Agree (configuration_of plan.at_head) nothing_yet → plan.ran ≡ [] → IsPlanOf m plan → Begins m old new
-begins m old new plan own is config store params queue ended head at_head ran is_plan = record {
+begins m old new plan own is config store params queue ended doers head at_head ran is_plan = record {
   own = own;
   plan = record { now = plan; now_is = is; head_is = head; ran = ran; is_plan = is_plan };
   at_head = at_head;
@@ -49,6 +49,7 @@ begins m old new plan own is config store params queue ended head at_head ran is
   params = params;
   queue = queue;
   ended = ended;
+  doers = doers;
 }
 
 -- what the completion of a State fires, asked with no parameters

@@ -46,6 +46,7 @@ pub mod QueueHeads
 pub mod DoingNext
 pub mod DoingBehaviours
 pub mod DoingLists
+pub mod Doers
 pub mod KnownEnds
 pub mod KnownCompletions
 pub mod TaskCounts

@@ -28,6 +28,7 @@ use Rattle.pssm_semantics_laws.proofs.Members.{first_in}
 use Rattle.pssm_pool.specs.declared.pools.Waiting.{Waiting}
 use Rattle.pssm_object.specs.declared.situation.Situation.{Situation}
 use Rattle.pssm_object.specs.Queue.{CompletionQueue, IsQueueOf}
+use Rattle.pssm_object.specs.Doing.{AreDoersBelow}
 use Rattle.pssm_object.specs.inner.Queueing.{QueueFits}
 use Rattle.pssm_object.specs.Standing.{Standing, StandsAfter, Stands}
 use Rattle.pssm_object.specs.Following.{NamesPlaces, KeepsRule, KeepsRules, IsCandidate, IsMove, IsQuiet, HasNext, IsHandedIn, IsTold, CanCome, Defers, TellsEnd, IsFirstCompletion, TellsCompletion, TellsReady, stimulus_for, made_by}
@@ -77,6 +78,9 @@ module _ (situation : Situation) (x : Standing) (view_is : standing_of situation
 
     pub plan_known : Stands class x → IfSome situation.plan (IsPlanOf class.machine)
     plan_known stands = unseen (λ y. IfSome y.plan (IsPlanOf class.machine)) (plan_fits stands.1)
+
+    pub doers_seen : Stands class x → AreDoersBelow class.machine situation.doers
+    doers_seen stands = unseen (λ y. AreDoersBelow class.machine y.doers) stands.1.doers_is
 
     pub room_seen : (J : List Entry) → StandsAfter class J x → QueueFits class.machine situation.queue
     room_seen J s = unseen (λ y. QueueFits class.machine y.queue) (queue_fits class.machine J x.own x.queue s.queue_is s.room)
@@ -210,13 +214,13 @@ ended_first m own (r ∷ rest) are = (λ yes. absurd (let no : length (r ∷ res
 
 -- a new object stands so after no entries
 pub starts_so : (class : Class) (own : ObjectId) (config : Tables) (store : Store) (params : Params) (queue : CompletionQueue) (tops : List RegionId) (ended : Bool)
-    → Fits class.machine config
+    (doers : ℕ) → Fits class.machine config
     → Agree (configuration_of config) nothing_yet → store ≡ first_store class → params ≡ no_params
     → queue.states ≡ [] → queue.room ≡ length class.machine.vertices
     → ((r : RegionId) → Contains tops r ↔ (owner_of class.machine (Region r) ≡ Some Top)) → ended ≡ (length tops == 0)
-    → StandsAfter class []
-    (record { own = own; config = config; plan = None; store = store; params = params; queue = queue; ended = ended })
-starts_so class own config store params queue tops ended fits nothing first zeros empty room are none_top =
+    → AreDoersBelow class.machine doers → StandsAfter class []
+    (record { own = own; config = config; plan = None; store = store; params = params; queue = queue; ended = ended; doers = doers })
+starts_so class own config store params queue tops ended doers fits nothing first zeros empty room are none_top below =
     let none = configuration-nil class.machine own in
     record {
       fits = fits;
@@ -229,4 +233,5 @@ starts_so class own config store params queue tops ended fits nothing first zero
       room = subst (λ (n : ℕ). length class.machine.vertices ≤ n) (sym room) (omega arith);
       queue_is = subst (IsQueueOf class.machine [] own) (sym empty) (queue_before_all class.machine own);
       ended_is = subst (λ (e : Bool). IsTrue e ↔ HasEnded class.machine [] own) (sym none_top) (ended_first class.machine own tops are);
+      doers_is = below;
     }

@@ -1,5 +1,5 @@
 -- The do tasks of an object: the next do step of each active State that has one left.
-use Rattle.std.specs.Prelude.{◌++◌, ◌&&◌, ℕ, zero, suc, List, [], length, false, nat_lt, if◌then◌else◌, Option, Some, None, slice_index, slice_index_or}
+use Rattle.std.specs.Prelude.{◌≡◌, ◌≤◌, ◌++◌, ◌&&◌, ℕ, zero, suc, List, [], length, false, nat_lt, if◌then◌else◌, Option, Some, None, slice_index, slice_index_or}
 use Rattle.std.specs.Option.{option_map, option_to_list}
 use Rattle.pssm_model.specs.declared.ids.VertexId.{VertexId}
 use Rattle.pssm_model.specs.declared.elements.DraftMachine.{DraftMachine}
@@ -14,6 +14,11 @@ abbrev pub next_do_step : DraftMachine → Tables → VertexId → Option ℕ
 next_do_step m tables s =
     if slice_index_or tables.active s.0 false && nat_lt (slice_index tables.steps s.0) (do_steps_of m s)
     then Some (slice_index tables.steps s.0) else None
+
+-- Below this number are all vertices of the machine that have do steps (UML 2.5.1 14.2.3.4, doActivity).
+pub record AreDoersBelow (m : DraftMachine) (n : ℕ) : Type 0 where
+  pub within : n ≤ length m.vertices
+  pub none : (s : VertexId) → n ≤ s.0 → do_steps_of m s ≡ 0
 
 -- the task to do it (UML 2.5.1 14.2.3.4, doActivity)
 abbrev pub do_task_of : DraftMachine → Tables → VertexId → Option Task

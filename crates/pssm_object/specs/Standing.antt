@@ -27,9 +27,11 @@ use Rattle.pssm_semantics.specs.Pool.{told_by}
 use Rattle.pssm_semantics.specs.Behaviours.{store_of, params_of}
 use Rattle.pssm_semantics.specs.Completion.{HasEnded}
 use Rattle.pssm_object.specs.Queue.{CompletionQueue, IsQueueOf}
+use Rattle.pssm_object.specs.Doing.{AreDoersBelow}
 
 -- an object: which one it is, the tables of its configuration, the plan of its last step, the values of its variables, the
--- parameters of its step, its completion queue, and whether it has ended (UML 2.5.1 14.2.3.9, run to completion)
+-- parameters of its step, its completion queue, whether it has ended, and a number below which all vertices with do steps are
+-- (UML 2.5.1 14.2.3.9, run to completion)
 pub record Standing : Type 0 where
   pub own : ObjectId
   pub config : Tables
@@ -38,6 +40,7 @@ pub record Standing : Type 0 where
   pub params : Params
   pub queue : CompletionQueue
   pub ended : Bool
+  pub doers : ℕ
 
 -- What is active in the one is active in the other (UML 2.5.1 14.2.3.4, State configurations).
 abbrev pub AreActiveAlike : Configuration → Configuration → Type 0
@@ -89,6 +92,7 @@ pub record StandsAfter (class : Class) (J : List Entry) (x : Standing) : Type 0 
   pub room : length class.machine.vertices ≤ x.queue.room
   pub queue_is : IsQueueOf class.machine J x.own x.queue.states
   pub ended_is : IsTrue x.ended ↔ HasEnded class.machine J x.own
+  pub doers_is : AreDoersBelow class.machine x.doers
 
 -- There are entries after which the object of the class stands so (UML 2.5.1 14.2.3.9, run to completion).
 abbrev pub Stands : Class → Standing → Type 0

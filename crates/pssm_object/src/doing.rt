@@ -7,7 +7,7 @@ ghost use Rattle.pssm_config.specs.Tables.{Fits, configuration_of};
 ghost use Rattle.pssm_semantics.specs.Classes.{IsWellFormedClass};
 ghost use Rattle.pssm_semantics.specs.Arguments.{ActArgsFit};
 ghost use Rattle.pssm_semantics.specs.Values.{no_params};
-ghost use Rattle.pssm_object.specs.Doing.{next_do_step, do_task_of, do_tasks};
+ghost use Rattle.pssm_object.specs.Doing.{next_do_step, do_task_of, do_tasks, AreDoersBelow};
 ghost use Rattle.pssm_object.specs.inner.Situations.{standing_of};
 ghost use Rattle.pssm_object.specs.inner.Doing.{step_act as act_of_step, step_outcome, MakesInStep, MakesInStepBy, IsIdleStep, IsStepWorkOf, IsNextHere, JudgesDoStep, DoesStep};
 
@@ -72,13 +72,27 @@ fn task_of_vertex(machine: &Machine, config: &Config, s: VertexId) -> Option<Tas
     }
 }
 
-/// How many do tasks are ready.
-pub fn count_do_tasks(machine: &Machine, config: &Config) -> u32
-    requires { Fits machine.now config.now }
+/// A number below which all vertices with do steps are: 0 where there are none.
+pub fn doers_of(machine: &Machine) -> u16
+    ensures { AreDoersBelow machine.now result }
+{
+    let mut doers = 0;
+    for v in 0..machine.vertices() {
+        if count_steps(machine, VertexId(v)) > 0 {
+            doers = v + 1;
+        }
+    }
+    doers
+}
+
+/// How many do tasks are ready; only vertices below the number are looked at.
+pub fn count_do_tasks(machine: &Machine, config: &Config, doers: u16) -> u32
+    requires fits { Fits machine.now config.now }
+    requires doers { AreDoersBelow machine.now doers }
     ensures { result ≡ length (do_tasks machine.now config.now) }
 {
     let mut count = 0;
-    for v in 0..machine.vertices() {
+    for v in 0..doers {
         if task_of_vertex(machine, config, VertexId(v)).is_some() {
             count += 1;
         }

@@ -7,6 +7,7 @@ ghost use Rattle.pssm_semantics.specs.Values.{no_params};
 ghost use Rattle.pssm_semantics.specs.Journal.{object_of};
 ghost use Rattle.pssm_semantics.specs.Classes.{IsWellFormedClass};
 
+use crate::doing::doers_of;
 use crate::queue::Queue;
 use crate::situation::Situation;
 use pssm_config::Config;
@@ -20,8 +21,8 @@ use std::marker::Model;
 /// completion).
 ///
 /// A clause sees where the object stands: which one it is, its configuration, the plan of its last step, the
-/// values of its variables, the parameters of its step, its completion queue and whether it has ended. It keeps no
-/// entries: `StandsAfter` says after which journals it stands so, and what a call promises it promises for each of these.
+/// values of its variables, the parameters of its step, its completion queue, whether it has ended and below which
+/// number the vertices with do steps are. It keeps no entries: `StandsAfter` says after which journals it stands so, and what a call promises it promises for each of these.
 #[derive(Drop)]
 pub struct Object {
     alloc: Global,
@@ -67,6 +68,7 @@ impl Object {
                 params,
                 queue,
                 ended,
+                doers: doers_of(&class.machine),
             },
         })
     }

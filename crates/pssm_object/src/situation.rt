@@ -21,4 +21,6 @@ pub struct Situation {
     pub queue: Queue,
     /// Whether it has ended.
     pub ended: bool,
+    /// A number below which all vertices with do steps are.
+    pub doers: u16,
 }

@@ -3,7 +3,7 @@ ghost use Rattle.std.specs.Prelude.{◌≡◌, ◌≤◌, ◌<◌, ◌+◌, ◌-
 ghost use Rattle.pssm_model.specs.declared.elements.DraftMachine.{DraftMachine};
 ghost use Rattle.pssm_model.specs.Order.{IsReady};
 ghost use Rattle.pssm_config.specs.Tables.{Fits};
-ghost use Rattle.pssm_object.specs.Doing.{do_tasks};
+ghost use Rattle.pssm_object.specs.Doing.{do_tasks, AreDoersBelow};
 ghost use Rattle.pssm_object.specs.Tasks.{task_of as task_by, tasks_of_plan, ready_tasks};
 ghost use Rattle.pssm_plan.specs.Agenda.{course_of};
 ghost use Rattle.pssm_plan.specs.Plans.{IsPlanOf};
@@ -21,6 +21,7 @@ impl Situation {
     /// How many tasks of the object are ready.
     pub fn count_tasks(&self, machine: &Machine) -> u32
         requires fits { Fits machine.now self.now.config }
+        requires doers { AreDoersBelow machine.now self.now.doers }
         requires few { length (ready_tasks machine.now (standing_of self.now)) < 4294967296 }
         ensures { result ≡ length (ready_tasks machine.now (standing_of self.now)) }
     {
@@ -34,10 +35,11 @@ impl Situation {
     // How many tasks of its step and do steps are ready.
     fn count_all(&self, machine: &Machine) -> u32
         requires fits { Fits machine.now self.now.config }
+        requires doers { AreDoersBelow machine.now self.now.doers }
         requires few { length (tasks_of_plan self.now.plan) + length (do_tasks machine.now self.now.config) < 4294967296 }
         ensures { result ≡ length (tasks_of_plan self.now.plan) + length (do_tasks machine.now self.now.config) }
     {
-        self.count_in_step() + count_do_tasks(machine, &self.config)
+        self.count_in_step() + count_do_tasks(machine, &self.config, self.doers)
     }
 
     // How many tasks of its step are ready.
@@ -128,6 +130,7 @@ impl Situation {
     /// Whether no entry of the object but a post may come next.
     pub fn is_quiet(&self, machine: &Machine, waiting: bool) -> bool
         requires fits { Fits machine.now self.now.config }
+        requires doers { AreDoersBelow machine.now self.now.doers }
         requires plan { IfSome self.now.plan (IsPlanOf machine.now) }
         ensures { IsTrue result ↔ IsStill machine.now (standing_of self.now) waiting }
     {
@@ -137,12 +140,13 @@ impl Situation {
     // Whether its step is finished, no completion waits and no do step is left.
     fn has_nothing_left(&self, machine: &Machine) -> bool
         requires fits { Fits machine.now self.now.config }
+        requires doers { AreDoersBelow machine.now self.now.doers }
         requires plan { IfSome self.now.plan (IsPlanOf machine.now) }
         ensures { IsTrue result ↔ HasNothingLeft machine.now (standing_of self.now) }
     {
         self.is_at_rest()
             && self.queue.first().is_none()
-            && count_do_tasks(machine, &self.config) == 0
+            && count_do_tasks(machine, &self.config, self.doers) == 0
     }
 }
 

@@ -116,6 +116,7 @@ pub record Settles (m : DraftMachine) (old : Standing) (item : Item) (how : How)
   pub room : new.queue.room ≡ old.queue.room
   pub queue : QueueTurns m old (leaving item) (completing m item how) new
   pub ended : IsTrue new.ended ↔ Ends m (configuration_of new.config) item
+  pub doers : new.doers ≡ old.doers
 
 -- The item has run and changed the configuration, the variables have these values, the queue has gone on, and the object has ended
 -- where the item ends it; nothing else has changed.
@@ -130,6 +131,7 @@ pub record RunsHere (m : DraftMachine) (old : Standing) (item : Item) (how : How
   pub room : new.queue.room ≡ old.queue.room
   pub queue : QueueTurns m old (leaving item) (completing m item how) new
   pub ended : IsTrue new.ended ↔ Ends m (configuration_of new.config) item
+  pub doers : new.doers ≡ old.doers
 
 -- The item has run with its behaviour.
 abbrev pub WorksHere : Class → Standing → Item → Standing → Type 0
@@ -146,6 +148,7 @@ pub record StepsHere (class : Class) (old : Standing) (s : VertexId) (k : ℕ) (
   pub room : new.queue.room ≡ old.queue.room
   pub queue : QueueTurns class.machine old None (Some s) new
   pub ended : new.ended ≡ old.ended
+  pub doers : new.doers ≡ old.doers
 
 -- The object has started.
 pub record Begins (m : DraftMachine) (old new : Standing) : Type 0 where
@@ -157,6 +160,7 @@ pub record Begins (m : DraftMachine) (old new : Standing) : Type 0 where
   pub params : new.params ≡ old.params
   pub queue : new.queue ≡ old.queue
   pub ended : new.ended ≡ old.ended
+  pub doers : new.doers ≡ old.doers
 
 -- The routes fire under these parameters.
 pub record FiresOn (m : DraftMachine) (old : Standing) (routes : List Route) (params : Params) (new : Standing)
@@ -168,6 +172,7 @@ pub record FiresOn (m : DraftMachine) (old : Standing) (routes : List Route) (pa
   pub store : new.store ≡ old.store
   pub params_is : new.params ≡ params
   pub ended : new.ended ≡ old.ended
+  pub doers : new.doers ≡ old.doers
 
 -- The signal is taken, and the routes fire.
 pub record Takes (m : DraftMachine) (old : Standing) (routes : List Route) (signal : Option Waiting) (new : Standing)

@@ -64,3 +64,4 @@ pub record DoesStep (class : Class) (old : Standing) (s : VertexId) (k : ℕ) (n
   pub params : new.params ≡ old.params
   pub queue : new.queue ≡ old.queue
   pub ended : new.ended ≡ old.ended
+  pub doers : new.doers ≡ old.doers

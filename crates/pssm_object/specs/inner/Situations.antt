@@ -9,7 +9,7 @@ use Rattle.pssm_object.specs.Standing.{Standing}
 
 -- where an object stands that keeps this
 abbrev pub standing_of : Situation → Standing
-standing_of s = record { own = s.own; config = s.config; plan = s.plan; store = s.store.items; params = s.params; queue = s.queue; ended = s.ended }
+standing_of s = record { own = s.own; config = s.config; plan = s.plan; store = s.store.items; params = s.params; queue = s.queue; ended = s.ended; doers = s.doers }
 
 -- The object has started, and everything that its last step calls has run.
 abbrev pub IsAtRest : DraftMachine → Option Agenda → Type 0

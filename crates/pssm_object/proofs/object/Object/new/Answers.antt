@@ -7,6 +7,6 @@ use Rattle.pssm_object.proofs.object.Object.new.Goals as goal
 pub returns-clause-start : goal.returns-clause-start
 returns-clause-start c =
     starts_so c.args.class.now c.args.own c.in_ok-config.config c.in_ok-store.store.items c.in_ok-params.params c.in_ok-queue.queue c.top_regions.result.now
-    c.is_empty-ended.result c.in_ok-config.ensures.fits c.in_ok-config.ensures.nothing
+    c.is_empty-ended.result c.doers_of.result c.in_ok-config.ensures.fits c.in_ok-config.ensures.nothing
     (c.in_ok-store.ensures ∙ ap (λ (vars : List VarDecl). map (λ x. x.first) vars) c.as_slice.ensures) c.in_ok-params.ensures c.in_ok-queue.ensures.empty
-    c.in_ok-queue.ensures.room c.top_regions.ensures.items c.is_empty-ended.ensures
+    c.in_ok-queue.ensures.room c.top_regions.ensures.items c.is_empty-ended.ensures c.doers_of.ensures

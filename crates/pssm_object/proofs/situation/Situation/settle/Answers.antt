@@ -13,4 +13,5 @@ returns-clause-settled c =
       room = c.settle_by.ensures.room;
       queue = c.settle_by.ensures.goes_on c.args.self.now.config c.args.how.now c.due_by-due.ensures.due;
       ended = c.ends_by-self.ensures;
+      doers = refl;
     }

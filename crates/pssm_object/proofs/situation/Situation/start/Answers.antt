@@ -17,5 +17,6 @@ returns-clause-ok c =
       params = old.params;
       queue = old.queue;
       ended = old.ended;
+      doers = old.doers;
     } in
-    begins c.args.machine.now old new c.in_ok-of_start.field-0 refl refl refl refl refl refl refl made.head made.at_head made.none_ran made.plan
+    begins c.args.machine.now old new c.in_ok-of_start.field-0 refl refl refl refl refl refl refl refl made.head made.at_head made.none_ran made.plan

@@ -20,4 +20,5 @@ returns-clause-ok c =
           (configuration_of c.do_step_made.new.self.config) None (Some c.args.state) q.states c.settle.new.self.states) did.queue
           (c.settle.ensures.goes_on c.args.self.now.config (Some c.args.state) c.due_of-due.ensures.due);
       ended = did.ended;
+      doers = did.doers;
     }

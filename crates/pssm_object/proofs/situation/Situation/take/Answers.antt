@@ -19,8 +19,9 @@ returns-clause-ok c =
       params = c.renew_params.new.params;
       queue = old.queue;
       ended = old.ended;
+      doers = old.doers;
     } in
     let fires : IsSomeAnd (option_copied c.args.signal) (λ w. FiresOn c.args.machine.now old c.args.firing.now.routes (eight_of w.args) new) =
     rw c.in-Some.is
-    (record { own = refl; plan = fired.0; at_head = fired.1; config = refl; store = refl; params_is = c.renew_params.ensures; ended = refl }) in
+    (record { own = refl; plan = fired.0; at_head = fired.1; config = refl; store = refl; params_is = c.renew_params.ensures; ended = refl; doers = refl }) in
     record { fires = fires; queue = refl }
