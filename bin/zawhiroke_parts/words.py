@@ -48,8 +48,12 @@ OWN = (
     ('--version', '', 'commit, kit, digest of the sources, and whether the program is built of them', '--version'),
     ('--help', '', 'this text', '--help'),
 )
-# The options of a run: the least and the greatest number of each.
-OPTIONS = {'--seed': (0, MOST - 1), '--workers': (1, 16), '--limit': (0, 1000000)}
+# The options of a run: the least and the greatest number of each, the one that counts without it, and what it says.
+OPTIONS = {
+    '--seed': (0, MOST - 1, 0, 'settles free choices; with one worker it settles all of them'),
+    '--workers': (1, 16, 1, 'so many threads run the model; with several the same words give various runs'),
+    '--limit': (0, 1000000, 10000, 'the most entries that the journal may have'),
+}
 
 
 def is_text(word):
@@ -142,7 +146,7 @@ def run_of(words):
 
 def no_value(option, value):
     """Why the value is none of the option, or nothing."""
-    least, greatest = OPTIONS[option]
+    least, greatest = OPTIONS[option][:2]
     if is_number(value) and least <= int(value[:21]) <= greatest:
         return None
     return 'takes a number from %d to %d' % (least, greatest)
@@ -165,13 +169,20 @@ def list_of_words():
         '    %s\n' % (name + ' ' + rest).rstrip() for name, rest, _, _ in COMMANDS + OWN)
 
 
+def options_text():
+    """What `--help` prints of the options of a run."""
+    return ''.join('      %-9s  %d to %d, without it %d: %s\n' % ((option,) + numbers)
+                   for option, numbers in OPTIONS.items())
+
+
 def help_text():
     """What `--help` prints."""
     lines = ['Runs UML state machines, and judges journals of their runs.\n']
     for title, commands in (('Commands of the proved program', COMMANDS), ('Around it', OWN)):
         lines.append('\n%s:\n\n' % title)
         for name, rest, does, example in commands:
-            lines.append('  %s\n      %s\n      $ bin/zawhiroke %s\n' % ((name + ' ' + rest).rstrip(), does, example))
+            lines.append('  %s\n      %s\n%s      $ bin/zawhiroke %s\n'
+                         % ((name + ' ' + rest).rstrip(), does, options_text() if name == 'run' else '', example))
     lines.append('\nREADME.md has the statuses, docs/FORMATS.md every text that is read and written.\n')
     return ''.join(lines)
 

@@ -16,6 +16,9 @@ run M a.Go()
 run --seed 0 M
 run --seed 18446744073709551615 --workers 16 --limit 1000000 M a.Go() b.Set(1,-2,0)
 run --limit 0 M
+run --workers 1 M
+run --workers=16 M a.Go()
+run --workers 4 -- M a.Go()
 run M _a1.B_(-9223372036854775808,9223372036854775807)
 run M a.Go(1,2,3,4,5,6,7,8)
 run --limit 1 --seed 1 M
@@ -58,6 +61,14 @@ run --seed  M
 run --seed +1 M
 run --workers 0 M
 run --workers 17 M
+run --workers x M
+run --workers 01 M
+run --workers -1 M
+run --workers
+run --workers= M
+run --workers 2 M --workers 2
+run --workers=1 --workers=4 M
+run --worker 2 M
 run --limit 1000001 M
 run --seed= M
 run --seed=01 M
@@ -134,6 +145,9 @@ class AtOnce(InRepository):
         self.at_once(['--verbose', 'check', 'M'], 2, 'usage\n', 'there is no option --verbose')
         self.at_once(['run', '--limit', 'x', 'M'], 2, 'usage\n', '--limit takes a number from 0 to 1000000')
         self.at_once(['run', '--limit=5', 'M', '--limit=5'], 2, 'usage\n', '--limit stands twice')
+        self.at_once(['run', '--workers', '17', 'M'], 2, 'usage\n', '--workers takes a number from 1 to 16')
+        self.at_once(['run', '--workers=0', 'M'], 2, 'usage\n', '--workers takes a number from 1 to 16')
+        self.at_once(['run', '--workers', '2', 'M', '--workers=2'], 2, 'usage\n', '--workers stands twice')
         self.at_once(['run', '--lim=5', 'M'], 2, 'usage\n', 'run has no option --lim')
         self.at_once(['run', '--seed', '5'], 2, 'usage\n', 'run takes a MODEL')
         self.at_once(['run', 'M', 'door.Open'], 2, 'usage\n', 'door.Open is no stimulus')
@@ -170,6 +184,9 @@ class AtOnce(InRepository):
             for name, rest, _, example in COMMANDS:
                 self.assertIn('%s %s' % (name, rest), answer)
                 self.assertIn('$ bin/zawhiroke ' + example, answer)
+            self.assertIn('--workers  1 to 16, without it 1: ', answer)
+            self.assertIn('--limit    0 to 1000000, without it 10000: ', answer)
+            self.assertIn('--seed     0 to 18446744073709551615, without it 0: ', answer)
 
     def test_version_without_anything(self):
         status, answer, _ = self.run_words('--version', has_rt=False)

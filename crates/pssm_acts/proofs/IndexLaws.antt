@@ -1,10 +1,12 @@
 -- Names and the keys of their index.
-use Rattle.std.proofs.Common.{◌≡◌, ℕ, ◌+◌, Bool, false, not, ◌||◌, List, [], ◌∷◌, ◌++◌, take, None, refl, ap, ◌∙◌}
-use Rattle.std.specs.Prelude.{position, if◌then◌else◌}
+use Rattle.std.proofs.Common.{◌≡◌, ℕ, ◌+◌, Bool, false, not, ◌||◌, List, [], ◌∷◌, ◌++◌, take, map, Option, Some, None, refl, sym, subst, ap, ◌∙◌}
+use Rattle.std.proofs.lemmas.List.{length-map}
+use Rattle.std.specs.Prelude.{option_map, position, if◌then◌else◌}
 use Rattle.std.specs.List.{position_or_len, list_any}
 use Rattle.std.specs.Str.{bytes_eq}
 use Rattle.std.specs.Cmp.Lexicographic.{nat_list_eq_equiv}
-use Rattle.indexmap.specs.IndexSet.{insert_key}
+use Rattle.indexmap.specs.IndexSet.{IndexSet, insert_key}
+use Rattle.pssm_acts.specs.Indexes.{IsIndexOf}
 use Rattle.pssm_acts.proofs.MarkNames.{AllFail, none_passes, none_found}
 
 -- whether the name that is sought is this key, and whether this mark is the name
@@ -24,6 +26,27 @@ same_position names name = let places = same_length names name in cc
 -- A name is found in the index where it stands among the names.
 pub same_place : (keys names : List (List ℕ)) (name : List ℕ) → keys ≡ names → position (is_key name) keys ≡ position (is_name name) names
 same_place keys names name same = same_position keys name ∙ ap (λ (xs : List (List ℕ)). position (is_name name) xs) same
+
+-- among what has names too
+mapped_length : {X : Type 0} (f : X → List ℕ) (items : List X) (name : List ℕ) → position_or_len (is_name name) (map f items) ≡ position_or_len (λ x. is_name name (f x)) items
+mapped_length f [] name = refl
+mapped_length f (x ∷ items) name = ap (λ n. if not (bytes_eq (f x) name) then 1 + n else 0) (mapped_length f items name)
+
+mapped_position : {X : Type 0} (f : X → List ℕ) (items : List X) (name : List ℕ) → position (is_name name) (map f items) ≡ position (λ x. is_name name (f x)) items
+mapped_position f items name = let places = mapped_length f items name in let all = length-map items f in cc
+
+pub owner_place : {X : Type 0} (f : X → List ℕ) (keys : List (List ℕ)) (items : List X) (name : List ℕ) → keys ≡ map f items
+    → position (is_key name) keys ≡ position (λ x. bytes_eq (f x) name) items
+owner_place f keys items name same = same_place keys (map f items) name same ∙ mapped_position f items name
+
+-- so it is with an index of them
+pub index_place : {X S : Type 0} (f : X → List ℕ) (kept : Option (IndexSet (List ℕ) S)) (set : IndexSet (List ℕ) S) (index : Option (List (List ℕ))) (items : List X) (name : List ℕ) (r : Option ℕ)
+    → option_map (λ (s : IndexSet (List ℕ) S). s.keys) kept ≡ index → kept ≡ Some set → IsIndexOf (map f items) index → r ≡ position (is_key name) set.keys
+    → r ≡ position (λ x. bytes_eq (f x) name) items
+index_place {S = S} f kept set index items name r view is of found =
+    let all : Some set.keys ≡ index = ap (option_map (λ (s : IndexSet (List ℕ) S). s.keys)) (sym is) ∙ view in
+    let same : set.keys ≡ map f items = subst (λ (i : Option (List (List ℕ))). IsIndexOf (map f items) i) (sym all) of in
+    found ∙ owner_place f set.keys items name same
 
 -- ---- one more name
 

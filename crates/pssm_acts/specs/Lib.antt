@@ -11,4 +11,5 @@ pub mod ReadBack
 pub mod Canonical
 pub mod OneReading
 pub mod Longest
+pub mod Indexes
 pub mod inner

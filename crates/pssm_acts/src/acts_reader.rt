@@ -9,13 +9,14 @@ ghost use Rattle.pssm_acts.specs.inner.GuardReading.{nots_waiting};
 
 use crate::act_fault::{ActFault, refused};
 use crate::guard_reader::{GuardReader, guard_end, guard_next, new_guard};
+use crate::known::Known;
 use crate::marks::Marks;
 use crate::phrase_reader::{Phrase, Phrased, new_phrase, phrase_next};
 use crate::read_blocks::{Blocks, OpenIf, counted, new_blocks, with_if, with_step, with_stmt};
 use crate::stack::Stack;
 use crate::token::{Kind, Piece};
 use pssm_model::Row;
-use pssm_semantics::{Act, Cond, Names, Stmt};
+use pssm_semantics::{Act, Cond, Stmt};
 use std::alloc::Global;
 
 // How many levels of parentheses, brackets and blocks may be open at once (this profile's choice).
@@ -190,7 +191,7 @@ fn begin(
     alloc: Global,
     blocks: Blocks,
     piece: Piece<'_>,
-    names: &Names,
+    names: &Known<'_>,
     stepped: bool,
 ) -> Result<ActsReader, ActFault>
     requires few { length names.now.vars ≤ 65536 }
@@ -218,7 +219,7 @@ fn behind_block(
     condition: Cond,
     body: Row<Stmt>,
     piece: Piece<'_>,
-    names: &Names,
+    names: &Known<'_>,
     stepped: bool,
 ) -> Result<ActsReader, ActFault>
     requires few { length names.now.vars ≤ 65536 }
@@ -266,7 +267,7 @@ fn in_condition(
     blocks: Blocks,
     guard: GuardReader,
     piece: Piece<'_>,
-    names: &Names,
+    names: &Known<'_>,
 ) -> Result<ActsReader, ActFault>
     requires few { length names.now.vars ≤ 65536 }
     requires nots { nots_waiting guard < 4294967295 }
@@ -299,7 +300,7 @@ fn in_phrase(
     blocks: Blocks,
     phrase: Phrase,
     piece: Piece<'_>,
-    names: &Names,
+    names: &Known<'_>,
     marks: &mut Marks,
 ) -> Result<ActsReader, ActFault>
     requires few { length names.now.vars ≤ 65536 }
@@ -344,7 +345,7 @@ pub(crate) fn acts_next(
     alloc: Global,
     reader: ActsReader,
     piece: Piece<'_>,
-    names: &Names,
+    names: &Known<'_>,
     marks: &mut Marks,
     stepped: bool,
 ) -> Result<ActsReader, ActFault>

@@ -6,9 +6,10 @@ ghost use Rattle.pssm_acts.specs.inner.ArgumentReading.{argument_closed, argumen
 
 use crate::act_fault::ActFault;
 use crate::expr_reader::{ExprReader, expr_end, expr_next, new_reader};
+use crate::known::Known;
 use crate::token::{Kind, Piece};
 use pssm_model::Row;
-use pssm_semantics::{Expr, Names};
+use pssm_semantics::Expr;
 use std::alloc::{AllocError as NoMemory, Global};
 
 /// Arguments of which nothing has been read; or those that are whole, and one that has been read in
@@ -51,7 +52,7 @@ fn more(
     args: Row<Expr>,
     last: ExprReader,
     piece: Piece<'_>,
-    names: &Names,
+    names: &Known<'_>,
     room: usize,
 ) -> Result<Argued, ActFault>
     requires few { length names.now.vars ≤ 65536 }
@@ -68,7 +69,7 @@ fn closed(
     args: Row<Expr>,
     last: ExprReader,
     piece: Piece<'_>,
-    names: &Names,
+    names: &Known<'_>,
     room: usize,
 ) -> Result<Argued, ActFault>
     requires few { length names.now.vars ≤ 65536 }
@@ -87,7 +88,7 @@ fn listed(
     args: Row<Expr>,
     last: ExprReader,
     piece: Piece<'_>,
-    names: &Names,
+    names: &Known<'_>,
     room: usize,
 ) -> Result<Argued, ActFault>
     requires few { length names.now.vars ≤ 65536 }
@@ -109,7 +110,7 @@ pub(crate) fn arguments_next(
     alloc: Global,
     arguments: Arguments,
     piece: Piece<'_>,
-    names: &Names,
+    names: &Known<'_>,
     room: usize,
 ) -> Result<Argued, ActFault>
     requires few { length names.now.vars ≤ 65536 }

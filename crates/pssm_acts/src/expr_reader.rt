@@ -1,14 +1,15 @@
 //! Reading an expression token by token: what has been read of it, and what the next token makes of
 //! that.
-ghost use Rattle.std.specs.Prelude.{◌≡◌, ◌≤◌, ◌<◌, length, position, bytes_eq, IfOk, IfSome};
+ghost use Rattle.std.specs.Prelude.{◌≡◌, ◌≤◌, length, IfOk};
 ghost use Rattle.pssm_acts.specs.inner.ExprReading.{Answers, after_atom, at_atom, atom_of, behind_product, closed, expr_step, expr_value, fresh_expr, level_opened, product_of, sum_of, token_of};
 
 use crate::act_fault::{ActFault, beside, refused};
+use crate::known::Known;
 use crate::numbers::number_of;
 use crate::stack::Stack;
 use crate::token::{Kind, Piece};
-use pssm_model::{Boxed, Text};
-use pssm_semantics::{Expr, Names};
+use pssm_model::Boxed;
+use pssm_semantics::Expr;
 use std::alloc::{AllocError as NoMemory, Global};
 
 /// The left side of a `+` or a `-`, where one waits for its right side.
@@ -100,26 +101,9 @@ fn sum(alloc: Global, left: Left, term: Expr) -> Result<Expr, NoMemory>
     }
 }
 
-// The place of the first of these names that is spelled so.
-pub(crate) fn place_of(names: &[Text], name: &[u8]) -> Option<usize>
-    ensures gives { result ≡ position (λ n. bytes_eq n name.now) names.now }
-    ensures within { IfSome result (λ k. k < length names.now) }
-{
-    names.iter().position(|n| n.as_slice() == name)
-}
-
-// The number of a variable.
-pub(crate) fn variable(vars: &[Text], name: &[u8]) -> Option<u16>
-    requires few { length vars.now ≤ 65536 }
-    ensures { result ≡ position (λ n. bytes_eq n name.now) vars.now }
-{
-    let place = place_of(vars, name)?;
-    Some(place as u16)
-}
-
 // The number, variable or parameter that a token is.
 #[tactic(auto, unfolding(crate::specs::inner::ExprReading::atom_of))]
-fn atom(piece: Piece<'_>, names: &Names) -> Result<Expr, ActFault>
+fn atom(piece: Piece<'_>, names: &Known<'_>) -> Result<Expr, ActFault>
     requires few { length names.now.vars ≤ 65536 }
     ensures { result ≡ atom_of names.now (token_of piece.entry) }
 {
@@ -128,7 +112,7 @@ fn atom(piece: Piece<'_>, names: &Names) -> Result<Expr, ActFault>
             Ok(number) => Ok(Expr::Num(number)),
             Err(fault) => Err(fault),
         },
-        Kind::Name => match variable(names.vars.as_slice(), piece.word) {
+        Kind::Name => match names.variable(piece.word) {
             Some(number) => Ok(Expr::Var(number)),
             None => Err(ActFault::UnknownName { at: piece.at }),
         },
@@ -179,7 +163,7 @@ fn wants_atom(
     left: Left,
     factor: Option<Expr>,
     piece: Piece<'_>,
-    names: &Names,
+    names: &Known<'_>,
     room: usize,
 ) -> Result<ExprReader, ActFault>
     requires few { length names.now.vars ≤ 65536 }
@@ -265,7 +249,7 @@ pub(crate) fn expr_next(
     alloc: Global,
     reader: ExprReader,
     piece: Piece<'_>,
-    names: &Names,
+    names: &Known<'_>,
     room: usize,
 ) -> Result<ExprReader, ActFault>
     requires few { length names.now.vars ≤ 65536 }

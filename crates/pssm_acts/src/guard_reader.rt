@@ -5,10 +5,11 @@ ghost use Rattle.pssm_acts.specs.inner.GuardReading.{after_unit, bracket_closed,
 
 use crate::act_fault::{ActFault, beside, refused};
 use crate::expr_reader::{ExprReader, boxed_pair, expr_end, expr_next, new_reader};
+use crate::known::Known;
 use crate::stack::Stack;
 use crate::token::{Kind, Piece};
 use pssm_model::Boxed;
-use pssm_semantics::{Cond, Expr, Names, Rel};
+use pssm_semantics::{Cond, Expr, Rel};
 use std::alloc::{AllocError as NoMemory, Global};
 
 /// What stands before a unit: a guard and a `&&`, and so many `!`.
@@ -147,7 +148,7 @@ fn begin_side(
     either: Option<Cond>,
     before: Before,
     piece: Piece<'_>,
-    names: &Names,
+    names: &Known<'_>,
     room: usize,
 ) -> Result<GuardReader, ActFault>
     requires few { length names.now.vars ≤ 65536 }
@@ -190,7 +191,7 @@ fn wants_unit(
     either: Option<Cond>,
     before: Before,
     piece: Piece<'_>,
-    names: &Names,
+    names: &Known<'_>,
     room: usize,
 ) -> Result<GuardReader, ActFault>
     requires few { length names.now.vars ≤ 65536 }
@@ -220,7 +221,7 @@ fn first_side(
     before: Before,
     side: ExprReader,
     piece: Piece<'_>,
-    names: &Names,
+    names: &Known<'_>,
     room: usize,
 ) -> Result<Stage, ActFault>
     requires few { length names.now.vars ≤ 65536 }
@@ -327,7 +328,7 @@ fn second_side(
     either: Option<Cond>,
     half: Half,
     piece: Piece<'_>,
-    names: &Names,
+    names: &Known<'_>,
     room: usize,
 ) -> Result<GuardReader, ActFault>
     requires few { length names.now.vars ≤ 65536 }
@@ -371,7 +372,7 @@ pub(crate) fn guard_next(
     alloc: Global,
     reader: GuardReader,
     piece: Piece<'_>,
-    names: &Names,
+    names: &Known<'_>,
     room: usize,
 ) -> Result<GuardReader, ActFault>
     requires few { length names.now.vars ≤ 65536 }

@@ -12,6 +12,8 @@ mod argument_reader;
 mod expr_reader;
 mod growing;
 mod guard_reader;
+mod index;
+mod known;
 mod marks;
 mod numbers;
 mod phrase_reader;
@@ -25,13 +27,16 @@ mod writing;
 
 pub use act_fault::ActFault;
 pub use growing::Growing;
+pub use index::{Index, Named};
+pub use known::Known;
 pub use marks::Marks;
 pub use pssm_semantics::{
     Act, Args, Class, Cond, Entry, Expr, Line, LineOut, Names, ObjectDecl, ObjectId, Out, Outcome,
     Program, Rel, Rule, Setting, SignalDecl, Stimulus, Stmt, Task, VarDecl, Worked, run, truth,
 };
 pub use reading::{
-    one_reading, read_act, read_act_noting, read_cond, read_steps, read_steps_noting,
+    one_reading, read_act, read_act_noting, read_cond, read_cond_known, read_steps,
+    read_steps_noting,
 };
 pub use tokens::longest_token;
 pub use writing::{write_act, write_cond};

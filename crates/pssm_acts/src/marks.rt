@@ -3,7 +3,6 @@ ghost use Rattle.std.specs.Prelude.{◌≡◌, ◌<◌, ◌++◌, ◌∷◌, [],
 ghost use Rattle.std.specs.Prelude.{IfOk, IfErr, IfSome};
 ghost use Rattle.pssm_acts.specs.Marks.{mark_of, with_mark};
 
-use crate::expr_reader::place_of;
 use indexmap::IndexSet;
 use pssm_model::{MarkId, Text};
 use pssm_spelling::{KeptName, LentName};
@@ -127,6 +126,14 @@ impl Marks {
             }
         }
     }
+}
+
+// The place of the first of these names that is spelled so.
+fn place_of(names: &[Text], name: &[u8]) -> Option<usize>
+    ensures gives { result ≡ position (λ n. bytes_eq n name.now) names.now }
+    ensures within { IfSome result (λ k. k < length names.now) }
+{
+    names.iter().position(|n| n.as_slice() == name)
 }
 
 // Puts a name that is new behind the others, and behind the keys of their index.

@@ -1,17 +1,18 @@
 //! Reading an assignment, a send or a mark token by token: what has been read of it, and what the
 //! next token makes of that.
-ghost use Rattle.std.specs.Prelude.{◌≡◌, ◌≤◌, ◌<◌, length, position, bytes_eq, IfSome};
+ghost use Rattle.std.specs.Prelude.{◌≡◌, ◌≤◌, ◌<◌, length, position, bytes_eq};
 ghost use Rattle.pssm_acts.specs.inner.ExprReading.{Answers, token_of};
 ghost use Rattle.pssm_acts.specs.Marks.{KeepsMarks};
 ghost use Rattle.pssm_acts.specs.inner.PhraseReading.{AnswersWith, argument_read, became, call_made, called_ended, dotted, mark_read, named, phrase_begun, phrase_step, receiver_read, signal_found, signal_read, value_read};
 
 use crate::act_fault::{ActFault, refused};
 use crate::argument_reader::{Argued, Arguments, arguments_next};
-use crate::expr_reader::{ExprReader, expr_end, expr_next, new_reader, place_of, variable};
+use crate::expr_reader::{ExprReader, expr_end, expr_next, new_reader};
+use crate::known::Known;
 use crate::marks::Marks;
 use crate::token::{Kind, Piece};
 use pssm_model::{MarkId, Row, SignalId};
-use pssm_semantics::{Expr, Names, ObjectId, SignalDecl, Stmt};
+use pssm_semantics::{Expr, ObjectId, Stmt};
 use std::alloc::Global;
 
 // The greatest number of a mark's arguments (this profile's choice).
@@ -50,33 +51,24 @@ pub enum Phrased {
     Ends(Stmt),
 }
 
-// The place of the first signal with this name.
-fn signal_place(signals: &[SignalDecl], name: &[u8]) -> Option<usize>
-    ensures gives { result ≡ position (λ d. bytes_eq d.name name.now) signals.now }
-    ensures within { IfSome result (λ k. k < length signals.now) }
-{
-    signals.iter().position(|d| d.name.as_slice() == name)
-}
-
 // The number of the first signal with this name, and how many parameters it has.
-fn signal_named(signals: &[SignalDecl], name: &[u8]) -> Option<(SignalId, u8)>
-    requires few { length signals.now ≤ 65536 }
-    ensures { result ≡ signal_found signals.now (position (λ d. bytes_eq d.name name.now) signals.now) }
+fn signal_named(names: &Known<'_>, name: &[u8]) -> Option<(SignalId, u8)>
+    requires few { length names.now.signals ≤ 65536 }
+    ensures { result ≡ signal_found names.now.signals (position (λ d. bytes_eq d.name name.now) names.now.signals) }
 {
-    match signal_place(signals, name) {
-        Some(place) => Some((SignalId(place as u16), signals[place].count)),
-        None => None,
-    }
+    let place = names.signal(name)?;
+    let signal = &names.names().signals.as_slice()[place];
+    Some((SignalId(place as u16), signal.count))
 }
 
 // The first token of an assignment, a send or a mark.
 #[tactic(auto, unfolding(crate::specs::inner::PhraseReading::phrase_begun))]
-pub(crate) fn new_phrase(piece: Piece<'_>, names: &Names) -> Result<Phrase, ActFault>
+pub(crate) fn new_phrase(piece: Piece<'_>, names: &Known<'_>) -> Result<Phrase, ActFault>
     requires few { length names.now.vars ≤ 65536 }
     ensures { result ≡ phrase_begun names.now (token_of piece.entry) }
 {
     match piece.kind {
-        Kind::Name => match variable(names.vars.as_slice(), piece.word) {
+        Kind::Name => match names.variable(piece.word) {
             Some(number) => Ok(Phrase::Variable(number)),
             None => Err(ActFault::UnknownName { at: piece.at }),
         },
@@ -104,7 +96,7 @@ fn value(
     variable: u16,
     reader: ExprReader,
     piece: Piece<'_>,
-    names: &Names,
+    names: &Known<'_>,
     room: usize,
 ) -> Result<Phrased, ActFault>
     requires few { length names.now.vars ≤ 65536 }
@@ -124,13 +116,13 @@ fn value(
 
 // A token behind `send`: the name of an object, or `self`.
 #[tactic(auto, unfolding(crate::specs::inner::PhraseReading::receiver_read))]
-fn receiver(piece: Piece<'_>, names: &Names) -> Result<Phrased, ActFault>
+fn receiver(piece: Piece<'_>, names: &Known<'_>) -> Result<Phrased, ActFault>
     requires objects { length names.now.objects ≤ 256 }
     ensures { result ≡ receiver_read names.now (token_of piece.entry) }
 {
     match piece.kind {
         Kind::Own => Ok(Phrased::Goes(Phrase::Receiver(None))),
-        Kind::Name => match place_of(names.objects.as_slice(), piece.word) {
+        Kind::Name => match names.object(piece.word) {
             Some(place) => Ok(Phrased::Goes(Phrase::Receiver(Some(ObjectId(place as u8))))),
             None => Err(ActFault::UnknownName { at: piece.at }),
         },
@@ -151,12 +143,16 @@ fn dot(object: Option<ObjectId>, piece: Piece<'_>) -> Result<Phrased, ActFault>
 
 // A token behind the dot: the name of a signal.
 #[tactic(auto, unfolding(crate::specs::inner::PhraseReading::signal_read))]
-fn signal(object: Option<ObjectId>, piece: Piece<'_>, names: &Names) -> Result<Phrased, ActFault>
+fn signal(
+    object: Option<ObjectId>,
+    piece: Piece<'_>,
+    names: &Known<'_>,
+) -> Result<Phrased, ActFault>
     requires signals { length names.now.signals ≤ 65536 }
     ensures { result ≡ signal_read names.now object (token_of piece.entry) }
 {
     match piece.kind {
-        Kind::Name => match signal_named(names.signals.as_slice(), piece.word) {
+        Kind::Name => match signal_named(names, piece.word) {
             Some((signal, count)) => {
                 let call = Call::Send(object, signal, count);
                 Ok(Phrased::Goes(Phrase::Named(call)))
@@ -238,7 +234,7 @@ fn argument(
     call: Call,
     arguments: Arguments,
     piece: Piece<'_>,
-    names: &Names,
+    names: &Known<'_>,
     room: usize,
 ) -> Result<Phrased, ActFault>
     requires few { length names.now.vars ≤ 65536 }
@@ -268,7 +264,7 @@ pub(crate) fn phrase_next(
     alloc: Global,
     phrase: Phrase,
     piece: Piece<'_>,
-    names: &Names,
+    names: &Known<'_>,
     marks: &mut Marks,
     room: usize,
 ) -> Result<Phrased, ActFault>

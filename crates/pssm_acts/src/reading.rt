@@ -18,6 +18,8 @@ ghost use Rattle.pssm_acts.specs.Vocabularies.{vocabulary};
 use crate::act_fault::ActFault;
 use crate::acts_reader::{LEVELS, ReadActs, acts_end, acts_next, new_acts};
 use crate::guard_reader::{guard_end, guard_next, new_guard};
+use crate::index::Index;
+use crate::known::Known;
 use crate::marks::Marks;
 use crate::read_blocks::with_step;
 use crate::tokens::Tokens;
@@ -30,7 +32,7 @@ use std::mem;
 const TEXT_LEN: usize = 4096;
 
 // The guard that the tokens of a text spell.
-fn cond_of(alloc: Global, text: &[u8], names: &Names) -> Result<Cond, ActFault>
+fn cond_of(alloc: Global, text: &[u8], names: &Known<'_>) -> Result<Cond, ActFault>
     requires few { length names.now.vars ≤ 65536 }
     requires short { length text.now ≤ 4096 }
     ensures { Answers (text_reading names.now text.now) result }
@@ -45,7 +47,7 @@ fn cond_of(alloc: Global, text: &[u8], names: &Names) -> Result<Cond, ActFault>
 
 // The guard that a text spells.
 #[tactic(auto, unfolding(crate::specs::inner::GuardReading::cond_reading))]
-fn guard_of(alloc: Global, text: &[u8], names: &Names) -> Result<Cond, ActFault>
+fn guard_of(alloc: Global, text: &[u8], names: &Known<'_>) -> Result<Cond, ActFault>
     requires few { length names.now.vars ≤ 65536 }
     ensures { Answers (cond_reading names.now text.now) result }
 {
@@ -56,7 +58,7 @@ fn guard_of(alloc: Global, text: &[u8], names: &Names) -> Result<Cond, ActFault>
 }
 
 /// The guard that a text spells; otherwise the first fault in reading order.
-pub fn read_cond(alloc: Global, text: &[u8], names: &Names) -> Result<Cond, ActFault>
+pub fn read_cond_known(alloc: Global, text: &[u8], names: &Known<'_>) -> Result<Cond, ActFault>
     requires few { length names.now.vars ≤ 65536 }
     ensures spelled { IfOk result (λ cond. SpellsCond names.now text.now cond) }
     ensures known { (cond : Cond) → SpellsCond names.now text.now cond → Answers (Ok cond) result }
@@ -74,11 +76,33 @@ pub fn read_cond(alloc: Global, text: &[u8], names: &Names) -> Result<Cond, ActF
     guard_of(alloc, text, names)
 }
 
+/// The guard that a text spells; otherwise the first fault in reading order.
+///
+/// As `read_cond_known`, where each name is sought among those of its list.
+pub fn read_cond(alloc: Global, text: &[u8], names: &Names) -> Result<Cond, ActFault>
+    requires few { length names.now.vars ≤ 65536 }
+    ensures spelled { IfOk result (λ cond. SpellsCond names.now text.now cond) }
+    ensures known { (cond : Cond) → SpellsCond names.now text.now cond → Answers (Ok cond) result }
+    ensures fits { IfOk result (λ cond. CondFits (length names.now.vars) cond) }
+    ensures fault { IfErr result
+        (λ fault. Faults (TextFault (GuardShape Either) names.now text.now) fault) }
+    ensures first { (fault : ActFault)
+        → TextFault (GuardShape Either) names.now text.now fault
+        → Answers (Err fault) result }
+    ensures canonical { IsCanonicalCond names.now text.now
+        → IfErr result (λ fault. fault ≡ NoMemory) }
+    ensures unchanged { IsCanonicalCond names.now text.now
+        → IfOk result (λ cond. cond_text names.now cond ≡ text.now) }
+{
+    let none = Index::none();
+    read_cond_known(alloc, text, &Known::of(names, &none, &none, &none))
+}
+
 // The behaviours that the tokens of a text spell: one, or several where they are steps.
 fn acts_of(
     alloc: Global,
     text: &[u8],
-    names: &Names,
+    names: &Known<'_>,
     marks: &mut Marks,
     stepped: bool,
 ) -> Result<ReadActs, ActFault>
@@ -104,7 +128,7 @@ fn acts_of(
 fn acts_in(
     alloc: Global,
     text: &[u8],
-    names: &Names,
+    names: &Known<'_>,
     marks: &mut Marks,
     stepped: bool,
 ) -> Result<ReadActs, ActFault>
@@ -124,7 +148,7 @@ fn acts_in(
 
 // The behaviour that a text spells.
 #[tactic(auto, unfolding(crate::specs::inner::ActReading::act_reading))]
-fn act_in(alloc: Global, text: &[u8], names: &Names, marks: &mut Marks) -> Result<Act, ActFault>
+fn act_in(alloc: Global, text: &[u8], names: &Known<'_>, marks: &mut Marks) -> Result<Act, ActFault>
     requires few { length names.now.vars ≤ 65536 }
     requires objects { length names.now.objects ≤ 256 }
     requires signals { length names.now.signals ≤ 65536 }
@@ -142,7 +166,7 @@ fn act_in(alloc: Global, text: &[u8], names: &Names, marks: &mut Marks) -> Resul
 fn steps_in(
     alloc: Global,
     text: &[u8],
-    names: &Names,
+    names: &Known<'_>,
     marks: &mut Marks,
 ) -> Result<Row<Act>, ActFault>
     requires few { length names.now.vars ≤ 65536 }
@@ -165,7 +189,7 @@ fn steps_in(
 pub fn read_act_noting(
     alloc: Global,
     text: &[u8],
-    names: &Names,
+    names: &Known<'_>,
     marks: &mut Marks,
 ) -> Result<Act, ActFault>
     requires few { length names.now.vars ≤ 65536 }
@@ -206,7 +230,7 @@ pub fn read_act_noting(
 pub fn read_steps_noting(
     alloc: Global,
     text: &[u8],
-    names: &Names,
+    names: &Known<'_>,
     marks: &mut Marks,
 ) -> Result<Vec<Act>, ActFault>
     requires few { length names.now.vars ≤ 65536 }
@@ -239,7 +263,7 @@ pub fn read_steps_noting(
 
 /// The behaviour that a text spells; otherwise the first fault in reading order.
 ///
-/// As `read_act_noting`, where each mark is sought among those before it.
+/// As `read_act_noting`, where each name is sought among those of its list.
 pub fn read_act(
     alloc: Global,
     text: &[u8],
@@ -267,15 +291,17 @@ pub fn read_act(
     ensures unchanged { IsCanonicalAct names.now text.now
         → IfOk result (λ act. act_text names.now marks.new.items act ≡ text.now) }
 {
+    let none = Index::none();
+    let known = Known::of(names, &none, &none, &none);
     let mut noted = Marks::listed(mem::replace(marks, Vec::new(alloc)));
-    let read = read_act_noting(alloc, text, names, &mut noted);
+    let read = read_act_noting(alloc, text, &known, &mut noted);
     *marks = noted.into_vec();
     read
 }
 
 /// The steps that a text spells, separated by `step;`; otherwise the first fault in reading order.
 ///
-/// As `read_steps_noting`, where each mark is sought among those before it.
+/// As `read_steps_noting`, where each name is sought among those of its list.
 pub fn read_steps(
     alloc: Global,
     text: &[u8],
@@ -300,8 +326,10 @@ pub fn read_steps(
     ensures refused { IfErr result (λ _. marks.new.items ≡ marks.old.items) }
     ensures kept { KeepsMarks marks.old.items marks.new.items }
 {
+    let none = Index::none();
+    let known = Known::of(names, &none, &none, &none);
     let mut noted = Marks::listed(mem::replace(marks, Vec::new(alloc)));
-    let read = read_steps_noting(alloc, text, names, &mut noted);
+    let read = read_steps_noting(alloc, text, &known, &mut noted);
     *marks = noted.into_vec();
     read
 }

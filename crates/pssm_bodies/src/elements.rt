@@ -8,9 +8,8 @@ ghost use Rattle.pssm_bodies.specs.Programs.{NumbersVertex, NumbersTransition, A
 ghost use Rattle.pssm_bodies.specs.inner.Through.{StopsIn, guards_count, HasActs, HasGuard};
 
 use crate::numbered::{act_added, guard_added, steps_added};
-use pssm_acts::{ActFault, Growing};
+use pssm_acts::{ActFault, Growing, Known};
 use pssm_model::{ActId, Body, Duplicate, Guard, Row, Transition, Vertex};
-use pssm_semantics::Names;
 use std::alloc::{AllocError as NoMemory, Global};
 
 // The numbers of the behaviours of a vertex.
@@ -39,7 +38,7 @@ fn with_one<T: Drop>(mut items: Vec<T>, item: T) -> Result<Vec<T>, NoMemory>
 // The program with the behaviours of a vertex, and their numbers.
 fn vertex_acts(
     alloc: Global,
-    names: &Names,
+    names: &Known<'_>,
     bodies: &[Body],
     program: Growing,
     from: &Vertex,
@@ -84,7 +83,7 @@ fn vertex_with(alloc: Global, from: &Vertex, acts: VertexActs) -> Result<Vertex,
 // The program with the behaviours of a vertex, and the vertex with their numbers.
 fn vertex_numbered(
     alloc: Global,
-    names: &Names,
+    names: &Known<'_>,
     bodies: &[Body],
     program: Growing,
     from: &Vertex,
@@ -105,7 +104,7 @@ fn vertex_numbered(
 /// The program with the behaviours of vertices, and the vertices with their numbers.
 pub(crate) fn vertices_numbered(
     alloc: Global,
-    names: &Names,
+    names: &Known<'_>,
     bodies: &[Body],
     program: Growing,
     from: &[Vertex],
@@ -134,7 +133,7 @@ pub(crate) fn vertices_numbered(
 // The program with guard and effect of a transition, and their numbers.
 fn transition_acts(
     alloc: Global,
-    names: &Names,
+    names: &Known<'_>,
     bodies: &[Body],
     program: Growing,
     from: &Transition,
@@ -179,7 +178,7 @@ fn transition_with(
 // The program with guard and effect of a transition, and the transition with their numbers.
 fn transition_numbered(
     alloc: Global,
-    names: &Names,
+    names: &Known<'_>,
     bodies: &[Body],
     program: Growing,
     from: &Transition,
@@ -200,7 +199,7 @@ fn transition_numbered(
 /// The program with guards and effects of transitions, and the transitions with their numbers.
 pub(crate) fn transitions_numbered(
     alloc: Global,
-    names: &Names,
+    names: &Known<'_>,
     bodies: &[Body],
     program: Growing,
     from: &[Transition],

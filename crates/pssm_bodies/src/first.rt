@@ -9,15 +9,14 @@ use crate::body_fault::{BodyFault, fault_at};
 use crate::slot::Slot;
 use crate::slots::table;
 use crate::texts::counted_on;
-use pssm_acts::Marks;
+use pssm_acts::{Known, Marks};
 use pssm_model::FlatDraft;
-use pssm_semantics::Names;
 use std::alloc::Global;
 
 // Reads the bodies one after another, each as the table says.
 fn read_all(
     alloc: Global,
-    names: &Names,
+    names: &Known<'_>,
     flat: &FlatDraft,
     table: &[Option<Slot>],
 ) -> Result<(), BodyFault>
@@ -48,7 +47,11 @@ fn read_all(
 }
 
 /// Reads the bodies in the order of the file.
-pub(crate) fn first_reading(alloc: Global, names: &Names, flat: &FlatDraft) -> Result<(), BodyFault>
+pub(crate) fn first_reading(
+    alloc: Global,
+    names: &Known<'_>,
+    flat: &FlatDraft,
+) -> Result<(), BodyFault>
     requires vars { length names.now.vars ≤ 64 }
     requires objects { length names.now.objects ≤ 64 }
     requires signals { length names.now.signals ≤ 256 }

@@ -14,9 +14,11 @@ ghost use Rattle.pssm_bodies.specs.inner.Through.{StopsIn};
 ghost use Rattle.pssm_model.specs.declared.ids.ActId.{ActId};
 
 use crate::texts::{MOST_NUMBERS, is_not_empty};
-use pssm_acts::{ActFault, Growing, Marks, read_act_noting, read_cond, read_steps_noting};
+use pssm_acts::{
+    ActFault, Growing, Known, Marks, read_act_noting, read_cond_known, read_steps_noting,
+};
 use pssm_model::{ActId, Body, Guard, GuardId, Row};
-use pssm_semantics::{Act, Cond, Names};
+use pssm_semantics::{Act, Cond};
 use std::alloc::{AllocError as NoMemory, Global};
 
 /// The program of a class of which nothing has been read: the empty behaviour alone.
@@ -99,7 +101,7 @@ fn with_acts(
 // The behaviour that a text spells behind these marks, and the marks behind it.
 fn act_of(
     alloc: Global,
-    names: &Names,
+    names: &Known<'_>,
     text: &[u8],
     mut marks: Marks,
 ) -> Result<(Act, Marks), ActFault>
@@ -117,7 +119,7 @@ fn act_of(
 // The steps that a text spells behind these marks, and the marks behind them.
 fn steps_of(
     alloc: Global,
-    names: &Names,
+    names: &Known<'_>,
     text: &[u8],
     mut marks: Marks,
 ) -> Result<(Vec<Act>, Marks), ActFault>
@@ -135,7 +137,7 @@ fn steps_of(
 // The program with the behaviour of a body, and the number of the behaviour.
 fn act_put(
     alloc: Global,
-    names: &Names,
+    names: &Known<'_>,
     bodies: &[Body],
     program: Growing,
     from: ActId,
@@ -167,7 +169,7 @@ fn act_put(
 /// The program with the behaviour of a body, and the number of the behaviour; the limits are kept.
 pub(crate) fn act_added(
     alloc: Global,
-    names: &Names,
+    names: &Known<'_>,
     bodies: &[Body],
     program: Growing,
     from: ActId,
@@ -192,7 +194,7 @@ pub(crate) fn act_added(
 // The program with the steps of a body, and the numbers of the steps.
 fn steps_put(
     alloc: Global,
-    names: &Names,
+    names: &Known<'_>,
     bodies: &[Body],
     program: Growing,
     from: ActId,
@@ -225,7 +227,7 @@ fn steps_put(
 // The program with the steps of a body, and the numbers of the steps; the limits are kept.
 fn steps_kept(
     alloc: Global,
-    names: &Names,
+    names: &Known<'_>,
     bodies: &[Body],
     program: Growing,
     from: ActId,
@@ -250,7 +252,7 @@ fn steps_kept(
 /// The program with the steps of a do-activity, where there is one, and the numbers of the steps.
 pub(crate) fn steps_added(
     alloc: Global,
-    names: &Names,
+    names: &Known<'_>,
     bodies: &[Body],
     program: Growing,
     from: &[ActId],
@@ -272,12 +274,12 @@ pub(crate) fn steps_added(
 }
 
 // The guard that a text spells.
-fn cond_of(alloc: Global, names: &Names, text: &[u8]) -> Result<Cond, ActFault>
+fn cond_of(alloc: Global, names: &Known<'_>, text: &[u8]) -> Result<Cond, ActFault>
     requires vars { length names.now.vars ≤ 64 }
     ensures spelled { IfOk result (λ cond. SpellsCond names.now text.now cond) }
     ensures fault { IfErr result (λ f. Faults (HasTextFault names.now readings.Guard text.now) f) }
 {
-    read_cond(alloc, text, names)
+    read_cond_known(alloc, text, names)
 }
 
 // The guard at the end of the program, and its number.
@@ -307,7 +309,7 @@ fn with_guard(program: Growing, cond: Cond) -> Result<(GuardId, Growing), NoMemo
 // The program with the guard of a body, and the number of the guard.
 fn guard_put(
     alloc: Global,
-    names: &Names,
+    names: &Known<'_>,
     bodies: &[Body],
     program: Growing,
     from: GuardId,
@@ -326,7 +328,7 @@ fn guard_put(
 /// The program with a guard, where it has a text, and what it is with its number.
 pub(crate) fn guard_added(
     alloc: Global,
-    names: &Names,
+    names: &Known<'_>,
     bodies: &[Body],
     program: Growing,
     from: Guard,

@@ -11,9 +11,9 @@ use crate::body_fault::BodyFault;
 use crate::elements::{transitions_numbered, vertices_numbered};
 use crate::first::first_reading;
 use crate::numbered::first_program;
-use pssm_acts::ActFault;
+use pssm_acts::{ActFault, Known};
 use pssm_model::{DraftMachine, Duplicate, FlatDraft, Row};
-use pssm_semantics::{Names, Program};
+use pssm_semantics::Program;
 use std::alloc::Global;
 
 /// A machine whose behaviours and guards have the numbers of its program.
@@ -24,7 +24,7 @@ pub struct Programmed {
 }
 
 // Numbers the behaviours and guards of a machine.
-fn numbered(alloc: Global, names: &Names, flat: &FlatDraft) -> Result<Programmed, ActFault>
+fn numbered(alloc: Global, names: &Known<'_>, flat: &FlatDraft) -> Result<Programmed, ActFault>
     requires vars { length names.now.vars ≤ 64 }
     requires objects { length names.now.objects ≤ 64 }
     requires signals { length names.now.signals ≤ 256 }
@@ -61,7 +61,11 @@ fn numbered(alloc: Global, names: &Names, flat: &FlatDraft) -> Result<Programmed
 }
 
 // The second reading; it meets no fault, since the first has met none.
-fn second_reading(alloc: Global, names: &Names, flat: &FlatDraft) -> Result<Programmed, BodyFault>
+fn second_reading(
+    alloc: Global,
+    names: &Known<'_>,
+    flat: &FlatDraft,
+) -> Result<Programmed, BodyFault>
     requires vars { length names.now.vars ≤ 64 }
     requires objects { length names.now.objects ≤ 64 }
     requires signals { length names.now.signals ≤ 256 }
@@ -84,7 +88,11 @@ fn second_reading(alloc: Global, names: &Names, flat: &FlatDraft) -> Result<Prog
 ///
 /// Behaviours, guards and marks have their numbers in the order of the flat text. The behaviours with statements and
 /// the marks of a class are at most 32,767 and 32,768.
-pub fn read_bodies(alloc: Global, names: &Names, flat: &FlatDraft) -> Result<Programmed, BodyFault>
+pub fn read_bodies(
+    alloc: Global,
+    names: &Known<'_>,
+    flat: &FlatDraft,
+) -> Result<Programmed, BodyFault>
     requires vars { length names.now.vars ≤ 64 }
     requires objects { length names.now.objects ≤ 64 }
     requires signals { length names.now.signals ≤ 256 }

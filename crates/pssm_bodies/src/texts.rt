@@ -8,8 +8,8 @@ ghost use Rattle.pssm_bodies.specs.Faults.{HasTextFault};
 ghost use Rattle.pssm_bodies.specs.inner.Counts.{has_statements, SaysCount, CountsOn, FailsOn};
 
 use crate::slot::Reading;
-use pssm_acts::{ActFault, Marks, read_act_noting, read_cond, read_steps_noting};
-use pssm_semantics::{Act, Names};
+use pssm_acts::{ActFault, Known, Marks, read_act_noting, read_cond_known, read_steps_noting};
+use pssm_semantics::Act;
 use std::alloc::Global;
 
 /// How many behaviours, the empty one counted, and how many marks a class may have (this profile's choice).
@@ -38,7 +38,7 @@ fn count(acts: &[Act]) -> usize
 // How many behaviours with statements a text says that is read as one behaviour.
 fn behaviour_count(
     alloc: Global,
-    names: &Names,
+    names: &Known<'_>,
     text: &[u8],
     marks: &mut Marks,
 ) -> Result<usize, ActFault>
@@ -58,7 +58,7 @@ fn behaviour_count(
 // How many behaviours with statements a text says that is read as steps.
 fn steps_count(
     alloc: Global,
-    names: &Names,
+    names: &Known<'_>,
     text: &[u8],
     marks: &mut Marks,
 ) -> Result<usize, ActFault>
@@ -78,7 +78,7 @@ fn steps_count(
 // No behaviour, where the text is that of a guard.
 fn guard_count(
     alloc: Global,
-    names: &Names,
+    names: &Known<'_>,
     text: &[u8],
     marks: &mut Marks,
 ) -> Result<usize, ActFault>
@@ -88,14 +88,14 @@ fn guard_count(
         (λ n. SaysCount names.now marks.old text.now readings.Guard n marks.new) }
     ensures fault { IfErr result (λ f. Faults (HasTextFault names.now readings.Guard text.now) f) }
 {
-    let _cond = read_cond(alloc, text, names)?;
+    let _cond = read_cond_known(alloc, text, names)?;
     Ok(0)
 }
 
 // How many behaviours with statements a text says.
 fn text_count(
     alloc: Global,
-    names: &Names,
+    names: &Known<'_>,
     text: &[u8],
     reading: Reading,
     marks: &mut Marks,
@@ -118,7 +118,7 @@ fn text_count(
 /// How many behaviours there are behind a text, where there were so many before it.
 pub(crate) fn counted_on(
     alloc: Global,
-    names: &Names,
+    names: &Known<'_>,
     text: &[u8],
     reading: Reading,
     count: usize,

@@ -9,6 +9,7 @@ pub mod FirstLaws
 pub mod LineForms
 pub mod Items
 pub mod NameLaws
+pub mod FoundLaws
 pub mod Programs
 pub mod NumberLaws
 pub mod Good

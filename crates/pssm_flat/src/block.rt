@@ -9,15 +9,15 @@ use crate::elements::{
     behaving, deferring, is_empty, is_plain, may_own_region, may_own_vertex, plain,
     takes_behaviour, triggered, untriggered,
 };
-use crate::head::is_among;
 use crate::line::Line;
 use crate::numbering::{act_added, guard_added, program_out};
 use crate::rows::{pop, push};
+use crate::vocabulary::Vocabulary;
 use pssm_acts::{ActFault, Growing};
 use pssm_model::{
     ActId, Duplicate, Guard, Owner, Row, Text, TransKind, Transition, Vertex, VertexId, VertexKind,
 };
-use pssm_semantics::{Names, VarDecl};
+use pssm_semantics::VarDecl;
 use std::alloc::{AllocError, Global};
 
 /// How many variables a class may have (this profile's choice).
@@ -27,7 +27,7 @@ const VARS_AT_MOST: usize = 64;
 #[derive(Drop)]
 pub(crate) struct Block {
     pub name: Text,
-    pub names: Names,
+    pub names: Vocabulary,
     pub vars: Row<VarDecl>,
     pub regions: Row<Owner>,
     pub vertices: Row<Vertex>,
@@ -43,12 +43,12 @@ impl Block {
     {
         if !self.regions.as_slice().is_empty()
             || self.vars.as_slice().len() >= VARS_AT_MOST
-            || is_among(self.names.vars.as_slice(), name.as_slice())
+            || self.names.has_var(name.as_slice())
         {
             return Ok(false);
         }
         let known = name.duplicate(alloc)?;
-        push(alloc, &mut self.names.vars, known)?;
+        self.names.add_var(alloc, known)?;
         push(alloc, &mut self.vars, VarDecl { name, first })?;
         Ok(true)
     }
@@ -131,8 +131,9 @@ impl Block {
         if !takes_behaviour(word, &last) {
             return Ok(false);
         }
+        let known = self.names.known();
         let program = program_out(alloc, &mut self.program);
-        let Some((act, program)) = act_added(alloc, &self.names, program, text)? else {
+        let Some((act, program)) = act_added(alloc, &known, program, text)? else {
             return Ok(false);
         };
         self.program = program;
@@ -166,7 +167,7 @@ impl Block {
         let Some(last) = self.pop_vertex(alloc) else {
             return Ok(false);
         };
-        match deferring(alloc, self.names.signals.as_slice(), last, signal)? {
+        match deferring(alloc, &self.names.known(), last, signal)? {
             Some(vertex) => {
                 push(alloc, &mut self.vertices, vertex)?;
                 Ok(true)
@@ -215,7 +216,7 @@ impl Block {
         let Some(last) = pop(alloc, &mut self.transitions) else {
             return Ok(false);
         };
-        match triggered(alloc, self.names.signals.as_slice(), last, signal)? {
+        match triggered(alloc, &self.names.known(), last, signal)? {
             Some(transition) => {
                 push(alloc, &mut self.transitions, transition)?;
                 Ok(true)
@@ -252,8 +253,9 @@ impl Block {
         if !is_plain(&last) {
             return Ok(false);
         }
+        let known = self.names.known();
         let program = program_out(alloc, &mut self.program);
-        let Some((guard, program)) = guard_added(alloc, &self.names, program, text)? else {
+        let Some((guard, program)) = guard_added(alloc, &known, program, text)? else {
             return Ok(false);
         };
         self.program = program;
@@ -274,8 +276,9 @@ impl Block {
         if !is_empty(last.effect) {
             return Ok(false);
         }
+        let known = self.names.known();
         let program = program_out(alloc, &mut self.program);
-        let Some((act, program)) = act_added(alloc, &self.names, program, text)? else {
+        let Some((act, program)) = act_added(alloc, &known, program, text)? else {
             return Ok(false);
         };
         self.program = program;

@@ -6,10 +6,10 @@ use crate::action::ActionLine;
 use crate::refusal::{kept, nothing};
 use crate::rows::push;
 use crate::signals::add_signal;
+use pssm_acts::Known;
 use pssm_model::{
     ActId, Guard, Owner, Row, Text, TransKind, Transition, Vertex, VertexId, VertexKind,
 };
-use pssm_semantics::SignalDecl;
 use std::alloc::{AllocError, Global};
 
 /// How many do steps a State may have (this profile's choice).
@@ -112,17 +112,17 @@ pub(crate) fn behaving(
 #[tactic(auto, unfolding(crate::specs::inner::Outlines::deferring))]
 pub(crate) fn deferring(
     alloc: Global,
-    signals: &[SignalDecl],
+    names: &Known<'_>,
     mut vertex: Vertex,
     name: &[u8],
 ) -> Result<Option<Vertex>, AllocError>
-    requires { length signals.now ≤ 256 }
-    ensures { IfOk result (λ r. r ≡ deferring_too signals.now vertex name.now) }
+    requires { length names.now.signals ≤ 256 }
+    ensures { IfOk result (λ r. r ≡ deferring_too names.now.signals vertex name.now) }
 {
     if !is_state(vertex.kind) {
         return Ok(nothing(vertex));
     }
-    let taken = add_signal(alloc, signals, &mut vertex.defers, name);
+    let taken = add_signal(alloc, names, &mut vertex.defers, name);
     kept(taken, vertex)
 }
 
@@ -156,16 +156,16 @@ pub(crate) fn is_plain(transition: &Transition) -> bool
 #[tactic(auto, unfolding(crate::specs::inner::Outlines::triggered))]
 pub(crate) fn triggered(
     alloc: Global,
-    signals: &[SignalDecl],
+    names: &Known<'_>,
     mut transition: Transition,
     name: &[u8],
 ) -> Result<Option<Transition>, AllocError>
-    requires { length signals.now ≤ 256 }
-    ensures { IfOk result (λ r. r ≡ triggered_too signals.now transition name.now) }
+    requires { length names.now.signals ≤ 256 }
+    ensures { IfOk result (λ r. r ≡ triggered_too names.now.signals transition name.now) }
 {
     if !is_plain(&transition) {
         return Ok(nothing(transition));
     }
-    let taken = add_signal(alloc, signals, &mut transition.triggers, name);
+    let taken = add_signal(alloc, names, &mut transition.triggers, name);
     kept(taken, transition)
 }

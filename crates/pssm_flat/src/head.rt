@@ -1,11 +1,10 @@
 //! The lines before the first block, as far as they have been read.
-ghost use Rattle.std.specs.Prelude.{◌≡◌, ◌≤◌, ◌<◌, length, IfOk, IfSome, position};
-ghost use Rattle.std.specs.Str.{bytes_eq};
-ghost use Rattle.pssm_flat.specs.inner.Outlines.{kept as kept_if, has_name, signal_of, object_of, itself, no_head as empty_head, with_signal_line, with_class_line, with_object_line, with_head_line, IsSmallHead};
+ghost use Rattle.std.specs.Prelude.{◌≡◌, ◌≤◌, ◌<◌, length, IfOk};
+ghost use Rattle.pssm_flat.specs.inner.Outlines.{kept as kept_if, no_head as empty_head, with_signal_line, with_class_line, with_object_line, with_head_line, IsSmallHead};
 
+use crate::declared::Declared;
 use crate::line::Line;
-use crate::rows::push;
-use pssm_model::{Row, Text};
+use pssm_model::Text;
 use pssm_semantics::{ObjectDecl, SignalDecl};
 use std::alloc::{AllocError, Global};
 
@@ -19,36 +18,9 @@ const OBJECTS_AT_MOST: usize = 64;
 /// The signals, the names of the classes, and the objects, in the order of their lines.
 #[derive(Drop)]
 pub(crate) struct Head {
-    pub signals: Row<SignalDecl>,
-    pub classes: Row<Text>,
-    pub objects: Row<ObjectDecl>,
-}
-
-/// Whether one of these texts is the name.
-pub(crate) fn is_among(names: &[Text], name: &[u8]) -> bool
-    ensures { result ≡ has_name itself names.now name.now }
-{
-    names.iter().any(|n| n.as_slice() == name)
-}
-
-fn is_signal(signals: &[SignalDecl], name: &[u8]) -> bool
-    ensures { result ≡ has_name signal_of signals.now name.now }
-{
-    signals.iter().any(|s| s.name.as_slice() == name)
-}
-
-fn is_object(objects: &[ObjectDecl], name: &[u8]) -> bool
-    ensures { result ≡ has_name object_of objects.now name.now }
-{
-    objects.iter().any(|o| o.name.as_slice() == name)
-}
-
-// The number of the class with the name.
-fn class_of(classes: &[Text], name: &[u8]) -> Option<usize>
-    ensures gives { result ≡ position (λ c. bytes_eq c name.now) classes.now }
-    ensures within { IfSome result (λ k. k < length classes.now) }
-{
-    classes.iter().position(|c| c.as_slice() == name)
+    pub signals: Declared<SignalDecl>,
+    pub classes: Declared<Text>,
+    pub objects: Declared<ObjectDecl>,
 }
 
 impl Head {
@@ -57,9 +29,9 @@ impl Head {
         ensures { result ≡ empty_head }
     {
         Head {
-            signals: Row::from_vec(Vec::new(alloc)),
-            classes: Row::from_vec(Vec::new(alloc)),
-            objects: Row::from_vec(Vec::new(alloc)),
+            signals: Declared::new(alloc),
+            classes: Declared::new(alloc),
+            objects: Declared::new(alloc),
         }
     }
 
@@ -71,11 +43,11 @@ impl Head {
         if !self.classes.as_slice().is_empty()
             || !self.objects.as_slice().is_empty()
             || self.signals.as_slice().len() >= SIGNALS_AT_MOST
-            || is_signal(self.signals.as_slice(), name.as_slice())
+            || self.signals.has(name.as_slice())
         {
             return Ok(false);
         }
-        push(alloc, &mut self.signals, SignalDecl { name, count })?;
+        self.signals.push(alloc, SignalDecl { name, count })?;
         Ok(true)
     }
 
@@ -86,11 +58,11 @@ impl Head {
     {
         if !self.objects.as_slice().is_empty()
             || self.classes.as_slice().len() >= CLASSES_AT_MOST
-            || is_among(self.classes.as_slice(), name.as_slice())
+            || self.classes.has(name.as_slice())
         {
             return Ok(false);
         }
-        push(alloc, &mut self.classes, name)?;
+        self.classes.push(alloc, name)?;
         Ok(true)
     }
 
@@ -100,16 +72,14 @@ impl Head {
         requires { length self.old.classes ≤ 64 }
         ensures { IfOk result (λ taken. kept_if taken self.new ≡ with_object_line self.old name class.now) }
     {
-        if self.objects.as_slice().len() >= OBJECTS_AT_MOST
-            || is_object(self.objects.as_slice(), name.as_slice())
-        {
+        if self.objects.as_slice().len() >= OBJECTS_AT_MOST || self.objects.has(name.as_slice()) {
             return Ok(false);
         }
-        let Some(number) = class_of(self.classes.as_slice(), class) else {
+        let Some(number) = self.classes.place(class) else {
             return Ok(false);
         };
         let class = number as u8;
-        push(alloc, &mut self.objects, ObjectDecl { name, class })?;
+        self.objects.push(alloc, ObjectDecl { name, class })?;
         Ok(true)
     }
 

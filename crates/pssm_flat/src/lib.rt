@@ -8,6 +8,7 @@ mod action;
 mod behaviours;
 mod block;
 mod closing;
+mod declared;
 mod elements;
 mod fault;
 mod head;
@@ -22,6 +23,7 @@ mod reading;
 mod refusal;
 mod rows;
 mod signals;
+mod vocabulary;
 mod words;
 mod writing;
 

@@ -10,7 +10,9 @@ ghost use Rattle.pssm_flat.specs.inner.Outlines.{act_put_in, act_numbered, guard
 
 use crate::refusal::{nothing, refused};
 use crate::rows::push;
-use pssm_acts::{ActFault, Growing, Marks, read_act_noting, read_cond, write_act, write_cond};
+use pssm_acts::{
+    ActFault, Growing, Known, Marks, read_act_noting, read_cond_known, write_act, write_cond,
+};
 use pssm_model::{ActId, GuardId, Row, Text};
 use pssm_semantics::{Act, Cond, Names};
 use std::alloc::{AllocError, Global};
@@ -52,7 +54,7 @@ pub(crate) fn program_out(alloc: Global, program: &mut Growing) -> Growing
 // The behaviour that a text spells behind these marks, and the marks behind it.
 fn act_of(
     alloc: Global,
-    names: &Names,
+    names: &Known<'_>,
     mut marks: Marks,
     text: &[u8],
 ) -> Result<(Act, Marks), ActFault>
@@ -103,7 +105,7 @@ fn act_put(
 // The program with the behaviour, where the text is its spelling and there are not too many marks.
 fn act_kept(
     alloc: Global,
-    names: &Names,
+    names: &Known<'_>,
     program: Growing,
     text: &[u8],
     read: (Act, Marks),
@@ -112,7 +114,7 @@ fn act_kept(
     ensures { IfOk result (λ r. r ≡ act_numbered names.now program text.now read) }
 {
     let (act, marks) = read;
-    let is_canonical = match spells_act(alloc, names, marks.as_slice(), &act, text) {
+    let is_canonical = match spells_act(alloc, names.names(), marks.as_slice(), &act, text) {
         Ok(is) => is,
         Err(fault) => return refused((program, act, marks), fault),
     };
@@ -130,7 +132,7 @@ fn act_kept(
 #[tactic(auto, unfolding(crate::specs::inner::Outlines::with_act))]
 pub(crate) fn act_added(
     alloc: Global,
-    names: &Names,
+    names: &Known<'_>,
     mut program: Growing,
     text: &[u8],
 ) -> Result<Option<(ActId, Growing)>, ActFault>
@@ -151,11 +153,11 @@ pub(crate) fn act_added(
 }
 
 // The guard that a text spells.
-fn cond_of(alloc: Global, names: &Names, text: &[u8]) -> Result<Cond, ActFault>
+fn cond_of(alloc: Global, names: &Known<'_>, text: &[u8]) -> Result<Cond, ActFault>
     requires vars { length names.now.vars ≤ 64 }
     ensures { Answers (cond_reading names.now text.now) result }
 {
-    read_cond(alloc, text, names)
+    read_cond_known(alloc, text, names)
 }
 
 // Whether the text is the spelling of the guard.
@@ -169,7 +171,7 @@ fn spells_cond(alloc: Global, names: &Names, cond: &Cond, text: &[u8]) -> Result
 // The program with the guard, where the text is its spelling.
 fn guard_kept(
     alloc: Global,
-    names: &Names,
+    names: &Known<'_>,
     mut program: Growing,
     text: &[u8],
     cond: Cond,
@@ -177,7 +179,7 @@ fn guard_kept(
     requires { length program.guards < 65536 }
     ensures { IfOk result (λ r. r ≡ guard_numbered names.now program text.now cond) }
 {
-    let is_canonical = match spells_cond(alloc, names, &cond, text) {
+    let is_canonical = match spells_cond(alloc, names.names(), &cond, text) {
         Ok(is) => is,
         Err(fault) => return refused((program, cond), fault),
     };
@@ -197,7 +199,7 @@ fn guard_kept(
 #[tactic(auto, unfolding(crate::specs::inner::Outlines::with_guard))]
 pub(crate) fn guard_added(
     alloc: Global,
-    names: &Names,
+    names: &Known<'_>,
     program: Growing,
     text: &[u8],
 ) -> Result<Option<(GuardId, Growing)>, ActFault>

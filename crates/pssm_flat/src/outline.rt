@@ -9,9 +9,10 @@ use crate::head::Head;
 use crate::line::Line;
 use crate::numbering::first_program;
 use crate::refusal::{kept, nothing, refused};
+use crate::vocabulary::Vocabulary;
 use pssm_acts::ActFault;
 use pssm_model::{Duplicate, Row, Text};
-use pssm_semantics::{Class, Names, ObjectDecl, Setting};
+use pssm_semantics::{Class, ObjectDecl, Setting};
 use std::alloc::{AllocError, Global};
 
 /// What has been read of a text, up to the end of a line.
@@ -42,16 +43,12 @@ fn names_of_objects(alloc: Global, objects: &[ObjectDecl]) -> Result<Row<Text>, 
 }
 
 // The names that behaviours may use where no variable has been read.
-fn names_of(alloc: Global, head: &Head) -> Result<Names, AllocError>
+fn names_of(alloc: Global, head: &Head) -> Result<Vocabulary, AllocError>
     ensures { IfOk result (λ names. names ≡ names_in head.now) }
 {
     let objects = names_of_objects(alloc, head.objects.as_slice())?;
-    match head.signals.duplicate(alloc) {
-        Ok(signals) => Ok(Names {
-            vars: Row::from_vec(Vec::new(alloc)),
-            objects,
-            signals,
-        }),
+    match head.signals.row().duplicate(alloc) {
+        Ok(signals) => Vocabulary::of(alloc, objects, signals),
         Err(fault) => refused(objects, fault),
     }
 }
@@ -120,9 +117,9 @@ fn ended(head: Head, done: Row<Class>) -> Option<Outline>
     } = head;
     drop(classes);
     Some(Outline::Ended(Setting {
-        signals,
+        signals: signals.into_row(),
         classes: done,
-        objects,
+        objects: objects.into_row(),
     }))
 }
 

@@ -5,6 +5,7 @@ ghost use Rattle.pssm_flat.specs.inner.Outlines.{kept, number_from, with_signal}
 ghost use Rattle.pssm_flat.specs.Flat.{next_number};
 
 use crate::rows::push;
+use pssm_acts::Known;
 use pssm_model::{Row, SignalId};
 use pssm_semantics::SignalDecl;
 use std::alloc::{AllocError, Global};
@@ -17,17 +18,38 @@ fn place_of(signals: &[SignalDecl], name: &[u8]) -> Option<usize>
     signals.iter().position(|s| s.name.as_slice() == name)
 }
 
-// The first signal from a number on that has the name.
-fn signal_from(signals: &[SignalDecl], from: usize, name: &[u8]) -> Option<usize>
+// The first signal from a number on that has the name, which is sought among these one by one.
+fn later_signal(signals: &[SignalDecl], from: usize, name: &[u8]) -> Option<usize>
+    requires { from ≤ length signals.now }
     ensures gives { result ≡ number_from signals.now from name.now }
     ensures known { IfSome result (λ g. g < length signals.now) }
 {
-    if from > signals.len() {
-        return None;
-    }
     let (_, later) = signals.split_at(from);
     let place = place_of(later, name)?;
     Some(place + from)
+}
+
+// The first signal from a number on that has the name. Where one before that number has it, the later ones are compared
+// one by one: names of signals differ, so that reading ends there.
+#[tactic(auto, using(crate::proofs::FoundLaws::none_later))]
+fn signal_from(names: &Known<'_>, from: usize, name: &[u8]) -> Option<usize>
+    ensures gives { result ≡ number_from names.now.signals from name.now }
+    ensures known { IfSome result (λ g. g < length names.now.signals) }
+{
+    let signals = names.names().signals.as_slice();
+    if from > signals.len() {
+        return None;
+    }
+    match names.signal(name) {
+        Some(place) => {
+            if place < from {
+                later_signal(signals, from, name)
+            } else {
+                Some(place)
+            }
+        }
+        None => None,
+    }
 }
 
 // The number behind the last of these.
@@ -44,14 +66,14 @@ fn after_last(seen: &[SignalId]) -> usize
 #[tactic(auto, unfolding(crate::specs::inner::Outlines::with_signal))]
 pub(crate) fn add_signal(
     alloc: Global,
-    signals: &[SignalDecl],
+    names: &Known<'_>,
     seen: &mut Row<SignalId>,
     name: &[u8],
 ) -> Result<bool, AllocError>
-    requires { length signals.now ≤ 256 }
-    ensures { IfOk result (λ taken. kept taken seen.new ≡ with_signal signals.now seen.old name.now) }
+    requires { length names.now.signals ≤ 256 }
+    ensures { IfOk result (λ taken. kept taken seen.new ≡ with_signal names.now.signals seen.old name.now) }
 {
-    let Some(number) = signal_from(signals, after_last(seen.as_slice()), name) else {
+    let Some(number) = signal_from(names, after_last(seen.as_slice()), name) else {
         return Ok(false);
     };
     push(alloc, seen, SignalId(number as u16))?;

@@ -40,6 +40,9 @@ use crate::running::failure_of;
 use pssm_cases::{Outcome, Tally, all_hold, folder_of, names_in, report};
 use std::alloc::{AllocError as NoMemory, Global};
 use std::process::ExitCode;
+use std::rt::Files;
+use std::sync::Wait;
+use std::thread::Threads;
 use std::{fs, io};
 
 fn main(rt: HostRuntime) -> io::Result<ExitCode> {
@@ -57,7 +60,11 @@ fn main(rt: HostRuntime) -> io::Result<ExitCode> {
 }
 
 // What becomes of the cases of a file.
-fn tally_of(rt: &HostRuntime, folder: &str, name: String) -> Result<Tally, NoMemory> {
+fn tally_of<R: Threads + Wait + Sync + Files + AllocGlobal>(
+    rt: &R,
+    folder: &str,
+    name: String,
+) -> Result<Tally, NoMemory> {
     let path = format!(in rt.alloc(); "{folder}/{name}")?;
     let outcomes = match fs::read_to_string(rt, path.as_str()) {
         Ok(text) => outcomes_of(rt, text.as_str())?,
@@ -67,7 +74,10 @@ fn tally_of(rt: &HostRuntime, folder: &str, name: String) -> Result<Tally, NoMem
 }
 
 // What becomes of the cases of a text.
-fn outcomes_of(rt: &HostRuntime, text: &str) -> Result<Vec<Outcome>, NoMemory> {
+fn outcomes_of<R: Threads + Wait + Sync + AllocGlobal>(
+    rt: &R,
+    text: &str,
+) -> Result<Vec<Outcome>, NoMemory> {
     let alloc = rt.alloc();
     let cases = match cases_of(alloc, text)? {
         Ok(cases) => cases,

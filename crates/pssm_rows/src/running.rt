@@ -9,6 +9,8 @@ use pssm_cases::{SpellFault, put_spelled};
 use pssm_tool::pssm;
 use std::alloc::{AllocError as NoMemory, Global};
 use std::str;
+use std::sync::Wait;
+use std::thread::Threads;
 
 // How many bytes a run may write.
 const ROOM: usize = 1 << 25;
@@ -34,8 +36,8 @@ struct Given {
 }
 
 /// Why a case does not hold; nothing where it does. `shared` are the files that are there in every case.
-pub fn failure_of(
-    rt: &HostRuntime,
+pub fn failure_of<R: Threads + Wait + Sync + AllocGlobal>(
+    rt: &R,
     shared: &[File],
     case: &Case,
 ) -> Result<Option<String>, NoMemory> {
@@ -52,8 +54,8 @@ pub fn failure_of(
 }
 
 // Why a case does not hold that is tried at this number.
-fn failure_at(
-    rt: &HostRuntime,
+fn failure_at<R: Threads + Wait + Sync + AllocGlobal>(
+    rt: &R,
     shared: &[File],
     case: &Case,
     number: u32,
@@ -69,8 +71,8 @@ fn failure_at(
 }
 
 // Why some run is not given what it is owed. `before` is what the run before wrote.
-fn failure_in(
-    rt: &HostRuntime,
+fn failure_in<R: Threads + Wait + Sync + AllocGlobal>(
+    rt: &R,
     shared: &[File],
     case: &Case,
     ask: &Ask,
@@ -95,8 +97,8 @@ fn failure_in(
 }
 
 // What a run gives that is read at this number; nothing where its words spell no text.
-fn given_by(
-    rt: &HostRuntime,
+fn given_by<R: Threads + Wait + Sync + AllocGlobal>(
+    rt: &R,
     shared: &[File],
     case: &Case,
     run: &str,
@@ -144,8 +146,8 @@ fn files_of(
 }
 
 // What a run gives.
-fn given_of(
-    rt: &HostRuntime,
+fn given_of<R: Threads + Wait + Sync + AllocGlobal>(
+    rt: &R,
     case: &Case,
     files: Vec<(String, Vec<u8>)>,
     words: &[String],

@@ -1,19 +1,24 @@
 -- How a class is loaded, step by step.
-use Rattle.std.proofs.Common.{◌≡◌, ◌≢◌, ◌⊎◌, ◌≤◌, ◌<◌, ℕ, List, length, map, Some, slice_get, get_or, inl, inr, refl, sym, subst, ap, ◌∙◌, arith, Result, Ok, Err, IfErr}
-use Rattle.std.proofs.lemmas.List.{length-map}
+use Rattle.std.proofs.Common.{◌≡◌, ◌≢◌, ◌⊎◌, ◌≤◌, ◌<◌, ℕ, List, length, map, Option, Some, slice_get, get_or, inl, inr, refl, sym, subst, ap, ◌∙◌, arith, Result, Ok, Err, IfErr}
+use Rattle.std.proofs.lemmas.List.{length-map, map-id}
 use Rattle.std.proofs.lemmas.Option.{get_or_from_slice_get, slice_get_read}
 use Rattle.pssm_model.specs.declared.draft_setting.Body.{Body}
 use Rattle.pssm_model.specs.declared.draft_setting.Draft.{Draft}
 use Rattle.pssm_model.specs.declared.draft_setting.DraftClass.{DraftClass}
+use Rattle.pssm_model.specs.declared.draft_setting.DraftObject.{DraftObject}
+use Rattle.pssm_model.specs.declared.draft_setting.DraftSignal.{DraftSignal}
 use Rattle.pssm_model.specs.declared.draft_setting.DraftVar.{DraftVar}
 use Rattle.pssm_model.specs.declared.draft_setting.FlatDraft.{FlatDraft}
 use Rattle.pssm_model.specs.declared.elements.DraftMachine.{DraftMachine}
 use Rattle.pssm_model.specs.declared.elements.Shape.{Shape}
+use Rattle.pssm_model.specs.DraftSettings.{IsInRange}
 use Rattle.pssm_model.specs.Shapes.{HasShape, IsShapeFault}
 use Rattle.pssm_semantics.specs.declared.setting.Class.{Class}
 use Rattle.pssm_semantics.specs.declared.setting.Names.{Names}
 use Rattle.pssm_semantics.specs.declared.setting.Program.{Program}
+use Rattle.pssm_semantics.specs.declared.setting.SignalDecl.{SignalDecl}
 use Rattle.pssm_acts.specs.declared.act_fault.ActFault.{ActFault}
+use Rattle.pssm_acts.specs.Indexes.{IsIndexOf}
 use Rattle.pssm_heritage.specs.declared.fault.RedefFault.{RedefFault}
 use Rattle.pssm_heritage.specs.declared.fault.RedefFault.TheVariants as chains
 use Rattle.pssm_redefine.specs.Flattening.{Flattens, IsFaultOfClass}
@@ -21,7 +26,7 @@ use Rattle.pssm_bodies.specs.Programs.{IsProgrammed}
 use Rattle.pssm_bodies.specs.Faults.{IsBodyFault}
 use Rattle.pssm_settings.specs.declared.fault.DraftFault.{DraftFault}
 use Rattle.pssm_settings.specs.declared.fault.DraftFault.TheVariants as faults
-use Rattle.pssm_settings.specs.Settings.{var_of, names_of, IsLoadedClass}
+use Rattle.pssm_settings.specs.Settings.{signal_of, var_of, names_of, IsLoadedClass}
 use Rattle.pssm_settings.specs.Failures.{FailsClass, redefined, body, shape}
 use Rattle.pssm_settings.specs.inner.Making.{MisshapesClass}
 
@@ -38,6 +43,35 @@ few_names draft vars of names is same few =
     let counted : length names.vars ≡ length vars = ap (λ (n : Names). length n.vars) is ∙ length-map vars (λ (v : DraftVar). v.name) in
     let as_many : length vars ≡ length of = ap (λ (vs : List DraftVar). length vs) same in
     omega (arith, counted, as_many, few)
+
+-- So are those of few objects and signals.
+pub few_objects : (draft : Draft) (vars : List DraftVar) (names : Names) → names ≡ names_of draft vars → IsInRange draft → length names.objects ≤ 64
+few_objects draft vars names is range =
+    let counted : length names.objects ≡ length draft.objects = ap (λ (n : Names). length n.objects) is ∙ length-map draft.objects (λ (o : DraftObject). o.name) in
+    let few = range.few_objects in
+    omega (arith, counted, few)
+
+pub few_signals : (draft : Draft) (vars : List DraftVar) (names : Names) → names ≡ names_of draft vars → IsInRange draft → length names.signals ≤ 256
+few_signals draft vars names is range =
+    let counted : length names.signals ≡ length draft.signals = ap (λ (n : Names). length n.signals) is ∙ length-map draft.signals signal_of in
+    let few = range.few_signals in
+    omega (arith, counted, few)
+
+-- An index of the names that are made of a draft's objects is one of its objects' names.
+pub objects_indexed : (draft : Draft) (objects : List DraftObject) (names lent : List (List ℕ)) (index : Option (List (List ℕ))) → objects ≡ draft.objects
+    → names ≡ map (λ (o : DraftObject). o.name) objects → lent ≡ names → IsIndexOf (map (λ (n : List ℕ). n) lent) index
+    → IsIndexOf (map (λ (o : DraftObject). o.name) draft.objects) index
+objects_indexed draft objects names lent index from are same of =
+    let all = map-id lent ∙ same ∙ are ∙ ap (λ (os : List DraftObject). map (λ (o : DraftObject). o.name) os) from in
+    subst (λ (ns : List (List ℕ)). IsIndexOf ns index) all of
+
+-- So it is with its signals.
+pub signals_indexed : (draft : Draft) (signals : List DraftSignal) (decls lent : List SignalDecl) (index : Option (List (List ℕ))) → signals ≡ draft.signals
+    → decls ≡ map signal_of signals → lent ≡ decls → IsIndexOf (map (λ (d : SignalDecl). d.name) lent) index
+    → IsIndexOf (map (λ (d : SignalDecl). d.name) (map signal_of draft.signals)) index
+signals_indexed draft signals decls lent index from are same of =
+    let all = same ∙ are ∙ ap (λ (ss : List DraftSignal). map signal_of ss) from in
+    subst (λ (ds : List SignalDecl). IsIndexOf (map (λ (d : SignalDecl). d.name) ds) index) all of
 
 -- A body has a fault, and this is its id.
 pub body_so : (draft : Draft) (number : ℕ) (flat : FlatDraft) (place : ℕ) (fault : ActFault) (bodies : List Body) (one : Body) (id : List ℕ) → Flattens draft number flat

@@ -7,12 +7,12 @@ ghost use Rattle.pssm_bodies.specs.Programs.{IsProgrammed};
 ghost use Rattle.pssm_bodies.specs.Faults.{IsBodyFault};
 ghost use Rattle.pssm_settings.specs.Settings.{signal_of, var_of, names_of, IsLoadedClass};
 ghost use Rattle.pssm_settings.specs.Failures.{FailsClass};
-ghost use Rattle.pssm_settings.specs.inner.Making.{class_with, MakesClass, MisshapesClass};
+ghost use Rattle.pssm_settings.specs.inner.Making.{IndexesDraft, class_with, MakesClass, MisshapesClass};
 
 use crate::fault::DraftFault;
 use crate::flats::few_in_flat;
 use crate::once::each_once;
-use pssm_acts::ActFault;
+use pssm_acts::{ActFault, Index, Known};
 use pssm_bodies::{BodyFault, Programmed, read_bodies};
 use pssm_heritage::RedefFault;
 use pssm_model::{
@@ -106,6 +106,25 @@ fn names(alloc: Global, draft: &Draft, vars: &[DraftVar]) -> Result<Names, NoMem
     })
 }
 
+/// The indexes of the names of a draft's objects and signals, which all its classes share.
+#[derive(Drop)]
+pub(crate) struct Indexes {
+    pub objects: Index,
+    pub signals: Index,
+}
+
+/// The indexes of a draft.
+pub(crate) fn indexes_of(alloc: Global, draft: &Draft) -> Result<Indexes, NoMemory>
+    ensures { IfOk result (λ indexes. IndexesDraft draft.now indexes) }
+{
+    let objects = object_names(alloc, draft.objects.as_slice())?;
+    let signals = signals_of(alloc, draft.signals.as_slice())?;
+    Ok(Indexes {
+        objects: Index::of(alloc, objects.as_slice())?,
+        signals: Index::of(alloc, signals.as_slice())?,
+    })
+}
+
 // ---- flattening
 
 // The fault of a machine that cannot be flattened; want of memory is one of its own.
@@ -156,10 +175,12 @@ fn body_fault(
 fn programmed(
     alloc: Global,
     draft: &Draft,
+    indexes: &Indexes,
     number: u8,
     flat: &FlatDraft,
 ) -> Result<Programmed, DraftFault>
     requires range { IsInRange draft.now }
+    requires indexed { IndexesDraft draft.now indexes.now }
     requires flattened { Flattens draft.now number flat.now }
     ensures read { IfOk result
         (λ p. IsProgrammed (names_of draft.now flat.now.vars) flat.now p.machine p.program) }
@@ -168,7 +189,9 @@ fn programmed(
     each_once();
     few_in_flat();
     let names = names(alloc, draft, flat.vars.as_slice())?;
-    match read_bodies(alloc, &names, flat) {
+    let vars = Index::of(alloc, names.vars.as_slice())?;
+    let known = Known::of(&names, &vars, &indexes.objects, &indexes.signals);
+    match read_bodies(alloc, &known, flat) {
         Ok(programmed) => Ok(programmed),
         Err(BodyFault::NoMemory) => Err(DraftFault::NoMemory),
         Err(
@@ -231,14 +254,20 @@ fn made(
 }
 
 /// The class of a draft with the number; or why it gives none.
-pub(crate) fn class_of(alloc: Global, draft: &Draft, number: u8) -> Result<Class, DraftFault>
+pub(crate) fn class_of(
+    alloc: Global,
+    draft: &Draft,
+    indexes: &Indexes,
+    number: u8,
+) -> Result<Class, DraftFault>
     requires range { IsInRange draft.now }
+    requires indexed { IndexesDraft draft.now indexes.now }
     requires there { number < length draft.now.classes }
     ensures class { IfOk result (IsLoadedClass draft.now number) }
     ensures fault { IfErr result (λ fault. (fault ≡ DraftFault.NoMemory) ⊎ FailsClass draft.now number fault) }
 {
     let flat = flat_of(alloc, draft, number)?;
-    let programmed = programmed(alloc, draft, number, &flat)?;
+    let programmed = programmed(alloc, draft, indexes, number, &flat)?;
     let of = &draft.classes.as_slice()[number as usize];
     made(alloc, of, flat.vars.as_slice(), programmed)
 }

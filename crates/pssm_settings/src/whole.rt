@@ -4,7 +4,7 @@ ghost use Rattle.pssm_model.specs.DraftSettings.{IsInRange};
 ghost use Rattle.pssm_settings.specs.Settings.{object_of, AreLoadedClasses, IsSettingOf};
 ghost use Rattle.pssm_settings.specs.Failures.{IsFirstFailure};
 
-use crate::classes::{class_of, signals_of};
+use crate::classes::{class_of, indexes_of, signals_of};
 use crate::fault::DraftFault;
 use pssm_model::{Draft, DraftObject, Row};
 use pssm_semantics::{Class, ObjectDecl, Setting};
@@ -46,9 +46,10 @@ fn classes_of(alloc: Global, draft: &Draft) -> Result<Vec<Class>, DraftFault>
     ensures loaded { IfOk result (λ classes. AreLoadedClasses draft.now classes.items) }
     ensures fault { IfErr result (λ fault. (fault ≡ DraftFault.NoMemory) ⊎ IsFirstFailure draft.now fault) }
 {
+    let indexes = indexes_of(alloc, draft)?;
     let mut classes = Vec::new(alloc);
     for number in 0..draft.classes.as_slice().len() {
-        let class = match class_of(alloc, draft, number as u8) {
+        let class = match class_of(alloc, draft, &indexes, number as u8) {
             Ok(class) => class,
             Err(fault) => return Err(fault),
         };

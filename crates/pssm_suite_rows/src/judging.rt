@@ -5,6 +5,9 @@ use crate::index::Vector;
 use pssm_base::{Gate, MemInputs, MemSink};
 use pssm_tool::pssm;
 use std::alloc::{AllocError as NoMemory, Global};
+use std::rt::Files;
+use std::sync::Wait;
+use std::thread::Threads;
 use std::{fs, str};
 
 // How many bytes an answer may have.
@@ -28,8 +31,8 @@ struct Answer {
 }
 
 /// Why a vector of the suite in this folder does not hold; nothing where it does.
-pub fn failure_of(
-    rt: &HostRuntime,
+pub fn failure_of<R: Threads + Wait + Sync + Files + AllocGlobal>(
+    rt: &R,
     folder: &str,
     vector: &Vector<'_>,
 ) -> Result<Option<String>, NoMemory> {
@@ -56,8 +59,8 @@ fn owed_of(alloc: Global, owed: &str) -> Result<Answer, NoMemory> {
 }
 
 // The answer to `judge` with the files of a vector.
-fn answer_of(
-    rt: &HostRuntime,
+fn answer_of<R: Threads + Wait + Sync + AllocGlobal>(
+    rt: &R,
     files: Vec<(String, Vec<u8>)>,
     vector: &Vector<'_>,
 ) -> Result<Answer, NoMemory> {

@@ -18,6 +18,9 @@ use crate::judging::failure_of;
 use pssm_cases::{Outcome, Tally, all_hold, folder_of, names_in, report_of};
 use std::alloc::{AllocError as NoMemory, Global};
 use std::process::ExitCode;
+use std::rt::Files;
+use std::sync::Wait;
+use std::thread::Threads;
 use std::{fs, io};
 
 // The name of the index.
@@ -55,7 +58,11 @@ fn bad_line(alloc: Global, line: usize) -> Result<Vec<Tally>, NoMemory> {
 }
 
 // What becomes of the vectors, group by group.
-fn tallies_of(rt: &HostRuntime, folder: &str, vectors: &[Vector<'_>]) -> io::Result<Vec<Tally>> {
+fn tallies_of<R: Threads + Wait + Sync + Files + AllocGlobal + Clone + Drop>(
+    rt: &R,
+    folder: &str,
+    vectors: &[Vector<'_>],
+) -> io::Result<Vec<Tally>> {
     let mut tallies = Vec::new(rt.alloc());
     for name in groups_of(rt, folder, vectors)? {
         let mut outcomes = Vec::new(rt.alloc());
@@ -73,7 +80,11 @@ fn tallies_of(rt: &HostRuntime, folder: &str, vectors: &[Vector<'_>]) -> io::Res
 
 // The names of the groups: whatever lies in the folder, but for the index and the page, and the groups of vectors that
 // do not lie there.
-fn groups_of(rt: &HostRuntime, folder: &str, vectors: &[Vector<'_>]) -> io::Result<Vec<String>> {
+fn groups_of<R: Files + AllocGlobal + Clone + Drop>(
+    rt: &R,
+    folder: &str,
+    vectors: &[Vector<'_>],
+) -> io::Result<Vec<String>> {
     let mut groups = Vec::new(rt.alloc());
     for name in names_in(rt, folder, "")? {
         if name.as_str() != INDEX && name.as_str() != PAGE {
@@ -89,7 +100,11 @@ fn groups_of(rt: &HostRuntime, folder: &str, vectors: &[Vector<'_>]) -> io::Resu
 }
 
 // What becomes of a vector.
-fn outcome_of(rt: &HostRuntime, folder: &str, vector: &Vector<'_>) -> Result<Outcome, NoMemory> {
+fn outcome_of<R: Threads + Wait + Sync + Files + AllocGlobal>(
+    rt: &R,
+    folder: &str,
+    vector: &Vector<'_>,
+) -> Result<Outcome, NoMemory> {
     Ok(Outcome {
         line: vector.line,
         words: String::from_str(rt.alloc(), vector.words)?,
@@ -98,8 +113,8 @@ fn outcome_of(rt: &HostRuntime, folder: &str, vector: &Vector<'_>) -> Result<Out
 }
 
 // Puts an outcome for each file of a group that no line names, or one where the group has no folder.
-fn put_strays(
-    rt: &HostRuntime,
+fn put_strays<R: Files + AllocGlobal + Clone + Drop>(
+    rt: &R,
     folder: &str,
     group: &str,
     vectors: &[Vector<'_>],

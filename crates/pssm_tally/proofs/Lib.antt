@@ -1,5 +1,6 @@
 pub mod KindLaws
 pub mod ObjectLaws
 pub mod BeforeLaws
+pub mod NameLaws
 pub mod ParameterLaws
 pub mod TallyLaws

@@ -116,7 +116,7 @@ counts_on doc n tally more k name one is called counts with_name j = by_kind (sa
       let free : IsOfKind doc (kind_meant j) n → ⊥ = λ has. differ (kinds_differ j k (sym (one (kind_meant j) has))) in
       subst (AreNamesBefore doc (kind_meant j) (suc n)) (sym (with_name.others j differ)) (names_stay doc (kind_meant j) n (names_held tally j) (counts j) free)
 
-pub first_tally : (tally : Tally) → tally.signals.items ≡ [] → tally.classes.items ≡ [] → tally.objects.items ≡ [] → (doc : List Element) → CountsTo doc 0 tally
+pub first_tally : (tally : Tally) → tally.signals ≡ [] → tally.classes ≡ [] → tally.objects ≡ [] → (doc : List Element) → CountsTo doc 0 tally
 first_tally tally one two three doc counted.Signal = subst (AreNamesBefore doc signals 0) (sym one) (first_names doc signals)
 first_tally tally one two three doc counted.Class = subst (AreNamesBefore doc classes 0) (sym two) (first_names doc classes)
 first_tally tally one two three doc counted.Object = subst (AreNamesBefore doc objects 0) (sym three) (first_names doc objects)

@@ -19,9 +19,9 @@ HasKind doc n (Some kind) = IsOfKind doc (kind_meant kind) n
 
 -- the names of a kind that a tally holds
 abbrev pub names_held : Tally → CountedKind → List (List ℕ)
-names_held tally counted.Signal = tally.signals.items
-names_held tally counted.Class = tally.classes.items
-names_held tally counted.Object = tally.objects.items
+names_held tally counted.Signal = tally.signals
+names_held tally counted.Class = tally.classes
+names_held tally counted.Object = tally.objects
 
 -- These are the names of all that are of the kind before the element, in order.
 pub record AreNamesBefore (doc : List Element) (kind : Kind) (n : ℕ) (names : List (List ℕ)) : Type 0 where

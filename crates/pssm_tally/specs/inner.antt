@@ -1,3 +1,4 @@
+pub mod Distinct
 pub mod Objects
 pub mod Parameters
 pub mod Steps

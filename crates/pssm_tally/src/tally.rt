@@ -8,7 +8,7 @@ ghost use Rattle.pssm_tally.specs.inner.Steps.{IsWithName};
 
 use crate::counted_kind::CountedKind;
 use crate::laws::{no_parameter, one_kind};
-use crate::names::{is_among, name_at};
+use crate::names::{Names, name_at};
 use crate::parameters::passes_parameters;
 use pssm_model::Text;
 use pssm_roles::Role;
@@ -16,22 +16,13 @@ use pssm_xml::Elements;
 use std::alloc::{AllocError as NoMemory, Global};
 
 /// The names of the signals, active classes and objects that came before an element, as models spell them, in order.
-/// A look at the names of a kind takes as many steps as there are, and a pass that ends at the first flaw keeps no more
-/// than there can be.
+/// A look at the names of a kind does not compare a name with each of them, and a pass that ends at the first flaw
+/// keeps no more than there can be.
 #[derive(Drop)]
 pub struct Tally {
-    signals: Vec<Text>,
-    classes: Vec<Text>,
-    objects: Vec<Text>,
-}
-
-// The names with one more behind them.
-fn with_text(names: Vec<Text>, name: Text) -> Result<Vec<Text>, NoMemory>
-    ensures { IfOk result (λ more. more.items ≡ names.items ++ name ∷ []) }
-{
-    let mut names = names;
-    names.push(name)?;
-    Ok(names)
+    signals: Names,
+    classes: Names,
+    objects: Names,
 }
 
 impl Tally {
@@ -40,14 +31,14 @@ impl Tally {
         ensures { (doc : List Element) → CountsTo doc 0 result }
     {
         Tally {
-            signals: Vec::new(alloc),
-            classes: Vec::new(alloc),
-            objects: Vec::new(alloc),
+            signals: Names::new(alloc),
+            classes: Names::new(alloc),
+            objects: Names::new(alloc),
         }
     }
 
     // The names of this kind.
-    fn names(&self, kind: CountedKind) -> &[Text]
+    fn names(&self, kind: CountedKind) -> &Names
         ensures { result.now ≡ names_held self.now kind }
     {
         match kind {
@@ -75,7 +66,7 @@ impl Tally {
             None => Ok(false),
             Some(kind) => {
                 let name = name_at(alloc, elements, n)?;
-                Ok(is_among(self.names(kind), name.as_slice()))
+                Ok(self.names(kind).has(name.as_slice()))
             }
         }
     }
@@ -105,7 +96,7 @@ impl Tally {
     }
 
     // The tally with one more name of this kind.
-    fn with_name(self, kind: CountedKind, name: Text) -> Result<Tally, NoMemory>
+    fn with_name(self, alloc: Global, kind: CountedKind, name: Text) -> Result<Tally, NoMemory>
         ensures { IfOk result (IsWithName self kind name) }
     {
         let Tally {
@@ -115,19 +106,19 @@ impl Tally {
         } = self;
         match kind {
             CountedKind::Signal => Ok(Tally {
-                signals: with_text(signals, name)?,
+                signals: signals.with_name(alloc, name)?,
                 classes,
                 objects,
             }),
             CountedKind::Class => Ok(Tally {
                 signals,
-                classes: with_text(classes, name)?,
+                classes: classes.with_name(alloc, name)?,
                 objects,
             }),
             CountedKind::Object => Ok(Tally {
                 signals,
                 classes,
-                objects: with_text(objects, name)?,
+                objects: objects.with_name(alloc, name)?,
             }),
         }
     }
@@ -150,7 +141,7 @@ impl Tally {
             None => Ok(self),
             Some(kind) => {
                 let name = name_at(alloc, elements, n)?;
-                self.with_name(kind, name)
+                self.with_name(alloc, kind, name)
             }
         }
     }

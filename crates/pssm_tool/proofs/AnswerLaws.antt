@@ -12,7 +12,7 @@ use Rattle.pssm_load.specs.declared.fault.LoadFault.{LoadFault}
 use Rattle.pssm_tool.specs.declared.run_words.Options.{Options}
 use Rattle.pssm_tool.specs.declared.answer.Answer.{Answer}
 use Rattle.pssm_tool.specs.declared.answer.Answer.TheVariants.{Accept, Refuse, Limit, WellFormed, Usage, BadLine, NoEnd, TooLarge, Journal, Flat, Generated, BadModel}
-use Rattle.pssm_tool.specs.declared.run.Ended.TheVariants as ends
+use Rattle.pssm_workers.specs.declared.ended.Ended.TheVariants as ends
 use Rattle.pssm_tool.specs.Words.{Meaning, Judges, Runs, Means}
 use Rattle.pssm_tool.specs.Answers.{code_of, text_of, IsFailure}
 use Rattle.pssm_tool.specs.Due.{File, source_of, HasModel, answer_to, IsDueForJournal, large_journal, judged, IsDueForRun, unfit, ran, IsDueForModel, IsOwed, usage, large_model, bad_model, on_model, IsTold, Gives, IsRunOwed, IsOfRun}

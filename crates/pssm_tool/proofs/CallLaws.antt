@@ -29,7 +29,8 @@ use Rattle.pssm_tool.specs.inner.Calls.{post_text, IsPost, ShowsCall}
 use Rattle.pssm_tool.specs.Words.{IsCall, IsStimulusText}
 use Rattle.pssm_tool.specs.inner.Commands.{lent}
 use Rattle.pssm_tool.specs.inner.Running.{NameNoStimuli}
-use Rattle.pssm_tool.specs.Stimuli.{post_of, Names, AreStimuli}
+use Rattle.pssm_book.specs.Stimuli.{post_of}
+use Rattle.pssm_tool.specs.Stimuli.{Names, AreStimuli}
 
 -- ---- one word
 

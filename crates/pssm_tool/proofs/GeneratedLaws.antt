@@ -15,9 +15,9 @@ use Rattle.pssm_suite.specs.Generated.{generated_text, generated_stimuli}
 use Rattle.pssm_suite.specs.GeneratedSetting.{generated_setting}
 use Rattle.pssm_tool.specs.declared.answer.Answer.{Answer}
 use Rattle.pssm_tool.specs.declared.answer.Answer.TheVariants.{Generated}
-use Rattle.pssm_tool.specs.declared.run.Ended.{Ended}
-use Rattle.pssm_tool.specs.declared.run.Ended.TheVariants.{Quiet, Limit}
-use Rattle.pssm_tool.specs.RunTexts.{EndsRun}
+use Rattle.pssm_workers.specs.declared.ended.Ended.{Ended}
+use Rattle.pssm_workers.specs.declared.ended.Ended.TheVariants.{Quiet, Limit}
+use Rattle.pssm_workers.specs.Endings.{EndsRun}
 use Rattle.pssm_tool.specs.declared.failure.Failure.{Failure}
 use Rattle.pssm_tool.specs.Words.{Generates, Means}
 use Rattle.pssm_tool.specs.Due.{IsDueForGenerated, IsOwed, on_model}

@@ -3,8 +3,6 @@ pub mod Three
 pub mod WordLaws
 pub mod RunWordLaws
 pub mod CallLaws
-pub mod PostLaws
-pub mod RunLaws
 pub mod TextLaws
 pub mod LoadLaws
 pub mod DueLaws

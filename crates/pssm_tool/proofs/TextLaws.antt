@@ -19,8 +19,9 @@ use Rattle.pssm_semantics.specs.Names.{HasSpelledNames}
 use Rattle.pssm_journal.proofs.RunNames.{run_is_spelled}
 use Rattle.pssm_journal.proofs.LineLengths.{run_line}
 use Rattle.pssm_semantics.specs.declared.stimulus.Stimulus.{Stimulus}
-use Rattle.pssm_tool.specs.declared.run.Ended.{Ended}
-use Rattle.pssm_tool.specs.RunTexts.{EndsRun, IsRunText}
+use Rattle.pssm_workers.specs.declared.ended.Ended.{Ended}
+use Rattle.pssm_workers.specs.Endings.{EndsRun}
+use Rattle.pssm_tool.specs.RunTexts.{IsRunText}
 use Rattle.pssm_tool.specs.inner.Running.{IsTextOf}
 
 -- The bytes are the first line and lines that a journal may have, which write these entries.

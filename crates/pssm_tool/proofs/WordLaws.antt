@@ -62,6 +62,11 @@ pub limit_low : (words : List (List ℕ)) (options : Options) (model : List ℕ)
 limit_low words options model stimuli run =
     low_number 0 1000000 10000 (first_of (codes "limit") (matches_of run_command words)) options.limit (omega arith) run.asks.numbers.limit
 
+-- So is the number of its workers.
+pub workers_few : (words : List (List ℕ)) (options : Options) (model : List ℕ) (stimuli : List (List ℕ)) → IsRun words options model stimuli → options.workers ≤ 16
+workers_few words options model stimuli run =
+    low_number 1 16 1 (first_of (codes "workers") (matches_of run_command words)) options.workers (omega arith) run.asks.numbers.workers
+
 -- The words `gen` and a number mean what was read.
 pub gen_read : (read : Option Command) (words : List (List ℕ)) (word : List ℕ) → words ≡ codes "gen" ∷ word ∷ []
     → IfSome read (λ command. (n : ℕ) × (meaning_of command ≡ Generates n) × IsNumber word 1 4000 n) → IfSome read (λ command. Means words (meaning_of command))

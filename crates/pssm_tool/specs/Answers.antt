@@ -7,7 +7,7 @@ use Rattle.pssm_flat.specs.Text.{line}
 use Rattle.pssm_tool.specs.declared.answer.Answer.{Answer}
 use Rattle.pssm_tool.specs.declared.answer.Answer.TheVariants.{Accept, Refuse, Limit, WellFormed, Usage, BadLine, NoEnd, TooLarge}
 use Rattle.pssm_tool.specs.declared.answer.Answer.TheVariants.{Journal, Flat, Generated, BadModel}
-use Rattle.pssm_tool.specs.declared.run.Ended.TheVariants as ends
+use Rattle.pssm_workers.specs.declared.ended.Ended.TheVariants as ends
 use Rattle.pssm_tool.specs.Refusals.{load_fault_text}
 
 -- the line on the run of a generated model, by its number: how many entries the journal has, how many of them take a signal, and the digest of its text

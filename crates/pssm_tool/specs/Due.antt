@@ -19,8 +19,8 @@ use Rattle.pssm_tool.specs.declared.run_words.Options.{Options}
 use Rattle.pssm_tool.specs.declared.answer.Answer.{Answer}
 use Rattle.pssm_tool.specs.declared.answer.Answer.TheVariants.{Accept, Refuse, Limit, WellFormed, Usage, BadLine, NoEnd, TooLarge}
 use Rattle.pssm_tool.specs.declared.answer.Answer.TheVariants.{Journal, Flat, Generated, BadModel}
-use Rattle.pssm_tool.specs.declared.run.Ended.{Ended}
-use Rattle.pssm_tool.specs.declared.run.Ended.TheVariants as ends
+use Rattle.pssm_workers.specs.declared.ended.Ended.{Ended}
+use Rattle.pssm_workers.specs.declared.ended.Ended.TheVariants as ends
 use Rattle.pssm_tool.specs.Words.{Meaning, Judges, Runs, Checks, Prints, Generates, Means, IsUsage}
 use Rattle.pssm_tool.specs.Stimuli.{AreStimuli}
 use Rattle.pssm_tool.specs.RunTexts.{IsRunText}

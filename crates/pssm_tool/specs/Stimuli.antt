@@ -1,17 +1,12 @@
 -- The stimuli that words name in a setting.
 use Rattle.std.specs.Prelude.{ℕ, ℤ, List, [], ◌∷◌}
-use Rattle.pssm_semantics.specs.declared.entry.Entry.{Entry}
-use Rattle.pssm_semantics.specs.declared.entry.Entry.TheVariants.{Post}
 use Rattle.pssm_semantics.specs.declared.line.Line.TheVariants as lines
 use Rattle.pssm_semantics.specs.declared.setting.Setting.{Setting}
 use Rattle.pssm_semantics.specs.declared.stimulus.Stimulus.{Stimulus}
 use Rattle.pssm_semantics.specs.Known.{IsStimulusOf}
 use Rattle.pssm_journal.specs.Entries.{IsEntryOf}
+use Rattle.pssm_book.specs.Stimuli.{post_of}
 use Rattle.pssm_tool.specs.Words.{IsCall}
-
--- the entry that posts a stimulus
-abbrev pub post_of : Stimulus → Entry
-post_of x = Post x.object x.signal x.args
 
 -- The line that has the word after `post` writes the entry that posts the stimulus, and all that it names is the setting's;
 -- the signal has as many parameters as the word has numbers.

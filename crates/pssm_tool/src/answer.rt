@@ -6,11 +6,11 @@ ghost use Rattle.pssm_flat.specs.Text.{line};
 ghost use Rattle.pssm_tool.specs.Answers.{text_of, code_of, generated_line};
 
 use crate::refusal::fault_text;
-use crate::run::Ended;
 use crate::status::Status;
 use pssm_load::LoadFault;
 use pssm_model::Text;
 use pssm_semantics::Rule;
+use pssm_workers::Ended;
 use std::alloc::{AllocError as NoMemory, Global};
 
 /// An answer to the words.

@@ -9,15 +9,17 @@ ghost use Rattle.pssm_tool.specs.inner.Failures.{FailedFor, GoesOn};
 use crate::answer::Answer;
 use crate::failure::Failure;
 use crate::model::model;
-use crate::run::run;
+use crate::run::run_by_workers;
 use crate::run_words::RunWords;
 use crate::stimuli::stimuli_of;
 use crate::text::text_of;
-use pssm_base::Inputs;
+use pssm_base::{Gate, Inputs};
 use pssm_flat::write_flat;
 use pssm_judge::{JudgeFault, LineFault, Verdict, judge};
 use pssm_model::Text;
 use std::alloc::Global;
+use std::sync::Wait;
+use std::thread::Threads;
 
 /// Judges the journal that stands under one path as one of the model under the other.
 pub fn judge_journal<I: Inputs>(
@@ -67,13 +69,17 @@ fn text_answer(fault: LineFault) -> Answer
     }
 }
 
-/// Runs the model that the words name with the stimuli that they name.
-pub fn run_model<I: Inputs>(
+/// Runs the model that the words name with the stimuli that they name, by as many workers as they
+/// ask for.
+pub fn run_model<R: Threads + Wait + Sync, I: Inputs, G: Gate + Sync>(
+    rt: &R,
     alloc: Global,
     inputs: &mut I,
     asked: &RunWords<'_>,
+    gate: &G,
 ) -> Result<Answer, Failure>
-    requires { asked.now.options.limit ≤ 1000000 }
+    requires limit { asked.now.options.limit ≤ 1000000 }
+    requires workers { asked.now.options.workers ≤ 16 }
     ensures owed { IfOk result (λ answer. (words : List (List ℕ)) → Means words (meaning_of_run asked.now)
         → IsOwed words (I.content inputs.old) answer) }
     ensures goes_on { IfOk result (λ answer. (words : List (List ℕ)) → Means words (meaning_of_run asked.now)
@@ -89,12 +95,13 @@ pub fn run_model<I: Inputs>(
     let Some(stimuli) = stimuli_of(alloc, &setting, &asked.stimuli)? else {
         return Ok(Answer::Usage);
     };
-    let (system, ended) = run(
+    let (system, ended) = run_by_workers(
+        rt,
         alloc,
-        setting,
+        &setting,
         stimuli.as_slice(),
-        asked.options.seed,
-        asked.options.limit,
+        asked.options,
+        gate,
     )?;
     let text = text_of(alloc, &system);
     drop(system);

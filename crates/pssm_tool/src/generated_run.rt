@@ -15,12 +15,13 @@ ghost use Rattle.pssm_tool.specs.inner.Failures.{GoesOn};
 use crate::answer::Answer;
 use crate::failure::Failure;
 use crate::model::setting_of;
-use crate::run::{Ended, run};
+use crate::run::run_by_itself;
 use crate::text::text_of;
 use pssm_judge::MOST_ENTRIES;
 use pssm_load::one_load;
 use pssm_semantics::{Entry, Setting, Stimulus};
 use pssm_suite::{generate, generated_ends, generated_runs, generated_settings, generated_texts};
+use pssm_workers::Ended;
 use sha2::{Digest, Sha256};
 use std::alloc::Global;
 
@@ -69,7 +70,7 @@ fn run_generated(
 {
     generated_runs();
     generated_ends();
-    let (system, ended) = run(alloc, setting, stimuli, u64::from(number), MOST_ENTRIES)?;
+    let (system, ended) = run_by_itself(alloc, &setting, stimuli, u64::from(number), MOST_ENTRIES)?;
     let text = text_of(alloc, &system)?;
     match ended {
         // no run of a generated model has so many entries

@@ -16,7 +16,7 @@ use std::alloc::{AllocError as NoMemory, Global};
 pub struct Options {
     /// What the free choices are made from.
     pub seed: u64,
-    /// How many workers the words name, 1 to 16. It has no effect.
+    /// How many workers run the model, 1 to 16.
     pub workers: u8,
     /// How many entries the journal may have, at most 1,000,000.
     pub limit: u32,

@@ -6,7 +6,7 @@ ghost use Rattle.pssm_semantics.specs.declared.setting.Setting.{Setting};
 ghost use Rattle.pssm_semantics.specs.declared.stimulus.Stimulus.{Stimulus};
 ghost use Rattle.pssm_load.specs.declared.fault.LoadFault.{LoadFault};
 ghost use Rattle.pssm_tool.specs.declared.answer.Answer.{Answer};
-ghost use Rattle.pssm_tool.specs.declared.run.Ended.{Ended};
+ghost use Rattle.pssm_workers.specs.declared.ended.Ended.{Ended};
 ghost use Rattle.pssm_tool.specs.declared.run_words.Options.{Options};
 ghost use Rattle.pssm_base.specs.Faults.{Rose};
 ghost use Rattle.pssm_base.specs.Putting.{TookPart};
@@ -25,6 +25,8 @@ use crate::words::{Command, command_of};
 use pssm_base::{Gate, Inputs, Sink, put_all};
 use pssm_load::one_load;
 use std::alloc::Global;
+use std::sync::Wait;
+use std::thread::Threads;
 
 /// Does what the words say, and answers how the program ends (UML 2.5.1, 14.2.3; the words, the
 /// texts and the statuses are this profile's choice). `words` are those after the program's name.
@@ -37,15 +39,16 @@ use std::alloc::Global;
 ///
 /// A model is in the flat form, where its bytes begin with `pssm-flat`, and otherwise a model file
 /// as an editor writes it. What is written goes to `out` at once, after all else is done; before
-/// that nothing is written. `rt` and `gate` are for commands that start workers, of which there is
-/// none.
-pub fn pssm<R, I: Inputs, S: Sink, G: Gate + Sync>(
-    _rt: &R,
+/// that nothing is written. `run` starts as many workers as its words ask for, on threads of `rt`;
+/// each tells the gate before it runs a behaviour. So `pssm` may wait, and no clause says that it
+/// returns; all that it calls for the other commands returns.
+pub fn pssm<R: Threads + Wait + Sync, I: Inputs, S: Sink, G: Gate + Sync>(
+    rt: &R,
     alloc: Global,
     words: &[String],
     inputs: &mut I,
     out: &mut S,
-    _gate: &G,
+    gate: &G,
 ) -> Status
     // ---- What an accepted journal is.
 
@@ -145,7 +148,7 @@ pub fn pssm<R, I: Inputs, S: Sink, G: Gate + Sync>(
     ensures no_other { result.code ≤ 9 }
 {
     one_load();
-    match answer(alloc, words, inputs) {
+    match answer(rt, alloc, words, inputs, gate) {
         Ok(answer) => tell(alloc, answer, out),
         Err(Failure::ReadFault) => Status { code: 5 },
         Err(Failure::NoMemory) => Status { code: 7 },
@@ -183,7 +186,13 @@ fn put<S: Sink>(bytes: &[u8], status: Status, out: &mut S) -> Status
 }
 
 // The answer that is owed for the words and their files, or why there is none.
-fn answer<I: Inputs>(alloc: Global, words: &[String], inputs: &mut I) -> Result<Answer, Failure>
+fn answer<R: Threads + Wait + Sync, I: Inputs, G: Gate + Sync>(
+    rt: &R,
+    alloc: Global,
+    words: &[String],
+    inputs: &mut I,
+    gate: &G,
+) -> Result<Answer, Failure>
     ensures owed { IfOk result (IsOwed (texts words.now) (I.content inputs.old)) }
     ensures goes_on { IfOk result (GoesOn (texts words.now) (I.content inputs.old)) }
     ensures failed { IfErr result (FailedFor (texts words.now) (I.faults inputs.old) (I.faults inputs.new)) }
@@ -191,7 +200,7 @@ fn answer<I: Inputs>(alloc: Global, words: &[String], inputs: &mut I) -> Result<
     let command = command_of(alloc, words)?;
     match command {
         Some(Command::Judge { model, journal }) => judge_journal(alloc, inputs, model, journal),
-        Some(Command::Run(asked)) => run_model(alloc, inputs, &asked),
+        Some(Command::Run(asked)) => run_model(rt, alloc, inputs, &asked, gate),
         Some(Command::Check { model }) => check_model(alloc, inputs, model),
         Some(Command::Flat { model }) => print_model(alloc, inputs, model),
         Some(Command::Generate { number }) => generate_and_run(alloc, number),

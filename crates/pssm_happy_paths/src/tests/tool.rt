@@ -3,7 +3,10 @@ ghost use Rattle.std.specs.Prelude.{◌≢◌};
 
 use pssm_base::{Gate, SureInputs, SureSink};
 use pssm_tool::{Status, pssm};
+use std::alloc::Global;
+use std::sync::Wait;
 use std::test::Fail;
+use std::thread::Threads;
 
 // A gate for commands that come to none.
 struct NoGate;
@@ -13,11 +16,17 @@ impl Gate for NoGate {
 }
 
 // Over inputs and a sink that never fail there is neither a read fault nor a write fault.
-fn surely(rt: &HostRuntime, words: &[String], inputs: &mut SureInputs, out: &mut SureSink) -> Status
+fn surely<R: Threads + Wait + Sync>(
+    rt: &R,
+    alloc: Global,
+    words: &[String],
+    inputs: &mut SureInputs,
+    out: &mut SureSink,
+) -> Status
     ensures no_read_fault { result.code ≢ 5 }
     ensures no_write_fault { result.code ≢ 6 }
 {
-    pssm(rt, rt.alloc(), words, inputs, out, &NoGate)
+    pssm(rt, alloc, words, inputs, out, &NoGate)
 }
 
 #[test]
@@ -26,7 +35,7 @@ fn answers(rt: HostRuntime) -> Result<(), Fail> {
     let words = vec![in alloc; String::from_str(alloc, "judge")?]?;
     let mut inputs = SureInputs::new(Vec::new(alloc));
     let mut out = SureSink::new();
-    let status = surely(&rt, words.as_slice(), &mut inputs, &mut out);
+    let status = surely(&rt, alloc, words.as_slice(), &mut inputs, &mut out);
     assert_eq!(rt; status.code, 2);
     Ok(())
 }

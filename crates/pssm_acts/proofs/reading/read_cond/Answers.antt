@@ -1,25 +1,10 @@
-use Rattle.pssm_acts.proofs.CondFaults.{answers_fault, answers_first}
-use Rattle.pssm_acts.proofs.CondLaws.{answers_spelled, answers_fit, answers_known}
-use Rattle.pssm_acts.proofs.Unchanged.{cond_canonical_read, cond_unchanged}
+use Rattle.std.proofs.Common.{◌≡◌, IfOk, subst}
+use Rattle.pssm_semantics.specs.declared.setting.Names.{Names}
+use Rattle.pssm_acts.specs.ActText.{cond_text}
+use Rattle.pssm_acts.specs.Canonical.{IsCanonicalCond}
 use Rattle.pssm_acts.proofs.reading.read_cond.Goals as goal
 
-pub returns-clause-spelled : goal.returns-clause-spelled
-returns-clause-spelled c = answers_spelled c.args.names.now c.args.text.now c.guard_of.result c.guard_of.ensures
-
-pub returns-clause-known : goal.returns-clause-known
-returns-clause-known c = answers_known c.args.names.now c.args.text.now c.guard_of.result c.guard_of.ensures
-
-pub returns-clause-fits : goal.returns-clause-fits
-returns-clause-fits c = answers_fit c.args.names.now c.args.text.now c.guard_of.result c.guard_of.ensures
-
-pub returns-clause-fault : goal.returns-clause-fault
-returns-clause-fault c = answers_fault c.args.names.now c.args.text.now c.guard_of.result c.guard_of.ensures
-
-pub returns-clause-first : goal.returns-clause-first
-returns-clause-first c = answers_first c.args.names.now c.args.text.now c.guard_of.result c.guard_of.ensures
-
-pub returns-clause-canonical : goal.returns-clause-canonical
-returns-clause-canonical c = cond_canonical_read c.args.names.now c.args.text.now c.guard_of.result c.guard_of.ensures
-
+-- The names that are lent are the names.
 pub returns-clause-unchanged : goal.returns-clause-unchanged
-returns-clause-unchanged c = cond_unchanged c.args.names.now c.args.text.now c.guard_of.result c.guard_of.ensures
+returns-clause-unchanged c =
+    subst (λ (n : Names). IsCanonicalCond n c.args.text.now → IfOk c.read_cond_known.result (λ cond. cond_text n cond ≡ c.args.text.now)) c.of.ensures c.read_cond_known.ensures.unchanged

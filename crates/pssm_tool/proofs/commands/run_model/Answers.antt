@@ -34,13 +34,13 @@ returns-in_default-clause-owed g c = λ words is.
     on_model (meaning_of_run c.args.asked.now) c.in-Ok-Ok.setting is has
     (unfit (subst (λ (t : List (Bor (List ℕ))). NameNoStimuli c.in-Ok-Ok.setting (lent t)) c.deref.ensures.value (rw c.in_default.is at c.in_ok-stimuli.ensures.none)) refl)
 
-pub run-requires-clause-well_formed : goal.run-requires-clause-well_formed
-run-requires-clause-well_formed g c =
+pub run_by_workers-requires-clause-well_formed : goal.run_by_workers-requires-clause-well_formed
+run_by_workers-requires-clause-well_formed g c κs within =
     let well : IsWellFormed c.in-Ok-Ok.setting = (rw c.in-Ok-Ok.field-0-is at c.in-Ok-Ok.ensures.well_formed) in
     well
 
-pub run-requires-clause-known : goal.run-requires-clause-known
-run-requires-clause-known g c =
+pub run_by_workers-requires-clause-known : goal.run_by_workers-requires-clause-known
+run_by_workers-requires-clause-known g c κs within =
     let named = rw c.in-Some.is at c.in_ok-stimuli.ensures.name in
     subst (λ (t : List Stimulus). AllByRecursion (IsStimulusOf c.in-Ok-Ok.setting) t) (sym c.as_slice.ensures.value) (all_known c.in-Ok-Ok.setting (lent c.deref.result.now) c.in-Some.stimuli.items named)
 

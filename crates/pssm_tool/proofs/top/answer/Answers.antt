@@ -5,7 +5,7 @@ use Rattle.pssm_tool.specs.inner.Commands.{meaning_of, meaning_of_run, lent}
 use Rattle.pssm_tool.specs.Due.{IsOwed}
 use Rattle.pssm_tool.specs.inner.Failures.{GoesOn}
 use Rattle.pssm_tool.proofs.DueLaws.{at_words, at_any, no_memory_failed}
-use Rattle.pssm_tool.proofs.WordLaws.{limit_low, gen_in_range}
+use Rattle.pssm_tool.proofs.WordLaws.{limit_low, workers_few, gen_in_range}
 use Rattle.pssm_tool.proofs.top.answer.Goals as goal
 
 pub returns-in-Some-Judge-clause-owed : goal.returns-in-Some-Judge-clause-owed
@@ -19,9 +19,15 @@ returns-in-Some-Run-clause-owed g c =
     (subst (λ command. Means (texts c.args.words.now) (meaning_of command)) c.in-Some-Run.field-0-is (subst (λ o. IfSome o (λ command. Means (texts c.args.words.now) (meaning_of command))) c.in-Some-Run.is c.in_ok-command.ensures.reads))
 
 -- The limit that the words choose is in its range.
-pub run_model-requires : goal.run_model-requires
-run_model-requires g c =
+pub run_model-requires-clause-limit : goal.run_model-requires-clause-limit
+run_model-requires-clause-limit g c κs within =
     limit_low (texts c.args.words.now) c.in-Some-Run.asked.options c.in-Some-Run.asked.model.now (lent c.in-Some-Run.asked.stimuli.items)
+    (subst (λ command. Means (texts c.args.words.now) (meaning_of command)) c.in-Some-Run.field-0-is (subst (λ o. IfSome o (λ command. Means (texts c.args.words.now) (meaning_of command))) c.in-Some-Run.is c.in_ok-command.ensures.reads))
+
+-- So is the number of workers.
+pub run_model-requires-clause-workers : goal.run_model-requires-clause-workers
+run_model-requires-clause-workers g c κs within =
+    workers_few (texts c.args.words.now) c.in-Some-Run.asked.options c.in-Some-Run.asked.model.now (lent c.in-Some-Run.asked.stimuli.items)
     (subst (λ command. Means (texts c.args.words.now) (meaning_of command)) c.in-Some-Run.field-0-is (subst (λ o. IfSome o (λ command. Means (texts c.args.words.now) (meaning_of command))) c.in-Some-Run.is c.in_ok-command.ensures.reads))
 
 pub returns-in-Some-Check-clause-owed : goal.returns-in-Some-Check-clause-owed

@@ -14,8 +14,8 @@ pub returns-in-Some : goal.returns-in-Some
 returns-in-Some c =
     let doc = c.args.elements.now in let n = c.args.n in let kind = c.in-Some.kind in
     let own = subst (HasKind doc n) c.in-Some.is c.requires.kind in
-    let count = length c.names.result.now in
-    let stand = subst (StandBefore (IsOfKind doc (kind_meant kind)) n) (sym (ap length c.names.ensures))
+    let count = c.len.result in
+    let stand = subst (StandBefore (IsOfKind doc (kind_meant kind)) n) (sym (c.len.ensures ∙ ap length c.names.ensures))
     (stand_before doc (kind_meant kind) n (names_held c.args.self.now kind) (c.requires.tally kind)) in
     let so = passes_where doc n (kind_meant kind) count (λ j has. c.one_kind.ensures doc n (kind_meant kind) j own has)
     (λ has. c.no_parameter.ensures doc n (kind_meant kind) own has) own stand in (

@@ -12,4 +12,4 @@ returns-in_ok-name-in-Some c =
     let so = repeats_where doc n (kind_meant kind) (names_held c.args.self.now kind)
     (λ j has. c.one_kind.ensures doc n (kind_meant kind) j own has) own (c.requires.tally kind) in
     subst (λ (b : Bool). IsTrue b ↔ RepeatsName doc n)
-    (sym (c.is_among.ensures ∙ ap₂ (λ (w : List ℕ) (l : List (List ℕ)). list_any (bytes_eq w) l) (c.as_slice.ensures ∙ c.in_ok-name-in-Some.ensures) c.names.ensures)) so
+    (sym (c.has.ensures ∙ ap₂ (λ (w : List ℕ) (l : List (List ℕ)). list_any (bytes_eq w) l) (c.as_slice.ensures ∙ c.in_ok-name-in-Some.ensures) c.names.ensures)) so

@@ -1,0 +1,114 @@
+//! What a worker does.
+ghost use Rattle.std.specs.Prelude.{IfOk};
+ghost use Rattle.pssm_semantics.specs.Arguments.{ActArgsFit};
+
+use crate::floor::Floor;
+use crate::seat::Seat;
+use crate::words::words_of;
+use pssm_base::Gate;
+use pssm_book::{Claimed, Job};
+use pssm_semantics::run;
+use rand_core::Rng;
+use rand_pcg::Pcg64;
+use std::alloc::{AllocError as NoMemory, Global};
+use std::sync::ledger::Ledger;
+use std::sync::{Mutex, Wait};
+
+/// Sits down, and works until nothing is left to do, the journal is full or memory has run out;
+/// then wakes the others, who will find the same or go on without it.
+pub fn sit<L: Ledger, R: Wait, G: Gate>(
+    rt: &R,
+    alloc: Global,
+    floor: &Floor<L>,
+    gate: &G,
+    seat: &Mutex<Seat<L>>,
+    seed: u64,
+    number: u64,
+) {
+    let words = words_of(seed, number);
+    let mut taken = seat.lock(rt);
+    let seat = &mut *taken;
+    let starved = work(rt, alloc, floor, gate, seat, words).is_err();
+    seat.note(starved);
+    floor.wake();
+}
+
+// A behaviour of so many statements and more, those inside an `if` not counted, takes long: while
+// one worker runs it another may well go on.
+const LONG: usize = 8;
+
+// After so many short behaviours one after another a worker is hasty.
+const PATIENCE: u32 = 8;
+
+// Claims, runs and commits, again and again. Words settle what comes where several things may.
+fn work<L: Ledger, R: Wait, G: Gate>(
+    rt: &R,
+    alloc: Global,
+    floor: &Floor<L>,
+    gate: &G,
+    seat: &mut Seat<L>,
+    words: Pcg64,
+) -> Result<(), NoMemory> {
+    let mut words = words;
+    let mut turn: u64 = 0;
+    let mut patience: u32 = PATIENCE;
+    for _ in rt.forever() {
+        match floor.claim(rt, words.next_u64(), patience == 0, seat)? {
+            Some(Claimed::Job(job)) => {
+                gate.before(job.object.0, turn);
+                turn = turn.saturating_add(1);
+                if job.act.stmts.as_slice().len() >= LONG {
+                    floor.tell_of_long();
+                    patience = PATIENCE;
+                } else {
+                    patience = patience.saturating_sub(1);
+                }
+                do_job(rt, alloc, floor, patience == 0, seat, job)?;
+            }
+            Some(Claimed::Moved | Claimed::Busy { .. }) | None => {}
+            Some(Claimed::Quiet | Claimed::Full) => return Ok(()),
+        }
+    }
+    unreachable!()
+}
+
+// Runs the behaviour of a task, and commits it. Where memory runs out the task is given back.
+fn do_job<L: Ledger, R: Wait>(
+    rt: &R,
+    alloc: Global,
+    floor: &Floor<L>,
+    hasty: bool,
+    seat: &mut Seat<L>,
+    job: Job,
+) -> Result<(), NoMemory>
+    requires { ActArgsFit job.act }
+{
+    let object = job.object;
+    let task = job.task;
+    let done = run_and_commit(rt, alloc, floor, hasty, seat, job);
+    if done.is_err() {
+        floor.release(rt, object, task);
+    }
+    done
+}
+
+// Runs the behaviour of a task outside the lock, and commits it.
+fn run_and_commit<L: Ledger, R: Wait>(
+    rt: &R,
+    alloc: Global,
+    floor: &Floor<L>,
+    hasty: bool,
+    seat: &mut Seat<L>,
+    job: Job,
+) -> Result<(), NoMemory>
+    requires { ActArgsFit job.act }
+{
+    let worked = run(
+        alloc,
+        job.object,
+        &job.act,
+        job.store.as_slice(),
+        &job.params,
+    )?;
+    floor.commit(rt, job.task, &worked, hasty, seat)
+}
