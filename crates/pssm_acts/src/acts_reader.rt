@@ -12,7 +12,9 @@ use crate::guard_reader::{GuardReader, guard_end, guard_next, new_guard};
 use crate::known::Known;
 use crate::marks::Marks;
 use crate::phrase_reader::{Phrase, Phrased, new_phrase, phrase_next};
-use crate::read_blocks::{Blocks, OpenIf, counted, new_blocks, with_if, with_step, with_stmt};
+use crate::read_blocks::{
+    Blocks, OpenIf, act_of, counted, new_blocks, with_if, with_step, with_stmt,
+};
 use crate::stack::Stack;
 use crate::token::{Kind, Piece};
 use pssm_model::Row;
@@ -165,7 +167,7 @@ fn next_step(alloc: Global, blocks: Blocks, stepped: bool, at: u32) -> Result<Ac
     if earlier.as_slice().len() >= STEPS - 1 {
         return Err(ActFault::TooLong { at });
     }
-    let earlier = with_step(earlier, stmts)?;
+    let earlier = with_step(earlier, act_of(alloc, stmts)?)?;
     Ok(ActsReader {
         blocks: new_blocks(alloc, earlier),
         turn: Turn::Step,
@@ -373,7 +375,7 @@ pub(crate) fn acts_next(
 
 // The behaviours that have been read, where no block is open.
 #[tactic(auto, unfolding(crate::specs::inner::ActReading::whole_acts))]
-fn whole(blocks: Blocks, at: u32) -> Result<ReadActs, ActFault>
+fn whole(alloc: Global, blocks: Blocks, at: u32) -> Result<ReadActs, ActFault>
     ensures { Answers (whole_acts blocks at) result }
 {
     let Blocks {
@@ -387,12 +389,13 @@ fn whole(blocks: Blocks, at: u32) -> Result<ReadActs, ActFault>
     }
     Ok(ReadActs {
         earlier,
-        last: Act { stmts },
+        last: act_of(alloc, stmts)?,
     })
 }
 
 // The behaviours that have been read up to the first block of an `if`.
 fn whole_with_if(
+    alloc: Global,
     blocks: Blocks,
     condition: Cond,
     body: Row<Stmt>,
@@ -401,19 +404,19 @@ fn whole_with_if(
     ensures { Answers (whole_acts (without_else blocks condition body) at) result }
 {
     let blocks = with_if(blocks, condition, body)?;
-    whole(blocks, at)
+    whole(alloc, blocks, at)
 }
 
 // The behaviours that have been read, where they may end at this byte; otherwise the fault of
 // ending there.
 #[tactic(auto, unfolding(crate::specs::inner::ActReading::acts_value))]
-pub(crate) fn acts_end(reader: ActsReader, at: u32) -> Result<ReadActs, ActFault>
+pub(crate) fn acts_end(alloc: Global, reader: ActsReader, at: u32) -> Result<ReadActs, ActFault>
     ensures { Answers (acts_value reader at) result }
 {
     let ActsReader { blocks, turn } = reader;
     match turn {
-        Turn::Begins => whole(blocks, at),
-        Turn::Chosen(condition, body) => whole_with_if(blocks, condition, body, at),
+        Turn::Begins => whole(alloc, blocks, at),
+        Turn::Chosen(condition, body) => whole_with_if(alloc, blocks, condition, body, at),
         Turn::Within(phrase) => refused((blocks, phrase), ActFault::Syntax { at }),
         Turn::Condition(guard) => refused((blocks, guard), ActFault::Syntax { at }),
         Turn::Else(condition, body) => {

@@ -5,7 +5,7 @@ ghost use Rattle.pssm_acts.specs.inner.ActReading.{fresh_blocks, statement_count
 use crate::act_fault::{ActFault, refused};
 use crate::stack::Stack;
 use pssm_model::Row;
-use pssm_semantics::{Act, Cond, Stmt};
+use pssm_semantics::{Act, Cond, Shared, Stmt};
 use std::alloc::{AllocError as NoMemory, Global};
 
 // How many statements a behaviour may have, those in blocks counted (this profile's choice).
@@ -97,11 +97,20 @@ pub(crate) fn counted(blocks: Blocks, at: u32) -> Result<Blocks, ActFault>
     Ok(blocks)
 }
 
+// The behaviour of these statements.
+pub(crate) fn act_of(alloc: Global, stmts: Row<Stmt>) -> Result<Act, NoMemory>
+    ensures { IfOk result (λ act. act.stmts ≡ stmts) }
+{
+    Ok(Act {
+        stmts: Shared::new(alloc, stmts)?,
+    })
+}
+
 // The steps with one more.
-pub(crate) fn with_step(earlier: Row<Act>, stmts: Row<Stmt>) -> Result<Row<Act>, NoMemory>
-    ensures { IfOk result (λ more. more ≡ with_act earlier stmts) }
+pub(crate) fn with_step(earlier: Row<Act>, act: Act) -> Result<Row<Act>, NoMemory>
+    ensures { IfOk result (λ more. more ≡ with_act earlier act.stmts) }
 {
     let mut list = earlier.into_vec();
-    list.push(Act { stmts })?;
+    list.push(act)?;
     Ok(Row::from_vec(list))
 }

@@ -120,7 +120,7 @@ fn acts_of(
     while let Some(piece) = tokens.next() {
         reader = acts_next(alloc, reader, piece, names, marks, stepped)?;
     }
-    acts_end(reader, text.len() as u32)
+    acts_end(alloc, reader, text.len() as u32)
 }
 
 // The behaviours that a text of at most 4,096 bytes spells.
@@ -178,8 +178,7 @@ fn steps_in(
     ensures kept { KeepsMarks marks.old marks.new }
 {
     let ReadActs { earlier, last } = acts_in(alloc, text, names, marks, true)?;
-    let Act { stmts } = last;
-    Ok(with_step(earlier, stmts)?)
+    Ok(with_step(earlier, last)?)
 }
 
 /// The behaviour that a text spells; otherwise the first fault in reading order.

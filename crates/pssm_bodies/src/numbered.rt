@@ -18,7 +18,7 @@ use pssm_acts::{
     ActFault, Growing, Known, Marks, read_act_noting, read_cond_known, read_steps_noting,
 };
 use pssm_model::{ActId, Body, Guard, GuardId, Row};
-use pssm_semantics::{Act, Cond};
+use pssm_semantics::{Act, Cond, Shared};
 use std::alloc::{AllocError as NoMemory, Global};
 
 /// The program of a class of which nothing has been read: the empty behaviour alone.
@@ -26,7 +26,7 @@ pub(crate) fn first_program(alloc: Global) -> Result<Growing, NoMemory>
     ensures { IfOk result (λ p. p ≡ first) }
 {
     let mut acts = Vec::new(alloc);
-    let stmts = Row::from_vec(Vec::new(alloc));
+    let stmts = Shared::new(alloc, Row::from_vec(Vec::new(alloc)))?;
     acts.push(Act { stmts })?;
     Ok(Growing {
         acts: Row::from_vec(acts),

@@ -14,7 +14,7 @@ use pssm_acts::{
     ActFault, Growing, Known, Marks, read_act_noting, read_cond_known, write_act, write_cond,
 };
 use pssm_model::{ActId, GuardId, Row, Text};
-use pssm_semantics::{Act, Cond, Names};
+use pssm_semantics::{Act, Cond, Names, Shared};
 use std::alloc::{AllocError, Global};
 use std::mem;
 
@@ -30,7 +30,7 @@ pub(crate) fn first_program(alloc: Global) -> Result<Growing, AllocError>
     ensures { IfOk result (λ p. p ≡ first) }
 {
     let mut acts = Row::from_vec(Vec::new(alloc));
-    let stmts = Row::from_vec(Vec::new(alloc));
+    let stmts = Shared::new(alloc, Row::from_vec(Vec::new(alloc)))?;
     push(alloc, &mut acts, Act { stmts })?;
     Ok(Growing {
         acts,

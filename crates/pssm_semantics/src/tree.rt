@@ -2,13 +2,15 @@
 ghost use Rattle.std.specs.Prelude.{◌≡◌, IfOk};
 
 use crate::entry::ObjectId;
+use crate::shared::Shared;
 use pssm_model::{Boxed, Duplicate, MarkId, Row, SignalId};
 use std::alloc::{AllocError as NoMemory, Global};
 
 /// A behaviour: statements that run in order (UML 2.5.1, 13.2.3, opaque behaviours; the language is this profile's choice).
+/// A copy shares the statements.
 #[derive(Drop)]
 pub struct Act {
-    pub stmts: Row<Stmt>,
+    pub stmts: Shared<Row<Stmt>>,
 }
 
 impl Act {

@@ -12,6 +12,7 @@ use Rattle.pssm_model.proofs.boxed.Boxed.TheSendSync as boxed
 use Rattle.pssm_model.proofs.row.Row.TheSendSync as row
 use Rattle.pssm_model.proofs.text.Text.TheSendSync as text
 use Rattle.pssm_model.proofs.machine.Machine.TheSendSync as machine
+use Rattle.pssm_semantics.proofs.shared.Shared.TheSendSync as shared
 use Rattle.pssm_semantics.proofs.tree.Expr.TheLaws.TheKnot as exprs
 use Rattle.pssm_semantics.proofs.tree.Cond.TheLaws.TheKnot as conds
 use Rattle.pssm_semantics.proofs.tree.Stmt.TheLaws.TheKnot as stmts
@@ -66,8 +67,18 @@ cond_send = search (sendable, crosses, boxed.the_send, exprs.crosses, conds.cros
 stmt_send : IsSend stmt.the_row
 stmt_send = search (sendable, crosses, row.the_send, boxed.the_send, object_id.the_send, expr_send, exprs.crosses, conds.crosses, stmts.crosses) depth 60 fits 20000
 
+expr_sync : IsSync expr.the_row
+expr_sync = search (sendable, crosses, boxed.the_sync, exprs.crosses) depth 40
+
+cond_sync : IsSync cond.the_row
+cond_sync = search (sendable, crosses, boxed.the_sync, exprs.crosses, conds.crosses) depth 60 fits 20000
+
+stmt_sync : IsSync stmt.the_row
+stmt_sync = search (sendable, crosses, row.the_sync, boxed.the_sync, object_id.the_sync, expr_sync, exprs.crosses, conds.crosses, stmts.crosses) depth 60 fits 20000
+
+-- behaviours share their statements
 act_send : IsSend act.the_row
-act_send = search (sendable, row.the_send, stmt_send) depth 40
+act_send = search (sendable, shared.the_send, row.the_send, row.the_sync, stmt_send, stmt_sync) depth 60 fits 20000
 
 class_send : IsSend class.the_row
 class_send = search (sendable, text.the_send, machine.the_send, row.the_send, act_send, cond_send) depth 60 fits 20000

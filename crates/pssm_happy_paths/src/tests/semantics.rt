@@ -109,7 +109,7 @@ fn choice(alloc: Global) -> Result<Act, NoMemory> {
         otherwise: None,
     };
     Ok(Act {
-        stmts: row_of(alloc, choice)?,
+        stmts: Shared::new(alloc, row_of(alloc, choice)?)?,
     })
 }
 
