@@ -1,5 +1,5 @@
 -- What a desk keeps, call by call.
-use Rattle.std.proofs.Common.{◌≡◌, ◌≢◌, ◌⊎◌, ◌≤◌, ◌<◌, ◌+◌, ◌++◌, ◌↔◌, ℕ, List, [], ◌∷◌, length, take, Contains, Option, Some, None, IfSome, IfNone, slice_get, refl, sym, ap, subst, ◌∙◌, inl, inr, ⊎_elim, arith, length-append, eq-eqb}
+use Rattle.std.proofs.Common.{◌≡◌, ◌≢◌, ◌⊎◌, ◌≤◌, ◌<◌, ◌+◌, ◌++◌, ◌↔◌, ℕ, List, [], ◌∷◌, length, take, Contains, Option, Some, None, Result, Ok, Err, IfOk, IfSome, slice_get, refl, sym, ap, subst, ◌∙◌, inl, inr, ⊎_elim, arith, length-append, eq-eqb}
 use Rattle.std.specs.Prelude.{AllPairs}
 use Rattle.std.specs.List.{AllByRecursion}
 use Rattle.std.proofs.Math.Seq.{take-length}
@@ -11,6 +11,7 @@ use Rattle.pssm_semantics.specs.declared.entry.ObjectId.{ObjectId}
 use Rattle.pssm_semantics.specs.declared.entry.Out.{Out}
 use Rattle.pssm_semantics.specs.declared.entry.Entry.{Entry}
 use Rattle.pssm_semantics.specs.declared.entry.Entry.TheVariants.{Post, Start, Take, Done, Exit, Effect, Enter, Opened, Pick, DoStep}
+use Rattle.pssm_semantics.specs.declared.entry.Rule.TheVariants.{A1}
 use Rattle.pssm_semantics.specs.declared.setting.Setting.{Setting}
 use Rattle.pssm_semantics.specs.declared.setting.Class.{Class}
 use Rattle.pssm_semantics.specs.declared.stimulus.Stimulus.{Stimulus}
@@ -19,7 +20,7 @@ use Rattle.pssm_semantics.specs.declared.stimulus.Task.TheVariants as tasks
 use Rattle.pssm_semantics.specs.Arguments.{ActArgsFit}
 use Rattle.pssm_semantics.specs.Work.{Work, outcome_from}
 use Rattle.pssm_semantics.specs.Proper.{IsWellFormed}
-use Rattle.pssm_semantics.specs.Journal.{IsPost}
+use Rattle.pssm_semantics.specs.Journal.{IsPost, object_of}
 use Rattle.pssm_semantics.specs.Pool.{told_by, posts_of_entry, outs_of, posts_of, output_count}
 use Rattle.pssm_semantics.specs.Values.{Store, Params, outcome_of}
 use Rattle.pssm_semantics.specs.Behaviours.{params_at, store_of}
@@ -44,10 +45,10 @@ use Rattle.pssm_book.specs.Stimuli.{post_of}
 use Rattle.pssm_book.specs.Counts.{IsFullAt}
 use Rattle.pssm_book.specs.Contents.{Contents, IsKept}
 use Rattle.pssm_book.specs.Works.{behaviour_in, store_in, params_in}
-use Rattle.pssm_book.specs.Claiming.{IsOpen, AreAllOut, IsBusy, HasMoved, HasClaimed, CarriesWork}
+use Rattle.pssm_book.specs.Claiming.{IsOpen, IsBusy, HasMoved, HasClaimed, CarriesWork}
 use Rattle.pssm_book.specs.Committing.{IsItsWork, IsUpToDate}
 use Rattle.pssm_book.specs.inner.Keeping.{IsRunning, IsInOrder, contents_of, bare, HasAppended, HasHandedOut, IsFresh}
-use Rattle.pssm_book.specs.inner.Nexts.{PostsNext, IsNext, waiting_at, IsAppended, HasNothingOpen, IsStill, Finds, FindsWithin, AreOutOf, AreOutAmong, AreOutFirst}
+use Rattle.pssm_book.specs.inner.Nexts.{PostsNext, IsNext, waiting_at, IsAppended, HasNothingOpen, IsStill, Finds, FindsWithin, FindsAmong, HaveNothing, HasNothingOf, AreOutOf, AreOutFirst}
 use Rattle.pssm_book.specs.inner.Coming.{IsQuietlyEnded, IsOpenEnded, Comes}
 use Rattle.pssm_book.proofs.ListLaws.{got_member, member_got, apart_more}
 use Rattle.pssm_book.proofs.PostLaws.{post_follows}
@@ -261,31 +262,38 @@ out_of_first desk o n listed all first task ready =
     first at.0 task (omega (arith, within, all)) at.1
 
 -- one object more
-pub out_among_more : (desk : Desk) (from : ℕ) (o : ObjectId) → AreOutAmong desk from o.0 → AreOutOf desk o → AreOutAmong desk from (o.0 + 1)
-out_among_more desk from o so_far here other le less =
+pub nothing_of_more : (desk : Desk) (from : ℕ) (o : ObjectId) → HaveNothing desk from o.0 → HasNothingOf desk o → HaveNothing desk from (o.0 + 1)
+nothing_of_more desk from o so_far here other le less =
     ⊎_elim (λ (below : other.0 < o.0). so_far other le below)
     (λ (past : o.0 ≤ other.0).
     let place : o.0 ≡ other.0 = omega (arith, less, past) in
-    subst (AreOutOf desk) (same_object o other (eq-eqb o.0 other.0 place)) here)
+    subst (HasNothingOf desk) (same_object o other (eq-eqb o.0 other.0 place)) here)
     (cases_lt other.0 o.0)
 
 -- all objects
-pub all_out_of : (desk : Desk) (count first : ℕ) → count ≡ length desk.system.setting.objects → AreOutAmong desk first count → AreOutAmong desk 0 first
-    → AreAllOut desk.system desk.claims.items
-all_out_of desk count first all back front o task ready =
-    let there = object_there desk.system.setting o ready.class ready.class_is in
-    ⊎_elim (λ (below : o.0 < first). front o (omega arith) below task ready)
-    (λ (past : first ≤ o.0). back o past (omega (arith, there, all)) task ready)
-    (cases_lt o.0 first)
+pub nothing_open : (desk : Desk) (count : ℕ) → count ≡ length desk.system.setting.objects
+    → ((o : ObjectId) → o.0 < count → HasNothingOf desk o) → HasNothingOpen desk
+nothing_open desk count all each = record {
+  no_move = λ e move may.
+      let there = object_there desk.system.setting (object_of e) (may A1).0 (may A1).1 in
+      (each (object_of e) (omega (arith, there, all))).no_move e refl move may;
+  all_out = λ o task ready.
+      let there = object_there desk.system.setting o ready.class ready.class_is in
+      (each o (omega (arith, there, all))).all_out task ready;
+}
 
-pub none_all : {X : Type 0} {P Q : Type 0} (r : Option X) → (P → Q) → IfNone r P → IfNone r Q
-none_all None f p = f p
-none_all (Some x) f p = tt
+-- what was found of the objects before some that have nothing was found of all
+pub found_before : {E : Type 0} (desk : Desk) (count first : ℕ) (r : Result (Option Next) E) → count ≡ length desk.system.setting.objects
+    → HaveNothing desk first count → IfOk r (FindsAmong desk 0 first) → IfOk r (FindsWithin desk)
+found_before desk count first (Ok None) all back front =
+    nothing_open desk count all
+    (λ o there. ⊎_elim (λ (below : o.0 < first). front o (omega arith) below) (λ (past : first ≤ o.0). back o past there) (cases_lt o.0 first))
+found_before desk count first (Ok (Some next)) all back front = front
+found_before desk count first (Err fault) all back front = tt
 
 -- there is no object
-pub none_there : (desk : Desk) (count : ℕ) → count ≡ length desk.system.setting.objects → count ≡ 0 → AreAllOut desk.system desk.claims.items
-none_there desk count all none o task ready =
-    let there = object_there desk.system.setting o ready.class ready.class_is in absurd (omega (arith, there, all, none))
+pub nothing_there : (desk : Desk) (count : ℕ) → count ≡ length desk.system.setting.objects → count ≡ 0 → HasNothingOpen desk
+nothing_there desk count all none = nothing_open desk count all (λ o there. absurd (omega (arith, there, none)))
 
 -- no task is listed, so none is ready; or one is
 pub none_listed : (desk : Desk) → AreReady desk.system.setting desk.system.journal desk.system.tasks → length desk.system.tasks ≡ 0 → (o : ObjectId) (task : Task)

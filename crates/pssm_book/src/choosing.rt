@@ -1,5 +1,5 @@
 //! What may be done next at a desk.
-ghost use Rattle.std.specs.Prelude.{◌≡◌, ◌<◌, length, IfOk, IfSome, IfNone};
+ghost use Rattle.std.specs.Prelude.{◌≡◌, ◌≤◌, ◌<◌, length, IfOk, IfSome, IfNone};
 
 use crate::desk::Desk;
 use pssm_semantics::{Entry, ObjectId, Task};
@@ -16,9 +16,9 @@ pub enum Next {
 }
 
 impl Desk {
-    ghost use Rattle.pssm_book.specs.Claiming.{IsOpen, AreAllOut};
+    ghost use Rattle.pssm_book.specs.Claiming.{IsOpen};
     ghost use Rattle.pssm_book.specs.inner.Keeping.{IsInOrder};
-    ghost use Rattle.pssm_book.specs.inner.Nexts.{Finds, FindsWithin, IsStill, AreOutOf, AreOutAmong};
+    ghost use Rattle.pssm_book.specs.inner.Nexts.{Finds, FindsWithin, FindsAmong, GoesOn, HasNothingOf, IsStill, AreOutOf};
 
     /// What may be done next. Where several things may, the word picks one.
     #[tactic(auto, using(crate::proofs::DeskLaws::within_next, crate::proofs::DeskLaws::none_waits))]
@@ -51,23 +51,65 @@ impl Desk {
         }))
     }
 
-    // What may be done next beside a post: a task that is not handed out, or a move.
+    // What may be done next beside a post: a task that is not handed out, or a move. The word says
+    // at which object the search begins.
+    #[tactic(auto, using(crate::proofs::DeskLaws::nothing_there))]
     fn within(&self, word: u64) -> Result<Option<Next>, NoMemory>
         requires { IsInOrder self.now }
         ensures { IfOk result (FindsWithin self.now) }
     {
-        let rest = word / 2;
-        let free = self.open_task(rest);
+        let count = self.object_count();
+        if count == 0 {
+            return Ok(None);
+        }
+        let first = (word % u64::from(count)) as u8;
+        let rest = word / u64::from(count);
+        match self.next_among(first, count, rest)? {
+            Some(next) => Ok(Some(next)),
+            None => self.next_among(0, first, rest),
+        }
+    }
+
+    // The same of the objects from one number on and before another: that of the first that has any.
+    fn next_among(&self, from: u8, to: u8, word: u64) -> Result<Option<Next>, NoMemory>
+        requires order { IsInOrder self.now }
+        requires there { to ≤ length self.now.system.setting.objects }
+        ensures { IfOk result (FindsAmong self.now from to) }
+    {
+        for k in from..to {
+            if let Some(next) = self.next_of(ObjectId(k), word)? {
+                return Ok(Some(next));
+            }
+        }
+        Ok(None)
+    }
+
+    // The same of one object. The word says whether a task or a move is looked for first.
+    fn next_of(&self, object: ObjectId, word: u64) -> Result<Option<Next>, NoMemory>
+        requires order { IsInOrder self.now }
+        requires there { object.0 < length self.now.system.setting.objects }
+        ensures some { IfOk result (λ found. IfSome found (GoesOn self.now)) }
+        ensures none { IfOk result (λ found. IfNone found (HasNothingOf self.now object)) }
+    {
+        let free = self.open_of(object);
         if word % 2 == 0 {
-            if let Some((object, task)) = free {
+            if let Some(task) = free {
                 return Ok(Some(Next::Work(object, task)));
             }
         }
-        match (self.system.choose_move(rest)?, free) {
+        match (self.system.choose_move_of(object, word / 2)?, free) {
             (Some(entry), _) => Ok(Some(Next::Append(entry))),
-            (None, Some((object, task))) => Ok(Some(Next::Work(object, task))),
+            (None, Some(task)) => Ok(Some(Next::Work(object, task))),
             (None, None) => Ok(None),
         }
+    }
+
+    // How many objects there are.
+    fn object_count(&self) -> u8
+        requires { IsInOrder self.now }
+        ensures { result ≡ length self.now.system.setting.objects }
+    {
+        self.system.setting().objects.as_slice().len() as u8
     }
 
     // Where no entry may be appended, and no task is left to be handed out: whether one is waited
@@ -85,47 +127,7 @@ impl Desk {
         }
     }
 
-    // A ready task that is not handed out, if there is one. The word says at which object the search
-    // begins.
-    #[tactic(auto, using(crate::proofs::DeskLaws::none_there))]
-    fn open_task(&self, word: u64) -> Option<(ObjectId, Task)>
-        requires { IsInOrder self.now }
-        ensures some { IfSome result (λ at. IsOpen self.now.system self.now.claims.items at.0 at.1) }
-        ensures none { IfNone result (AreAllOut self.now.system self.now.claims.items) }
-    {
-        let count = self.object_count();
-        if count == 0 {
-            return None;
-        }
-        let first = (word % u64::from(count)) as u8;
-        match self.open_among(first, count) {
-            Some(at) => Some(at),
-            None => self.open_among(0, first),
-        }
-    }
-
-    // How many objects there are.
-    fn object_count(&self) -> u8
-        requires { IsInOrder self.now }
-        ensures { result ≡ length self.now.system.setting.objects }
-    {
-        self.system.setting().objects.as_slice().len() as u8
-    }
-
-    // Such a task of the objects from one number on and before another.
-    fn open_among(&self, from: u8, to: u8) -> Option<(ObjectId, Task)>
-        ensures some { IfSome result (λ at. IsOpen self.now.system self.now.claims.items at.0 at.1) }
-        ensures none { IfNone result (AreOutAmong self.now from to) }
-    {
-        for k in from..to {
-            if let Some(task) = self.open_of(ObjectId(k)) {
-                return Some((ObjectId(k), task));
-            }
-        }
-        None
-    }
-
-    // The first such task of an object.
+    // The first ready task of an object that is not handed out, if there is one.
     #[tactic(auto, using(crate::proofs::DeskLaws::open_of_listed, crate::proofs::DeskLaws::out_first_more))]
     fn open_of(&self, object: ObjectId) -> Option<Task>
         ensures some { IfSome result (λ task. IsOpen self.now.system self.now.claims.items object task) }

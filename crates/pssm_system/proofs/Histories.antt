@@ -1,5 +1,5 @@
 -- What a system tells of itself, from what it keeps.
-use Rattle.std.proofs.Common.{◌≡◌, ◌<◌, ◌++◌, ◌↔◌, ℕ, ℤ, List, [], ◌∷◌, length, Bool, IsTrue, Option, Some, None, Result, Ok, Err, IfOk, IfNone, IfSome, get_or, sym, ap, subst, ◌∙◌, arith}
+use Rattle.std.proofs.Common.{◌≡◌, ◌<◌, ◌+◌, ◌++◌, ◌↔◌, ℕ, ℤ, List, [], ◌∷◌, length, Bool, IsTrue, Option, Some, None, Result, Ok, Err, IfOk, IfNone, IfSome, get_or, sym, ap, subst, ◌∙◌, arith}
 use Rattle.pssm_semantics.specs.declared.entry.ObjectId.{ObjectId}
 use Rattle.pssm_semantics.specs.declared.entry.Entry.{Entry}
 use Rattle.pssm_semantics.specs.declared.entry.Rule.{Rule}
@@ -26,7 +26,7 @@ use Rattle.pssm_system.specs.declared.choosing.Wanted.TheVariants.{AnyEntry, Mov
 use Rattle.pssm_system.specs.History.{History}
 use Rattle.pssm_semantics.specs.Forms.{IsRunEntry}
 use Rattle.pssm_semantics.specs.Work.{Work, outcome_from}
-use Rattle.pssm_system.specs.Tasks.{IsReadyOf, AreReady, AreReadyFor, own_tasks, HasNoMove}
+use Rattle.pssm_system.specs.Tasks.{IsReadyOf, AreReady, AreReadyFor, own_tasks, HasNoMove, HasNoMoveOf}
 use Rattle.pssm_system.specs.Works.{HasMade}
 use Rattle.pssm_system.specs.inner.Keeping.{StandsSo, Stands, CanCome, IsUnchanged, KeepsRun, tasks_of}
 use Rattle.pssm_system.specs.inner.Judging.{IsKnown, IsVerdict}
@@ -143,6 +143,21 @@ module _ (h : History) (setting : Setting) (J : List Entry) (s : Situation) (k :
   no_move_seen (Ok None) found = seen HasNoMove (λ e move may. none-of_all k.stands Move found e move may)
   no_move_seen (Ok (Some e)) found = tt
   no_move_seen (Err none) found = tt
+
+  -- what is chosen of one object
+  module _ (o : ObjectId) where
+    pub moved_seen_of : {E : Type 0} (r : Result (Option Entry) E) → IfOk r (FindsAmong setting s Move o.0 (o.0 + 1))
+        → IfOk r (λ chosen. IfSome chosen (λ e. IsMove e × MayFollow h.setting h.journal e))
+    moved_seen_of (Ok None) found = tt
+    moved_seen_of (Ok (Some e)) found = (found.wanted_is, seen (λ x js. MayFollow x js e) (found.follows J k.stands))
+    moved_seen_of (Err none) found = tt
+
+    pub no_move_seen_of : {E : Type 0} (r : Result (Option Entry) E) → IfOk r (FindsAmong setting s Move o.0 (o.0 + 1))
+        → IfOk r (λ chosen. IfNone chosen (HasNoMoveOf h.setting h.journal o))
+    no_move_seen_of (Ok None) found = seen (λ x js. HasNoMoveOf x js o) (λ e own move may.
+        let at = ap (λ (q : ObjectId). q.0) own in found J e k.stands (omega (arith, at)) (omega (arith, at)) move may)
+    no_move_seen_of (Ok (Some e)) found = tt
+    no_move_seen_of (Err none) found = tt
 
   -- the tasks
   tasks_are : h.tasks ≡ tasks_of setting s.objects.items

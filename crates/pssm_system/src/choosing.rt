@@ -94,8 +94,8 @@ impl Situation {
         Ok(None)
     }
 
-    // The same of one object.
-    fn choose_of(
+    /// The same of one object.
+    pub fn choose_of(
         &self,
         alloc: Global,
         setting: &Setting,

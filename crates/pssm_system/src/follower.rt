@@ -66,7 +66,7 @@ impl Follower {
     ghost use Rattle.pssm_semantics.specs.declared.setting.Class.{Class};
     ghost use Rattle.pssm_object.specs.Following.{IsMove};
     ghost use Rattle.pssm_semantics.specs.Forms.{IsRunEntry};
-    ghost use Rattle.pssm_system.specs.Tasks.{IsReadyOf, AreReady, AreReadyFor, own_tasks, HasNoMove};
+    ghost use Rattle.pssm_system.specs.Tasks.{IsReadyOf, AreReady, AreReadyFor, own_tasks, HasNoMove, HasNoMoveOf};
     ghost use Rattle.pssm_system.specs.Works.{HasMade};
 
     /// A follower of a journal with no entry yet.
@@ -203,6 +203,18 @@ impl Follower {
     {
         self.situation
             .choose(self.alloc, &self.setting, Wanted::Move, word)
+    }
+
+    /// The same of one object.
+    pub fn choose_move_of(&self, object: ObjectId, word: u64) -> Result<Option<Entry>, NoMemory>
+        requires { object.0 < length self.now.setting.objects }
+        ensures chosen { IfOk result (λ o. IfSome o
+            (λ e. IsMove e × MayFollow self.now.setting self.now.journal e)) }
+        ensures none { IfOk result (λ o. IfNone o
+            (HasNoMoveOf self.now.setting self.now.journal object)) }
+    {
+        self.situation
+            .choose_of(self.alloc, &self.setting, object, Wanted::Move, word)
     }
 
     /// How many tasks of all objects are ready: exits, effects and entries whose turn has come, and the next

@@ -50,7 +50,7 @@ impl System {
     ghost use Rattle.pssm_semantics.specs.declared.setting.Class.{Class};
     ghost use Rattle.pssm_object.specs.Following.{IsMove};
     ghost use Rattle.pssm_semantics.specs.Forms.{IsRunEntry};
-    ghost use Rattle.pssm_system.specs.Tasks.{IsReadyOf, AreReady, AreReadyFor, own_tasks, HasNoMove};
+    ghost use Rattle.pssm_system.specs.Tasks.{IsReadyOf, AreReady, AreReadyFor, own_tasks, HasNoMove, HasNoMoveOf};
     ghost use Rattle.pssm_system.specs.Works.{HasMade};
 
     /// A system with no entry yet.
@@ -173,6 +173,20 @@ impl System {
         ensures none { IfOk result (λ o. IfNone o (HasNoMove self.now.setting self.now.journal)) }
     {
         self.follower.choose_move(word)
+    }
+
+    /// A start, take, dispatch of a completion, opening or pick of the object that breaks no rule
+    /// after the journal, or none where there is none (UML 2.5.1, 14.2.3.9, run to completion).
+    ///
+    /// Of several the word picks one; which one is not promised. `NoMemory`: memory ran out.
+    pub fn choose_move_of(&self, object: ObjectId, word: u64) -> Result<Option<Entry>, NoMemory>
+        requires { object.0 < length self.now.setting.objects }
+        ensures chosen { IfOk result (λ o. IfSome o
+            (λ e. IsMove e × MayFollow self.now.setting self.now.journal e)) }
+        ensures none { IfOk result (λ o. IfNone o
+            (HasNoMoveOf self.now.setting self.now.journal object)) }
+    {
+        self.follower.choose_move_of(object, word)
     }
 
     /// How many tasks of all objects are ready: exits, effects and entries whose turn has come, and the next

@@ -9,7 +9,7 @@ use Rattle.pssm_semantics.specs.Pool.{posts_of_entry}
 use Rattle.pssm_semantics.specs.Admissible.{MayFollow}
 use Rattle.pssm_object.specs.Following.{IsMove}
 use Rattle.pssm_system.specs.History.{History}
-use Rattle.pssm_system.specs.Tasks.{IsReadyOf, own_tasks, HasNoMove}
+use Rattle.pssm_system.specs.Tasks.{IsReadyOf, own_tasks, HasNoMove, HasNoMoveOf}
 use Rattle.pssm_book.specs.declared.desk.Desk.{Desk}
 use Rattle.pssm_book.specs.declared.choosing.Next.{Next}
 use Rattle.pssm_book.specs.declared.choosing.Next.TheVariants.{Append, Work, Wait, End}
@@ -50,22 +50,37 @@ Finds desk (Work o task) = IsOpen desk.system desk.claims.items o task
 Finds desk Wait = IsStill desk × ((o : ObjectId) × (task : Task) × IsReadyOf desk.system.setting desk.system.journal o task)
 Finds desk End = IsStill desk × ((o : ObjectId) (task : Task) → IsReadyOf desk.system.setting desk.system.journal o task → ⊥)
 
--- what may come next beside a post
-abbrev pub FindsWithin : Desk → Option Next → Type 0
-FindsWithin desk None = HasNothingOpen desk
-FindsWithin desk (Some (Append e)) = IsMove e × MayFollow desk.system.setting desk.system.journal e
-FindsWithin desk (Some (Work o task)) = IsOpen desk.system desk.claims.items o task
-FindsWithin desk (Some _) = ⊥
-
 -- The claims have every ready task of the object.
 abbrev pub AreOutOf : Desk → ObjectId → Type 0
 AreOutOf desk o = (task : Task) → IsReadyOf desk.system.setting desk.system.journal o task → Contains desk.claims.items (o, task)
-
--- They have those of the objects from one number on and before another.
-abbrev pub AreOutAmong : Desk → ℕ → ℕ → Type 0
-AreOutAmong desk from to = (o : ObjectId) → from ≤ o.0 → o.0 < to → AreOutOf desk o
 
 -- They have so many of the object's ready tasks, the first.
 abbrev pub AreOutFirst : Desk → ObjectId → ℕ → Type 0
 AreOutFirst desk o count =
     (i : ℕ) (task : Task) → i < count → slice_get (own_tasks o desk.system.tasks) i ≡ Some task → Contains desk.claims.items (o, task)
+
+-- No move of the object may come, and each of its ready tasks is handed out.
+pub record HasNothingOf (desk : Desk) (o : ObjectId) : Type 0 where
+  pub no_move : HasNoMoveOf desk.system.setting desk.system.journal o
+  pub all_out : AreOutOf desk o
+
+-- So it is with the objects from one number on and before another.
+abbrev pub HaveNothing : Desk → ℕ → ℕ → Type 0
+HaveNothing desk from to = (o : ObjectId) → from ≤ o.0 → o.0 < to → HasNothingOf desk o
+
+-- an entry that is a move, or a task that may be handed out
+abbrev pub GoesOn : Desk → Next → Type 0
+GoesOn desk (Append e) = IsMove e × MayFollow desk.system.setting desk.system.journal e
+GoesOn desk (Work o task) = IsOpen desk.system desk.claims.items o task
+GoesOn desk Wait = ⊥
+GoesOn desk End = ⊥
+
+-- what was found of these objects: what may come next beside a post, or nothing where none of them has anything
+abbrev pub FindsAmong : Desk → ℕ → ℕ → Option Next → Type 0
+FindsAmong desk from to None = HaveNothing desk from to
+FindsAmong desk from to (Some next) = GoesOn desk next
+
+-- what may come next beside a post, or nothing where there is nothing
+abbrev pub FindsWithin : Desk → Option Next → Type 0
+FindsWithin desk None = HasNothingOpen desk
+FindsWithin desk (Some next) = GoesOn desk next
