@@ -10,7 +10,7 @@ use crate::models::{BOTH, setting_of, stimuli_of};
 use pssm_base::Gate;
 use pssm_semantics::{Setting, Stimulus};
 use pssm_system::System;
-use pssm_workers::{Ended, finish, run_alone, run_workers};
+use pssm_workers::{Ended, Gathered, finish, run_alone, run_workers};
 use std::alloc::{AllocError as NoMemory, Global};
 use std::marker::Brand;
 use std::sync::Wait;
@@ -173,9 +173,14 @@ fn left_on<L: Ledger + Send + Sync, R: Threads + Wait + Sync, G: Gate + Sync>(
         seed,
         gate,
     )?;
+    Ok(left_of(gathered))
+}
+
+// What a book has that workers left. (a function of its own: what is let go here is large)
+fn left_of<L: Ledger>(gathered: Gathered<L>) -> Left {
     let posted = gathered.book.posted();
     let system = gathered.book.into_system();
-    Ok(Left { system, posted })
+    Left { system, posted }
 }
 
 // What one leaves that works without a thread.

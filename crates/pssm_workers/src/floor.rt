@@ -22,15 +22,15 @@ const STEP_BACK: u64 = 1;
 ///
 /// A call holds the lock once, and once more, changing nothing, where it has slept; the book takes
 /// one entry at most in it. A worker for which there is nothing to do sleeps until another makes
-/// more ready than it goes on with itself, begins a long behaviour, gives a task back or ends. A
-/// hasty worker, whose behaviours of late were short, steps back for a while where it meets another
-/// at the lock: short behaviours are done sooner by one worker alone.
+/// more ready than it goes on with itself, gives a task back or ends. A hasty worker, which has run
+/// some behaviours, steps back for a while where it meets another at the lock: workers that meet
+/// there again and again are done sooner by one of them alone.
 pub struct Floor<L: Ledger> {
     book: Mutex<Book<L>>,
     // where those sleep that find everything handed out
     more: Condvar,
     // where those sleep that have stepped back
-    begun: Condvar,
+    back: Condvar,
 }
 
 impl<L: Ledger> Floor<L> {
@@ -39,7 +39,7 @@ impl<L: Ledger> Floor<L> {
         Floor {
             book: Mutex::new(book),
             more: Condvar::new(),
-            begun: Condvar::new(),
+            back: Condvar::new(),
         }
     }
 
@@ -109,24 +109,17 @@ impl<L: Ledger> Floor<L> {
         self.wake();
     }
 
-    /// Tells that a behaviour is begun that takes long: one that has stepped back comes, and one that
-    /// sleeps looks whether there is something for it.
-    pub fn tell_of_long(&self) {
-        self.begun.notify_one();
-        self.more.notify_one();
-    }
-
     /// Wakes all.
     pub fn wake(&self) {
         self.more.notify_all();
-        self.begun.notify_all();
+        self.back.notify_all();
     }
 
     /// The book.
     pub fn into_book(self) -> Book<L> {
-        let Floor { book, more, begun } = self;
+        let Floor { book, more, back } = self;
         drop(more);
-        drop(begun);
+        drop(back);
         book.into_inner()
     }
 
@@ -149,10 +142,10 @@ impl<L: Ledger> Floor<L> {
         }
     }
 
-    // Sleeps a while, or until somebody begins a behaviour that takes long.
+    // Sleeps a while, or until all are woken.
     fn step_back<R: Wait>(&self, rt: &R) {
-        let seen = self.begun.notifications();
-        self.begun.sleep(rt, seen, Duration::from_millis(STEP_BACK));
+        let seen = self.back.notifications();
+        self.back.sleep(rt, seen, Duration::from_millis(STEP_BACK));
     }
 }
 

@@ -33,11 +33,7 @@ pub fn sit<L: Ledger, R: Wait, G: Gate>(
     floor.wake();
 }
 
-// A behaviour of so many statements and more, those inside an `if` not counted, takes long: while
-// one worker runs it another may well go on.
-const LONG: usize = 8;
-
-// After so many short behaviours one after another a worker is hasty.
+// After so many behaviours a worker is hasty.
 const PATIENCE: u32 = 8;
 
 // Claims, runs and commits, again and again. Words settle what comes where several things may.
@@ -57,12 +53,7 @@ fn work<L: Ledger, R: Wait, G: Gate>(
             Some(Claimed::Job(job)) => {
                 gate.before(job.object.0, turn);
                 turn = turn.saturating_add(1);
-                if job.act.stmts.as_slice().len() >= LONG {
-                    floor.tell_of_long();
-                    patience = PATIENCE;
-                } else {
-                    patience = patience.saturating_sub(1);
-                }
+                patience = patience.saturating_sub(1);
                 do_job(rt, alloc, floor, patience == 0, seat, job)?;
             }
             Some(Claimed::Moved | Claimed::Busy { .. }) | None => {}
