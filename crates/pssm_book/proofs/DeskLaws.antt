@@ -1,5 +1,5 @@
 -- What a desk keeps, call by call.
-use Rattle.std.proofs.Common.{◌≡◌, ◌≢◌, ◌⊎◌, ◌≤◌, ◌<◌, ◌+◌, ◌++◌, ◌↔◌, ℕ, List, [], ◌∷◌, length, take, Contains, Option, Some, None, Result, Ok, Err, IfOk, IfSome, slice_get, refl, sym, ap, subst, ◌∙◌, inl, inr, ⊎_elim, arith, length-append, eq-eqb}
+use Rattle.std.proofs.Common.{◌≡◌, ◌≢◌, ◌⊎◌, ◌≤◌, ◌<◌, ◌+◌, ◌++◌, ◌↔◌, ℕ, List, [], ◌∷◌, length, take, Contains, Option, Some, None, Result, Ok, Err, IfOk, IfNone, IfSome, slice_get, refl, sym, ap, subst, ◌∙◌, inl, inr, ⊎_elim, arith, length-append, eq-eqb}
 use Rattle.std.specs.Prelude.{AllPairs}
 use Rattle.std.specs.List.{AllByRecursion}
 use Rattle.std.proofs.Math.Seq.{take-length}
@@ -282,14 +282,21 @@ nothing_open desk count all each = record {
       (each o (omega (arith, there, all))).all_out task ready;
 }
 
+-- what was found is nothing, so there is nothing
+pub none_is : {P : Type 0} (found : Option Next) → ((next : Next) → found ≡ Some next → ⊥) → IfNone found P → P
+none_is None none is = is
+none_is (Some next) none is = absurd (none next refl)
+
 -- what was found of the objects before some that have nothing was found of all
-pub found_before : {E : Type 0} (desk : Desk) (count first : ℕ) (r : Result (Option Next) E) → count ≡ length desk.system.setting.objects
-    → HaveNothing desk first count → IfOk r (FindsAmong desk 0 first) → IfOk r (FindsWithin desk)
-found_before desk count first (Ok None) all back front =
+pub found_before : {E : Type 0} (desk : Desk) (count first : ℕ) (back : Option Next) (front : Result (Option Next) E)
+    → count ≡ length desk.system.setting.objects → back ≡ None → FindsAmong desk first count back → IfOk front (FindsAmong desk 0 first)
+    → IfOk front (FindsWithin desk)
+found_before desk count first None (Ok None) all none last found =
     nothing_open desk count all
-    (λ o there. ⊎_elim (λ (below : o.0 < first). front o (omega arith) below) (λ (past : first ≤ o.0). back o past there) (cases_lt o.0 first))
-found_before desk count first (Ok (Some next)) all back front = front
-found_before desk count first (Err fault) all back front = tt
+    (λ o there. ⊎_elim (λ (below : o.0 < first). found o (omega arith) below) (λ (past : first ≤ o.0). last o past there) (cases_lt o.0 first))
+found_before desk count first (Some next) (Ok None) all none last found = absurd cc
+found_before desk count first back (Ok (Some next)) all none last found = found
+found_before desk count first back (Err fault) all none last found = tt
 
 -- there is no object
 pub nothing_there : (desk : Desk) (count : ℕ) → count ≡ length desk.system.setting.objects → count ≡ 0 → HasNothingOpen desk

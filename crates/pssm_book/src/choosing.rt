@@ -53,7 +53,6 @@ impl Desk {
 
     // What may be done next beside a post: a task that is not handed out, or a move. The word says
     // at which object the search begins.
-    #[tactic(auto, using(crate::proofs::DeskLaws::nothing_there))]
     fn within(&self, word: u64) -> Result<Option<Next>, NoMemory>
         requires { IsInOrder self.now }
         ensures { IfOk result (FindsWithin self.now) }
