@@ -1,0 +1,4 @@
+pub mod Counting
+pub mod Paths
+pub mod Turning
+pub mod Writing
