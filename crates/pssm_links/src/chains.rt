@@ -2,7 +2,7 @@
 ghost use Rattle.std.specs.Prelude.{◌≡◌, ◌≤◌, ◌<◌, ◌+◌, ℕ, [], length, replicate, Some, IfOk, OnOk};
 ghost use Rattle.pssm_links.specs.Chained.{held_in, with_pushed, without, slot_at, value_at, IsSlotAt, IsSlot, HaveOwnSlots};
 
-use crate::links::{LINKS, Slot, attach, move_slot, new_ends, put_value, take_value};
+use crate::links::{LINKS, Slot, attach, move_slot, new_ends, put_value, ring_of_one, take_value};
 use crate::slot::SlotId;
 use crate::steps::Steps;
 use std::alloc::{AllocError as NoMemory, Global};
@@ -147,11 +147,7 @@ impl<T: Drop> Chains<T> {
         let Ok(slot) = u32::try_from(self.slots.len()) else {
             return Err(NoMemory);
         };
-        self.slots.push(Slot {
-            prev: slot,
-            next: slot,
-            value: None,
-        })?;
+        self.slots.push(ring_of_one(slot))?;
         attach(self.slots.as_mut_slice(), slot, self.lists);
         self.spare += 1;
         Ok(())

@@ -21,14 +21,22 @@ pub fn new_ends<T: Drop>(alloc: Global, lists: u32) -> Result<Vec<Slot<T>>, NoMe
     ensures { IfOk result (λ slots. AreEnds slots.items (lists + 1)) }
 {
     let mut slots = Vec::with_capacity(alloc, lists as usize + 1)?;
-    for end in 0..=lists {
-        slots.push(Slot {
-            prev: end,
-            next: end,
-            value: None,
-        })?;
+    for number in 0..lists {
+        slots.push(ring_of_one(number))?;
     }
+    slots.push(ring_of_one(lists))?;
     Ok(slots)
+}
+
+/// The slot with this number, linked to itself, in which no value stands.
+pub fn ring_of_one<T>(number: u32) -> Slot<T>
+    ensures { result ≡ record { prev = number; next = number; value = None } }
+{
+    Slot {
+        prev: number,
+        next: number,
+        value: None,
+    }
 }
 
 /// The slot leaves its ring, and becomes the last of another. At most six links are written.

@@ -111,14 +111,15 @@ module _ {T : Type 0} where
     pub ends : (l : ℕ) → l < length rows → value_of slots l ≡ None
     pub spare : length (row_of rows (length lists)) ≡ unused
 
-  -- what one meets from a slot on along the links, until a slot has no value, in at most so many steps
+  -- the value that stands in a slot and what comes after it; nothing where none stands there
+  abbrev pub met : ℕ → Option T → List (Linked T) → List (Linked T)
+  met k None rest = []
+  met k (Some value) rest = record { slot = record { 0 = k }; value = value } ∷ rest
+
+  -- what one meets from a slot on along the links, until no value stands in a slot, in at most so many steps
   unfoldable pub met_from : List (Slot T) → ℕ → ℕ → List (Linked T)
   met_from slots zero k = []
-  met_from slots (suc n) k =
-      elim (value_of slots k) [
-        | None ↦ []
-        | Some value ↦ record { slot = record { 0 = k }; value = value } ∷ met_from slots n (next_of slots k)
-      ]
+  met_from slots (suc n) k = met k (value_of slots k) (met_from slots n (next_of slots k))
 
   -- so many lists, from one on, each as one meets it
   unfoldable pub lists_from : List (Slot T) → ℕ → ℕ → List (List (Linked T))
