@@ -1,5 +1,5 @@
 -- What the slots hold, once a value has come or gone.
-use Rattle.std.proofs.Common.{◌≡◌, ◌≢◌, ◌≤◌, ◌<◌, ◌+◌, ◌++◌, ℕ, zero, suc, List, [], ◌∷◌, length, map, get_or, replicate, Option, Some, None, option_map, slice_get, refl, sym, ap, subst, ◌∙◌, ⊎_elim, arith}
+use Rattle.std.proofs.Common.{◌≡◌, ◌≢◌, ◌≤◌, ◌<◌, ◌+◌, ◌++◌, ℕ, zero, suc, List, [], ◌∷◌, length, map, get_or, replicate, Option, Some, None, option_map, slice_get, refl, sym, ap, subst, ◌∙◌, ⊎_elim, length-append, arith}
 use Rattle.std.proofs.Math.ListN.{set}
 use Rattle.std.specs.List.{remove, sum_by, AllByRecursion}
 use Rattle.std.proofs.lemmas.Bool.{cases_lt}
@@ -14,7 +14,7 @@ use Rattle.pssm_links.specs.Chained.{Linked, list_of, with_pushed, without, IsSl
 use Rattle.pssm_links.specs.inner.Rings.{count_of, count_in, row_of, less, more, moved, next_of, prev_of, value_of, slots_of, lists_from, IsWritten, IsEdge, IsPath, AreEnds, AreRings, CanMove, StandThere, Hold}
 use Rattle.pssm_links.proofs.Meeting.{lists-held}
 use Rattle.pssm_links.proofs.Counting.{count-here, absent-first, absent-rest, count-at, count-remove, row-le, two-rows}
-use Rattle.pssm_links.proofs.Turning.{no-end, less-length}
+use Rattle.pssm_links.proofs.Turning.{no-end, moved-length, row-to, row-from, row-other, elsewhere, removed-none}
 
 module _ {T : Type 0} where
   -- empty lists, over the ends alone
@@ -163,3 +163,178 @@ module _ {T : Type 0} where
         into = omega (arith, count);
         place = place-of slots lists unused slot l i hold at;
       }
+
+-- a value has come to a list, into the last of the unused slots
+module _ {T : Type 0} (old new : List (Slot T)) (lists : List (List (Linked T))) (unused m list k : ℕ) (v : T) (hold : Hold old lists unused)
+  (some : unused ≡ m + 1) (lt : list < length lists) (can : CanMove old hold.rows k (length lists) m list)
+  (rings : AreRings new (moved hold.rows k (length lists) m list)) (value : value_of new k ≡ Some v)
+  (values : (j : ℕ) → j ≢ k → value_of new j ≡ value_of old j) where
+  abbrev come : Linked T
+  come = record { slot = record { 0 = k }; value = v }
+
+  abbrev pushed : List (List (Linked T))
+  pushed = with_pushed lists list (record { 0 = k }) v
+
+  pushed-length : length pushed ≡ length lists
+  pushed-length = length-set lists list (list_of lists list ++ come ∷ [])
+
+  apart : list ≢ length lists
+  apart same = omega (arith, same, lt)
+
+  push-none : (l : ℕ) → l < length lists → count_of k (slots_of (list_of lists l)) ≡ 0
+  push-none l le =
+      let count = hold.count in
+      ap (count_of k) (sym (hold.same l le))
+      ∙ elsewhere old hold.rows k (length lists) m l hold.rings can.from can.place (omega (arith, count, le)) (λ same. omega (arith, same, le))
+
+  push-same : (l : ℕ) → l < length pushed → row_of (moved hold.rows k (length lists) m list) l ≡ slots_of (list_of pushed l)
+  push-same l within =
+      let le : l < length lists = omega (arith, within, pushed-length) in
+      ⊎_elim
+      (λ yes.
+      subst
+      (λ z. row_of (moved hold.rows k (length lists) m list) z ≡ slots_of (list_of pushed z))
+      (sym yes.1)
+      (row-to hold.rows k (length lists) m list can.from can.into apart
+       ∙ ap (λ row. row ++ k ∷ []) (hold.same list lt)
+       ∙ sym (map-append (λ (e : Linked T). e.slot.0) (list_of lists list) (come ∷ []))
+       ∙ ap slots_of (sym (get_or-set_same lists list (list_of lists list ++ come ∷ []) [] lt))))
+      (λ no.
+      row-other hold.rows k (length lists) m list can.from can.into apart l (λ same. omega (arith, same, le)) no.1
+      ∙ hold.same l le
+      ∙ ap slots_of (sym (get_or-set_other lists list l (list_of lists list ++ come ∷ []) [] no.1)))
+      (eqb_tells l list)
+
+  push-stand : (l : ℕ) → l < length pushed → StandThere new (list_of pushed l)
+  push-stand l within =
+      let le : l < length lists = omega (arith, within, pushed-length) in
+      ⊎_elim
+      (λ yes.
+      subst
+      (λ z. StandThere new (list_of pushed z))
+      (sym yes.1)
+      (subst
+       (λ row. StandThere new row)
+       (sym (get_or-set_same lists list (list_of lists list ++ come ∷ []) [] lt))
+       (stand-more new (list_of lists list) come value (stand-kept old new (list_of lists list) k (push-none list lt) values (hold.stand list lt)))))
+      (λ no.
+      subst
+      (λ row. StandThere new row)
+      (sym (get_or-set_other lists list l (list_of lists list ++ come ∷ []) [] no.1))
+      (stand-kept old new (list_of lists l) k (push-none l le) values (hold.stand l le)))
+      (eqb_tells l list)
+
+  pub hold-pushed : Hold new pushed m
+  hold-pushed =
+      let count = hold.count in
+      let rows-length = moved-length hold.rows k (length lists) m list can.from can.into apart in
+      record {
+        rows = moved hold.rows k (length lists) m list;
+        count = omega (arith, rows-length, count, pushed-length);
+        rings = rings;
+        same = push-same;
+        stand = push-stand;
+        ends = λ l le.
+            let within : l < length hold.rows = omega (arith, le, rows-length) in
+            values l (no-end old hold.rows k (length lists) m l hold.rings can.from can.place within) ∙ hold.ends l within;
+        spare =
+            let fewer = length-remove (row_of hold.rows (length lists)) m (slice_get_within (row_of hold.rows (length lists)) m k can.place) in
+            let spare = hold.spare in
+            let left : length (remove (row_of hold.rows (length lists)) m) ≡ m = omega (arith, fewer, spare, some) in
+            subst
+            (λ z. length (row_of (moved hold.rows k (length lists) m list) z) ≡ m)
+            (sym pushed-length)
+            (ap length (row-from hold.rows k (length lists) m list can.from can.into apart) ∙ left);
+      }
+
+-- a value has left a list, and its slot is the last of the unused
+module _ {T : Type 0} (old new : List (Slot T)) (lists : List (List (Linked T))) (unused list i k : ℕ) (hold : Hold old lists unused)
+  (lt : list < length lists) (can : CanMove old hold.rows k list i (length lists))
+  (rings : AreRings new (moved hold.rows k list i (length lists)))
+  (values : (j : ℕ) → j ≢ k → value_of new j ≡ value_of old j) where
+  abbrev taken : List (List (Linked T))
+  taken = without lists list i
+
+  taken-length : length taken ≡ length lists
+  taken-length = length-set lists list (remove (list_of lists list) i)
+
+  apart-from : length lists ≢ list
+  apart-from same = omega (arith, same, lt)
+
+  take-same : (l : ℕ) → l < length taken → row_of (moved hold.rows k list i (length lists)) l ≡ slots_of (list_of taken l)
+  take-same l within =
+      let le : l < length lists = omega (arith, within, taken-length) in
+      ⊎_elim
+      (λ yes.
+      subst
+      (λ z. row_of (moved hold.rows k list i (length lists)) z ≡ slots_of (list_of taken z))
+      (sym yes.1)
+      (row-from hold.rows k list i (length lists) can.from can.into apart-from
+       ∙ ap (λ row. remove row i) (hold.same list lt)
+       ∙ sym (slots-less (list_of lists list) i)
+       ∙ ap slots_of (sym (get_or-set_same lists list (remove (list_of lists list) i) [] lt))))
+      (λ no.
+      row-other hold.rows k list i (length lists) can.from can.into apart-from l no.1 (λ same. omega (arith, same, le))
+      ∙ hold.same l le
+      ∙ ap slots_of (sym (get_or-set_other lists list l (remove (list_of lists list) i) [] no.1)))
+      (eqb_tells l list)
+
+  take-stand : (l : ℕ) → l < length taken → StandThere new (list_of taken l)
+  take-stand l within =
+      let le : l < length lists = omega (arith, within, taken-length) in
+      let count = hold.count in
+      ⊎_elim
+      (λ yes.
+      let none : count_of k (slots_of (remove (list_of lists list) i)) ≡ 0 =
+          ap (count_of k) (slots-less (list_of lists list) i ∙ ap (λ row. remove row i) (sym (hold.same list lt)))
+          ∙ removed-none old hold.rows k list i hold.rings can.from can.place in
+      subst
+      (λ z. StandThere new (list_of taken z))
+      (sym yes.1)
+      (subst
+       (λ row. StandThere new row)
+       (sym (get_or-set_same lists list (remove (list_of lists list) i) [] lt))
+       (stand-kept old new (remove (list_of lists list) i) k none values (stand-less old (list_of lists list) i (hold.stand list lt)))))
+      (λ no.
+      let none : count_of k (slots_of (list_of lists l)) ≡ 0 =
+          ap (count_of k) (sym (hold.same l le))
+          ∙ elsewhere old hold.rows k list i l hold.rings can.from can.place (omega (arith, count, le)) no.1 in
+      subst
+      (λ row. StandThere new row)
+      (sym (get_or-set_other lists list l (remove (list_of lists list) i) [] no.1))
+      (stand-kept old new (list_of lists l) k none values (hold.stand l le)))
+      (eqb_tells l list)
+
+  pub hold-taken : Hold new taken (unused + 1)
+  hold-taken =
+      let count = hold.count in
+      let rows-length = moved-length hold.rows k list i (length lists) can.from can.into apart-from in
+      record {
+        rows = moved hold.rows k list i (length lists);
+        count = omega (arith, rows-length, count, taken-length);
+        rings = rings;
+        same = take-same;
+        stand = take-stand;
+        ends = λ l le.
+            let within : l < length hold.rows = omega (arith, le, rows-length) in
+            values l (no-end old hold.rows k list i l hold.rings can.from can.place within) ∙ hold.ends l within;
+        spare =
+            let spare = hold.spare in
+            let longer = length-append (row_of hold.rows (length lists)) (k ∷ []) in
+            let left : length (row_of hold.rows (length lists) ++ k ∷ []) ≡ unused + 1 = omega (arith, longer, spare) in
+            subst
+            (λ z. length (row_of (moved hold.rows k list i (length lists)) z) ≡ unused + 1)
+            (sym taken-length)
+            (ap length (row-to hold.rows k list i (length lists) can.from can.into apart-from) ∙ left);
+      }
+
+-- one more slot is unused
+module _ {T : Type 0} (old pushed new : List (Slot T)) (lists : List (List (Linked T))) (unused k : ℕ) (hold : Hold old lists unused)
+  (size : length pushed ≡ length old + 1) (here : k ≡ length old) (kept : (j : ℕ) → j < length old → value_of pushed j ≡ value_of old j)
+  (rings : AreRings new (more hold.rows k (length lists))) (values : (j : ℕ) → value_of new j ≡ value_of pushed j) where
+  hold-grown-stand : (row : List (Linked T)) → ((e : ℕ) → 1 ≤ count_of e (slots_of row) → e < length old) → StandThere old row → StandThere new row
+  hold-grown-stand [] there stand = tt
+  hold-grown-stand (e ∷ es) there stand =
+      let first = count-here e.slot.0 e.slot.0 (slots_of es) refl in
+      (values e.slot.0 ∙ kept e.slot.0 (there e.slot.0 (omega (arith, first))) ∙ stand.0,
+       hold-grown-stand es (λ k more. there k (omega (arith, more))) stand.1)

@@ -10,7 +10,7 @@ use Rattle.std.proofs.lemmas.List.Edits.{length-remove}
 use Rattle.std.proofs.lemmas.Option.{slice_get_within}
 use Rattle.pssm_links.specs.declared.links.Slot.{Slot}
 use Rattle.pssm_links.specs.inner.Rings.{count_of, count_in, row_of, less, more, moved, next_of, prev_of, value_of, Joins, IsEdge, IsPath, AreRings, CanMove}
-use Rattle.pssm_links.proofs.Counting.{row-le, two-rows, count-at, count-less, count-more, count-here, count-other}
+use Rattle.pssm_links.proofs.Counting.{row-le, two-rows, count-at, count-remove, count-less, count-more, count-here, count-other}
 use Rattle.pssm_links.proofs.Paths.{edge-before, edge-after, last-edge, last-apart, kept-path, path-less, put-path, path-more}
 
 pub less-length : (rows : List (List ℕ)) (r i : ℕ) → length (less rows r i) ≡ length rows
@@ -177,3 +177,41 @@ module _ {T : Type 0} where
       (λ lt. absurd (no-end old rows k r i k can.rings can.from can.place lt refl))
       (λ le. omega (arith, le, count))
       (cases_lt k (length rows))
+
+-- the rows, once the slot at a place of one has become the last of another
+module _ (rows : List (List ℕ)) (k r i to : ℕ) (from : r < length rows) (into : to < length rows) (apart : to ≢ r) where
+  pub moved-length : length (moved rows k r i to) ≡ length rows
+  moved-length = length-set (less rows r i) to (row_of (less rows r i) to ++ k ∷ []) ∙ less-length rows r i
+
+  pub row-to : row_of (moved rows k r i to) to ≡ row_of rows to ++ k ∷ []
+  row-to =
+      get_or-set_same (less rows r i) to (row_of (less rows r i) to ++ k ∷ []) [] (omega (arith, less-length rows r i, into))
+      ∙ ap (λ row. row ++ k ∷ []) (get_or-set_other rows r to (remove (row_of rows r) i) [] apart)
+
+  pub row-from : row_of (moved rows k r i to) r ≡ remove (row_of rows r) i
+  row-from =
+      get_or-set_other (less rows r i) to r (row_of (less rows r i) to ++ k ∷ []) [] (λ same. apart (sym same))
+      ∙ get_or-set_same rows r (remove (row_of rows r) i) [] from
+
+  pub row-other : (l : ℕ) → l ≢ r → l ≢ to → row_of (moved rows k r i to) l ≡ row_of rows l
+  row-other l lr lt =
+      get_or-set_other (less rows r i) to l (row_of (less rows r i) to ++ k ∷ []) [] lt
+      ∙ get_or-set_other rows r l (remove (row_of rows r) i) [] lr
+
+-- the slot of a row stands nowhere else
+pub elsewhere : {T : Type 0} (slots : List (Slot T)) (rows : List (List ℕ)) (k r i l : ℕ) → AreRings slots rows → r < length rows
+    → slice_get (row_of rows r) i ≡ Some k → l < length rows → l ≢ r → count_of k (row_of rows l) ≡ 0
+elsewhere slots rows k r i l rings from at lt apart =
+    let two = two-rows k rows r l from lt apart in
+    let there = count-at k (row_of rows r) i at in
+    let once = rings.once k in
+    omega (arith, two, there, once)
+
+pub removed-none : {T : Type 0} (slots : List (Slot T)) (rows : List (List ℕ)) (k r i : ℕ) → AreRings slots rows → r < length rows
+    → slice_get (row_of rows r) i ≡ Some k → count_of k (remove (row_of rows r) i) ≡ 0
+removed-none slots rows k r i rings from at =
+    let fewer = count-remove k (row_of rows r) i k at in
+    let here = count-here k k [] refl in
+    let le = row-le k rows r from in
+    let once = rings.once k in
+    omega (arith, fewer, here, le, once)
