@@ -1,6 +1,7 @@
 -- What the slots hold, once a value has come or gone.
-use Rattle.std.proofs.Common.{◌≡◌, ◌≢◌, ◌≤◌, ◌<◌, ◌+◌, ◌++◌, ℕ, zero, suc, List, [], ◌∷◌, length, map, get_or, replicate, Option, Some, None, option_map, slice_get, refl, sym, ap, subst, ◌∙◌, ⊎_elim, length-append, arith}
+use Rattle.std.proofs.Common.{◌≡◌, ◌≢◌, ◌≤◌, ◌<◌, ◌+◌, ◌-◌, ◌++◌, ℕ, zero, suc, List, [], ◌∷◌, length, map, get_or, replicate, Option, Some, None, option_map, slice_get, take, drop, IsSome, refl, sym, ap, subst, ◌∙◌, ⊎_elim, length-append, arith}
 use Rattle.std.proofs.Math.ListN.{set}
+use Rattle.std.proofs.Math.Seq.{take-append_seam}
 use Rattle.std.specs.List.{remove, sum_by, AllByRecursion}
 use Rattle.std.proofs.lemmas.Bool.{cases_lt}
 use Rattle.std.proofs.lemmas.Bool.Decides.{eqb_tells}
@@ -10,11 +11,12 @@ use Rattle.std.proofs.lemmas.List.Folds.{sum_by-replicate}
 use Rattle.std.proofs.lemmas.Option.{slice_get-map, slice_get_within}
 use Rattle.pssm_links.specs.declared.slot.SlotId.{SlotId}
 use Rattle.pssm_links.specs.declared.links.Slot.{Slot}
-use Rattle.pssm_links.specs.Chained.{Linked, list_of, with_pushed, without, IsSlotAt, slot_at, value_at}
+use Rattle.pssm_links.specs.Chained.{Linked, Chained, list_of, with_pushed, without, IsSlotAt, slot_at, value_at}
 use Rattle.pssm_links.specs.inner.Rings.{count_of, count_in, row_of, less, more, moved, next_of, prev_of, value_of, slots_of, lists_from, IsWritten, IsEdge, IsPath, AreEnds, AreRings, CanMove, StandThere, Hold}
 use Rattle.pssm_links.proofs.Meeting.{lists-held}
 use Rattle.pssm_links.proofs.Counting.{count-here, absent-first, absent-rest, count-at, count-remove, row-le, two-rows}
-use Rattle.pssm_links.proofs.Turning.{no-end, moved-length, row-to, row-from, row-other, elsewhere, removed-none}
+use Rattle.pssm_links.proofs.Writing.{read-at}
+use Rattle.pssm_links.proofs.Turning.{can-stand, no-end, moved-length, row-to, row-from, row-other, elsewhere, removed-none}
 
 module _ {T : Type 0} where
   -- empty lists, over the ends alone
@@ -328,13 +330,153 @@ module _ {T : Type 0} (old new : List (Slot T)) (lists : List (List (Linked T)))
             (ap length (row-to hold.rows k list i (length lists) can.from can.into apart-from) ∙ left);
       }
 
--- one more slot is unused
-module _ {T : Type 0} (old pushed new : List (Slot T)) (lists : List (List (Linked T))) (unused k : ℕ) (hold : Hold old lists unused)
-  (size : length pushed ≡ length old + 1) (here : k ≡ length old) (kept : (j : ℕ) → j < length old → value_of pushed j ≡ value_of old j)
-  (rings : AreRings new (more hold.rows k (length lists))) (values : (j : ℕ) → value_of new j ≡ value_of pushed j) where
-  hold-grown-stand : (row : List (Linked T)) → ((e : ℕ) → 1 ≤ count_of e (slots_of row) → e < length old) → StandThere old row → StandThere new row
-  hold-grown-stand [] there stand = tt
-  hold-grown-stand (e ∷ es) there stand =
-      let first = count-here e.slot.0 e.slot.0 (slots_of es) refl in
-      (values e.slot.0 ∙ kept e.slot.0 (there e.slot.0 (omega (arith, first))) ∙ stand.0,
-       hold-grown-stand es (λ k more. there k (omega (arith, more))) stand.1)
+module _ {T : Type 0} where
+  -- what is known of the slots of lists that are seen as a value
+  pub opened : (slots : List (Slot T)) (n spare : ℕ) (value : Chained T) → record { lists = lists_from slots 0 n; spare = spare } ≡ value
+      → Hold slots (lists_from slots 0 n) spare × (n ≡ length (lists_from slots 0 n)) → Hold slots value.lists spare × (n ≡ length value.lists)
+  opened slots n spare value is keeps = subst (λ (v : Chained T). Hold slots v.lists spare × (n ≡ length v.lists)) is keeps
+
+  -- the end of a list is there
+  pub end-there : (slots : List (Slot T)) (lists : List (List (Linked T))) (unused l : ℕ) → Hold slots lists unused → l ≤ length lists → l < length slots
+  end-there slots lists unused l hold le =
+      let size = hold.rings.size in
+      let count = hold.count in
+      omega (arith, le, size, count)
+
+  pub prev-read : (slots : List (Slot T)) (k : ℕ) (x : Slot T) → k < length slots → x ≡ get_or slots k x → prev_of slots k ≡ x.prev
+  prev-read slots k x lt is = read-at (λ s. s.prev) 0 slots k x lt ∙ ap (λ (s : Slot T). s.prev) (sym is)
+
+  pub next-read : (slots : List (Slot T)) (k : ℕ) (x : Slot T) → k < length slots → x ≡ get_or slots k x → next_of slots k ≡ x.next
+  next-read slots k x lt is = read-at (λ s. s.next) 0 slots k x lt ∙ ap (λ (s : Slot T). s.next) (sym is)
+
+  -- slots that were lent come back
+  pub come-back : (n : ℕ) (slots old : List (Slot T)) → n ≡ length old → length slots ≡ length old → take n (slots ++ drop (length slots) old) ≡ slots
+  come-back n slots old same size =
+      subst (λ m. take m (slots ++ drop (length slots) old) ≡ slots) (size ∙ sym same) (take-append_seam slots (drop (length slots) old))
+
+  -- the slot that a value comes to can be moved
+  pub push-can : (old : List (Slot T)) (lists : List (List (Linked T))) (unused n list k : ℕ) → (hold : Hold old lists unused) → n ≡ length lists
+      → 1 ≤ unused → list < length lists → prev_of old n ≡ k → CanMove old hold.rows k (length lists) (unused - 1) list
+  push-can old lists unused n list k hold same some lt is =
+      let can = can-push old lists unused (unused - 1) list hold (omega (arith, some)) lt in
+      let e : prev_of old (length lists) ≡ k = subst (λ z. prev_of old z ≡ k) same is in
+      subst (λ z. CanMove old hold.rows z (length lists) (unused - 1) list) e can
+
+  pub push-holds : (old mid new : List (Slot T)) (lists : List (List (Linked T))) (unused n list k : ℕ) (v : T) → (hold : Hold old lists unused) → n ≡ length lists
+      → 1 ≤ unused → list < length lists → prev_of old n ≡ k
+      → ((rows : List (List ℕ)) (r i : ℕ) → CanMove old rows k r i list → AreRings mid (moved rows k r i list))
+      → ((j : ℕ) → value_of mid j ≡ value_of old j) → IsWritten mid new k (Some v) → Hold new (with_pushed lists list (record { 0 = k }) v) (unused - 1)
+  push-holds old mid new lists unused n list k v hold same some lt is rings values written =
+      let can = push-can old lists unused n list k hold same some lt is in
+      hold-pushed old new lists unused (unused - 1) list k v hold (omega (arith, some)) lt can
+      (rings-written mid new k (Some v) (moved hold.rows k (length lists) (unused - 1) list) written (rings hold.rows (length lists) (unused - 1) can))
+      written.value (λ j off. written.values j off ∙ values j)
+
+  pub take-can : (old : List (Slot T)) (lists : List (List (Linked T))) (unused n list i : ℕ) (slot : SlotId) → (hold : Hold old lists unused) → n ≡ length lists
+      → IsSlotAt lists slot list i → CanMove old hold.rows slot.0 list i n
+  take-can old lists unused n list i slot hold same at =
+      subst (λ z. CanMove old hold.rows slot.0 list i z) (sym same) (can-take old lists unused slot list i hold at)
+
+  pub take-holds : (old mid new : List (Slot T)) (lists : List (List (Linked T))) (unused n list i : ℕ) (slot : SlotId) → (hold : Hold old lists unused) → n ≡ length lists
+      → IsSlotAt lists slot list i
+      → ((rows : List (List ℕ)) (r j : ℕ) → CanMove old rows slot.0 r j n → AreRings mid (moved rows slot.0 r j n))
+      → ((j : ℕ) → value_of mid j ≡ value_of old j) → IsWritten mid new slot.0 None → Hold new (without lists list i) (unused + 1)
+  take-holds old mid new lists unused n list i slot hold same at rings values written =
+      let can = can-take old lists unused slot list i hold at in
+      let turned = rings hold.rows list i (take-can old lists unused n list i slot hold same at) in
+      hold-taken old new lists unused list i slot.0 hold (list-within lists slot list i at) can
+      (rings-written mid new slot.0 None (moved hold.rows slot.0 list i (length lists)) written
+       (subst (λ z. AreRings mid (moved hold.rows slot.0 list i z)) same turned))
+      (λ j off. written.values j off ∙ values j)
+
+  value-there : (slots : List (Slot T)) (row : List (Linked T)) (slot : SlotId) (i : ℕ) → StandThere slots row
+      → option_map (λ e. e.slot) (slice_get row i) ≡ Some slot → value_of slots slot.0 ≡ option_map (λ e. e.value) (slice_get row i)
+  value-there slots [] slot i stand at = absurd (cc)
+  value-there slots (e ∷ es) slot zero stand at =
+      let same : e.slot ≡ slot = cc in
+      ap (λ s. value_of slots s.0) (sym same) ∙ stand.0
+  value-there slots (e ∷ es) slot (suc i) stand at = value-there slots es slot i stand.1 at
+
+  -- the value that stands in a slot
+  pub value-held : (slots : List (Slot T)) (lists : List (List (Linked T))) (unused : ℕ) (slot : SlotId) (l i : ℕ) → Hold slots lists unused
+      → IsSlotAt lists slot l i → value_of slots slot.0 ≡ value_at lists l i
+  value-held slots lists unused slot l i hold at = value-there slots (list_of lists l) slot i (hold.stand l (list-within lists slot l i at)) at
+
+  some-value : (row : List (Linked T)) (slot : SlotId) (i : ℕ) → option_map (λ e. e.slot) (slice_get row i) ≡ Some slot → IsSome (option_map (λ e. e.value) (slice_get row i))
+  some-value [] slot i at = absurd (cc)
+  some-value (e ∷ es) slot zero at = refl
+  some-value (e ∷ es) slot (suc i) at = some-value es slot i at
+
+  pub some-held : (slots : List (Slot T)) (lists : List (List (Linked T))) (unused : ℕ) (slot : SlotId) (l i : ℕ) → Hold slots lists unused
+      → IsSlotAt lists slot l i → IsSome (value_of slots slot.0)
+  some-held slots lists unused slot l i hold at =
+      subst (λ o. IsSome o) (sym (value-held slots lists unused slot l i hold at)) (some-value (list_of lists l) slot i at)
+
+-- a value comes, as the code has it come
+module _ {T : Type 0} (items : List (Slot T)) (n spare : ℕ) (value : Chained T) (is : record { lists = lists_from items 0 n; spare = spare } ≡ value)
+  (keeps : Hold items (lists_from items 0 n) spare × (n ≡ length (lists_from items 0 n))) (lent : List (Slot T)) (same : lent ≡ items) where
+  abbrev pub held : Hold lent value.lists spare
+  held = subst (λ slots. Hold slots value.lists spare) (sym same) (opened items n spare value is keeps).0
+
+  abbrev pub count-is : n ≡ length value.lists
+  count-is = (opened items n spare value is keeps).1
+
+  spare-is : spare ≡ value.spare
+  spare-is = ap (λ (v : Chained T). v.spare) is
+
+  module _ (x : Slot T) (list : ℕ) (reads : x ≡ get_or items n x) (lt : list < length value.lists) (some : 1 ≤ value.spare) where
+    end-is : prev_of lent n ≡ x.prev
+    end-is =
+        subst
+        (λ slots. prev_of slots n ≡ x.prev)
+        (sym same)
+        (prev-read items n x (end-there items value.lists spare n (opened items n spare value is keeps).0 (omega (arith, count-is))) reads)
+
+    pub push-ready : (rows : List (List ℕ)) × (r : ℕ) × (i : ℕ) × CanMove lent rows x.prev r i list
+    push-ready =
+        (held.rows, length value.lists, spare - 1,
+         push-can lent value.lists spare n list x.prev held count-is (omega (arith, some, spare-is)) lt end-is)
+
+    pub push-done : (mid new : List (Slot T)) (v : T) (len : ℕ) → len ≡ length items
+        → ((rows : List (List ℕ)) (r i : ℕ) → CanMove lent rows x.prev r i list → AreRings mid (moved rows x.prev r i list))
+        → ((j : ℕ) → value_of mid j ≡ value_of lent j) → length mid ≡ length lent → IsWritten mid new x.prev (Some v)
+        → let back = take len (new ++ drop (length new) items) in
+          (Hold back (lists_from back 0 n) (spare - 1) × (n ≡ length (lists_from back 0 n)))
+          × (lists_from back 0 n ≡ with_pushed value.lists list (record { 0 = x.prev }) v)
+    push-done mid new v len all rings values size written =
+        let back = take len (new ++ drop (length new) items) in
+        let e : back ≡ new = come-back len new items all (written.size ∙ size ∙ ap length same) in
+        let hold = push-holds lent mid new value.lists spare n list x.prev v held count-is (omega (arith, some, spare-is)) lt end-is rings values written in
+        let there = subst (λ slots. Hold slots (with_pushed value.lists list (record { 0 = x.prev }) v) (spare - 1)) (sym e) hold in
+        let count : n ≡ length (with_pushed value.lists list (record { 0 = x.prev }) v) =
+            count-is ∙ sym (length-set value.lists list (list_of value.lists list ++ record { slot = record { 0 = x.prev }; value = v } ∷ [])) in
+        (shows back (with_pushed value.lists list (record { 0 = x.prev }) v) (spare - 1) n count there,
+         shown back (with_pushed value.lists list (record { 0 = x.prev }) v) (spare - 1) n count there)
+
+  module _ (slot : SlotId) where
+    pub take-ready : (l i : ℕ) → IsSlotAt value.lists slot l i → (rows : List (List ℕ)) × (r : ℕ) × (j : ℕ) × CanMove lent rows slot.0 r j n
+    take-ready l i at = (held.rows, l, i, take-can lent value.lists spare n l i slot held count-is at)
+
+    pub slot-there : (l i : ℕ) → IsSlotAt value.lists slot l i → slot.0 < length lent
+    slot-there l i at = (can-stand lent held.rows slot.0 l i n (take-can lent value.lists spare n l i slot held count-is at)).0
+
+    pub take-some : (l i : ℕ) → IsSlotAt value.lists slot l i → IsSome (value_of lent slot.0)
+    take-some l i at = some-held lent value.lists spare slot l i held at
+
+    pub take-is : (l i : ℕ) → IsSlotAt value.lists slot l i → value_of lent slot.0 ≡ value_at value.lists l i
+    take-is l i at = value-held lent value.lists spare slot l i held at
+
+    pub take-done : (mid new : List (Slot T)) (len : ℕ) → len ≡ length items
+        → ((rows : List (List ℕ)) (r j : ℕ) → CanMove lent rows slot.0 r j n → AreRings mid (moved rows slot.0 r j n))
+        → ((j : ℕ) → value_of mid j ≡ value_of lent j) → length mid ≡ length lent → IsWritten mid new slot.0 None
+        → (l i : ℕ) → IsSlotAt value.lists slot l i
+        → let back = take len (new ++ drop (length new) items) in
+          (Hold back (lists_from back 0 n) (spare + 1) × (n ≡ length (lists_from back 0 n)))
+          × (lists_from back 0 n ≡ without value.lists l i)
+    take-done mid new len all rings values size written l i at =
+        let back = take len (new ++ drop (length new) items) in
+        let e : back ≡ new = come-back len new items all (written.size ∙ size ∙ ap length same) in
+        let hold = take-holds lent mid new value.lists spare n l i slot held count-is at rings values written in
+        let there = subst (λ slots. Hold slots (without value.lists l i) (spare + 1)) (sym e) hold in
+        let count : n ≡ length (without value.lists l i) = count-is ∙ sym (length-set value.lists l (remove (list_of value.lists l) i)) in
+        (shows back (without value.lists l i) (spare + 1) n count there, shown back (without value.lists l i) (spare + 1) n count there)

@@ -84,8 +84,9 @@ impl<T: Drop> Chains<T> {
         ensures spare { self.old.spare ≡ self.new.spare + 1 }
     {
         let slot = self.slots[self.lists as usize].prev;
-        move_slot(self.slots.as_mut_slice(), slot, list);
-        put_value(self.slots.as_mut_slice(), slot, value);
+        let slots = self.slots.as_mut_slice();
+        move_slot(slots, slot, list);
+        put_value(slots, slot, value);
         self.spare -= 1;
         SlotId(slot)
     }
@@ -103,8 +104,9 @@ impl<T: Drop> Chains<T> {
         ensures at_most { steps.new ≤ steps.old + 6 }
     {
         steps.count(LINKS);
-        move_slot(self.slots.as_mut_slice(), slot.0, self.lists);
-        let value = take_value(self.slots.as_mut_slice(), slot.0);
+        let slots = self.slots.as_mut_slice();
+        move_slot(slots, slot.0, self.lists);
+        let value = take_value(slots, slot.0);
         self.spare += 1;
         value
     }
