@@ -11,6 +11,12 @@ get-append_before [] y k lt = absurd (omega arith)
 get-append_before (x ∷ xs) y zero lt = refl
 get-append_before (x ∷ xs) y (suc k) lt = get-append_before xs y k (omega arith)
 
+pub get-append_apart : {X : Type 0} (xs : List X) (y : X) (k : ℕ) → k ≢ length xs → slice_get (xs ++ y ∷ []) k ≡ slice_get xs k
+get-append_apart [] y zero apart = absurd (apart refl)
+get-append_apart [] y (suc k) apart = refl
+get-append_apart (x ∷ xs) y zero apart = refl
+get-append_apart (x ∷ xs) y (suc k) apart = get-append_apart xs y k (λ same. apart (omega (arith, same)))
+
 pub get-append_end : {X : Type 0} (xs : List X) (y : X) (k : ℕ) → k ≡ length xs → slice_get (xs ++ y ∷ []) k ≡ Some y
 get-append_end [] y zero same = refl
 get-append_end [] y (suc k) same = absurd (omega (arith, same))
@@ -26,7 +32,7 @@ module _ {T X : Type 0} (read : Slot T → X) (none : X) (slots : List (Slot T))
   read-end k same = ap (λ o. option_map_or read o none) (get-append_end slots y k same)
 
 module _ {T : Type 0} where
-  more-length : (slots : List (Slot T)) (y : Slot T) → length (slots ++ y ∷ []) ≡ length slots + 1
+  pub more-length : (slots : List (Slot T)) (y : Slot T) → length (slots ++ y ∷ []) ≡ length slots + 1
   more-length slots y = omega (arith, length-append slots (y ∷ []))
 
   pub ends-none : AreEnds {T = T} [] 0
@@ -90,6 +96,7 @@ module _ {T : Type 0} where
     rings = λ l lt. path-grown slots y l (row_of rows l) l (rings.rings l lt);
     once = rings.once;
     apart = rings.apart;
+    within = λ k past. rings.within k (omega (arith, past, more-length slots y));
     size = let size = rings.size in omega (arith, size, more-length slots y);
     few = omega (arith, few, more-length slots y);
   }

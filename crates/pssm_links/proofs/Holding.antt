@@ -1,8 +1,9 @@
 -- What the slots hold, once a value has come or gone.
-use Rattle.std.proofs.Common.{◌≡◌, ◌≢◌, ◌≤◌, ◌<◌, ◌+◌, ◌-◌, ◌++◌, ℕ, zero, suc, List, [], ◌∷◌, length, map, get_or, replicate, Option, Some, None, option_map, slice_get, take, drop, IsSome, refl, sym, ap, subst, ◌∙◌, ⊎_elim, length-append, arith}
+use Rattle.std.proofs.Common.{◌≡◌, ◌≢◌, ◌≤◌, ◌<◌, ◌+◌, ◌-◌, ◌^◌, ◌++◌, ℕ, zero, suc, List, [], ◌∷◌, length, map, get_or, replicate, Option, Some, None, option_map, slice_get, take, drop, IsSome, IfSome, unwrap_or, refl, sym, ap, subst, ◌∙◌, ⊎_elim, length-append, arith}
 use Rattle.std.proofs.Math.ListN.{set}
 use Rattle.std.proofs.Math.Seq.{take-append_seam}
 use Rattle.std.specs.List.{remove, sum_by, AllByRecursion}
+use Rattle.std.specs.Option.{option_map_or}
 use Rattle.std.proofs.lemmas.Bool.{cases_lt}
 use Rattle.std.proofs.lemmas.Bool.Decides.{eqb_tells}
 use Rattle.std.proofs.lemmas.List.{get_or-set_other, get_or-set_same, get_or-replicate, length-set, length-map, length-replicate, map-append}
@@ -12,11 +13,13 @@ use Rattle.std.proofs.lemmas.Option.{slice_get-map, slice_get_within}
 use Rattle.pssm_links.specs.declared.slot.SlotId.{SlotId}
 use Rattle.pssm_links.specs.declared.links.Slot.{Slot}
 use Rattle.pssm_links.specs.Chained.{Linked, Chained, list_of, with_pushed, without, IsSlotAt, slot_at, value_at}
-use Rattle.pssm_links.specs.inner.Rings.{count_of, count_in, row_of, less, more, moved, next_of, prev_of, value_of, slots_of, lists_from, IsWritten, IsEdge, IsPath, AreEnds, AreRings, CanMove, StandThere, Hold}
+use Rattle.pssm_links.specs.inner.Rings.{count_of, count_in, row_of, less, more, moved, next_of, prev_of, value_of, slots_of, lists_from, Joins, IsWritten, IsEdge, IsPath, AreEnds, AreRings, CanMove, StandThere, Hold}
+use Rattle.pssm_links.proofs.Growing.{get-append_apart, more-length, rings-grown}
 use Rattle.pssm_links.proofs.Meeting.{lists-held}
 use Rattle.pssm_links.proofs.Counting.{count-here, absent-first, absent-rest, count-at, count-remove, row-le, two-rows}
 use Rattle.pssm_links.proofs.Writing.{read-at}
-use Rattle.pssm_links.proofs.Turning.{can-stand, no-end, moved-length, row-to, row-from, row-other, elsewhere, removed-none}
+use Rattle.pssm_links.proofs.Paths.{path-first, path-next}
+use Rattle.pssm_links.proofs.Turning.{can-stand, ring-edge, no-end, more-rings, moved-length, row-to, row-from, row-other, elsewhere, removed-none}
 
 module _ {T : Type 0} where
   -- empty lists, over the ends alone
@@ -38,6 +41,7 @@ module _ {T : Type 0} where
               (record { next = ends.next l le; prev = ends.prev l le; from = omega (arith, le, size); to = omega (arith, le, size) });
           once = λ k. let none = sum_by-replicate (count_of k) (n + 1) [] in omega (arith, none);
           apart = λ l lt. let none = sum_by-replicate (count_of l) (n + 1) [] in omega (arith, none);
+          within = λ k past. let none = sum_by-replicate (count_of k) (n + 1) [] in omega (arith, none);
           size = let none = sum_by-replicate {X = List ℕ} length (n + 1) [] in omega (arith, none, count, size);
           few = let few = ends.few in omega (arith, few, size);
         };
@@ -79,6 +83,7 @@ module _ {T : Type 0} where
     rings = λ l lt. path-written old new k v l (row_of rows l) l w (rings.rings l lt);
     once = rings.once;
     apart = rings.apart;
+    within = λ j past. let same = w.size in rings.within j (omega (arith, past, same));
     size = let size = rings.size in let same = w.size in omega (arith, size, same);
     few = let few = rings.few in let same = w.size in omega (arith, few, same);
   }
@@ -480,3 +485,153 @@ module _ {T : Type 0} (items : List (Slot T)) (n spare : ℕ) (value : Chained T
         let there = subst (λ slots. Hold slots (without value.lists l i) (spare + 1)) (sym e) hold in
         let count : n ≡ length (without value.lists l i) = count-is ∙ sym (length-set value.lists l (remove (list_of value.lists l) i)) in
         (shows back (without value.lists l i) (spare + 1) n count there, shown back (without value.lists l i) (spare + 1) n count there)
+
+-- the slots of a list are no ends, and the next is read off the links
+module _ {T : Type 0} where
+  read-option : (o : Option (Linked T)) (l most next : ℕ) (found : Option SlotId) → next ≡ unwrap_or (option_map (λ e. e.slot.0) o) l → l ≤ most
+      → IfSome o (λ e. most < e.slot.0) → (next ≤ most → found ≡ None) → (most < next → found ≡ Some (record { 0 = next })) → found ≡ option_map (λ e. e.slot) o
+  read-option None l most next found is le far end slot = end (omega (arith, is, le))
+  read-option (Some e) l most next found is le far end slot =
+      let lt : most < next = omega (arith, is, far) in
+      slot lt ∙ ap (λ k. let s : SlotId = record { 0 = k } in Some s) is
+
+  far-option : (slots : List (Slot T)) (rows : List (List ℕ)) (most l j : ℕ) (o : Option (Linked T)) → AreRings slots rows → length rows ≡ most + 1
+      → l < length rows → slice_get (row_of rows l) j ≡ option_map (λ e. e.slot.0) o → IfSome o (λ e. most < e.slot.0)
+  far-option slots rows most l j None rings count lt at = tt
+  far-option slots rows most l j (Some e) rings count lt at =
+      ⊎_elim
+      (λ far. far)
+      (λ le. absurd (no-end slots rows e.slot.0 l j e.slot.0 rings lt at (omega (arith, le, count)) refl))
+      (cases_lt most e.slot.0)
+
+  row-at : (slots : List (Slot T)) (lists : List (List (Linked T))) (unused l j : ℕ) → (hold : Hold slots lists unused) → l < length lists
+      → slice_get (row_of hold.rows l) j ≡ option_map (λ e. e.slot.0) (slice_get (list_of lists l) j)
+  row-at slots lists unused l j hold lt =
+      ap (λ row. slice_get row j) (hold.same l lt) ∙ slice_get-map (λ (e : Linked T). e.slot.0) (list_of lists l) j
+
+  slot-found : (slots : List (Slot T)) (lists : List (List (Linked T))) (unused l j next : ℕ) (found : Option SlotId) → (hold : Hold slots lists unused) → l < length lists
+      → next ≡ unwrap_or (slice_get (row_of hold.rows l) j) l → (next ≤ length lists → found ≡ None)
+      → (length lists < next → found ≡ Some (record { 0 = next })) → found ≡ slot_at lists l j
+  slot-found slots lists unused l j next found hold lt is end slot =
+      let count = hold.count in
+      let at = row-at slots lists unused l j hold lt in
+      read-option (slice_get (list_of lists l) j) l (length lists) next found (is ∙ ap (λ o. unwrap_or o l) at) (omega (arith, lt))
+      (far-option slots hold.rows (length lists) l j (slice_get (list_of lists l) j) hold.rings count (omega (arith, lt, count)) at) end slot
+
+  -- the first slot of a list, and the one after a slot
+  pub first-found : (slots : List (Slot T)) (n spare : ℕ) (value : Chained T) → record { lists = lists_from slots 0 n; spare = spare } ≡ value
+      → Hold slots (lists_from slots 0 n) spare × (n ≡ length (lists_from slots 0 n)) → (l : ℕ) (x : Slot T) (found : Option SlotId) → l < length value.lists
+      → x ≡ get_or slots l x → (x.next ≤ length value.lists → found ≡ None) → (length value.lists < x.next → found ≡ Some (record { 0 = x.next }))
+      → found ≡ slot_at value.lists l 0
+  first-found slots n spare value is keeps l x found lt reads end slot =
+      let hold = (opened slots n spare value is keeps).0 in
+      let count = hold.count in
+      let there = end-there slots value.lists spare l hold (omega (arith, lt)) in
+      slot-found slots value.lists spare l 0 x.next found hold lt
+      (sym (next-read slots l x there reads) ∙ path-first slots l (row_of hold.rows l) l (hold.rings.rings l (omega (arith, lt, count)))) end slot
+
+  pub next-found : (slots : List (Slot T)) (n spare : ℕ) (value : Chained T) → record { lists = lists_from slots 0 n; spare = spare } ≡ value
+      → Hold slots (lists_from slots 0 n) spare × (n ≡ length (lists_from slots 0 n)) → (at : SlotId) (x : Slot T) (found : Option SlotId)
+      → x ≡ get_or slots at.0 x → (x.next ≤ length value.lists → found ≡ None) → (length value.lists < x.next → found ≡ Some (record { 0 = x.next }))
+      → (l i : ℕ) → IsSlotAt value.lists at l i → found ≡ slot_at value.lists l (i + 1)
+  next-found slots n spare value is keeps at x found reads end slot l i stands =
+      let hold = (opened slots n spare value is keeps).0 in
+      let count = hold.count in
+      let lt = list-within value.lists at l i stands in
+      let there = slot-there slots n spare value is keeps slots refl at l i stands in
+      slot-found slots value.lists spare l (i + 1) x.next found hold lt
+      (sym (next-read slots at.0 x there reads)
+       ∙ path-next slots l (row_of hold.rows l) l i at.0 (hold.rings.rings l (omega (arith, lt, count))) (place-of slots value.lists spare at l i hold stands))
+      end slot
+
+  -- the value that stands in a slot, as it is read
+  pub value-found : (slots : List (Slot T)) (n spare : ℕ) (value : Chained T) → record { lists = lists_from slots 0 n; spare = spare } ≡ value
+      → Hold slots (lists_from slots 0 n) spare × (n ≡ length (lists_from slots 0 n)) → (at : SlotId) (x : Slot T)
+      → x ≡ get_or slots at.0 x → (l i : ℕ) → IsSlotAt value.lists at l i → x.value ≡ value_at value.lists l i
+  value-found slots n spare value is keeps at x reads l i stands =
+      let there = slot-there slots n spare value is keeps slots refl at l i stands in
+      ap (λ (s : Slot T). s.value) reads ∙ sym (read-at (λ s. s.value) None slots at.0 x there)
+      ∙ take-is slots n spare value is keeps slots refl at l i stands
+
+-- one more slot is unused
+module _ {T : Type 0} (items lent between new : List (Slot T)) (y : Slot T) (lists : List (List (Linked T))) (unused k : ℕ) (hold : Hold items lists unused)
+  (is : k ≡ length items) (few : k < 2 ^ 32) (pushed : lent ≡ items ++ y ∷ [])
+  (one : Joins lent between (prev_of lent (length lists)) k) (two : Joins between new k (length lists)) where
+  abbrev end-of : length lists < length hold.rows
+  end-of = let count = hold.count in omega (arith, count)
+
+  pub grown-rings : AreRings lent hold.rows
+  grown-rings = subst (λ slots. AreRings slots hold.rows) (sym pushed) (rings-grown items y hold.rows (omega (arith, is, few)) hold.rings)
+
+  grown-size : length lent ≡ length items + 1
+  grown-size = ap length pushed ∙ more-length items y
+
+  free : count_in k hold.rows ≡ 0
+  free = hold.rings.within k (omega (arith, is))
+
+  turned : AreRings new (more hold.rows k (length lists))
+  turned =
+      let size = hold.rings.size in
+      more-rings lent between new hold.rows k (length lists) grown-rings end-of free (omega (arith, size, is)) (omega (arith, is, grown-size))
+      (omega (arith, size, grown-size)) one two
+
+  kept-values : (j : ℕ) → j ≢ k → value_of new j ≡ value_of items j
+  kept-values j apart =
+      two.values j ∙ one.values j ∙ ap (λ slots. value_of slots j) pushed
+      ∙ ap (λ o. option_map_or (λ (s : Slot T). s.value) o None) (get-append_apart items y j (λ same. apart (same ∙ sym is)))
+
+  none-in : (l : ℕ) → l < length lists → count_of k (slots_of (list_of lists l)) ≡ 0
+  none-in l le =
+      let count = hold.count in
+      let row = row-le k hold.rows l (omega (arith, le, count)) in
+      let none = free in
+      let here : count_of k (row_of hold.rows l) ≡ 0 = omega (arith, row, none) in
+      ap (count_of k) (sym (hold.same l le)) ∙ here
+
+  pub hold-grown : Hold new lists (unused + 1)
+  hold-grown =
+      let count = hold.count in
+      let rows-length = length-set hold.rows (length lists) (row_of hold.rows (length lists) ++ k ∷ []) in
+      record {
+        rows = more hold.rows k (length lists);
+        count = omega (arith, rows-length, count);
+        rings = turned;
+        same = λ l le. get_or-set_other hold.rows (length lists) l (row_of hold.rows (length lists) ++ k ∷ []) [] (λ same. omega (arith, same, le)) ∙ hold.same l le;
+        stand = λ l le. stand-kept items new (list_of lists l) k (none-in l le) kept-values (hold.stand l le);
+        ends = λ l le.
+            let within : l < length hold.rows = omega (arith, le, rows-length) in
+            let size = hold.rings.size in
+            kept-values l (λ same. omega (arith, same, within, size, is)) ∙ hold.ends l within;
+        spare =
+            let spare = hold.spare in
+            let longer = length-append (row_of hold.rows (length lists)) (k ∷ []) in
+            let left : length (row_of hold.rows (length lists) ++ k ∷ []) ≡ unused + 1 = omega (arith, longer, spare) in
+            ap length (get_or-set_same hold.rows (length lists) (row_of hold.rows (length lists) ++ k ∷ []) [] end-of) ∙ left;
+      }
+
+-- one more slot, as the code adds it
+module _ {T : Type 0} (items : List (Slot T)) (n spare : ℕ) (value : Chained T) (is : record { lists = lists_from items 0 n; spare = spare } ≡ value)
+  (keeps : Hold items (lists_from items 0 n) spare × (n ≡ length (lists_from items 0 n))) (lent after : List (Slot T)) (y : Slot T) (k : ℕ) (last : k ≡ length items)
+  (few : k < 2 ^ 32) (pushed : after ≡ items ++ y ∷ []) (same : lent ≡ after) where
+  pub grow-ready : prev_of lent n < length lent
+  grow-ready =
+      let both = opened items n spare value is keeps in
+      let hold = both.0 in
+      let rings = subst (λ slots. AreRings slots hold.rows) (sym (same ∙ pushed)) (rings-grown items y hold.rows (omega (arith, last, few)) hold.rings) in
+      let count = hold.count in
+      let count-same = both.1 in
+      let e = ring-edge lent hold.rows n rings (omega (arith, count, count-same)) in
+      e.from
+
+  pub grow-done : (between new : List (Slot T)) (len : ℕ) → len ≡ length after → Joins lent between (prev_of lent n) k → Joins between new k n
+      → let back = take len (new ++ drop (length new) after) in
+        (Hold back (lists_from back 0 n) (spare + 1) × (n ≡ length (lists_from back 0 n))) × (lists_from back 0 n ≡ value.lists)
+  grow-done between new len all one two =
+      let back = take len (new ++ drop (length new) after) in
+      let both = opened items n spare value is keeps in
+      let e : back ≡ new = come-back len new after all (two.size ∙ one.size ∙ ap length same) in
+      let first = subst (λ z. Joins lent between (prev_of lent z) k) both.1 one in
+      let second = subst (λ z. Joins between new k z) both.1 two in
+      let hold = hold-grown items lent between new y value.lists spare k both.0 last few (same ∙ pushed) first second in
+      let there = subst (λ slots. Hold slots value.lists (spare + 1)) (sym e) hold in
+      (shows back value.lists (spare + 1) n both.1 there, shown back value.lists (spare + 1) n both.1 there)

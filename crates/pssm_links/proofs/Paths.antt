@@ -1,5 +1,5 @@
 -- Paths along the links, once a slot has been taken out or put in.
-use Rattle.std.proofs.Common.{◌≡◌, ◌≢◌, ◌≤◌, ◌<◌, ◌+◌, ◌++◌, ℕ, zero, suc, List, [], ◌∷◌, length, Some, slice_get, refl, sym, ap, subst, ◌∙◌, arith}
+use Rattle.std.proofs.Common.{◌≡◌, ◌≢◌, ◌≤◌, ◌<◌, ◌+◌, ◌++◌, ℕ, zero, suc, List, [], ◌∷◌, length, Some, slice_get, unwrap_or, refl, sym, ap, subst, ◌∙◌, arith}
 use Rattle.std.specs.List.{remove}
 use Rattle.pssm_links.specs.declared.links.Slot.{Slot}
 use Rattle.pssm_links.specs.inner.Rings.{count_of, next_of, prev_of, Joins, IsEdge, IsPath}
@@ -32,6 +32,27 @@ module _ {T : Type 0} (slots : List (Slot T)) where
       let same : x ≡ k = cc in
       subst (λ z. IsEdge slots z (next_of slots z)) same (first-edge x xs b path.1)
   edge-after k a (x ∷ xs) b (suc i) at path = edge-after k x xs b i at path.1
+
+  -- what comes first, and what comes after a slot: the next on the path, or its end
+  pub path-first : (a : ℕ) (ks : List ℕ) (b : ℕ) → IsPath slots a ks b → next_of slots a ≡ unwrap_or (slice_get ks 0) b
+  path-first a [] b path = path.next
+  path-first a (x ∷ xs) b path = let e : IsEdge slots a x = path.0 in e.next
+
+  pub path-next : (a : ℕ) (ks : List ℕ) (b i k : ℕ) → IsPath slots a ks b → slice_get ks i ≡ Some k → next_of slots k ≡ unwrap_or (slice_get ks (i + 1)) b
+  path-next a [] b i k path at = absurd (cc)
+  path-next a (x ∷ xs) b zero k path at =
+      let same : x ≡ k = cc in
+      let after : 0 + 1 ≡ suc 0 = omega arith in
+      subst
+      (λ j. next_of slots k ≡ unwrap_or (slice_get (x ∷ xs) j) b)
+      (sym after)
+      (ap (next_of slots) (sym same) ∙ path-first x xs b path.1)
+  path-next a (x ∷ xs) b (suc i) k path at =
+      let after : suc i + 1 ≡ suc (i + 1) = omega arith in
+      subst
+      (λ j. next_of slots k ≡ unwrap_or (slice_get (x ∷ xs) j) b)
+      (sym after)
+      (path-next x xs b i k path.1 at)
 
 -- a slot that stands between two is passed over
 module _ {T : Type 0} (old new : List (Slot T)) (k p n : ℕ) (joins : Joins old new p n) (before : IsEdge old p k) (after : IsEdge old k n) where

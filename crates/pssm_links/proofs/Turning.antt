@@ -86,6 +86,11 @@ module _ {T : Type 0} (old new : List (Slot T)) (rows : List (List ℕ)) (k r i 
         let fewer = count-less l rows r i k lt at in
         let none = rings.apart l (omega (arith, length-set rows r (remove (row_of rows r) i))) in
         omega (arith, fewer, none);
+    within = λ j past.
+        let fewer = count-less j rows r i k lt at in
+        let size = joins.size in
+        let none = rings.within j (omega (arith, past, size)) in
+        omega (arith, fewer, none);
     size = let size = less-size in omega (arith, size);
     few = let few = rings.few in let size = joins.size in omega (arith, few, size);
   }
@@ -145,6 +150,13 @@ module _ {T : Type 0} (old between new : List (Slot T)) (rows : List (List ℕ))
         let more = count-more l rows k to lt in
         let free = rings.apart l within in
         let off = count-other l k [] (λ same. omega (arith, same, within, apart)) in
+        omega (arith, more, free, off);
+    within = λ j past.
+        let more = count-more j rows k to lt in
+        let first = one.size in
+        let second = two.size in
+        let free = rings.within j (omega (arith, past, first, second)) in
+        let off = count-other j k [] (λ same. omega (arith, same, past, there, first, second)) in
         omega (arith, more, free, off);
     size =
         let count = length-set rows to (row_of rows to ++ k ∷ []) in

@@ -75,6 +75,7 @@ module _ {T : Type 0} where
     pub rings : (l : ℕ) → l < length rows → IsPath slots l (row_of rows l) l
     pub once : (k : ℕ) → count_in k rows ≤ 1
     pub apart : (l : ℕ) → l < length rows → count_in l rows ≡ 0
+    pub within : (k : ℕ) → length slots ≤ k → count_in k rows ≡ 0
     pub size : length rows + sum_by length rows ≤ length slots
     pub few : length slots ≤ 2 ^ 32
 
