@@ -140,6 +140,13 @@ impl<T: Drop> Chains<T> {
         }
     }
 
+    /// No two values stand in the same slot. It does nothing.
+    pub fn own_slots(&self)
+        ensures { HaveOwnSlots self.now.lists }
+    {
+        let _ = self.lists;
+    }
+
     // One more slot that no list uses.
     fn add_slot(&mut self) -> Result<(), NoMemory>
         ensures lists { self.new.lists ≡ self.old.lists }
