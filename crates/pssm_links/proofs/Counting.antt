@@ -1,7 +1,7 @@
 -- How often a number stands in a list, and in several.
-use Rattle.std.proofs.Common.{◌≡◌, ◌≢◌, ◌≤◌, ◌<◌, ◌+◌, ◌++◌, ℕ, zero, suc, Bool, true, false, cond, List, [], ◌∷◌, length, get_or, Some, slice_get, refl, sym, ap, subst, ◌∙◌, ⊎_elim, arith}
+use Rattle.std.proofs.Common.{◌≡◌, ◌≢◌, ◌≤◌, ◌<◌, ◌+◌, ◌++◌, ℕ, zero, suc, cond, List, [], ◌∷◌, length, Some, slice_get, refl, sym, ap, ◌∙◌, ⊎_elim, arith}
 use Rattle.std.proofs.Math.ListN.{set}
-use Rattle.std.specs.List.{remove, sum_by}
+use Rattle.std.specs.List.{remove}
 use Rattle.std.proofs.lemmas.Bool.Decides.{eqb_tells}
 use Rattle.std.proofs.lemmas.List.{get_or-set_other, length-set}
 use Rattle.std.proofs.lemmas.List.Sums.{sum_by-set}
@@ -44,6 +44,20 @@ count-remove k (x ∷ xs) zero y at =
     let e = ap (λ z. count_of k (z ∷ [])) same in
     omega (arith, e)
 count-remove k (x ∷ xs) (suc i) y at = let there = count-remove k xs i y at in omega (arith, there)
+
+-- what stands in a list once stands at one place
+pub one-place : (k : ℕ) (xs : List ℕ) (i j : ℕ) → count_of k xs ≤ 1 → slice_get xs i ≡ Some k → slice_get xs j ≡ Some k → i ≡ j
+one-place k [] i j once one other = absurd (cc)
+one-place k (x ∷ xs) zero zero once one other = refl
+one-place k (x ∷ xs) zero (suc j) once one other =
+    let here = count-here k x xs (let same : x ≡ k = cc in same) in
+    let there = count-at k xs j other in
+    absurd (omega (arith, here, there, once))
+one-place k (x ∷ xs) (suc i) zero once one other =
+    let here = count-here k x xs (let same : x ≡ k = cc in same) in
+    let there = count-at k xs i one in
+    absurd (omega (arith, here, there, once))
+one-place k (x ∷ xs) (suc i) (suc j) once one other = ap suc (one-place k xs i j (omega (arith, once)) one other)
 
 -- a row holds no more than all rows together, and two rows neither
 pub row-le : (k : ℕ) (rows : List (List ℕ)) (l : ℕ) → l < length rows → count_of k (row_of rows l) ≤ count_in k rows

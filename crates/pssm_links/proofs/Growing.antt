@@ -1,10 +1,9 @@
 -- Slots, once there is one more.
-use Rattle.std.proofs.Common.{◌≡◌, ◌≢◌, ◌≤◌, ◌<◌, ◌+◌, ◌^◌, ◌++◌, ℕ, zero, suc, List, [], ◌∷◌, length, Option, Some, None, slice_get, refl, sym, ap, subst, ◌∙◌, inl, inr, ⊎_elim, length-append, arith}
+use Rattle.std.proofs.Common.{◌≡◌, ◌≢◌, ◌<◌, ◌+◌, ◌^◌, ◌++◌, ℕ, zero, suc, List, [], ◌∷◌, length, Some, None, slice_get, refl, sym, ap, subst, ◌∙◌, ⊎_elim, length-append, arith}
 use Rattle.std.proofs.lemmas.Bool.{cases_lt}
-use Rattle.std.proofs.lemmas.Bool.Decides.{eqb_tells}
 use Rattle.std.specs.Option.{option_map_or}
 use Rattle.pssm_links.specs.declared.links.Slot.{Slot}
-use Rattle.pssm_links.specs.inner.Rings.{next_of, prev_of, value_of, row_of, IsEdge, IsPath, AreRings, AreEnds}
+use Rattle.pssm_links.specs.inner.Rings.{row_of, IsEdge, IsPath, AreRings, AreEnds}
 
 pub get-append_before : {X : Type 0} (xs : List X) (y : X) (k : ℕ) → k < length xs → slice_get (xs ++ y ∷ []) k ≡ slice_get xs k
 get-append_before [] y k lt = absurd (omega arith)

@@ -1,22 +1,21 @@
 -- What the slots hold, once a value has come or gone.
-use Rattle.std.proofs.Common.{◌≡◌, ◌≢◌, ◌≤◌, ◌<◌, ◌+◌, ◌-◌, ◌^◌, ◌++◌, ℕ, zero, suc, List, [], ◌∷◌, length, map, get_or, replicate, Option, Some, None, option_map, slice_get, take, drop, IsSome, IfSome, unwrap_or, refl, sym, ap, subst, ◌∙◌, ⊎_elim, length-append, arith}
-use Rattle.std.proofs.Math.ListN.{set}
+use Rattle.std.proofs.Common.{◌≡◌, ◌≢◌, ◌≤◌, ◌<◌, ◌+◌, ◌-◌, ◌^◌, ◌++◌, ℕ, zero, suc, List, [], ◌∷◌, length, get_or, replicate, Option, Some, None, option_map, slice_get, take, drop, IsSome, IfSome, unwrap_or, refl, sym, ap, subst, ◌∙◌, ⊎_elim, length-append, arith}
 use Rattle.std.proofs.Math.Seq.{take-append_seam}
-use Rattle.std.specs.List.{remove, sum_by, AllByRecursion}
+use Rattle.std.specs.List.{remove}
 use Rattle.std.specs.Option.{option_map_or}
 use Rattle.std.proofs.lemmas.Bool.{cases_lt}
 use Rattle.std.proofs.lemmas.Bool.Decides.{eqb_tells}
-use Rattle.std.proofs.lemmas.List.{get_or-set_other, get_or-set_same, get_or-replicate, length-set, length-map, length-replicate, map-append}
+use Rattle.std.proofs.lemmas.List.{get_or-set_other, get_or-set_same, get_or-replicate, length-set, length-replicate, map-append}
 use Rattle.std.proofs.lemmas.List.Edits.{length-remove}
 use Rattle.std.proofs.lemmas.List.Folds.{sum_by-replicate}
 use Rattle.std.proofs.lemmas.Option.{slice_get-map, slice_get_within}
 use Rattle.pssm_links.specs.declared.slot.SlotId.{SlotId}
 use Rattle.pssm_links.specs.declared.links.Slot.{Slot}
-use Rattle.pssm_links.specs.Chained.{Linked, Chained, list_of, with_pushed, without, IsSlotAt, slot_at, value_at}
-use Rattle.pssm_links.specs.inner.Rings.{count_of, count_in, row_of, less, more, moved, next_of, prev_of, value_of, slots_of, lists_from, Joins, IsWritten, IsEdge, IsPath, AreEnds, AreRings, CanMove, StandThere, Hold}
+use Rattle.pssm_links.specs.Chained.{Linked, Chained, list_of, with_pushed, without, HaveOwnSlots, IsSlotAt, slot_at, value_at}
+use Rattle.pssm_links.specs.inner.Rings.{count_of, count_in, row_of, more, moved, next_of, prev_of, value_of, slots_of, lists_from, Joins, IsWritten, IsEdge, IsPath, AreEnds, AreRings, CanMove, StandThere, Hold}
 use Rattle.pssm_links.proofs.Growing.{get-append_apart, more-length, rings-grown}
 use Rattle.pssm_links.proofs.Meeting.{lists-held}
-use Rattle.pssm_links.proofs.Counting.{count-here, absent-first, absent-rest, count-at, count-remove, row-le, two-rows}
+use Rattle.pssm_links.proofs.Counting.{absent-first, absent-rest, count-at, one-place, row-le, two-rows}
 use Rattle.pssm_links.proofs.Writing.{read-at}
 use Rattle.pssm_links.proofs.Paths.{path-first, path-next}
 use Rattle.pssm_links.proofs.Turning.{can-stand, ring-edge, no-end, more-rings, moved-length, row-to, row-from, row-other, elsewhere, removed-none}
@@ -92,9 +91,10 @@ module _ {T : Type 0} where
   pub stand-kept : (old new : List (Slot T)) (row : List (Linked T)) (k : ℕ) → count_of k (slots_of row) ≡ 0
       → ((j : ℕ) → j ≢ k → value_of new j ≡ value_of old j) → StandThere old row → StandThere new row
   stand-kept old new [] k none values stand = tt
-  stand-kept old new (e ∷ es) k none values stand =
-      (values e.slot.0 (absent-first k e.slot.0 (slots_of es) none) ∙ stand.0,
-       stand-kept old new es k (absent-rest k e.slot.0 (slots_of es) none) values stand.1)
+  stand-kept old new (e ∷ es) k none values stand = (
+    values e.slot.0 (absent-first k e.slot.0 (slots_of es) none) ∙ stand.0,
+    stand-kept old new es k (absent-rest k e.slot.0 (slots_of es) none) values stand.1,
+  )
 
   stand-more : (slots : List (Slot T)) (row : List (Linked T)) (e : Linked T) → value_of slots e.slot.0 ≡ Some e.value → StandThere slots row
       → StandThere slots (row ++ e ∷ [])
@@ -173,9 +173,9 @@ module _ {T : Type 0} where
 
 -- a value has come to a list, into the last of the unused slots
 module _ {T : Type 0} (old new : List (Slot T)) (lists : List (List (Linked T))) (unused m list k : ℕ) (v : T) (hold : Hold old lists unused)
-  (some : unused ≡ m + 1) (lt : list < length lists) (can : CanMove old hold.rows k (length lists) m list)
-  (rings : AreRings new (moved hold.rows k (length lists) m list)) (value : value_of new k ≡ Some v)
-  (values : (j : ℕ) → j ≢ k → value_of new j ≡ value_of old j) where
+    (some : unused ≡ m + 1) (lt : list < length lists) (can : CanMove old hold.rows k (length lists) m list)
+    (rings : AreRings new (moved hold.rows k (length lists) m list)) (value : value_of new k ≡ Some v)
+    (values : (j : ℕ) → j ≢ k → value_of new j ≡ value_of old j) where
   abbrev come : Linked T
   come = record { slot = record { 0 = k }; value = v }
 
@@ -203,9 +203,9 @@ module _ {T : Type 0} (old new : List (Slot T)) (lists : List (List (Linked T)))
       (λ z. row_of (moved hold.rows k (length lists) m list) z ≡ slots_of (list_of pushed z))
       (sym yes.1)
       (row-to hold.rows k (length lists) m list can.from can.into apart
-       ∙ ap (λ row. row ++ k ∷ []) (hold.same list lt)
-       ∙ sym (map-append (λ (e : Linked T). e.slot.0) (list_of lists list) (come ∷ []))
-       ∙ ap slots_of (sym (get_or-set_same lists list (list_of lists list ++ come ∷ []) [] lt))))
+      ∙ ap (λ row. row ++ k ∷ []) (hold.same list lt)
+      ∙ sym (map-append (λ (e : Linked T). e.slot.0) (list_of lists list) (come ∷ []))
+      ∙ ap slots_of (sym (get_or-set_same lists list (list_of lists list ++ come ∷ []) [] lt))))
       (λ no.
       row-other hold.rows k (length lists) m list can.from can.into apart l (λ same. omega (arith, same, le)) no.1
       ∙ hold.same l le
@@ -221,9 +221,9 @@ module _ {T : Type 0} (old new : List (Slot T)) (lists : List (List (Linked T)))
       (λ z. StandThere new (list_of pushed z))
       (sym yes.1)
       (subst
-       (λ row. StandThere new row)
-       (sym (get_or-set_same lists list (list_of lists list ++ come ∷ []) [] lt))
-       (stand-more new (list_of lists list) come value (stand-kept old new (list_of lists list) k (push-none list lt) values (hold.stand list lt)))))
+      (λ row. StandThere new row)
+      (sym (get_or-set_same lists list (list_of lists list ++ come ∷ []) [] lt))
+      (stand-more new (list_of lists list) come value (stand-kept old new (list_of lists list) k (push-none list lt) values (hold.stand list lt)))))
       (λ no.
       subst
       (λ row. StandThere new row)
@@ -256,9 +256,9 @@ module _ {T : Type 0} (old new : List (Slot T)) (lists : List (List (Linked T)))
 
 -- a value has left a list, and its slot is the last of the unused
 module _ {T : Type 0} (old new : List (Slot T)) (lists : List (List (Linked T))) (unused list i k : ℕ) (hold : Hold old lists unused)
-  (lt : list < length lists) (can : CanMove old hold.rows k list i (length lists))
-  (rings : AreRings new (moved hold.rows k list i (length lists)))
-  (values : (j : ℕ) → j ≢ k → value_of new j ≡ value_of old j) where
+    (lt : list < length lists) (can : CanMove old hold.rows k list i (length lists))
+    (rings : AreRings new (moved hold.rows k list i (length lists)))
+    (values : (j : ℕ) → j ≢ k → value_of new j ≡ value_of old j) where
   abbrev taken : List (List (Linked T))
   taken = without lists list i
 
@@ -277,9 +277,9 @@ module _ {T : Type 0} (old new : List (Slot T)) (lists : List (List (Linked T)))
       (λ z. row_of (moved hold.rows k list i (length lists)) z ≡ slots_of (list_of taken z))
       (sym yes.1)
       (row-from hold.rows k list i (length lists) can.from can.into apart-from
-       ∙ ap (λ row. remove row i) (hold.same list lt)
-       ∙ sym (slots-less (list_of lists list) i)
-       ∙ ap slots_of (sym (get_or-set_same lists list (remove (list_of lists list) i) [] lt))))
+      ∙ ap (λ row. remove row i) (hold.same list lt)
+      ∙ sym (slots-less (list_of lists list) i)
+      ∙ ap slots_of (sym (get_or-set_same lists list (remove (list_of lists list) i) [] lt))))
       (λ no.
       row-other hold.rows k list i (length lists) can.from can.into apart-from l no.1 (λ same. omega (arith, same, le))
       ∙ hold.same l le
@@ -293,19 +293,19 @@ module _ {T : Type 0} (old new : List (Slot T)) (lists : List (List (Linked T)))
       ⊎_elim
       (λ yes.
       let none : count_of k (slots_of (remove (list_of lists list) i)) ≡ 0 =
-          ap (count_of k) (slots-less (list_of lists list) i ∙ ap (λ row. remove row i) (sym (hold.same list lt)))
-          ∙ removed-none old hold.rows k list i hold.rings can.from can.place in
+      ap (count_of k) (slots-less (list_of lists list) i ∙ ap (λ row. remove row i) (sym (hold.same list lt)))
+      ∙ removed-none old hold.rows k list i hold.rings can.from can.place in
       subst
       (λ z. StandThere new (list_of taken z))
       (sym yes.1)
       (subst
-       (λ row. StandThere new row)
-       (sym (get_or-set_same lists list (remove (list_of lists list) i) [] lt))
-       (stand-kept old new (remove (list_of lists list) i) k none values (stand-less old (list_of lists list) i (hold.stand list lt)))))
+      (λ row. StandThere new row)
+      (sym (get_or-set_same lists list (remove (list_of lists list) i) [] lt))
+      (stand-kept old new (remove (list_of lists list) i) k none values (stand-less old (list_of lists list) i (hold.stand list lt)))))
       (λ no.
       let none : count_of k (slots_of (list_of lists l)) ≡ 0 =
-          ap (count_of k) (sym (hold.same l le))
-          ∙ elsewhere old hold.rows k list i l hold.rings can.from can.place (omega (arith, count, le)) no.1 in
+      ap (count_of k) (sym (hold.same l le))
+      ∙ elsewhere old hold.rows k list i l hold.rings can.from can.place (omega (arith, count, le)) no.1 in
       subst
       (λ row. StandThere new row)
       (sym (get_or-set_other lists list l (remove (list_of lists list) i) [] no.1))
@@ -391,7 +391,7 @@ module _ {T : Type 0} where
       let turned = rings hold.rows list i (take-can old lists unused n list i slot hold same at) in
       hold-taken old new lists unused list i slot.0 hold (list-within lists slot list i at) can
       (rings-written mid new slot.0 None (moved hold.rows slot.0 list i (length lists)) written
-       (subst (λ z. AreRings mid (moved hold.rows slot.0 list i z)) same turned))
+      (subst (λ z. AreRings mid (moved hold.rows slot.0 list i z)) same turned))
       (λ j off. written.values j off ∙ values j)
 
   value-there : (slots : List (Slot T)) (row : List (Linked T)) (slot : SlotId) (i : ℕ) → StandThere slots row
@@ -419,7 +419,7 @@ module _ {T : Type 0} where
 
 -- a value comes, as the code has it come
 module _ {T : Type 0} (items : List (Slot T)) (n spare : ℕ) (value : Chained T) (is : record { lists = lists_from items 0 n; spare = spare } ≡ value)
-  (keeps : Hold items (lists_from items 0 n) spare × (n ≡ length (lists_from items 0 n))) (lent : List (Slot T)) (same : lent ≡ items) where
+    (keeps : Hold items (lists_from items 0 n) spare × (n ≡ length (lists_from items 0 n))) (lent : List (Slot T)) (same : lent ≡ items) where
   abbrev pub held : Hold lent value.lists spare
   held = subst (λ slots. Hold slots value.lists spare) (sym same) (opened items n spare value is keeps).0
 
@@ -438,25 +438,29 @@ module _ {T : Type 0} (items : List (Slot T)) (n spare : ℕ) (value : Chained T
         (prev-read items n x (end-there items value.lists spare n (opened items n spare value is keeps).0 (omega (arith, count-is))) reads)
 
     pub push-ready : (rows : List (List ℕ)) × (r : ℕ) × (i : ℕ) × CanMove lent rows x.prev r i list
-    push-ready =
-        (held.rows, length value.lists, spare - 1,
-         push-can lent value.lists spare n list x.prev held count-is (omega (arith, some, spare-is)) lt end-is)
+    push-ready = (
+      held.rows,
+      length value.lists,
+      spare - 1,
+      push-can lent value.lists spare n list x.prev held count-is (omega (arith, some, spare-is)) lt end-is,
+    )
 
     pub push-done : (mid new : List (Slot T)) (v : T) (len : ℕ) → len ≡ length items
         → ((rows : List (List ℕ)) (r i : ℕ) → CanMove lent rows x.prev r i list → AreRings mid (moved rows x.prev r i list))
         → ((j : ℕ) → value_of mid j ≡ value_of lent j) → length mid ≡ length lent → IsWritten mid new x.prev (Some v)
         → let back = take len (new ++ drop (length new) items) in
-          (Hold back (lists_from back 0 n) (spare - 1) × (n ≡ length (lists_from back 0 n)))
-          × (lists_from back 0 n ≡ with_pushed value.lists list (record { 0 = x.prev }) v)
+        (Hold back (lists_from back 0 n) (spare - 1) × (n ≡ length (lists_from back 0 n)))
+        × (lists_from back 0 n ≡ with_pushed value.lists list (record { 0 = x.prev }) v)
     push-done mid new v len all rings values size written =
         let back = take len (new ++ drop (length new) items) in
         let e : back ≡ new = come-back len new items all (written.size ∙ size ∙ ap length same) in
         let hold = push-holds lent mid new value.lists spare n list x.prev v held count-is (omega (arith, some, spare-is)) lt end-is rings values written in
         let there = subst (λ slots. Hold slots (with_pushed value.lists list (record { 0 = x.prev }) v) (spare - 1)) (sym e) hold in
         let count : n ≡ length (with_pushed value.lists list (record { 0 = x.prev }) v) =
-            count-is ∙ sym (length-set value.lists list (list_of value.lists list ++ record { slot = record { 0 = x.prev }; value = v } ∷ [])) in
-        (shows back (with_pushed value.lists list (record { 0 = x.prev }) v) (spare - 1) n count there,
-         shown back (with_pushed value.lists list (record { 0 = x.prev }) v) (spare - 1) n count there)
+        count-is ∙ sym (length-set value.lists list (list_of value.lists list ++ record { slot = record { 0 = x.prev }; value = v } ∷ [])) in (
+          shows back (with_pushed value.lists list (record { 0 = x.prev }) v) (spare - 1) n count there,
+          shown back (with_pushed value.lists list (record { 0 = x.prev }) v) (spare - 1) n count there,
+        )
 
   module _ (slot : SlotId) where
     pub take-ready : (l i : ℕ) → IsSlotAt value.lists slot l i → (rows : List (List ℕ)) × (r : ℕ) × (j : ℕ) × CanMove lent rows slot.0 r j n
@@ -476,8 +480,8 @@ module _ {T : Type 0} (items : List (Slot T)) (n spare : ℕ) (value : Chained T
         → ((j : ℕ) → value_of mid j ≡ value_of lent j) → length mid ≡ length lent → IsWritten mid new slot.0 None
         → (l i : ℕ) → IsSlotAt value.lists slot l i
         → let back = take len (new ++ drop (length new) items) in
-          (Hold back (lists_from back 0 n) (spare + 1) × (n ≡ length (lists_from back 0 n)))
-          × (lists_from back 0 n ≡ without value.lists l i)
+        (Hold back (lists_from back 0 n) (spare + 1) × (n ≡ length (lists_from back 0 n)))
+        × (lists_from back 0 n ≡ without value.lists l i)
     take-done mid new len all rings values size written l i at =
         let back = take len (new ++ drop (length new) items) in
         let e : back ≡ new = come-back len new items all (written.size ∙ size ∙ ap length same) in
@@ -541,7 +545,7 @@ module _ {T : Type 0} where
       let there = slot-there slots n spare value is keeps slots refl at l i stands in
       slot-found slots value.lists spare l (i + 1) x.next found hold lt
       (sym (next-read slots at.0 x there reads)
-       ∙ path-next slots l (row_of hold.rows l) l i at.0 (hold.rings.rings l (omega (arith, lt, count))) (place-of slots value.lists spare at l i hold stands))
+      ∙ path-next slots l (row_of hold.rows l) l i at.0 (hold.rings.rings l (omega (arith, lt, count))) (place-of slots value.lists spare at l i hold stands))
       end slot
 
   -- the value that stands in a slot, as it is read
@@ -555,8 +559,8 @@ module _ {T : Type 0} where
 
 -- one more slot is unused
 module _ {T : Type 0} (items lent between new : List (Slot T)) (y : Slot T) (lists : List (List (Linked T))) (unused k : ℕ) (hold : Hold items lists unused)
-  (is : k ≡ length items) (few : k < 2 ^ 32) (pushed : lent ≡ items ++ y ∷ [])
-  (one : Joins lent between (prev_of lent (length lists)) k) (two : Joins between new k (length lists)) where
+    (is : k ≡ length items) (few : k < 2 ^ 32) (pushed : lent ≡ items ++ y ∷ [])
+    (one : Joins lent between (prev_of lent (length lists)) k) (two : Joins between new k (length lists)) where
   abbrev end-of : length lists < length hold.rows
   end-of = let count = hold.count in omega (arith, count)
 
@@ -611,8 +615,8 @@ module _ {T : Type 0} (items lent between new : List (Slot T)) (y : Slot T) (lis
 
 -- one more slot, as the code adds it
 module _ {T : Type 0} (items : List (Slot T)) (n spare : ℕ) (value : Chained T) (is : record { lists = lists_from items 0 n; spare = spare } ≡ value)
-  (keeps : Hold items (lists_from items 0 n) spare × (n ≡ length (lists_from items 0 n))) (lent after : List (Slot T)) (y : Slot T) (k : ℕ) (last : k ≡ length items)
-  (few : k < 2 ^ 32) (pushed : after ≡ items ++ y ∷ []) (same : lent ≡ after) where
+    (keeps : Hold items (lists_from items 0 n) spare × (n ≡ length (lists_from items 0 n))) (lent after : List (Slot T)) (y : Slot T) (k : ℕ) (last : k ≡ length items)
+    (few : k < 2 ^ 32) (pushed : after ≡ items ++ y ∷ []) (same : lent ≡ after) where
   pub grow-ready : prev_of lent n < length lent
   grow-ready =
       let both = opened items n spare value is keeps in
@@ -625,7 +629,7 @@ module _ {T : Type 0} (items : List (Slot T)) (n spare : ℕ) (value : Chained T
 
   pub grow-done : (between new : List (Slot T)) (len : ℕ) → len ≡ length after → Joins lent between (prev_of lent n) k → Joins between new k n
       → let back = take len (new ++ drop (length new) after) in
-        (Hold back (lists_from back 0 n) (spare + 1) × (n ≡ length (lists_from back 0 n))) × (lists_from back 0 n ≡ value.lists)
+      (Hold back (lists_from back 0 n) (spare + 1) × (n ≡ length (lists_from back 0 n))) × (lists_from back 0 n ≡ value.lists)
   grow-done between new len all one two =
       let back = take len (new ++ drop (length new) after) in
       let both = opened items n spare value is keeps in
@@ -635,3 +639,27 @@ module _ {T : Type 0} (items : List (Slot T)) (n spare : ℕ) (value : Chained T
       let hold = hold-grown items lent between new y value.lists spare k both.0 last few (same ∙ pushed) first second in
       let there = subst (λ slots. Hold slots value.lists (spare + 1)) (sym e) hold in
       (shows back value.lists (spare + 1) n both.1 there, shown back value.lists (spare + 1) n both.1 there)
+
+-- no two values stand in the same slot
+module _ {T : Type 0} where
+  pub own-slots : (slots : List (Slot T)) (n spare : ℕ) (value : Chained T) → record { lists = lists_from slots 0 n; spare = spare } ≡ value
+      → Hold slots (lists_from slots 0 n) spare × (n ≡ length (lists_from slots 0 n)) → HaveOwnSlots value.lists
+  own-slots slots n spare value is keeps slot l m k j one other =
+      let hold = (opened slots n spare value is keeps).0 in
+      let count = hold.count in
+      let once = hold.rings.once slot.0 in
+      let first = list-within value.lists slot l k one in
+      let second = list-within value.lists slot m j other in
+      let here = place-of slots value.lists spare slot l k hold one in
+      let there = place-of slots value.lists spare slot m j hold other in
+      let row = row-le slot.0 hold.rows l (omega (arith, first, count)) in
+      ⊎_elim
+      (λ same.
+      let moved-there = subst (λ z. slice_get (row_of hold.rows z) j ≡ Some slot.0) same.1 there in
+      (sym same.1, one-place slot.0 (row_of hold.rows l) k j (omega (arith, row, once)) here moved-there))
+      (λ off.
+      let two = two-rows slot.0 hold.rows l m (omega (arith, first, count)) (omega (arith, second, count)) off.1 in
+      let at-one = count-at slot.0 (row_of hold.rows l) k here in
+      let at-two = count-at slot.0 (row_of hold.rows m) j there in
+      absurd (omega (arith, two, at-one, at-two, once)))
+      (eqb_tells m l)

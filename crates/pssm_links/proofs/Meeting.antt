@@ -1,11 +1,11 @@
 -- The lists as one meets them along the links are those that the slots hold.
-use Rattle.std.proofs.Common.{◌≡◌, ◌≢◌, ◌≤◌, ◌<◌, ◌+◌, ◌++◌, ℕ, zero, suc, List, [], ◌∷◌, length, map, get_or, Option, Some, None, slice_get, unwrap_or, refl, sym, ap, subst, ◌∙◌, arith}
+use Rattle.std.proofs.Common.{◌≡◌, ◌≤◌, ◌<◌, ◌+◌, ℕ, zero, suc, List, [], ◌∷◌, length, None, refl, ap, subst, ◌∙◌, arith}
 use Rattle.std.proofs.lemmas.List.{length-map}
 use Rattle.std.proofs.lemmas.List.Sums.{sum_by-set}
 use Rattle.std.specs.List.{sum_by}
 use Rattle.pssm_links.specs.declared.links.Slot.{Slot}
 use Rattle.pssm_links.specs.Chained.{Linked, list_of}
-use Rattle.pssm_links.specs.inner.Rings.{next_of, prev_of, value_of, row_of, slots_of, IsEdge, IsPath, AreRings, StandThere, Hold, met, met_from, lists_from}
+use Rattle.pssm_links.specs.inner.Rings.{next_of, value_of, row_of, slots_of, IsEdge, IsPath, StandThere, Hold, met, met_from, lists_from}
 
 pub row-length : (rows : List (List ℕ)) (l : ℕ) → l < length rows → length (row_of rows l) ≤ sum_by length rows
 row-length rows l lt = let without = sum_by-set length rows l [] [] lt in omega (arith, without)
@@ -37,8 +37,8 @@ module _ {T : Type 0} where
       ∙ ap (λ first. first ∷ lists_from slots (start + 1) (length rows)) (given 0 (omega arith))
       ∙ ap (λ rest. row ∷ rest)
       (lists-met slots (start + 1) rows
-       (λ j lt. ap (λ k. met_from slots (length slots) (next_of slots k)) (let shift : start + 1 + j ≡ start + suc j = omega arith in shift)
-        ∙ given (suc j) (omega (arith, lt))))
+      (λ j lt. ap (λ k. met_from slots (length slots) (next_of slots k)) (let shift : start + 1 + j ≡ start + suc j = omega arith in shift)
+      ∙ given (suc j) (omega (arith, lt))))
 
   pub lists-held : (slots : List (Slot T)) (lists : List (List (Linked T))) (unused : ℕ) → Hold slots lists unused
       → lists_from slots 0 (length lists) ≡ lists

@@ -1,5 +1,5 @@
 -- Paths along the links, once a slot has been taken out or put in.
-use Rattle.std.proofs.Common.{◌≡◌, ◌≢◌, ◌≤◌, ◌<◌, ◌+◌, ◌++◌, ℕ, zero, suc, List, [], ◌∷◌, length, Some, slice_get, unwrap_or, refl, sym, ap, subst, ◌∙◌, arith}
+use Rattle.std.proofs.Common.{◌≡◌, ◌≢◌, ◌≤◌, ◌<◌, ◌+◌, ◌++◌, ℕ, zero, suc, List, [], ◌∷◌, length, Some, slice_get, unwrap_or, sym, ap, subst, ◌∙◌, arith}
 use Rattle.std.specs.List.{remove}
 use Rattle.pssm_links.specs.declared.links.Slot.{Slot}
 use Rattle.pssm_links.specs.inner.Rings.{count_of, next_of, prev_of, Joins, IsEdge, IsPath}
@@ -81,9 +81,10 @@ module _ {T : Type 0} (old new : List (Slot T)) (k p n : ℕ) (joins : Joins old
   path-on : (ks : List ℕ) (b : ℕ) → b ≢ k → count_of k ks ≡ 0 → IsPath old k ks b → IsPath new p ks b
   path-on [] b bk none path = subst (λ z. IsEdge new p z) (sym after.next ∙ path.next) joined
   path-on (x ∷ xs) b bk none path =
-      let e : IsEdge old k x = path.0 in
-      (subst (λ z. IsEdge new p z) (sym after.next ∙ e.next) joined,
-       kept-path x xs b (absent-first k x xs none) bk (absent-rest k x xs none) path.1)
+      let e : IsEdge old k x = path.0 in (
+        subst (λ z. IsEdge new p z) (sym after.next ∙ e.next) joined,
+        kept-path x xs b (absent-first k x xs none) bk (absent-rest k x xs none) path.1,
+      )
 
   pub path-less : (a : ℕ) (ks : List ℕ) (b i : ℕ) → a ≢ k → b ≢ k → count_of k ks ≤ 1 → slice_get ks i ≡ Some k
       → IsPath old a ks b → IsPath new a (remove ks i) b
@@ -101,7 +102,7 @@ module _ {T : Type 0} (old new : List (Slot T)) (k p n : ℕ) (joins : Joins old
 
 -- a slot is put in before another
 module _ {T : Type 0} (old between new : List (Slot T)) (k p to : ℕ) (one : Joins old between p k) (two : Joins between new k to)
-  (edge : IsEdge old p to) (pk : p ≢ k) (tk : to ≢ k) (there : k < length old) where
+    (edge : IsEdge old p to) (pk : p ≢ k) (tk : to ≢ k) (there : k < length old) where
   put-edge : (u v : ℕ) → u ≢ k → v ≢ k → v ≢ to → IsEdge old u v → IsEdge new u v
   put-edge u v uk vk vt e = record {
     next = two.nexts u uk ∙ one.nexts u (λ same. vt (sym e.next ∙ ap (next_of old) same ∙ edge.next)) ∙ e.next;
@@ -130,14 +131,16 @@ module _ {T : Type 0} (old between new : List (Slot T)) (k p to : ℕ) (one : Jo
       → IsPath old a ks b → IsPath new a ks b
   put-path a [] b ak bk bt none free path = put-edge a b ak bk bt path
   put-path a (x ∷ xs) b ak bk bt none free path =
-      let xk = absent-first k x xs none in
-      (put-edge a x ak xk (absent-first to x xs free) path.0,
-       put-path x xs b xk bk bt (absent-rest k x xs none) (absent-rest to x xs free) path.1)
+      let xk = absent-first k x xs none in (
+        put-edge a x ak xk (absent-first to x xs free) path.0,
+        put-path x xs b xk bk bt (absent-rest k x xs none) (absent-rest to x xs free) path.1,
+      )
 
   pub path-more : (a : ℕ) (ks : List ℕ) → a ≢ k → count_of k ks ≡ 0 → count_of to ks ≡ 0
       → IsPath old a ks to → IsPath new a (ks ++ k ∷ []) to
   path-more a [] ak none free path = (subst (λ z. IsEdge new z k) (sym edge.prev ∙ path.prev) edge-to, edge-from)
   path-more a (x ∷ xs) ak none free path =
-      let xk = absent-first k x xs none in
-      (put-edge a x ak xk (absent-first to x xs free) path.0,
-       path-more x xs xk (absent-rest k x xs none) (absent-rest to x xs free) path.1)
+      let xk = absent-first k x xs none in (
+        put-edge a x ak xk (absent-first to x xs free) path.0,
+        path-more x xs xk (absent-rest k x xs none) (absent-rest to x xs free) path.1,
+      )

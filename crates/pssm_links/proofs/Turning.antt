@@ -1,6 +1,5 @@
 -- Rings of slots, once a slot has left one or come to one.
-use Rattle.std.proofs.Common.{◌≡◌, ◌≢◌, ◌≤◌, ◌<◌, ◌+◌, ◌++◌, ℕ, zero, suc, List, [], ◌∷◌, length, get_or, Some, slice_get, refl, sym, ap, subst, ◌∙◌, ⊎_elim, length-append, arith}
-use Rattle.std.proofs.Math.ListN.{set}
+use Rattle.std.proofs.Common.{◌≡◌, ◌≢◌, ◌≤◌, ◌<◌, ◌+◌, ◌++◌, ℕ, List, [], ◌∷◌, length, Some, slice_get, refl, sym, ap, subst, ◌∙◌, ⊎_elim, length-append, arith}
 use Rattle.std.specs.List.{remove, sum_by}
 use Rattle.std.proofs.lemmas.Bool.{cases_lt}
 use Rattle.std.proofs.lemmas.Bool.Decides.{eqb_tells}
@@ -9,7 +8,7 @@ use Rattle.std.proofs.lemmas.List.Sums.{sum_by-set}
 use Rattle.std.proofs.lemmas.List.Edits.{length-remove}
 use Rattle.std.proofs.lemmas.Option.{slice_get_within}
 use Rattle.pssm_links.specs.declared.links.Slot.{Slot}
-use Rattle.pssm_links.specs.inner.Rings.{count_of, count_in, row_of, less, more, moved, next_of, prev_of, value_of, Joins, IsEdge, IsPath, AreRings, CanMove}
+use Rattle.pssm_links.specs.inner.Rings.{count_of, count_in, row_of, less, more, moved, next_of, prev_of, Joins, IsEdge, IsPath, AreRings, CanMove}
 use Rattle.pssm_links.proofs.Counting.{row-le, two-rows, count-at, count-remove, count-less, count-more, count-here, count-other}
 use Rattle.pssm_links.proofs.Paths.{edge-before, edge-after, last-edge, last-apart, kept-path, path-less, put-path, path-more}
 
@@ -26,7 +25,7 @@ no-end slots rows k r i l rings lt at end same =
     omega (arith, there, le, none)
 
 module _ {T : Type 0} (old new : List (Slot T)) (rows : List (List ℕ)) (k r i : ℕ) (rings : AreRings old rows) (lt : r < length rows)
-  (at : slice_get (row_of rows r) i ≡ Some k) (joins : Joins old new (prev_of old k) (next_of old k)) where
+    (at : slice_get (row_of rows r) i ≡ Some k) (joins : Joins old new (prev_of old k) (next_of old k)) where
   before : IsEdge old (prev_of old k) k
   before = edge-before old k r (row_of rows r) r i at (rings.rings r lt)
 
@@ -64,9 +63,9 @@ module _ {T : Type 0} (old new : List (Slot T)) (rows : List (List ℕ)) (k r i 
       (λ z. IsPath new z (row_of (less rows r i) z) z)
       (sym same.1)
       (subst
-       (λ row. IsPath new r row r)
-       (sym e)
-       (path-less old new k (prev_of old k) (next_of old k) joins before after r (row_of rows r) r i rk rk is-once at (rings.rings r lt))))
+      (λ row. IsPath new r row r)
+      (sym e)
+      (path-less old new k (prev_of old k) (next_of old k) joins before after r (row_of rows r) r i rk rk is-once at (rings.rings r lt))))
       (λ other.
       let e = get_or-set_other rows r l (remove (row_of rows r) i) [] other.1 in
       let two = two-rows k rows r l lt within other.1 in
@@ -96,8 +95,8 @@ module _ {T : Type 0} (old new : List (Slot T)) (rows : List (List ℕ)) (k r i 
   }
 
 module _ {T : Type 0} (old between new : List (Slot T)) (rows : List (List ℕ)) (k to : ℕ) (rings : AreRings old rows) (lt : to < length rows)
-  (none : count_in k rows ≡ 0) (apart : length rows ≤ k) (there : k < length old) (room : length rows + sum_by length rows + 1 ≤ length old)
-  (one : Joins old between (prev_of old to) k) (two : Joins between new k to) where
+    (none : count_in k rows ≡ 0) (apart : length rows ≤ k) (there : k < length old) (room : length rows + sum_by length rows + 1 ≤ length old)
+    (one : Joins old between (prev_of old to) k) (two : Joins between new k to) where
   edge : IsEdge old (prev_of old to) to
   edge = last-edge old to (row_of rows to) to (rings.rings to lt)
 
@@ -120,16 +119,16 @@ module _ {T : Type 0} (old between new : List (Slot T)) (rows : List (List ℕ))
       (λ z. IsPath new z (row_of (more rows k to) z) z)
       (sym same.1)
       (subst
-       (λ row. IsPath new to row to)
-       (sym e)
-       (path-more old between new k (prev_of old to) to one two edge pk tk there to (row_of rows to) tk (ring-at to lt) (ends-at to lt) (rings.rings to lt))))
+      (λ row. IsPath new to row to)
+      (sym e)
+      (path-more old between new k (prev_of old to) to one two edge pk tk there to (row_of rows to) tk (ring-at to lt) (ends-at to lt) (rings.rings to lt))))
       (λ other.
       let e = get_or-set_other rows to l (row_of rows to ++ k ∷ []) [] other.1 in
       subst
       (λ row. IsPath new l row l)
       (sym e)
       (put-path old between new k (prev_of old to) to one two edge pk tk there l (row_of rows l) l lk lk other.1 (ring-at l within) (ends-at l within)
-       (rings.rings l within)))
+      (rings.rings l within)))
       (eqb_tells l to)
 
   pub more-rings : AreRings new (more rows k to)

@@ -6,7 +6,7 @@ use Rattle.std.proofs.lemmas.List.{length-set}
 use Rattle.std.proofs.lemmas.Option.{slice_get-get_or}
 use Rattle.std.specs.Option.{option_map_or}
 use Rattle.pssm_links.specs.declared.links.Slot.{Slot}
-use Rattle.pssm_links.specs.inner.Rings.{next_of, prev_of, value_of, Joins, IsWritten}
+use Rattle.pssm_links.specs.inner.Rings.{Joins, IsWritten}
 
 pub get-set_same : {X : Type 0} (xs : List X) (k : ℕ) (y : X) → k < length xs → slice_get (set xs k y) k ≡ Some y
 get-set_same [] k y lt = absurd (omega arith)

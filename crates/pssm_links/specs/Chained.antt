@@ -1,5 +1,5 @@
 -- Several lists in one array of slots: which values each holds, in which slots, and how a value comes and is taken out.
-use Rattle.std.specs.Prelude.{◌≡◌, ◌<◌, ◌++◌, ℕ, List, [], ◌∷◌, length, Option, Some, option_map, slice_get, slice_set, refl}
+use Rattle.std.specs.Prelude.{◌≡◌, ◌++◌, ℕ, List, [], ◌∷◌, length, Option, Some, option_map, slice_get, slice_set, refl}
 use Rattle.std.specs.List.{remove, slice_index_or, sum_by}
 use Rattle.std.specs.Coded.{Coded, code_by, coded×, coded_ℕ, coded_list}
 use Rattle.pssm_links.specs.declared.slot.SlotId.{SlotId}

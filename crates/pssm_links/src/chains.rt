@@ -144,7 +144,7 @@ impl<T: Drop> Chains<T> {
     pub fn own_slots(&self)
         ensures { HaveOwnSlots self.now.lists }
     {
-        let _ = self.lists;
+        let _lists = self.lists;
     }
 
     // One more slot that no list uses.

@@ -2,7 +2,6 @@
 use Rattle.std.specs.Prelude.{◌≡◌, ◌≢◌, ◌≤◌, ◌<◌, ◌+◌, ◌^◌, ◌++◌, ℕ, zero, suc, List, [], ◌∷◌, length, map, Option, Some, None, slice_get, slice_set, eqb, cond}
 use Rattle.std.specs.List.{AllByRecursion, remove, sum_by, slice_index_or}
 use Rattle.std.specs.Option.{option_map_or}
-use Rattle.pssm_links.specs.declared.slot.SlotId.{SlotId}
 use Rattle.pssm_links.specs.declared.links.Slot.{Slot}
 use Rattle.pssm_links.specs.Chained.{Linked, list_of}
 

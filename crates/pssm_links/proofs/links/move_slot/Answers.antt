@@ -1,6 +1,6 @@
 -- the slot leaves one row and comes to another
-use Rattle.std.proofs.Common.{◌≡◌, ◌<◌, ◌+◌, length, arith}
-use Rattle.pssm_links.specs.inner.Rings.{CanMove, AreRings, IsEdge, less, more, row_of, prev_of}
+use Rattle.std.proofs.Common.{◌<◌, length, arith}
+use Rattle.pssm_links.specs.inner.Rings.{less}
 use Rattle.pssm_links.proofs.Turning.{can-stand, less-rings, less-none, less-size, less-length, ring-edge, no-slot, more-rings}
 use Rattle.pssm_links.proofs.links.move_slot.Goals as goal
 
@@ -24,7 +24,7 @@ attach-requires-clause-before g c =
     let can = c.requires.3 in
     let rings = less-rings c.args.slots.now c.detach.new.slots c.requires.0 c.args.slot c.requires.1 c.requires.2 can.rings can.from can.place c.detach.ensures in
     let e = ring-edge c.detach.new.slots (less c.requires.0 c.requires.1 c.requires.2) c.args.to rings
-        (omega (arith, less-length c.requires.0 c.requires.1 c.requires.2, can.into)) in
+    (omega (arith, less-length c.requires.0 c.requires.1 c.requires.2, can.into)) in
     e.from
 
 pub returns-clause-rings : goal.returns-clause-rings

@@ -6,7 +6,7 @@ use Rattle.pssm_links.proofs.chains.Chains.next.Goals as goal
 pub index-requires : goal.index-requires
 index-requires g c =
     let there = slot-there c.self.inside.slots.items c.self.inside.lists c.self.inside.spare c.args.self.now c.self.view_is c.self.invariant
-        c.self.inside.slots.items refl c.args.slot c.requires.0 c.requires.1 c.requires.2 in
+    c.self.inside.slots.items refl c.args.slot c.requires.0 c.requires.1 c.requires.2 in
     omega (arith, there, c.self.inside.slots.ok.0)
 
 pub returns : goal.returns

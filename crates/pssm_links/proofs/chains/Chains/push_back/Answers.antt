@@ -1,5 +1,5 @@
 -- a value comes into the last of the unused slots
-use Rattle.std.proofs.Common.{length, arith}
+use Rattle.std.proofs.Common.{arith}
 use Rattle.pssm_links.proofs.Turning.{can-stand}
 use Rattle.pssm_links.proofs.Holding.{push-ready, push-done}
 use Rattle.pssm_links.proofs.chains.Chains.push_back.Goals as goal
@@ -15,7 +15,7 @@ put_value-requires g c =
     let lent = c.as_mut_slice-slots.ensures in
     let moving = c.move_slot.ensures in
     let ready = push-ready c.self.inside.slots.items c.self.inside.lists c.self.inside.spare c.args.self.now c.self.view_is c.self.invariant
-        c.as_mut_slice-slots.result.now lent.value c.index.result.now c.args.list c.index.ensures c.requires.list c.requires.spare in
+    c.as_mut_slice-slots.result.now lent.value c.index.result.now c.args.list c.index.ensures c.requires.list c.requires.spare in
     let stand = can-stand c.as_mut_slice-slots.result.now ready.0 c.index.result.now.prev ready.1 ready.2 c.args.list ready.3 in
     let there = stand.0 in
     omega (arith, there, moving.size)
@@ -25,9 +25,9 @@ invariant_of-self g c =
     let lent = c.as_mut_slice-slots.ensures in
     let moving = c.move_slot.ensures in
     let done = push-done c.self.inside.slots.items c.self.inside.lists c.self.inside.spare c.args.self.now c.self.view_is c.self.invariant
-        c.as_mut_slice-slots.result.now lent.value c.index.result.now c.args.list c.index.ensures c.requires.list c.requires.spare
-        c.move_slot.new.slots c.put_value.new.slots c.args.value c.self.inside.slots.len c.self.inside.slots.ok.0
-        moving.rings moving.values moving.size c.put_value.ensures in
+    c.as_mut_slice-slots.result.now lent.value c.index.result.now c.args.list c.index.ensures c.requires.list c.requires.spare
+    c.move_slot.new.slots c.put_value.new.slots c.args.value c.self.inside.slots.len c.self.inside.slots.ok.0
+    moving.rings moving.values moving.size c.put_value.ensures in
     done.0
 
 pub returns-clause-lists : goal.returns-clause-lists
@@ -35,7 +35,7 @@ returns-clause-lists g c =
     let lent = c.as_mut_slice-slots.ensures in
     let moving = c.move_slot.ensures in
     let done = push-done c.self.inside.slots.items c.self.inside.lists c.self.inside.spare c.args.self.now c.self.view_is c.self.invariant
-        c.as_mut_slice-slots.result.now lent.value c.index.result.now c.args.list c.index.ensures c.requires.list c.requires.spare
-        c.move_slot.new.slots c.put_value.new.slots c.args.value c.self.inside.slots.len c.self.inside.slots.ok.0
-        moving.rings moving.values moving.size c.put_value.ensures in
+    c.as_mut_slice-slots.result.now lent.value c.index.result.now c.args.list c.index.ensures c.requires.list c.requires.spare
+    c.move_slot.new.slots c.put_value.new.slots c.args.value c.self.inside.slots.len c.self.inside.slots.ok.0
+    moving.rings moving.values moving.size c.put_value.ensures in
     done.1
