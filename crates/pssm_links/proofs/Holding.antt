@@ -5,7 +5,7 @@ use Rattle.std.specs.List.{remove}
 use Rattle.std.specs.Option.{option_map_or}
 use Rattle.std.proofs.lemmas.Bool.{cases_lt}
 use Rattle.std.proofs.lemmas.Bool.Decides.{eqb_tells}
-use Rattle.std.proofs.lemmas.List.{get_or-set_other, get_or-set_same, get_or-replicate, length-set, length-replicate, map-append}
+use Rattle.std.proofs.lemmas.List.{length-map, get_or-set_other, get_or-set_same, get_or-replicate, length-set, length-replicate, map-append}
 use Rattle.std.proofs.lemmas.List.Edits.{length-remove}
 use Rattle.std.proofs.lemmas.List.Folds.{sum_by-replicate}
 use Rattle.std.proofs.lemmas.Option.{slice_get-map, slice_get_within}
@@ -14,7 +14,7 @@ use Rattle.pssm_links.specs.declared.links.Slot.{Slot}
 use Rattle.pssm_links.specs.Chained.{Linked, Chained, list_of, with_pushed, without, HaveOwnSlots, IsSlotAt, slot_at, value_at}
 use Rattle.pssm_links.specs.inner.Rings.{count_of, count_in, row_of, more, moved, next_of, prev_of, value_of, slots_of, lists_from, Joins, IsWritten, IsEdge, IsPath, AreEnds, AreRings, CanMove, StandThere, Hold}
 use Rattle.pssm_links.proofs.Growing.{get-append_apart, more-length, rings-grown}
-use Rattle.pssm_links.proofs.Meeting.{lists-held}
+use Rattle.pssm_links.proofs.Meeting.{lists-held, row-length}
 use Rattle.pssm_links.proofs.Counting.{absent-first, absent-rest, count-at, one-place, row-le, two-rows}
 use Rattle.pssm_links.proofs.Writing.{read-at}
 use Rattle.pssm_links.proofs.Paths.{path-first, path-next}
@@ -663,3 +663,18 @@ module _ {T : Type 0} where
       let at-two = count-at slot.0 (row_of hold.rows m) j there in
       absurd (omega (arith, two, at-one, at-two, once)))
       (eqb_tells m l)
+
+  pub short-list : (slots : List (Slot T)) (n spare : ℕ) (value : Chained T) → record { lists = lists_from slots 0 n; spare = spare } ≡ value
+      → Hold slots (lists_from slots 0 n) spare × (n ≡ length (lists_from slots 0 n)) → (l : ℕ) → length (list_of value.lists l) < 2 ^ 32
+  short-list slots n spare value is keeps l =
+      let hold = (opened slots n spare value is keeps).0 in
+      ⊎_elim
+      (λ lt.
+      let count = hold.count in
+      let size = hold.rings.size in
+      let few = hold.rings.few in
+      let longest = row-length hold.rows l (omega (arith, lt, count)) in
+      let same : length (row_of hold.rows l) ≡ length (slots_of (list_of value.lists l)) = ap length (hold.same l lt) in
+      omega (arith, size, few, longest, same, count, length-map (list_of value.lists l) (λ (e : Linked T). e.slot.0)))
+      (λ le. let none : length (list_of value.lists l) ≡ 0 = ap length (no-list value.lists l le) in omega (arith, none))
+      (cases_lt l (length value.lists))

@@ -1,6 +1,6 @@
 //! `Chains`: several lists in one array of slots.
 ghost use Rattle.std.specs.Prelude.{◌≡◌, ◌≤◌, ◌<◌, ◌+◌, ℕ, [], length, replicate, Some, IfOk, OnOk};
-ghost use Rattle.pssm_links.specs.Chained.{held_in, with_pushed, without, slot_at, value_at, IsSlotAt, IsSlot, HaveOwnSlots};
+ghost use Rattle.pssm_links.specs.Chained.{list_of, held_in, with_pushed, without, slot_at, value_at, IsSlotAt, IsSlot, HaveOwnSlots};
 
 use crate::links::{LINKS, Slot, attach, move_slot, new_ends, put_value, ring_of_one, take_value};
 use crate::slot::SlotId;
@@ -140,9 +140,10 @@ impl<T: Drop> Chains<T> {
         }
     }
 
-    /// No two values stand in the same slot. It does nothing.
+    /// No two values stand in the same slot, and no list holds more than there are numbers. It does nothing.
     pub fn own_slots(&self)
-        ensures { HaveOwnSlots self.now.lists }
+        ensures own { HaveOwnSlots self.now.lists }
+        ensures short { (l : ℕ) → length (list_of self.now.lists l) < 4_294_967_296 }
     {
         let _lists = self.lists;
     }
