@@ -1,0 +1,8 @@
+-- the first slot is read off the end of the list
+use Rattle.pssm_links.proofs.Holding.{first-found}
+use Rattle.pssm_links.proofs.chains.Chains.first.Goals as goal
+
+pub returns : goal.returns
+returns g c =
+    first-found c.self.inside.slots.items c.self.inside.lists c.self.inside.spare c.args.self.now c.self.view_is c.self.invariant c.args.list
+    c.index.result.now c.slot_or_end.result c.requires c.index.ensures c.slot_or_end.ensures.end c.slot_or_end.ensures.slot

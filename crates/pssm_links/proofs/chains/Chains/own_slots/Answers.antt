@@ -1,0 +1,9 @@
+-- a slot stands in at most one row, once
+use Rattle.pssm_links.proofs.Holding.{own-slots, short-list}
+use Rattle.pssm_links.proofs.chains.Chains.own_slots.Goals as goal
+
+pub returns-clause-own : goal.returns-clause-own
+returns-clause-own g c = own-slots c.self.inside.slots.items c.self.inside.lists c.self.inside.spare c.args.self.now c.self.view_is c.self.invariant
+
+pub returns-clause-short : goal.returns-clause-short
+returns-clause-short g c = short-list c.self.inside.slots.items c.self.inside.lists c.self.inside.spare c.args.self.now c.self.view_is c.self.invariant
