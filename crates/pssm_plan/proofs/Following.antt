@@ -16,7 +16,7 @@ use Rattle.pssm_plan.specs.Waiting.{IsExact}
 use Rattle.pssm_plan.specs.Ways.{AreWaysIn}
 use Rattle.pssm_plan.specs.inner.ByWays.{calls_by, orders_by}
 use Rattle.pssm_plan.specs.inner.Marks.{IsListed, IsLonger, IsFresh, IsTold, IsForgotten, IsNoted, IsSettled, HasSeen, ArePairwise}
-use Rattle.pssm_plan.specs.inner.Sequence.{IsSequence, AreItemsOf, IsRoster, IsExtended}
+use Rattle.pssm_plan.specs.inner.Sequence.{IsSequence, IsOrderedBySome, AreItemsOf, IsRoster, IsExtended}
 use Rattle.pssm_plan.specs.inner.Calling.{IsTopOpening, IsOfWays, IsEntered}
 use Rattle.pssm_plan.specs.inner.Going.{IsMadeOf, KeepsOrder, IsLongerProgress, IsFollowedPlainly, IsFollowedSo, IsFinished, IsRunSo, IsUnchanged}
 use Rattle.pssm_plan.proofs.Growing.{longer_same}
@@ -28,17 +28,14 @@ use Rattle.pssm_plan.proofs.Settling.{seen_fresh, seen_within, seen_longer, seen
 -- a way that calls no listed item orders none of them
 pub order_kept : (m : DraftMachine) (calls : List Call) (ways : List Way) (way : Way) → ((x : Item) × IsListed calls x × calls_by m way x → ⊥)
     → KeepsOrder m calls ways (ways ++ way ∷ [])
-order_kept m calls ways way none x y first second h =
+order_kept m calls ways way none x y second h =
     ⊎_elim
-    (λ nested. inl nested)
-    (λ ordered. ⊎_elim
-    (λ was. inr (ordered.0, was, ordered.2))
-    (λ this. absurd (none (y, second, way_calls_second m way x y (subst (λ (w : Way). orders_by m w x y) (sym this) ordered.2))))
-    (Contains-push_cases ways way ordered.0 ordered.1))
-    h
+    (λ was. (h.0, was, h.2))
+    (λ this. absurd (none (y, second, way_calls_second m way x y (subst (λ (w : Way). orders_by m w x y) (sym this) h.2))))
+    (Contains-push_cases ways way h.0 h.1)
 
 pub order_same : (m : DraftMachine) (calls : List Call) (ways more : List Way) → more ≡ ways → KeepsOrder m calls ways more
-order_same m calls ways more same x y first second h = subst (λ (l : List Way). IsSequence m l x y) same h
+order_same m calls ways more same x y second h = subst (λ (l : List Way). IsOrderedBySome m l x y) same h
 
 -- more ways order what the ways so far do
 sequence_longer : (m : DraftMachine) (ways more : List Way) (x y : Item) → IsLonger ways more → IsSequence m ways x y → IsSequence m more x y
@@ -58,21 +55,16 @@ module _ (m : DraftMachine) (old grown : List Call) (ways more : List Way) (long
   seen_over_ways : (call : Call) → Contains old call → IsExact (IsSequence m ways) old call → HasSeen (IsSequence m more) grown call
   seen_over_ways call inside exact =
       let seen = seen_longer (IsSequence m ways) old grown call longer exact in
-      let within = seen_within (IsSequence m ways) old call exact in
       record {
         within = seen.within;
         passed = λ k d lt there up.
-            (let low : k < length old = omega (arith, lt, within) in
-            seen.passed k d lt there (kept (get_or grown k d).item call.item (listed_at k d low) (call, inside, refl) up.0, up.1));
+            (let was = ⊎_elim
+            (λ nested. inl nested)
+            (λ ordered. inr (kept (get_or grown k d).item call.item (call, inside, refl) ordered))
+            up.0 in
+            seen.passed k d lt there (was, up.1));
         there = λ blocked d there. sequence_longer m ways more (get_or grown call.seen d).item call.item further (seen.there blocked d there);
       }
-    where
-      listed_at : (k : ℕ) (d : Call) → k < length old → IsListed old (get_or grown k d).item
-      listed_at k d low = (
-        get_or old k d,
-        Contains-get_or old k d low,
-        ap (λ (c : Call). c.item) (sym (ap (λ (l : List Call). get_or l k d) longer.1 ∙ get_or_append_left old longer.0 d k low)),
-      )
 
   pub all_seen_over_ways : ((call : Call) → Contains old call → IsExact (IsSequence m ways) old call)
       → ((call : Call) → Contains grown call → Contains old call ⊎ IsFresh call)

@@ -11,9 +11,9 @@ ghost use Rattle.pssm_plan.specs.declared.roster.Call.{Call};
 ghost use Rattle.pssm_plan.specs.Waiting.{IsExact};
 ghost use Rattle.pssm_plan.specs.Ways.{AreWaysIn};
 ghost use Rattle.pssm_plan.specs.inner.Marks.{IsFresh, HasSeen, IsNoted, IsSettled, ArePairwise};
-ghost use Rattle.pssm_plan.specs.inner.Sequence.{IsSequence, AreItemsOf, IsRoster, IsExtended};
+ghost use Rattle.pssm_plan.specs.inner.Sequence.{IsSequence, AreItemsOf, AreApartFrom, IsRoster, IsExtended};
 ghost use Rattle.pssm_plan.specs.inner.Calling.{IsTopOpening, IsOfWays};
-ghost use Rattle.pssm_plan.specs.inner.Going.{IsMadeOf, AreFired, CanRunSo, KeepsOrder};
+ghost use Rattle.pssm_plan.specs.inner.Going.{IsMadeOf, AreFired, CanRunSo, KeepsOrder, AreCovered};
 ghost use Rattle.pssm_plan.specs.inner.Going.{IsFollowedBy, IsFollowedRestoring};
 ghost use Rattle.pssm_plan.specs.inner.Going.{IsFollowedPlainly, IsFollowedSo};
 ghost use Rattle.pssm_plan.specs.inner.Going.{IsLongerProgress, IsFinished, IsRunSo, IsUnchanged};
@@ -97,7 +97,7 @@ fn settle_first(roster: &mut Roster, machine: &Machine, ways: &[Way]) -> Result<
     if roster.calls.as_slice().len() > MOST_CALLS {
         return Err(NoMemory);
     }
-    roster.settle(machine, ways);
+    roster.settle(machine, ways, 0);
     Ok(())
 }
 
@@ -371,6 +371,7 @@ impl Progress {
         requires roster { IsRoster machine.now self.old.roster.calls.items }
         requires ways { AreWaysIn machine.now self.old.ways.items }
         requires item { IsItemIn machine.now item }
+        requires covered { AreCovered machine.now self.old.ways.items self.old.roster.calls.items }
         requires exact { (call : Call) → Contains self.old.roster.calls.items call
             → IsExact (IsSequence machine.now self.old.ways.items) self.old.roster.calls.items
             call }
@@ -379,6 +380,7 @@ impl Progress {
         ensures few { OnOk result (length self.new.roster.calls.items < 2 ^ 32) }
         ensures refused { OnErr result (IsUnchanged self.old self.new) }
     {
+        let first = self.roster.calls.len();
         let anew = self.follow_whole(alloc, machine, item, how)?;
         finish(
             &mut self.roster,
@@ -386,10 +388,21 @@ impl Progress {
             self.ways.as_slice(),
             item,
             hint,
+            first_apart(anew, first),
             anew,
         );
         Ok(())
     }
+}
+
+// The first place from which no way orders calls before the others: that of the first new call, or where none may rely
+// on what it has seen, that of the first of all.
+#[inline(always)]
+fn first_apart(anew: bool, first: usize) -> usize
+    ensures anew { IsTrue anew → result ≡ 0 }
+    ensures new { (IsTrue anew → ⊥) → result ≡ first }
+{
+    if anew { 0 } else { first }
 }
 
 // Notes that an item has run, and has each call forget what it has seen.
@@ -423,18 +436,27 @@ fn note(roster: &mut Roster, machine: &Machine, ways: &[Way], item: Item, hint: 
 }
 
 // Notes that an item has run, and says of each call once more for which one it waits; `anew` where
-// none may rely on what it has seen.
+// none may rely on what it has seen. No way orders calls from a first place on before the others.
 #[inline(always)]
 #[tactic(auto, using(crate::proofs::Following::noted_items))]
-fn finish(roster: &mut Roster, machine: &Machine, ways: &[Way], item: Item, hint: usize, anew: bool)
+fn finish(
+    roster: &mut Roster,
+    machine: &Machine,
+    ways: &[Way],
+    item: Item,
+    hint: usize,
+    first: usize,
+    anew: bool,
+)
     requires rules { KeepsModelRules machine.now }
     requires ways { AreWaysIn machine.now ways.now }
     requires roster { IsRoster machine.now roster.old.calls.items }
     requires few { length roster.old.calls.items < 2 ^ 32 }
     requires seen { (IsTrue anew → ⊥) → (call : Call) → Contains roster.old.calls.items call
         → HasSeen (IsSequence machine.now ways.now) roster.old.calls.items call }
+    requires apart { AreApartFrom machine.now ways.now roster.old.calls.items first }
     ensures { IsFinished machine.now ways.now item roster.old.calls.items roster.new.calls.items }
 {
     note(roster, machine, ways, item, hint, anew);
-    roster.settle(machine, ways);
+    roster.settle(machine, ways, first);
 }

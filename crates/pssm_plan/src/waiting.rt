@@ -1,15 +1,15 @@
 //! Which of the listed items wait for others.
-ghost use Rattle.std.specs.Prelude.{◌↔◌, ◌<◌, ◌^◌, IsTrue, Contains, length};
+ghost use Rattle.std.specs.Prelude.{◌↔◌, ◌<◌, ◌≤◌, ◌^◌, IsTrue, Contains, length};
 ghost use Rattle.pssm_model.specs.WellFormed.{KeepsModelRules};
 ghost use Rattle.pssm_legs.specs.Calls.{IsItemIn};
 ghost use Rattle.pssm_plan.specs.declared.roster.Call.{Call};
 ghost use Rattle.pssm_plan.specs.Waiting.{HoldsUp};
 ghost use Rattle.pssm_plan.specs.Ways.{AreWaysIn};
 ghost use Rattle.pssm_plan.specs.inner.Marks.{HasSeen, IsHeldAt, IsUpToDate, IsSettled, IsSettledSo, ArePairwise};
-ghost use Rattle.pssm_plan.specs.inner.Sequence.{IsSomeLong, IsSequence, AreItemsOf};
+ghost use Rattle.pssm_plan.specs.inner.Sequence.{IsSomeLong, IsSequence, IsNestedPair, AreItemsOf, AreApartFrom, IsApart};
 
 use crate::roster::{Call, Roster};
-use crate::ways::{Way, comes_before, some_is_long, ways_of};
+use crate::ways::{Way, comes_before, nests, some_is_long, ways_of};
 use pssm_model::Machine;
 
 /// Whether an item waits, and how far it has looked.
@@ -129,19 +129,82 @@ fn look_on(machine: &Machine, ways: &[Way], calls: &[Call], call: &Call) -> Wait
     look_by(machine, near, calls, call)
 }
 
-// Says of each call whether it waits, and for which one.
-fn settle_all(machine: &Machine, ways: &[Way], calls: &mut [Call])
+// Whether a call holds up another since one of their States lies in the other: it comes before it so and has not run.
+#[inline(always)]
+fn holds_up_nested(machine: &Machine, on: &Call, call: &Call) -> bool
+    requires on { IsItemIn machine.now on.now.item }
+    requires item { IsItemIn machine.now call.now.item }
+    ensures { IsTrue result ↔ HoldsUp (IsNestedPair machine.now) on.now call.now.item }
+{
+    !on.ran && nests(machine, on.item, call.item)
+}
+
+// Whether a call waits, once it has looked further for the first call that holds it up by where their States lie.
+#[inline(always)]
+fn look_nested(machine: &Machine, calls: &[Call], call: &Call) -> Wait
+    requires items { AreItemsOf machine.now calls.now }
+    requires item { IsItemIn machine.now call.now.item }
+    requires few { length calls.now < 2 ^ 32 }
+    requires seen { HasSeen (IsNestedPair machine.now) calls.now call.now }
+    ensures { IsSettledSo (IsNestedPair machine.now) calls.now call.now result }
+{
+    let count = calls.len() as u32;
+    for place in call.seen..count {
+        if holds_up_nested(machine, &calls[place as usize], call) {
+            return Wait {
+                blocked: true,
+                seen: place,
+            };
+        }
+    }
+    Wait {
+        blocked: false,
+        seen: count,
+    }
+}
+
+// Whether a call waits, once it has looked further; `apart` where no way orders what it has not seen before it.
+#[inline(always)]
+fn look(machine: &Machine, ways: &[Way], calls: &[Call], call: &Call, apart: bool) -> Wait
+    requires rules { KeepsModelRules machine.now }
+    requires ways { AreWaysIn machine.now ways.now }
+    requires items { AreItemsOf machine.now calls.now }
+    requires item { IsItemIn machine.now call.now.item }
+    requires few { length calls.now < 2 ^ 32 }
+    requires seen { HasSeen (IsSequence machine.now ways.now) calls.now call.now }
+    requires apart { IsTrue apart → IsApart machine.now ways.now calls.now call.now }
+    ensures { IsSettledSo (IsSequence machine.now ways.now) calls.now call.now result }
+{
+    if apart {
+        look_nested(machine, calls, call)
+    } else {
+        look_on(machine, ways, calls, call)
+    }
+}
+
+// Whether the call at a place stands before the first of some calls, is not blocked and has seen all before those.
+#[inline(always)]
+fn has_come_to(call: Call, k: usize, first: usize) -> bool
+    ensures { IsTrue result → ((k < first) × (first ≤ call.seen) × (IsTrue call.blocked → ⊥)) }
+{
+    k < first && !call.blocked && first <= call.seen as usize
+}
+
+// Says of each call whether it waits, and for which one. No way orders calls from a first place on before the others.
+fn settle_all(machine: &Machine, ways: &[Way], calls: &mut [Call], first: usize)
     requires rules { KeepsModelRules machine.now }
     requires ways { AreWaysIn machine.now ways.now }
     requires items { AreItemsOf machine.now calls.old }
     requires few { length calls.old < 2 ^ 32 }
     requires seen { (call : Call) → Contains calls.old call → HasSeen (IsSequence machine.now ways.now) calls.old call }
+    requires apart { AreApartFrom machine.now ways.now calls.old first }
     ensures { ArePairwise (IsSettled (IsSequence machine.now ways.now) calls.old) calls.old calls.new }
 {
     for k in 0..calls.len() {
         if !is_up_to_date(calls, calls[k]) {
+            let apart = has_come_to(calls[k], k, first);
             let all = &calls[..];
-            let wait = look_on(machine, ways, all, &all[k]);
+            let wait = look(machine, ways, all, &all[k], apart);
             calls[k] = Call {
                 blocked: wait.blocked,
                 seen: wait.seen,
@@ -152,18 +215,19 @@ fn settle_all(machine: &Machine, ways: &[Way], calls: &mut [Call])
 }
 
 impl Roster {
-    /// Says of each call whether it waits, and for which one.
+    /// Says of each call whether it waits, and for which one. No way orders calls from a first place on before the others.
     #[inline(never)]
-    pub fn settle(&mut self, machine: &Machine, ways: &[Way])
+    pub fn settle(&mut self, machine: &Machine, ways: &[Way], first: usize)
         requires rules { KeepsModelRules machine.now }
         requires ways { AreWaysIn machine.now ways.now }
         requires items { AreItemsOf machine.now self.old.calls.items }
         requires few { length self.old.calls.items < 2 ^ 32 }
         requires seen { (call : Call) → Contains self.old.calls.items call
             → HasSeen (IsSequence machine.now ways.now) self.old.calls.items call }
+        requires apart { AreApartFrom machine.now ways.now self.old.calls.items first }
         ensures { ArePairwise (IsSettled (IsSequence machine.now ways.now) self.old.calls.items)
             self.old.calls.items self.new.calls.items }
     {
-        settle_all(machine, ways, self.calls.as_mut_slice());
+        settle_all(machine, ways, self.calls.as_mut_slice(), first);
     }
 }

@@ -190,10 +190,10 @@ fn are_ordered(machine: &Machine, ways: &[Way], long: bool, first: &Item, second
     may_be_ordered(long, *first, *second) && some_way_orders(machine, ways, first, second)
 }
 
-// Whether the first of two items comes before the second since one of their States lies in the other: exits from
-// within, entries from without.
+/// Whether the first of two items comes before the second since one of their States lies in the other: exits from
+/// within, entries from without.
 #[inline(always)]
-fn nests(machine: &Machine, first: Item, second: Item) -> bool
+pub fn nests(machine: &Machine, first: Item, second: Item) -> bool
     requires first { IsItemIn machine.now first }
     requires second { IsItemIn machine.now second }
     ensures { IsTrue result ↔ IsNestedPair machine.now first second }

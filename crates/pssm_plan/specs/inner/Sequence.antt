@@ -1,5 +1,5 @@
 -- Which of the items that a step calls come before which, in a step that goes by these ways; and the lists of its items.
-use Rattle.std.specs.Prelude.{◌⊎◌, ◌↔◌, ◌<◌, ◌≢◌, ℕ, List, Contains, AllPairs, length}
+use Rattle.std.specs.Prelude.{◌⊎◌, ◌↔◌, ◌<◌, ◌≤◌, ◌≢◌, ℕ, List, IsTrue, Contains, AllPairs, length, slice_index_or}
 use Rattle.pssm_model.specs.declared.ids.VertexId.{VertexId}
 use Rattle.pssm_model.specs.declared.ids.RegionId.{RegionId}
 use Rattle.pssm_model.specs.declared.elements.DraftMachine.{DraftMachine}
@@ -56,6 +56,17 @@ kind_number (Pick c) = 4
 -- The first of two called items comes before the second.
 abbrev pub IsSequence : DraftMachine → List Way → Item → Item → Type 0
 IsSequence m ways x y = IsNestedPair m x y ⊎ IsOrderedBySome m ways x y
+
+-- Of these calls, no way orders one from this place on before one that stands before the place.
+abbrev pub AreApartFrom : DraftMachine → List Way → List Call → ℕ → Type 0
+AreApartFrom m ways calls first =
+    (j k : ℕ) (d : Call) → j < first → first ≤ k → k < length calls
+    → IsOrderedBySome m ways (slice_index_or calls k d).item (slice_index_or calls j d).item → ⊥
+
+-- The call is not blocked, and no way orders one that it has not seen before it.
+pub record IsApart (m : DraftMachine) (ways : List Way) (calls : List Call) (call : Call) : Type 0 where
+  pub free : IsTrue call.blocked → ⊥
+  pub apart : (k : ℕ) (d : Call) → call.seen ≤ k → k < length calls → IsOrderedBySome m ways (slice_index_or calls k d).item call.item → ⊥
 
 -- What each listed item names is there.
 abbrev pub AreItemsOf : DraftMachine → List Call → Type 0
