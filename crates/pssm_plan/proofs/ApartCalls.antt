@@ -1,8 +1,9 @@
 -- Calls before which no way orders those that they have not seen yet.
-use Rattle.std.proofs.Common.{◌≡◌, ◌⊎◌, ◌<◌, ◌≤◌, ℕ, Bool, List, length, get_or, Contains, IsTrue, arith, length-append, refl, sym, subst, ap, inl, inr, ⊎_elim, ◌∙◌}
+use Rattle.std.proofs.Common.{◌≡◌, ◌⊎◌, ◌<◌, ◌≤◌, ℕ, Bool, List, length, get_or, take, drop, ◌+◌, ◌-◌, Contains, IsTrue, arith, length-append, refl, sym, subst, ap, inl, inr, ⊎_elim, ◌∙◌}
 use Rattle.std.proofs.lemmas.Bool.{cases_lt}
-use Rattle.std.proofs.lemmas.List.{get_or_default, get_or_append_left}
-use Rattle.std.proofs.lemmas.List.Elements.{Contains-get_or}
+use Rattle.std.proofs.lemmas.List.{get_or_default, get_or_append_left, get_or-drop, length-drop, take_all}
+use Rattle.std.proofs.Math.Seq.{drop-append_seam}
+use Rattle.std.proofs.lemmas.List.Elements.{Contains-get_or, Contains-append_cases}
 use Rattle.pssm_model.specs.declared.ids.VertexId.{VertexId}
 use Rattle.pssm_model.specs.declared.elements.DraftMachine.{DraftMachine}
 use Rattle.pssm_model.specs.declared.steps.How.{How}
@@ -16,10 +17,14 @@ use Rattle.pssm_plan.specs.declared.progress.Progress.{Progress}
 use Rattle.pssm_plan.specs.declared.progress.Restored.{Restored}
 use Rattle.pssm_plan.specs.inner.ByWays.{calls_by}
 use Rattle.pssm_plan.specs.inner.Marks.{IsListed, IsLonger, IsNoted, IsSettled, HasSeen, ArePairwise}
-use Rattle.pssm_plan.specs.inner.Sequence.{IsSequence, IsNestedPair, IsOrderedBySome, AreApartFrom, IsApart, IsRoster, IsExtended}
-use Rattle.pssm_plan.specs.inner.Calling.{IsNoExit, IsLate, IsOfRestored, IsOpeningOf, IsEntered}
+use Rattle.pssm_plan.specs.declared.waiting.Since.{Since}
+use Rattle.pssm_plan.specs.declared.waiting.Wait.{Wait}
+use Rattle.pssm_plan.specs.Waiting.{IsExact}
+use Rattle.pssm_plan.specs.inner.Sequence.{IsSequence, IsNestedPair, IsOrderedBySome, IsNoStay, AreApartFrom, AreNewSince, IsNewCall, IsApart, IsRoster}
+use Rattle.pssm_plan.specs.inner.Calling.{IsNoExit, IsLate, IsOfRestored, IsEntered}
 use Rattle.pssm_plan.specs.inner.Going.{KeepsOrder, AreCovered, IsFollowedSo}
-use Rattle.pssm_plan.proofs.NearWays.{way_calls_first}
+use Rattle.pssm_plan.proofs.Looking.{waiting}
+use Rattle.pssm_plan.proofs.NearWays.{way_calls_first, way_calls_second}
 use Rattle.pssm_plan.proofs.Rewriting.{AreAlike}
 
 -- of what such a call has not seen, only that comes before it which does so by where the States lie
@@ -51,31 +56,127 @@ module _ (m : DraftMachine) (ways : List Way) (calls : List Call) (call : Call) 
 
 -- a call before the first of those that no way orders before the others, which has come to it
 pub apart_now : (m : DraftMachine) (ways : List Way) (old now : List Call) (first i : ℕ) (d : Call) → AreAlike old now → AreApartFrom m ways old first
-    → i < length old → (i < first) × (first ≤ (get_or now i d).seen) × (IsTrue (get_or now i d).blocked → ⊥) → IsApart m ways now (get_or now i d)
-apart_now m ways old now first i d alike apart lt come = record {
-  free = come.2;
+    → i < length old → i < first → first ≤ (get_or now i d).seen → (IsTrue (get_or now i d).blocked → ⊥) → IsApart m ways now (get_or now i d)
+apart_now m ways old now first i d alike apart lt below come free = record {
+  free = free;
   apart = λ k e le inside ordered.
       (let low : k < length old = omega (arith, alike.0, inside) in
-      let high : first ≤ k = (let a = come.1 in omega (arith, a, le)) in
+      let high : first ≤ k = omega (arith, come, le) in
       let there : i < length now = omega (arith, alike.0, lt) in
       let here : (get_or now i d).item ≡ (get_or old i e).item = ap (λ (c : Call). c.item) (get_or_default now i d e there) ∙ (alike.1 i e lt).0 in
-      apart i k e come.0 high low
-      (subst (λ (y : Item). IsOrderedBySome m ways (get_or old k e).item y) here
-      (subst (λ (x : Item). IsOrderedBySome m ways x (get_or now i d).item) (alike.1 k e low).0 ordered)));
+      apart i k e below high low
+      (inl (subst (λ (y : Item). IsOrderedBySome m ways (get_or old k e).item y) here
+      (subst (λ (x : Item). IsOrderedBySome m ways x (get_or now i d).item) (alike.1 k e low).0 ordered))));
+}
+
+-- a new call
+pub new_now : (m : DraftMachine) (ways : List Way) (old now : List Call) (since : Since) (i : ℕ) (d : Call) → AreAlike old now
+    → AreNewSince m ways old since → i < length old → since.calls ≤ i → IsNewCall m ways now (get_or now i d) since
+new_now m ways old now since i d alike h lt le = record {
+  within = omega (arith, alike.0, h.within);
+  ways_within = h.ways_within;
+  apart = λ j e before inside ordered.
+      (let low : j < length old = omega (arith, alike.0, inside) in
+      let there : i < length now = omega (arith, alike.0, lt) in
+      let here : (get_or now i d).item ≡ (get_or old i e).item = ap (λ (c : Call). c.item) (get_or_default now i d e there) ∙ (alike.1 i e lt).0 in
+      h.apart j i e before le lt
+      (inr (subst (λ (y : Item). IsOrderedBySome m ways (get_or old j e).item y) here
+      (subst (λ (x : Item). IsOrderedBySome m ways x (get_or now i d).item) (alike.1 j e low).0 ordered))));
+  by = λ way inside calls. h.by i d le lt way inside (subst (calls_by m way) (alike.1 i d lt).0 calls);
+}
+
+no_stay_nested : (m : DraftMachine) (x y : Item) → IsNoStay y → IsNestedPair m x y → ⊥
+no_stay_nested m (items.Exit s) (items.Exit q) none h = none
+no_stay_nested m (items.Exit s) (items.Effect t) none h = h
+no_stay_nested m (items.Exit s) (items.Enter q) none h = none
+no_stay_nested m (items.Exit s) (items.Opened r mode) none h = h
+no_stay_nested m (items.Exit s) (items.Pick c) none h = h
+no_stay_nested m (items.Enter s) (items.Exit q) none h = none
+no_stay_nested m (items.Enter s) (items.Effect t) none h = h
+no_stay_nested m (items.Enter s) (items.Enter q) none h = none
+no_stay_nested m (items.Enter s) (items.Opened r mode) none h = h
+no_stay_nested m (items.Enter s) (items.Pick c) none h = h
+no_stay_nested m (items.Effect t) y none h = h
+no_stay_nested m (items.Opened r mode) y none h = h
+no_stay_nested m (items.Pick c) y none h = h
+
+-- a new call that is neither an exit nor an entry has as good as seen all before the new ones
+pub begun_seen : (m : DraftMachine) (ways : List Way) (calls : List Call) (call begun : Call) (since : Since) → IsNewCall m ways calls call since
+    → IsNoStay call.item → begun.item ≡ call.item → begun.seen ≡ since.calls → (IsTrue begun.blocked → ⊥) → HasSeen (IsSequence m ways) calls begun
+begun_seen m ways calls call begun since h none item seen free = record {
+  within = omega (arith, h.within, seen);
+  passed = λ k d lt inside up. ⊎_elim
+      (λ nested. no_stay_nested m (get_or calls k d).item call.item none
+      (subst (λ (y : Item). IsNestedPair m (get_or calls k d).item y) item nested))
+      (λ ordered. h.apart k d (omega (arith, lt, seen)) inside (subst (λ (y : Item). IsOrderedBySome m ways (get_or calls k d).item y) item ordered))
+      up.0;
+  there = λ blocked. absurd (free blocked);
+}
+
+-- the rest of a list, as a slice from a place on
+module _ {X : Type 0} (xs : List X) (first : ℕ) where
+  rest_is : take (length xs - first) (drop first xs) ≡ drop first xs
+  rest_is = let long = length-drop first xs in take_all (length xs - first) (drop first xs) (omega (arith, long))
+
+  pub rest_some : (x : X) → Contains (take (length xs - first) (drop first xs)) x → Contains xs x
+  rest_some x h =
+      let inside = subst (λ (l : List X). Contains l x) rest_is h in
+      let long = length-drop first xs in
+      (first + inside.0, omega (arith, long, inside.1), sym (get_or-drop first xs inside.0 x) ∙ inside.2)
+
+-- the new ways are all that call a new call
+pub rest_all : (m : DraftMachine) (ways : List Way) (calls : List Call) (call begun : Call) (since : Since) → IsNewCall m ways calls call since
+    → begun.item ≡ call.item → (way : Way) → Contains ways way → calls_by m way begun.item
+    → Contains (take (length ways - since.ways) (drop since.ways ways)) way
+rest_all m ways calls call begun since h same way inside by =
+    subst (λ (l : List Way). Contains l way) (sym (rest_is ways since.ways)) (h.by way inside (subst (calls_by m way) same by))
+
+-- what is settled of a call is so of one of the same item
+pub settled_begun : (Comes : Item → Item → Type 0) (calls : List Call) (begun call : Call) (wait : Wait) → begun.item ≡ call.item
+    → begun.ran ≡ call.ran → IsSettled Comes calls begun (waiting begun wait) → IsSettled Comes calls call (waiting call wait)
+settled_begun Comes calls begun call wait item ran s = record {
+  item_is = refl;
+  ran = refl;
+  exact =
+      subst (λ (c : Call). IsExact Comes calls c)
+      (ap (λ (i : Item). let c : Call = record { item = i; ran = begun.ran; blocked = wait.blocked; seen = wait.seen } in c) item
+      ∙ ap (λ (r : Bool). let c : Call = record { item = call.item; ran = r; blocked = wait.blocked; seen = wait.seen } in c) ran)
+      s.exact;
 }
 
 -- once an item is noted as run
-pub noted_apart : (m : DraftMachine) (ways : List Way) (item : Item) (old now : List Call) (first : ℕ) → ArePairwise (IsNoted item) old now
-    → AreApartFrom m ways old first → AreApartFrom m ways now first
-noted_apart m ways item old now first noted apart j k d before behind inside ordered =
-    let high : k < length old = omega (arith, noted.0, inside) in
-    let low : j < length old = omega (arith, high, before, behind) in
-    apart j k d before behind high
-    (subst (λ (y : Item). IsOrderedBySome m ways (get_or old k d).item y) (noted.1 j d low).item_is
-    (subst (λ (x : Item). IsOrderedBySome m ways x (get_or now j d).item) (noted.1 k d high).item_is ordered))
+pub noted_new : (m : DraftMachine) (ways : List Way) (item : Item) (old now : List Call) (since : Since) → ArePairwise (IsNoted item) old now
+    → AreNewSince m ways old since → AreNewSince m ways now since
+noted_new m ways item old now since noted h = record {
+  within = omega (arith, noted.0, h.within);
+  ways_within = h.ways_within;
+  apart = λ j k d before behind inside ordered.
+      (let high : k < length old = omega (arith, noted.0, inside) in
+      let low : j < length old = omega (arith, high, before, behind) in
+      h.apart j k d before behind high
+      (⊎_elim
+      (λ second. inl (along k j d high low second))
+      (λ first. inr (along j k d low high first))
+      ordered));
+  by = λ k d le inside way there calls.
+      (let high : k < length old = omega (arith, noted.0, inside) in
+      h.by k d le high way there (subst (calls_by m way) (noted.1 k d high).item_is calls));
+}
+  where
+    along : (i k : ℕ) (d : Call) → i < length old → k < length old → IsOrderedBySome m ways (get_or now i d).item (get_or now k d).item
+        → IsOrderedBySome m ways (get_or old i d).item (get_or old k d).item
+    along i k d x y ordered =
+        subst (λ (z : Item). IsOrderedBySome m ways (get_or old i d).item z) (noted.1 k d y).item_is
+        (subst (λ (z : Item). IsOrderedBySome m ways z (get_or now k d).item) (noted.1 i d x).item_is ordered)
 
-pub none_apart : (m : DraftMachine) (ways : List Way) (calls : List Call) (first : ℕ) → first ≡ 0 → AreApartFrom m ways calls first
-none_apart m ways calls first none j k d before = absurd (omega (arith, none, before))
+pub none_new : (m : DraftMachine) (ways : List Way) (calls : List Call) (since : Since) → since.calls ≡ length calls → since.ways ≡ length ways
+    → AreNewSince m ways calls since
+none_new m ways calls since same all = record {
+  within = omega (arith, same);
+  ways_within = omega (arith, all);
+  apart = λ j k d before behind inside. absurd (omega (arith, same, behind, inside));
+  by = λ k d le inside. absurd (omega (arith, same, le, inside));
+}
 
 no_exit_opened : (x : Item) (y : Item) → x ≡ y → IsNoExit y → IsNoExit x
 no_exit_opened x y same h = subst IsNoExit (sym same) h
@@ -123,14 +224,46 @@ module _ (m : DraftMachine) (old grown : List Call) (ways more : List Way) (long
       let at : get_or grown i d ≡ listed.0 = same i d low ∙ get_or_default old i d listed.0 low ∙ listed.1.2 in
       roster.once i k d (omega (arith, low, le)) lt (ap (λ (c : Call). c.item) at ∙ listed.2)
 
-  pub apart_from : AreApartFrom m more grown (length old)
-  apart_from j k d before behind inside ordered =
-      let low : j < length grown = omega (arith, before, behind, inside) in
-      let there : IsListed old (get_or grown j d).item =
-      (get_or old j d, Contains-get_or old j d before, ap (λ (c : Call). c.item) (sym (same j d before))) in
-      let by = kept (get_or grown k d).item (get_or grown j d).item there ordered in
+  -- nor do the ways so far call it
+  not_called : (k : ℕ) (d : Call) (way : Way) → length old ≤ k → k < length grown → Contains ways way → calls_by m way (get_or grown k d).item → ⊥
+  not_called k d way le lt inside calls =
       ⊎_elim
-      (λ was. not_listed k d behind inside was)
-      (λ no_exit. not_listed k d behind inside
-      (covered by.0 (get_or grown k d).item by.1 no_exit (way_calls_first m by.0 (get_or grown k d).item (get_or grown j d).item by.2)))
-      (added (get_or grown k d).item (get_or grown k d, Contains-get_or grown k d inside, refl))
+      (λ was. not_listed k d le lt was)
+      (λ no_exit. not_listed k d le lt (covered way (get_or grown k d).item inside no_exit calls))
+      (added (get_or grown k d).item (get_or grown k d, Contains-get_or grown k d lt, refl))
+
+  listed_before : (j : ℕ) (d : Call) → j < length old → IsListed old (get_or grown j d).item
+  listed_before j d low = (get_or old j d, Contains-get_or old j d low, ap (λ (c : Call). c.item) (sym (same j d low)))
+
+  apart_from : AreApartFrom m more grown (length old)
+  apart_from j k d before behind inside h =
+      let x = (get_or grown k d).item in
+      let y = (get_or grown j d).item in
+      ⊎_elim
+      (λ ordered.
+      (let by = kept x y (inr (listed_before j d before)) ordered in
+      not_called k d by.0 behind inside by.1 (way_calls_first m by.0 x y by.2)))
+      (λ ordered.
+      (let by = kept y x (inl (listed_before j d before)) ordered in
+      not_called k d by.0 behind inside by.1 (way_calls_second m by.0 y x by.2)))
+      h
+
+  called_by_new : (further : IsLonger ways more) (k : ℕ) (d : Call) → length old ≤ k → k < length grown → (way : Way) → Contains more way
+      → calls_by m way (get_or grown k d).item → Contains (drop (length ways) more) way
+  called_by_new further k d le lt way inside calls =
+      ⊎_elim
+      (λ was. absurd (not_called k d way le lt was calls))
+      (λ new. subst (λ (l : List Way). Contains l way)
+      (sym (ap (λ (l : List Way). drop (length ways) l) further.1 ∙ drop-append_seam ways further.0)) new)
+      (Contains-append_cases ways further.0 way (subst (λ (l : List Way). Contains l way) further.1 inside))
+
+  -- they are new since the places behind what was
+  pub new_from : IsLonger ways more → (since : Since) → since.calls ≡ length old → since.ways ≡ length ways → AreNewSince m more grown since
+  new_from further since first from = record {
+    within = (let e = ap length longer.1 in omega (arith, e, first, length-append old longer.0));
+    ways_within = (let e = ap length further.1 in omega (arith, e, from, length-append ways further.0));
+    apart = subst (λ (n : ℕ). AreApartFrom m more grown n) (sym first) apart_from;
+    by = λ k d le lt way inside calls.
+        (let behind : length old ≤ k = omega (arith, le, first) in
+        subst (λ (n : ℕ). Contains (drop n more) way) (sym from) (called_by_new further k d behind lt way inside calls));
+  }

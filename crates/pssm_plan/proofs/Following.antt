@@ -1,7 +1,7 @@
 -- The progress of a step as an item runs: what is listed is a roster, and what each call has seen.
 use Rattle.std.proofs.Common.{◌≡◌, ◌⊎◌, ◌<◌, ◌++◌, ◌^◌, ℕ, Bool, List, [], ◌∷◌, length, get_or, take, Contains, IsTrue}
 use Rattle.std.proofs.Common.{arith, inl, inr, refl, sym, subst, ap, ⊎_elim, ◌∙◌}
-use Rattle.std.proofs.lemmas.List.{get_or_append_left, take_at}
+use Rattle.std.proofs.lemmas.List.{take_at}
 use Rattle.std.proofs.lemmas.List.Elements.{Contains-push_cases, Contains-append_left, Contains-get_or}
 use Rattle.pssm_model.specs.declared.elements.DraftMachine.{DraftMachine}
 use Rattle.pssm_model.specs.declared.steps.How.{How}
@@ -21,21 +21,25 @@ use Rattle.pssm_plan.specs.inner.Calling.{IsTopOpening, IsOfWays, IsEntered}
 use Rattle.pssm_plan.specs.inner.Going.{IsMadeOf, KeepsOrder, IsLongerProgress, IsFollowedPlainly, IsFollowedSo, IsFinished, IsRunSo, IsUnchanged}
 use Rattle.pssm_plan.proofs.Growing.{longer_same}
 use Rattle.pssm_plan.proofs.Firing.{nothing_among, one_more_way}
-use Rattle.pssm_plan.proofs.NearWays.{way_calls_second}
+use Rattle.pssm_plan.proofs.NearWays.{way_calls_first, way_calls_second}
 use Rattle.pssm_plan.proofs.Rewriting.{listed_along}
-use Rattle.pssm_plan.proofs.Settling.{seen_fresh, seen_within, seen_longer, seen_told}
+use Rattle.pssm_plan.proofs.Settling.{seen_fresh, seen_longer, seen_told}
 
 -- a way that calls no listed item orders none of them
 pub order_kept : (m : DraftMachine) (calls : List Call) (ways : List Way) (way : Way) → ((x : Item) × IsListed calls x × calls_by m way x → ⊥)
     → KeepsOrder m calls ways (ways ++ way ∷ [])
-order_kept m calls ways way none x y second h =
+order_kept m calls ways way none x y listed h =
     ⊎_elim
     (λ was. (h.0, was, h.2))
-    (λ this. absurd (none (y, second, way_calls_second m way x y (subst (λ (w : Way). orders_by m w x y) (sym this) h.2))))
+    (λ this. (let orders = subst (λ (w : Way). orders_by m w x y) (sym this) h.2 in
+    ⊎_elim
+    (λ first. absurd (none (x, first, way_calls_first m way x y orders)))
+    (λ second. absurd (none (y, second, way_calls_second m way x y orders)))
+    listed))
     (Contains-push_cases ways way h.0 h.1)
 
 pub order_same : (m : DraftMachine) (calls : List Call) (ways more : List Way) → more ≡ ways → KeepsOrder m calls ways more
-order_same m calls ways more same x y second h = subst (λ (l : List Way). IsOrderedBySome m l x y) same h
+order_same m calls ways more same x y listed h = subst (λ (l : List Way). IsOrderedBySome m l x y) same h
 
 -- more ways order what the ways so far do
 sequence_longer : (m : DraftMachine) (ways more : List Way) (x y : Item) → IsLonger ways more → IsSequence m ways x y → IsSequence m more x y
@@ -60,7 +64,7 @@ module _ (m : DraftMachine) (old grown : List Call) (ways more : List Way) (long
         passed = λ k d lt there up.
             (let was = ⊎_elim
             (λ nested. inl nested)
-            (λ ordered. inr (kept (get_or grown k d).item call.item (call, inside, refl) ordered))
+            (λ ordered. inr (kept (get_or grown k d).item call.item (inr (call, inside, refl)) ordered))
             up.0 in
             seen.passed k d lt there (was, up.1));
         there = λ blocked d there. sequence_longer m ways more (get_or grown call.seen d).item call.item further (seen.there blocked d there);

@@ -11,7 +11,7 @@ ghost use Rattle.pssm_plan.specs.declared.roster.Call.{Call};
 ghost use Rattle.pssm_plan.specs.Waiting.{IsExact};
 ghost use Rattle.pssm_plan.specs.Ways.{AreWaysIn};
 ghost use Rattle.pssm_plan.specs.inner.Marks.{IsFresh, HasSeen, IsNoted, IsSettled, ArePairwise};
-ghost use Rattle.pssm_plan.specs.inner.Sequence.{IsSequence, AreItemsOf, AreApartFrom, IsRoster, IsExtended};
+ghost use Rattle.pssm_plan.specs.inner.Sequence.{IsSequence, AreItemsOf, AreNewSince, IsRoster, IsExtended};
 ghost use Rattle.pssm_plan.specs.inner.Calling.{IsTopOpening, IsOfWays};
 ghost use Rattle.pssm_plan.specs.inner.Going.{IsMadeOf, AreFired, CanRunSo, KeepsOrder, AreCovered};
 ghost use Rattle.pssm_plan.specs.inner.Going.{IsFollowedBy, IsFollowedRestoring};
@@ -20,6 +20,7 @@ ghost use Rattle.pssm_plan.specs.inner.Going.{IsLongerProgress, IsFinished, IsRu
 
 use crate::listing::meets;
 use crate::roster::Roster;
+use crate::waiting::Since;
 use crate::ways::{Way, way_of};
 use pssm_config::Config;
 use pssm_model::{How, Item, Machine, Mode, Route, VertexId};
@@ -97,7 +98,11 @@ fn settle_first(roster: &mut Roster, machine: &Machine, ways: &[Way]) -> Result<
     if roster.calls.as_slice().len() > MOST_CALLS {
         return Err(NoMemory);
     }
-    roster.settle(machine, ways, 0);
+    let since = Since {
+        calls: roster.calls.len(),
+        ways: ways.len(),
+    };
+    roster.settle(machine, ways, since);
     Ok(())
 }
 
@@ -180,6 +185,18 @@ impl Progress {
         list_all_fired(&mut self.roster, machine, config, ways)?;
         settle_first(&mut self.roster, machine, ways)?;
         Ok(())
+    }
+
+    // The places behind its calls and its ways.
+    #[inline(always)]
+    fn places(&self) -> Since
+        ensures calls { result.calls ≡ length self.now.roster.calls.items }
+        ensures ways { result.ways ≡ length self.now.ways.items }
+    {
+        Since {
+            calls: self.roster.calls.len(),
+            ways: self.ways.len(),
+        }
     }
 
     // Gives up what was listed, gone by and restored beyond these numbers.
@@ -380,29 +397,29 @@ impl Progress {
         ensures few { OnOk result (length self.new.roster.calls.items < 2 ^ 32) }
         ensures refused { OnErr result (IsUnchanged self.old self.new) }
     {
-        let first = self.roster.calls.len();
+        let before = self.places();
         let anew = self.follow_whole(alloc, machine, item, how)?;
+        let since = new_since(anew, before, self.places());
         finish(
             &mut self.roster,
             machine,
             self.ways.as_slice(),
             item,
             hint,
-            first_apart(anew, first),
+            since,
             anew,
         );
         Ok(())
     }
 }
 
-// The first place from which no way orders calls before the others: that of the first new call, or where none may rely
-// on what it has seen, that of the first of all.
+// From which places on calls and ways are new; where none may rely on what it has seen, none is.
 #[inline(always)]
-fn first_apart(anew: bool, first: usize) -> usize
-    ensures anew { IsTrue anew → result ≡ 0 }
-    ensures new { (IsTrue anew → ⊥) → result ≡ first }
+fn new_since(anew: bool, before: Since, now: Since) -> Since
+    ensures anew { IsTrue anew → result ≡ now }
+    ensures new { (IsTrue anew → ⊥) → result ≡ before }
 {
-    if anew { 0 } else { first }
+    if anew { now } else { before }
 }
 
 // Notes that an item has run, and has each call forget what it has seen.
@@ -436,7 +453,7 @@ fn note(roster: &mut Roster, machine: &Machine, ways: &[Way], item: Item, hint: 
 }
 
 // Notes that an item has run, and says of each call once more for which one it waits; `anew` where
-// none may rely on what it has seen. No way orders calls from a first place on before the others.
+// none may rely on what it has seen.
 #[inline(always)]
 #[tactic(auto, using(crate::proofs::Following::noted_items))]
 fn finish(
@@ -445,7 +462,7 @@ fn finish(
     ways: &[Way],
     item: Item,
     hint: usize,
-    first: usize,
+    since: Since,
     anew: bool,
 )
     requires rules { KeepsModelRules machine.now }
@@ -454,9 +471,9 @@ fn finish(
     requires few { length roster.old.calls.items < 2 ^ 32 }
     requires seen { (IsTrue anew → ⊥) → (call : Call) → Contains roster.old.calls.items call
         → HasSeen (IsSequence machine.now ways.now) roster.old.calls.items call }
-    requires apart { AreApartFrom machine.now ways.now roster.old.calls.items first }
+    requires new { AreNewSince machine.now ways.now roster.old.calls.items since }
     ensures { IsFinished machine.now ways.now item roster.old.calls.items roster.new.calls.items }
 {
     note(roster, machine, ways, item, hint, anew);
-    roster.settle(machine, ways, first);
+    roster.settle(machine, ways, since);
 }

@@ -1,22 +1,30 @@
 //! Which of the listed items wait for others.
-ghost use Rattle.std.specs.Prelude.{◌↔◌, ◌<◌, ◌≤◌, ◌^◌, IsTrue, Contains, length};
+ghost use Rattle.std.specs.Prelude.{◌≡◌, ◌↔◌, ◌<◌, ◌≤◌, ◌^◌, IsTrue, Contains, length};
 ghost use Rattle.pssm_model.specs.WellFormed.{KeepsModelRules};
 ghost use Rattle.pssm_legs.specs.Calls.{IsItemIn};
 ghost use Rattle.pssm_plan.specs.declared.roster.Call.{Call};
 ghost use Rattle.pssm_plan.specs.Waiting.{HoldsUp};
 ghost use Rattle.pssm_plan.specs.Ways.{AreWaysIn};
 ghost use Rattle.pssm_plan.specs.inner.Marks.{HasSeen, IsHeldAt, IsUpToDate, IsSettled, IsSettledSo, ArePairwise};
-ghost use Rattle.pssm_plan.specs.inner.Sequence.{IsSomeLong, IsSequence, IsNestedPair, AreItemsOf, AreApartFrom, IsApart};
+ghost use Rattle.pssm_plan.specs.inner.Sequence.{IsSomeLong, IsSequence, IsNestedPair, AreItemsOf};
+ghost use Rattle.pssm_plan.specs.inner.Sequence.{AreNewSince, IsNewCall, IsApart, IsNoStay};
 
 use crate::roster::{Call, Roster};
 use crate::ways::{Way, comes_before, nests, some_is_long, ways_of};
-use pssm_model::Machine;
+use pssm_model::{Item, Machine};
 
 /// Whether an item waits, and how far it has looked.
 #[derive(Clone, Copy)]
 pub struct Wait {
     pub blocked: bool,
     pub seen: u32,
+}
+
+/// From which places on the calls and the ways of a step are new.
+#[derive(Clone, Copy)]
+pub struct Since {
+    pub calls: usize,
+    pub ways: usize,
 }
 
 // Whether a call holds up another: it comes before it and has not run.
@@ -163,48 +171,120 @@ fn look_nested(machine: &Machine, calls: &[Call], call: &Call) -> Wait
     }
 }
 
-// Whether a call waits, once it has looked further; `apart` where no way orders what it has not seen before it.
+// Whether an item is an exit or an entry, which another may come before by where their States lie.
 #[inline(always)]
-fn look(machine: &Machine, ways: &[Way], calls: &[Call], call: &Call, apart: bool) -> Wait
+fn may_nest(item: Item) -> bool
+    ensures { (IsTrue result → ⊥) → IsNoStay item }
+{
+    matches!(item, Item::Exit(_) | Item::Enter(_))
+}
+
+// A new call as it looks at the others: exits and entries look at all, and others begin with those that are new.
+#[inline(always)]
+fn begun(machine: &Machine, ways: &[Way], calls: &[Call], call: &Call, since: Since) -> Call
+    requires few { length calls.now < 2 ^ 32 }
+    requires seen { HasSeen (IsSequence machine.now ways.now) calls.now call.now }
+    requires new { IsNewCall machine.now ways.now calls.now call.now since }
+    ensures item { result.item ≡ call.now.item }
+    ensures ran { result.ran ≡ call.now.ran }
+    ensures seen { HasSeen (IsSequence machine.now ways.now) calls.now result }
+{
+    if may_nest(call.item) {
+        return *call;
+    }
+    Call {
+        blocked: false,
+        seen: since.calls as u32,
+        ..*call
+    }
+}
+
+// Whether a new call waits, once it has looked further. Only new ways say something of it.
+#[inline(always)]
+fn look_new(machine: &Machine, ways: &[Way], calls: &[Call], call: &Call, since: Since) -> Wait
     requires rules { KeepsModelRules machine.now }
     requires ways { AreWaysIn machine.now ways.now }
     requires items { AreItemsOf machine.now calls.now }
     requires item { IsItemIn machine.now call.now.item }
     requires few { length calls.now < 2 ^ 32 }
     requires seen { HasSeen (IsSequence machine.now ways.now) calls.now call.now }
-    requires apart { IsTrue apart → IsApart machine.now ways.now calls.now call.now }
+    requires new { IsNewCall machine.now ways.now calls.now call.now since }
     ensures { IsSettledSo (IsSequence machine.now ways.now) calls.now call.now result }
 {
-    if apart {
+    let begun = begun(machine, ways, calls, call, since);
+    let near = &ways[since.ways..];
+    look_by(machine, near, calls, &begun)
+}
+
+// Whether a call is not blocked and has seen all before the new ones.
+#[inline(always)]
+fn has_come_to(call: &Call, since: Since) -> bool
+    ensures { IsTrue result → ((since.calls ≤ call.now.seen) × (IsTrue call.now.blocked → ⊥)) }
+{
+    !call.blocked && since.calls <= call.seen as usize
+}
+
+// Whether a call that is not new waits, once it has looked further.
+#[inline(always)]
+fn look_again(machine: &Machine, ways: &[Way], calls: &[Call], call: &Call, since: Since) -> Wait
+    requires rules { KeepsModelRules machine.now }
+    requires ways { AreWaysIn machine.now ways.now }
+    requires items { AreItemsOf machine.now calls.now }
+    requires item { IsItemIn machine.now call.now.item }
+    requires few { length calls.now < 2 ^ 32 }
+    requires seen { HasSeen (IsSequence machine.now ways.now) calls.now call.now }
+    requires apart { since.calls ≤ call.now.seen → (IsTrue call.now.blocked → ⊥) → IsApart machine.now ways.now calls.now call.now }
+    ensures { IsSettledSo (IsSequence machine.now ways.now) calls.now call.now result }
+{
+    if has_come_to(call, since) {
         look_nested(machine, calls, call)
     } else {
         look_on(machine, ways, calls, call)
     }
 }
 
-// Whether the call at a place stands before the first of some calls, is not blocked and has seen all before those.
+// Whether the call at a place waits, once it has looked further.
 #[inline(always)]
-fn has_come_to(call: Call, k: usize, first: usize) -> bool
-    ensures { IsTrue result → ((k < first) × (first ≤ call.seen) × (IsTrue call.blocked → ⊥)) }
+fn look(
+    machine: &Machine,
+    ways: &[Way],
+    calls: &[Call],
+    call: &Call,
+    place: usize,
+    since: Since,
+) -> Wait
+    requires rules { KeepsModelRules machine.now }
+    requires ways { AreWaysIn machine.now ways.now }
+    requires items { AreItemsOf machine.now calls.now }
+    requires item { IsItemIn machine.now call.now.item }
+    requires few { length calls.now < 2 ^ 32 }
+    requires seen { HasSeen (IsSequence machine.now ways.now) calls.now call.now }
+    requires apart { place < since.calls → since.calls ≤ call.now.seen → (IsTrue call.now.blocked → ⊥)
+        → IsApart machine.now ways.now calls.now call.now }
+    requires new { since.calls ≤ place → IsNewCall machine.now ways.now calls.now call.now since }
+    ensures { IsSettledSo (IsSequence machine.now ways.now) calls.now call.now result }
 {
-    k < first && !call.blocked && first <= call.seen as usize
+    if place < since.calls {
+        look_again(machine, ways, calls, call, since)
+    } else {
+        look_new(machine, ways, calls, call, since)
+    }
 }
 
-// Says of each call whether it waits, and for which one. No way orders calls from a first place on before the others.
-fn settle_all(machine: &Machine, ways: &[Way], calls: &mut [Call], first: usize)
+// Says of each call whether it waits, and for which one.
+fn settle_all(machine: &Machine, ways: &[Way], calls: &mut [Call], since: Since)
     requires rules { KeepsModelRules machine.now }
     requires ways { AreWaysIn machine.now ways.now }
     requires items { AreItemsOf machine.now calls.old }
     requires few { length calls.old < 2 ^ 32 }
     requires seen { (call : Call) → Contains calls.old call → HasSeen (IsSequence machine.now ways.now) calls.old call }
-    requires apart { AreApartFrom machine.now ways.now calls.old first }
+    requires new { AreNewSince machine.now ways.now calls.old since }
     ensures { ArePairwise (IsSettled (IsSequence machine.now ways.now) calls.old) calls.old calls.new }
 {
     for k in 0..calls.len() {
         if !is_up_to_date(calls, calls[k]) {
-            let apart = has_come_to(calls[k], k, first);
             let all = &calls[..];
-            let wait = look(machine, ways, all, &all[k], apart);
+            let wait = look(machine, ways, all, &all[k], k, since);
             calls[k] = Call {
                 blocked: wait.blocked,
                 seen: wait.seen,
@@ -215,19 +295,19 @@ fn settle_all(machine: &Machine, ways: &[Way], calls: &mut [Call], first: usize)
 }
 
 impl Roster {
-    /// Says of each call whether it waits, and for which one. No way orders calls from a first place on before the others.
+    /// Says of each call whether it waits, and for which one.
     #[inline(never)]
-    pub fn settle(&mut self, machine: &Machine, ways: &[Way], first: usize)
+    pub fn settle(&mut self, machine: &Machine, ways: &[Way], since: Since)
         requires rules { KeepsModelRules machine.now }
         requires ways { AreWaysIn machine.now ways.now }
         requires items { AreItemsOf machine.now self.old.calls.items }
         requires few { length self.old.calls.items < 2 ^ 32 }
         requires seen { (call : Call) → Contains self.old.calls.items call
             → HasSeen (IsSequence machine.now ways.now) self.old.calls.items call }
-        requires apart { AreApartFrom machine.now ways.now self.old.calls.items first }
+        requires new { AreNewSince machine.now ways.now self.old.calls.items since }
         ensures { ArePairwise (IsSettled (IsSequence machine.now ways.now) self.old.calls.items)
             self.old.calls.items self.new.calls.items }
     {
-        settle_all(machine, ways, self.calls.as_mut_slice(), first);
+        settle_all(machine, ways, self.calls.as_mut_slice(), since);
     }
 }

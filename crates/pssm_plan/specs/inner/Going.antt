@@ -1,5 +1,5 @@
 -- How the progress of a step begins, and how it goes on as an item runs.
-use Rattle.std.specs.Prelude.{◌≡◌, ◌↔◌, ◌<◌, ◌++◌, List, [], ◌∷◌, length, Contains, false}
+use Rattle.std.specs.Prelude.{◌≡◌, ◌⊎◌, ◌↔◌, ◌<◌, ◌++◌, List, [], ◌∷◌, length, Contains, false}
 use Rattle.pssm_model.specs.declared.ids.VertexId.{VertexId}
 use Rattle.pssm_model.specs.declared.ids.RegionId.{RegionId}
 use Rattle.pssm_model.specs.declared.elements.DraftMachine.{DraftMachine}
@@ -37,9 +37,9 @@ CanRunSo m item (By p) = IsStepRoute m p
 CanRunSo m item (Restore s) = (s.0 < length m.vertices) × ((r : RegionId) × (mode : Mode) × (item ≡ Opened r mode))
 CanRunSo m item Nothing = Unit {0}
 
--- More ways order nothing before a listed item that the ways so far do not.
+-- Of two items one of which is listed, more ways order none that the ways so far do not.
 abbrev pub KeepsOrder : DraftMachine → List Call → List Way → List Way → Type 0
-KeepsOrder m calls ways more = (x y : Item) → IsListed calls y → IsOrderedBySome m more x y → IsOrderedBySome m ways x y
+KeepsOrder m calls ways more = (x y : Item) → (IsListed calls x ⊎ IsListed calls y) → IsOrderedBySome m more x y → IsOrderedBySome m ways x y
 
 -- What the ways call is listed, but for exits.
 abbrev pub AreCovered : DraftMachine → List Way → List Call → Type 0

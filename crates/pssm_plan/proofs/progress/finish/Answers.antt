@@ -1,4 +1,4 @@
-use Rattle.pssm_plan.proofs.ApartCalls.{noted_apart}
+use Rattle.pssm_plan.proofs.ApartCalls.{noted_new}
 use Rattle.pssm_plan.proofs.Following.{noted_items}
 use Rattle.pssm_plan.proofs.progress.finish.Goals as goal
 
@@ -9,10 +9,10 @@ settle-requires-clause-items c =
 pub settle-requires-clause-few : goal.settle-requires-clause-few
 settle-requires-clause-few c = rw c.note.ensures.noted.0 c.requires.few
 
-pub settle-requires-clause-apart : goal.settle-requires-clause-apart
-settle-requires-clause-apart c =
-    noted_apart c.args.machine.now c.args.ways.now c.args.item c.args.roster.now.calls.items c.note.new.roster.calls.items c.args.first
-    c.note.ensures.noted c.requires.apart
+pub settle-requires-clause-new : goal.settle-requires-clause-new
+settle-requires-clause-new c =
+    noted_new c.args.machine.now c.args.ways.now c.args.item c.args.roster.now.calls.items c.note.new.roster.calls.items c.args.since
+    c.note.ensures.noted c.requires.new
 
 pub returns : goal.returns
 returns c = record { now = c.note.new.roster.calls.items; noted = c.note.ensures.noted; settled = c.settle.ensures }

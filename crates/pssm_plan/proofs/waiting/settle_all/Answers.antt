@@ -4,7 +4,7 @@ use Rattle.pssm_model.specs.declared.steps.Item.TheVariants.{Exit}
 use Rattle.pssm_plan.specs.declared.roster.Call.{Call}
 use Rattle.pssm_plan.specs.inner.Marks.{IsSettled}
 use Rattle.pssm_plan.specs.inner.Sequence.{IsSequence}
-use Rattle.pssm_plan.proofs.ApartCalls.{apart_now}
+use Rattle.pssm_plan.proofs.ApartCalls.{apart_now, new_now}
 use Rattle.pssm_plan.proofs.Looking.{waiting}
 use Rattle.pssm_plan.proofs.Rewriting.{IsRewritten}
 use Rattle.pssm_plan.proofs.Settling.{settled_alike, settled_seen, settled_more, settled_already}
@@ -20,12 +20,20 @@ look-wait-requires-clause-seen c =
     (c.requires.seen (get_or old c.loop-k.k d) (Contains-get_or old c.loop-k.k d lt))
 
 pub look-wait-requires-clause-apart : goal.look-wait-requires-clause-apart
-look-wait-requires-clause-apart c = λ come.
+look-wait-requires-clause-apart c = λ below come free.
     let d : Call = record { item = Exit (record { 0 = 0 }); ran = false; blocked = false; seen = 0 } in
     let lt : c.loop-k.k < length c.args.calls.now = omega (arith, c.loop-k.invariant.same_length, c.loop-k-test.true) in
-    apart_now c.args.machine.now c.args.ways.now c.args.calls.now c.loop-k.calls c.args.first c.loop-k.k d
+    apart_now c.args.machine.now c.args.ways.now c.args.calls.now c.loop-k.calls c.args.since.calls c.loop-k.k d
     (settled_alike (IsSequence c.args.machine.now c.args.ways.now) c.args.calls.now c.loop-k.calls c.loop-k.k c.loop-k.invariant)
-    c.requires.apart lt (c.has_come_to-apart.ensures come)
+    c.requires.new.apart lt below come free
+
+pub look-wait-requires-clause-new : goal.look-wait-requires-clause-new
+look-wait-requires-clause-new c = λ above.
+    let d : Call = record { item = Exit (record { 0 = 0 }); ran = false; blocked = false; seen = 0 } in
+    let lt : c.loop-k.k < length c.args.calls.now = omega (arith, c.loop-k.invariant.same_length, c.loop-k-test.true) in
+    new_now c.args.machine.now c.args.ways.now c.args.calls.now c.loop-k.calls c.args.since c.loop-k.k d
+    (settled_alike (IsSequence c.args.machine.now c.args.ways.now) c.args.calls.now c.loop-k.calls c.loop-k.k c.loop-k.invariant)
+    c.requires.new lt above
 
 pub loop-k-preserved : goal.loop-k-preserved
 loop-k-preserved c =

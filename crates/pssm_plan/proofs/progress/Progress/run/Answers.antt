@@ -1,11 +1,12 @@
-use Rattle.std.proofs.Common.{◌≡◌, ◌∙◌, List, Contains, length, vec_len, rules, subst, sym, refl, ⊎_elim}
+use Rattle.std.proofs.Common.{List, Contains, subst, sym, refl, ⊎_elim}
 use Rattle.pssm_plan.specs.declared.roster.Call.{Call}
 use Rattle.pssm_plan.specs.declared.ways.Way.{Way}
 use Rattle.pssm_plan.specs.Ways.{AreWaysIn}
 use Rattle.pssm_plan.specs.inner.Marks.{HasSeen}
-use Rattle.pssm_plan.specs.inner.Sequence.{IsSequence, AreApartFrom}
+use Rattle.pssm_plan.specs.inner.Sequence.{IsSequence, AreNewSince}
+use Rattle.pssm_plan.specs.declared.waiting.Since.{Since}
 use Rattle.pssm_plan.proofs.Settling.{set_or_not}
-use Rattle.pssm_plan.proofs.ApartCalls.{none_apart, apart_from, followed_no_exit}
+use Rattle.pssm_plan.proofs.ApartCalls.{none_new, new_from, followed_no_exit}
 use Rattle.pssm_plan.proofs.Following.{followed_roster, followed_ways, followed_fresh, all_seen_over_ways, run_so, finished_few}
 use Rattle.pssm_plan.proofs.progress.Progress.run.Goals as goal
 
@@ -31,21 +32,22 @@ finish-requires-clause-seen c = λ free.
     c.in_ok-anew.ensures.longer.calls c.in_ok-anew.ensures.longer.ways (c.in_ok-anew.ensures.kept free) c.requires.exact
     (followed_fresh m old c.args.item c.args.how.now grown c.in_ok-anew.ensures.followed))
 
-pub finish-requires-clause-apart : goal.finish-requires-clause-apart
-finish-requires-clause-apart c =
+pub finish-requires-clause-new : goal.finish-requires-clause-new
+finish-requires-clause-new c =
     let m = c.args.machine.now in
     let old = c.args.self.now in
     let grown = c.follow_whole.new.self in
-    let count : vec_len old.roster.calls ≡ length old.roster.calls.items = search rules in
-    ⊎_elim
-    (λ anew. none_apart m c.as_slice.result.now grown.roster.calls.items c.first_apart.result (c.first_apart.ensures.anew anew))
-    (λ free. subst (AreApartFrom m c.as_slice.result.now grown.roster.calls.items)
-    (sym (c.first_apart.ensures.new free ∙ c.len-first.ensures ∙ count))
-    (subst (λ (l : List Way). AreApartFrom m l grown.roster.calls.items (length old.roster.calls.items)) (sym c.as_slice.ensures.value)
-    (apart_from m old.roster.calls.items grown.roster.calls.items old.ways.items grown.ways.items c.in_ok-anew.ensures.longer.calls
+    let Is : List Way → Since → Type 0 = (λ l s. AreNewSince m l grown.roster.calls.items s) in
+    subst (λ (l : List Way). Is l c.new_since-since.result) (sym c.as_slice.ensures.value)
+    (⊎_elim
+    (λ anew. subst (Is grown.ways.items) (sym (c.new_since-since.ensures.anew anew))
+    (none_new m grown.ways.items grown.roster.calls.items _ c.places.ensures.calls c.places.ensures.ways))
+    (λ free. subst (Is grown.ways.items) (sym (c.new_since-since.ensures.new free))
+    (new_from m old.roster.calls.items grown.roster.calls.items old.ways.items grown.ways.items c.in_ok-anew.ensures.longer.calls
     (followed_roster m old c.args.item c.args.how.now grown c.in_ok-anew.ensures.followed) (c.in_ok-anew.ensures.kept free) c.requires.covered
-    (followed_no_exit m old c.args.item c.args.how.now grown c.in_ok-anew.ensures.followed))))
-    (set_or_not c.in_ok-anew.anew)
+    (followed_no_exit m old c.args.item c.args.how.now grown c.in_ok-anew.ensures.followed) c.in_ok-anew.ensures.longer.ways
+    _ c.places-before.ensures.calls c.places-before.ensures.ways))
+    (set_or_not c.in_ok-anew.anew))
 
 pub returns-clause-ran : goal.returns-clause-ran
 returns-clause-ran c =
