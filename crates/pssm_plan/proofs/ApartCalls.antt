@@ -1,10 +1,14 @@
 -- Calls before which no way orders those that they have not seen yet.
-use Rattle.std.proofs.Common.{◌≡◌, ◌⊎◌, ◌<◌, ◌≤◌, ℕ, Bool, List, length, get_or, take, drop, ◌+◌, ◌-◌, Contains, IsTrue, arith, length-append, refl, sym, subst, ap, inl, inr, ⊎_elim, ◌∙◌}
+use Rattle.std.proofs.Common.{◌≡◌, ◌⊎◌, ◌<◌, ◌≤◌, ℕ, Bool, List, length, get_or, take, drop, ◌+◌, ◌-◌, Contains, IsTrue, arith, length-append, refl, sym, subst, ap, inl, inr, ⊎_elim, ◌∙◌, ◌↔◌, Some}
 use Rattle.std.proofs.lemmas.Bool.{cases_lt}
 use Rattle.std.proofs.lemmas.List.{get_or_default, get_or_append_left, get_or-drop, length-drop, take_all}
 use Rattle.std.proofs.Math.Seq.{drop-append_seam}
 use Rattle.std.proofs.lemmas.List.Elements.{Contains-get_or, Contains-append_cases}
 use Rattle.pssm_model.specs.declared.ids.VertexId.{VertexId}
+use Rattle.pssm_model.specs.declared.ids.RegionId.{RegionId}
+use Rattle.pssm_model.specs.declared.ids.TransId.{TransId}
+use Rattle.pssm_model.specs.declared.elements.Owner.TheVariants.{Region, State}
+use Rattle.pssm_model.specs.Forest.{owner_of}
 use Rattle.pssm_model.specs.declared.elements.DraftMachine.{DraftMachine}
 use Rattle.pssm_model.specs.declared.steps.How.{How}
 use Rattle.pssm_model.specs.declared.steps.How.TheVariants.{By, Restore, Nothing}
@@ -20,9 +24,10 @@ use Rattle.pssm_plan.specs.inner.Marks.{IsListed, IsLonger, IsNoted, IsSettled, 
 use Rattle.pssm_plan.specs.declared.waiting.Since.{Since}
 use Rattle.pssm_plan.specs.declared.waiting.Wait.{Wait}
 use Rattle.pssm_plan.specs.Waiting.{IsExact}
-use Rattle.pssm_plan.specs.inner.Sequence.{IsSequence, IsNestedPair, IsOrderedBySome, IsNoStay, AreApartFrom, AreNewSince, IsNewCall, IsApart, IsRoster}
+use Rattle.pssm_plan.specs.inner.Sequence.{IsSequence, IsNestedPair, IsOrderedBySome, IsNoStay, AreLooseUpTo, AreApartFrom, AreNewSince, IsNewCall, IsApart, IsRoster}
 use Rattle.pssm_plan.specs.inner.Calling.{IsNoExit, IsLate, IsOfRestored, IsEntered}
 use Rattle.pssm_plan.specs.inner.Going.{KeepsOrder, AreCovered, IsFollowedSo}
+use Rattle.pssm_plan.proofs.Growing.{lower_or_same}
 use Rattle.pssm_plan.proofs.Looking.{waiting}
 use Rattle.pssm_plan.proofs.NearWays.{way_calls_first, way_calls_second}
 use Rattle.pssm_plan.proofs.Rewriting.{AreAlike}
@@ -130,6 +135,52 @@ pub rest_all : (m : DraftMachine) (ways : List Way) (calls : List Call) (call be
     → Contains (take (length ways - since.ways) (drop since.ways ways)) way
 rest_all m ways calls call begun since h same way inside by =
     subst (λ (l : List Way). Contains l way) (sym (rest_is ways since.ways)) (h.by way inside (subst (calls_by m way) same by))
+
+-- what comes before none by where States lie
+pub loose_regions : (m : DraftMachine) (s : VertexId) (rs : List RegionId)
+    → ((r : RegionId) → Contains rs r ↔ (owner_of m (Region r) ≡ Some (State s))) → (x : Item) → IsNestedPair m (items.Enter s) x
+    → (d : RegionId) → 0 < length rs
+loose_regions m s rs all (items.Enter q) h d = let inside = (all h.0).1 h.1 in let lt = inside.1 in omega (arith, lt)
+loose_regions m s rs all (items.Exit q) h d = absurd h
+loose_regions m s rs all (items.Effect t) h d = absurd h
+loose_regions m s rs all (items.Opened r mode) h d = absurd h
+loose_regions m s rs all (items.Pick c) h d = absurd h
+
+pub loose_effect : (m : DraftMachine) (t : TransId) (x : Item) → IsNestedPair m (items.Effect t) x → ⊥
+loose_effect m t x h = h
+
+pub loose_none : (m : DraftMachine) (calls : List Call) (first : ℕ) → AreLooseUpTo m calls first first
+loose_none m calls first k d x le lt = absurd (omega (arith, le, lt))
+
+pub loose_more : (m : DraftMachine) (calls : List Call) (first k : ℕ) (d : Call) → k < length calls
+    → ((x : Item) → IsNestedPair m (get_or calls k d).item x → ⊥) → AreLooseUpTo m calls first k → AreLooseUpTo m calls first (k + 1)
+loose_more m calls first k d there none h j e x le lt inside nested =
+    ⊎_elim
+    (λ low. h j e x le low inside nested)
+    (λ same. none x (subst (λ (c : Call). IsNestedPair m c.item x) (ap (λ (n : ℕ). get_or calls n e) same ∙ get_or_default calls k e d there) nested))
+    (lower_or_same j k lt)
+
+-- over the same items
+pub loose_along : (m : DraftMachine) (old now : List Call) (first nests : ℕ) → AreAlike old now → AreLooseUpTo m old first nests
+    → AreLooseUpTo m now first nests
+loose_along m old now first nests alike h k d x le lt inside nested =
+    let low : k < length old = omega (arith, alike.0, inside) in
+    h k d x le lt low (subst (λ (i : Item). IsNestedPair m i x) (alike.1 k d low).0 nested)
+
+-- a call that has come to the new ones has as good as seen those that come before none so
+pub raised_seen : (m : DraftMachine) (calls : List Call) (call raised : Call) (first nests : ℕ) → nests ≤ length calls
+    → AreLooseUpTo m calls first nests → first ≤ call.seen → (IsTrue call.blocked → ⊥) → HasSeen (IsNestedPair m) calls call
+    → raised.item ≡ call.item → raised.blocked ≡ call.blocked → raised.seen ≡ nests → HasSeen (IsNestedPair m) calls raised
+raised_seen m calls call raised first nests within loose come free s item blocked seen = record {
+  within = omega (arith, within, seen);
+  passed = λ k d lt inside up.
+      (let here = subst (λ (y : Item). IsNestedPair m (get_or calls k d).item y) item up.0 in
+      ⊎_elim
+      (λ low. s.passed k d low inside (here, up.1))
+      (λ high. loose k d call.item (omega (arith, come, high)) (omega (arith, lt, seen)) inside here)
+      (cases_lt k call.seen));
+  there = λ b. absurd (free (subst (λ (v : Bool). IsTrue v) blocked b));
+}
 
 -- what is settled of a call is so of one of the same item
 pub settled_begun : (Comes : Item → Item → Type 0) (calls : List Call) (begun call : Call) (wait : Wait) → begun.item ≡ call.item

@@ -8,7 +8,7 @@ use Rattle.pssm_model.specs.declared.elements.Owner.TheVariants.{Region, State}
 use Rattle.pssm_model.specs.declared.steps.Mode.{Mode}
 use Rattle.pssm_model.specs.declared.steps.Mode.TheVariants.{Plain, Shallow, Deep}
 use Rattle.pssm_model.specs.declared.steps.Item.{Item}
-use Rattle.pssm_model.specs.declared.steps.Item.TheVariants.{Enter, Opened}
+use Rattle.pssm_model.specs.declared.steps.Item.TheVariants.{Exit, Effect, Enter, Opened, Pick}
 use Rattle.pssm_model.specs.Forest.{owner_of, LiesUnder, LiesInState}
 use Rattle.pssm_model.specs.Forest.LiesUnder.{owned, further}
 use Rattle.pssm_model.specs.Legs.{LiesInScope, IsEndState}
@@ -29,7 +29,7 @@ use Rattle.pssm_plan.specs.declared.ways.Way.{Way}
 use Rattle.pssm_plan.specs.Ways.{IsWayIn}
 use Rattle.pssm_plan.specs.inner.ByWays.{calls_by, opens_by}
 use Rattle.pssm_plan.specs.inner.Calling.{IsEntryBy, IsOpeningBy, IsReopened}
-use Rattle.pssm_plan.specs.inner.Direct.{IsDirect, IsReopenedIn}
+use Rattle.pssm_plan.specs.inner.Direct.{IsDirect, IsReopenedIn, MayCallDirectly}
 use Rattle.pssm_plan.proofs.Growing.{AddedBy}
 
 -- what a place lies under is its owner, or what that lies under
@@ -88,6 +88,20 @@ module _ {m : DraftMachine} (shape : HasShape m) (rules : KeepsModelRules m) (wa
   opening_is mode q h =
       opening_told mode q (of_first (λ i a. IsCalledAsTold m way.legs i a way.fires (Opened q mode))
       (calls_is shape rules way.route.value way.legs is way.fires (Opened q mode) h))
+
+  may_told : (item : Item) → IsCalledAsTold m way.legs 0 first way.fires item → MayCallDirectly way r item
+  may_told (Exit s) h = h.0
+  may_told (Effect t) h = h
+  may_told (Enter s) h = entered_is s h
+  may_told (Opened q Plain) h = let e = h.0.1 in let f = d.area in absurd (cc (e, f))
+  may_told (Opened q Shallow) h = opening_told Shallow q h
+  may_told (Opened q Deep) h = opening_told Deep q h
+  may_told (Pick c) h = h.1
+
+  pub direct_may : (item : Item) → calls_by m way item → MayCallDirectly way r item
+  direct_may item h =
+      may_told item (of_first (λ i a. IsCalledAsTold m way.legs i a way.fires item)
+      (calls_is shape rules way.route.value way.legs is way.fires item h))
 
   pub direct_entries : (x : Item) → ((x ≡ Enter first.last) × calls_by m way (Enter first.last)) ↔ IsEntryBy m way x
   direct_entries x = (

@@ -1,11 +1,11 @@
 //! Ways of one leg that ends on a vertex of the region in which it exits and enters. Most ways are such.
-ghost use Rattle.std.specs.Prelude.{IsTrue, IfSome};
+ghost use Rattle.std.specs.Prelude.{◌↔◌, IsTrue, IfSome};
 ghost use Rattle.pssm_plan.specs.Ways.{IsWayIn};
-ghost use Rattle.pssm_plan.specs.inner.Direct.{IsDirect};
+ghost use Rattle.pssm_plan.specs.inner.Direct.{IsDirect, MayCallDirectly};
 
 use crate::ways::Way;
 use pssm_legs::Area;
-use pssm_model::{Machine, Owner, RegionId};
+use pssm_model::{Item, Machine, Mode, Owner, RegionId};
 
 // Whether a way has one leg that exits and enters in the region, and ends on a vertex that the region owns.
 #[inline(always)]
@@ -18,6 +18,23 @@ fn is_direct(machine: &Machine, way: &Way, r: RegionId) -> bool
         && leg.in_order
         && leg.area == Area::Within(r)
         && machine.vertex(leg.last).owner == Owner::Region(r)
+}
+
+/// Whether a way that ends so where it exits and enters may call an item.
+#[inline(always)]
+pub fn may_call_directly(way: &Way, r: RegionId, item: Item) -> bool
+    ensures { IsTrue result ↔ MayCallDirectly way.now r item }
+{
+    let leg = &way.legs.first;
+    match item {
+        Item::Exit(_) => way.fires,
+        Item::Effect(t) => leg.named == t || leg.further.as_slice().contains(&t),
+        Item::Enter(s) => s == leg.last,
+        Item::Opened(_, Mode::Plain) => false,
+        Item::Opened(q, Mode::Shallow) => q == r,
+        Item::Opened(q, Mode::Deep) => q == r,
+        Item::Pick(c) => c == leg.last,
+    }
 }
 
 /// The region in which a way exits and enters, where it has one leg that ends on a vertex of this region.

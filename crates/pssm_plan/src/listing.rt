@@ -15,10 +15,10 @@ ghost use Rattle.pssm_plan.specs.inner.Sequence.{IsRoster, IsExtended};
 ghost use Rattle.pssm_plan.specs.inner.Calling.{IsTopOpening, IsExitBy, IsEffectBy, IsEntryBy, IsOpeningBy, IsPickBy};
 ghost use Rattle.pssm_plan.specs.inner.Calling.{IsEffectAmong, IsEffectOf, IsEffectOfSome, IsPickAt, IsPickAtSome};
 ghost use Rattle.pssm_plan.specs.inner.Calling.{IsOtherBy, IsReopened, IsLate, IsOfRestored, IsOpeningOf, MayRun};
-ghost use Rattle.pssm_plan.specs.inner.Direct.{IsReopenedIn};
+ghost use Rattle.pssm_plan.specs.inner.Direct.{IsDirect, IsReopenedIn};
 ghost use Rattle.pssm_plan.specs.inner.Calling.{IsDefaultOf, IsRestoredOf, IsOpenedByEntry, IsEntered};
 
-use crate::direct::direct_region;
+use crate::direct::{direct_region, may_call_directly};
 use crate::near::comes_near;
 use crate::progress::Restored;
 use crate::roster::{Call, Roster, has_run};
@@ -28,8 +28,40 @@ use pssm_legs::Leg;
 use pssm_model::{Item, Machine, Mode, Owner, RegionId, TransId, VertexId};
 use std::alloc::AllocError as NoMemory;
 
-/// Whether a listed item is one that the way calls.
+// Whether a listed item is one that a way may call, which ends in the region where it exits and enters.
+#[inline(always)]
+fn meets_directly(machine: &Machine, calls: &[Call], way: &Way, r: RegionId) -> bool
+    requires rules { KeepsModelRules machine.now }
+    requires way { IsWayIn machine.now way.now }
+    requires direct { IsDirect machine.now way.now r }
+    ensures { ((x : Called) × IsListed calls.now x × calls_by machine.now way.now x) → IsTrue result }
+{
+    let _shaped = machine.regions();
+    for call in calls {
+        if may_call_directly(way, r, call.item) {
+            return true;
+        }
+    }
+    false
+}
+
+/// Whether a listed item may be one that the way calls.
+#[inline(always)]
 pub fn meets(machine: &Machine, calls: &[Call], way: &Way) -> bool
+    requires rules { KeepsModelRules machine.now }
+    requires way { IsWayIn machine.now way.now }
+    requires items { (x : Called) → IsListed calls.now x → IsItemIn machine.now x }
+    ensures { ((x : Called) × IsListed calls.now x × calls_by machine.now way.now x) → IsTrue result }
+{
+    match direct_region(machine, way) {
+        Some(r) => meets_directly(machine, calls, way, r),
+        None => meets_somewhere(machine, calls, way),
+    }
+}
+
+// Whether a listed item is one that the way calls.
+#[inline(never)]
+fn meets_somewhere(machine: &Machine, calls: &[Call], way: &Way) -> bool
     requires rules { KeepsModelRules machine.now }
     requires way { IsWayIn machine.now way.now }
     requires items { (x : Called) → IsListed calls.now x → IsItemIn machine.now x }

@@ -7,7 +7,8 @@ ghost use Rattle.pssm_plan.specs.Waiting.{HoldsUp};
 ghost use Rattle.pssm_plan.specs.Ways.{AreWaysIn};
 ghost use Rattle.pssm_plan.specs.inner.Marks.{HasSeen, IsHeldAt, IsUpToDate, IsSettled, IsSettledSo, ArePairwise};
 ghost use Rattle.pssm_plan.specs.inner.Sequence.{IsSomeLong, IsSequence, IsNestedPair, AreItemsOf};
-ghost use Rattle.pssm_plan.specs.inner.Sequence.{AreNewSince, IsNewCall, IsApart, IsNoStay};
+ghost use Rattle.pssm_plan.specs.inner.Sequence.{AreNewSince, IsNewCall, IsApart, IsNoStay, AreLooseUpTo};
+ghost use Rattle.pssm_model.specs.declared.steps.Item.{Item as Waiting};
 
 use crate::roster::{Call, Roster};
 use crate::ways::{Way, comes_before, nests, some_is_long, ways_of};
@@ -216,6 +217,56 @@ fn look_new(machine: &Machine, ways: &[Way], calls: &[Call], call: &Call, since:
     look_by(machine, near, calls, &begun)
 }
 
+// Whether an item may come before others by where their States lie: exits may, and entries of States with regions.
+#[inline(always)]
+fn may_hold(machine: &Machine, item: Item) -> bool
+    requires { IsItemIn machine.now item }
+    ensures { (x : Waiting) → IsNestedPair machine.now item x → IsTrue result }
+{
+    match item {
+        Item::Exit(_) => true,
+        Item::Enter(s) => !machine.regions_of(s).is_empty(),
+        Item::Effect(_) | Item::Opened(_, _) | Item::Pick(_) => false,
+    }
+}
+
+// The place of the first of the new calls that may come before others by where their States lie, or that behind all.
+fn first_nesting(machine: &Machine, calls: &[Call], first: usize) -> usize
+    requires items { AreItemsOf machine.now calls.now }
+    requires first { first ≤ length calls.now }
+    ensures within { result ≤ length calls.now }
+    ensures loose { AreLooseUpTo machine.now calls.now first result }
+{
+    for k in first..calls.len() {
+        if may_hold(machine, calls[k].item) {
+            return k;
+        }
+    }
+    calls.len()
+}
+
+// A call that is not blocked and has seen all before the new ones, as one that has seen all up to a place.
+#[inline(always)]
+fn raised(machine: &Machine, calls: &[Call], call: &Call, first: usize, nests: usize) -> Call
+    requires few { length calls.now < 2 ^ 32 }
+    requires within { nests ≤ length calls.now }
+    requires loose { AreLooseUpTo machine.now calls.now first nests }
+    requires come { first ≤ call.now.seen }
+    requires free { IsTrue call.now.blocked → ⊥ }
+    requires seen { HasSeen (IsNestedPair machine.now) calls.now call.now }
+    ensures item { result.item ≡ call.now.item }
+    ensures ran { result.ran ≡ call.now.ran }
+    ensures seen { HasSeen (IsNestedPair machine.now) calls.now result }
+{
+    if nests <= call.seen as usize {
+        return *call;
+    }
+    Call {
+        seen: nests as u32,
+        ..*call
+    }
+}
+
 // Whether a call is not blocked and has seen all before the new ones.
 #[inline(always)]
 fn has_come_to(call: &Call, since: Since) -> bool
@@ -226,7 +277,14 @@ fn has_come_to(call: &Call, since: Since) -> bool
 
 // Whether a call that is not new waits, once it has looked further.
 #[inline(always)]
-fn look_again(machine: &Machine, ways: &[Way], calls: &[Call], call: &Call, since: Since) -> Wait
+fn look_again(
+    machine: &Machine,
+    ways: &[Way],
+    calls: &[Call],
+    call: &Call,
+    since: Since,
+    nests: usize,
+) -> Wait
     requires rules { KeepsModelRules machine.now }
     requires ways { AreWaysIn machine.now ways.now }
     requires items { AreItemsOf machine.now calls.now }
@@ -234,10 +292,16 @@ fn look_again(machine: &Machine, ways: &[Way], calls: &[Call], call: &Call, sinc
     requires few { length calls.now < 2 ^ 32 }
     requires seen { HasSeen (IsSequence machine.now ways.now) calls.now call.now }
     requires apart { since.calls ≤ call.now.seen → (IsTrue call.now.blocked → ⊥) → IsApart machine.now ways.now calls.now call.now }
+    requires within { nests ≤ length calls.now }
+    requires loose { AreLooseUpTo machine.now calls.now since.calls nests }
     ensures { IsSettledSo (IsSequence machine.now ways.now) calls.now call.now result }
 {
     if has_come_to(call, since) {
-        look_nested(machine, calls, call)
+        look_nested(
+            machine,
+            calls,
+            &raised(machine, calls, call, since.calls, nests),
+        )
     } else {
         look_on(machine, ways, calls, call)
     }
@@ -252,6 +316,7 @@ fn look(
     call: &Call,
     place: usize,
     since: Since,
+    nests: usize,
 ) -> Wait
     requires rules { KeepsModelRules machine.now }
     requires ways { AreWaysIn machine.now ways.now }
@@ -262,10 +327,12 @@ fn look(
     requires apart { place < since.calls → since.calls ≤ call.now.seen → (IsTrue call.now.blocked → ⊥)
         → IsApart machine.now ways.now calls.now call.now }
     requires new { since.calls ≤ place → IsNewCall machine.now ways.now calls.now call.now since }
+    requires within { nests ≤ length calls.now }
+    requires loose { AreLooseUpTo machine.now calls.now since.calls nests }
     ensures { IsSettledSo (IsSequence machine.now ways.now) calls.now call.now result }
 {
     if place < since.calls {
-        look_again(machine, ways, calls, call, since)
+        look_again(machine, ways, calls, call, since, nests)
     } else {
         look_new(machine, ways, calls, call, since)
     }
@@ -281,10 +348,11 @@ fn settle_all(machine: &Machine, ways: &[Way], calls: &mut [Call], since: Since)
     requires new { AreNewSince machine.now ways.now calls.old since }
     ensures { ArePairwise (IsSettled (IsSequence machine.now ways.now) calls.old) calls.old calls.new }
 {
+    let nests = first_nesting(machine, calls, since.calls);
     for k in 0..calls.len() {
         if !is_up_to_date(calls, calls[k]) {
             let all = &calls[..];
-            let wait = look(machine, ways, all, &all[k], k, since);
+            let wait = look(machine, ways, all, &all[k], k, since, nests);
             calls[k] = Call {
                 blocked: wait.blocked,
                 seen: wait.seen,

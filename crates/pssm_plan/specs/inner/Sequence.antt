@@ -65,6 +65,11 @@ AreApartFrom m ways calls first =
     → (IsOrderedBySome m ways (slice_index_or calls k d).item (slice_index_or calls j d).item
     ⊎ IsOrderedBySome m ways (slice_index_or calls j d).item (slice_index_or calls k d).item) → ⊥
 
+-- Of these calls, none from the first of these places on and before the second comes before any by where their States lie.
+abbrev pub AreLooseUpTo : DraftMachine → List Call → ℕ → ℕ → Type 0
+AreLooseUpTo m calls first nests =
+    (k : ℕ) (d : Call) (x : Item) → first ≤ k → k < nests → k < length calls → IsNestedPair m (slice_index_or calls k d).item x → ⊥
+
 -- The calls from this place on are new: no way orders one of them and another, and only ways from this place on call them.
 pub record AreNewSince (m : DraftMachine) (ways : List Way) (calls : List Call) (since : Since) : Type 0 where
   pub within : since.calls ≤ length calls

@@ -4,7 +4,7 @@ use Rattle.pssm_model.specs.declared.steps.Item.TheVariants.{Exit}
 use Rattle.pssm_plan.specs.declared.roster.Call.{Call}
 use Rattle.pssm_plan.specs.inner.Marks.{IsSettled}
 use Rattle.pssm_plan.specs.inner.Sequence.{IsSequence}
-use Rattle.pssm_plan.proofs.ApartCalls.{apart_now, new_now}
+use Rattle.pssm_plan.proofs.ApartCalls.{apart_now, new_now, loose_along}
 use Rattle.pssm_plan.proofs.Looking.{waiting}
 use Rattle.pssm_plan.proofs.Rewriting.{IsRewritten}
 use Rattle.pssm_plan.proofs.Settling.{settled_alike, settled_seen, settled_more, settled_already}
@@ -34,6 +34,12 @@ look-wait-requires-clause-new c = λ above.
     new_now c.args.machine.now c.args.ways.now c.args.calls.now c.loop-k.calls c.args.since c.loop-k.k d
     (settled_alike (IsSequence c.args.machine.now c.args.ways.now) c.args.calls.now c.loop-k.calls c.loop-k.k c.loop-k.invariant)
     c.requires.new lt above
+
+pub look-wait-requires-clause-loose : goal.look-wait-requires-clause-loose
+look-wait-requires-clause-loose c =
+    loose_along c.args.machine.now c.args.calls.now c.loop-k.calls c.args.since.calls c.first_nesting-nests.result
+    (settled_alike (IsSequence c.args.machine.now c.args.ways.now) c.args.calls.now c.loop-k.calls c.loop-k.k c.loop-k.invariant)
+    c.first_nesting-nests.ensures.loose
 
 pub loop-k-preserved : goal.loop-k-preserved
 loop-k-preserved c =
