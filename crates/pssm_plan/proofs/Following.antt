@@ -15,7 +15,7 @@ use Rattle.pssm_plan.specs.declared.progress.Restored.{Restored}
 use Rattle.pssm_plan.specs.Waiting.{IsExact}
 use Rattle.pssm_plan.specs.Ways.{AreWaysIn}
 use Rattle.pssm_plan.specs.inner.ByWays.{calls_by, orders_by}
-use Rattle.pssm_plan.specs.inner.Marks.{IsListed, IsLonger, IsFresh, IsTold, IsForgotten, IsNoted, IsSettled, HasSeen, ArePairwise}
+use Rattle.pssm_plan.specs.inner.Marks.{IsListed, IsLonger, IsFresh, IsTold, IsForgotten, IsNoted, IsSettled, HasSeen, AreThrough, ArePairwise}
 use Rattle.pssm_plan.specs.inner.Sequence.{IsSequence, IsOrderedBySome, AreItemsOf, IsRoster, IsExtended}
 use Rattle.pssm_plan.specs.inner.Calling.{IsTopOpening, IsOfWays, IsEntered}
 use Rattle.pssm_plan.specs.inner.Going.{IsMadeOf, KeepsOrder, IsLongerProgress, IsFollowedPlainly, IsFollowedSo, IsFinished, IsRunSo, IsUnchanged}
@@ -131,6 +131,24 @@ all_seen_told Comes grown now item told seen call inside =
     let g = get_or grown k call in
     subst (λ (c : Call). HasSeen Comes now c) inside.2
     (seen_told Comes grown now item g (get_or now k call) told (told.1 k call low) (seen g (Contains-get_or grown k call low)))
+
+-- those that are not blocked have seen all, as before
+pub told_through : (item : Item) (a b : List Call) → ArePairwise (IsTold item) a b → AreThrough a → AreThrough b
+told_through item a b told through call inside free =
+    let k = inside.0 in
+    let low : k < length a = omega (arith, told.0, inside.1) in
+    let t = told.1 k call low in
+    let was : IsTrue (get_or a k call).blocked → ⊥ =
+    λ blocked. free (subst (λ (c : Call). IsTrue c.blocked) inside.2 (subst (λ (v : Bool). IsTrue v) (sym t.blocked) blocked)) in
+    let seen = through (get_or a k call) (Contains-get_or a k call low) was in
+    let here = ap (λ (c : Call). c.seen) inside.2 in
+    omega (arith, seen, told.0, t.seen, here)
+
+-- where nothing has been added, what is exact has
+pub all_through : (Comes : Item → Item → Type 0) (old grown : List Call) → ((call : Call) → Contains old call → IsExact Comes old call)
+    → grown ≡ old → AreThrough grown
+all_through Comes old grown exact same =
+    subst AreThrough (sym same) (λ call inside free. (let all = (exact call inside).through free in omega (arith, all)))
 
 pub noted_items : (m : DraftMachine) (item : Item) (a b : List Call) → ArePairwise (IsNoted item) a b → AreItemsOf m a → AreItemsOf m b
 noted_items m item a b h were x listed =

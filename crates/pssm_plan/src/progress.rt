@@ -1,5 +1,5 @@
 //! How far a step has come: what it calls, the routes by which it goes, and what it has restored.
-ghost use Rattle.std.specs.Prelude.{◌^◌, ◌≡◌, ◌≢◌, ◌<◌, [], length, take, AllPairs, Contains};
+ghost use Rattle.std.specs.Prelude.{◌^◌, ◌≡◌, ◌≢◌, ◌<◌, ◌≤◌, [], length, take, AllPairs, Contains};
 ghost use Rattle.std.specs.Prelude.{OnOk, OnErr, IfOk, IsTrue};
 ghost use Rattle.pssm_model.specs.declared.steps.Route.{Route as TheRoute};
 ghost use Rattle.pssm_model.specs.declared.steps.How.TheVariants.{Restore};
@@ -10,7 +10,7 @@ ghost use Rattle.pssm_legs.specs.Calls.{IsItemIn};
 ghost use Rattle.pssm_plan.specs.declared.roster.Call.{Call};
 ghost use Rattle.pssm_plan.specs.Waiting.{IsExact};
 ghost use Rattle.pssm_plan.specs.Ways.{AreWaysIn};
-ghost use Rattle.pssm_plan.specs.inner.Marks.{IsFresh, HasSeen, IsNoted, IsSettled, ArePairwise};
+ghost use Rattle.pssm_plan.specs.inner.Marks.{IsFresh, HasSeen, IsTold, IsNoted, AreThrough, IsSettled, ArePairwise};
 ghost use Rattle.pssm_plan.specs.inner.Sequence.{IsSequence, AreItemsOf, AreNewSince, IsRoster, IsExtended};
 ghost use Rattle.pssm_plan.specs.inner.Calling.{IsTopOpening, IsOfWays};
 ghost use Rattle.pssm_plan.specs.inner.Going.{IsMadeOf, AreFired, CanRunSo, KeepsOrder, AreCovered};
@@ -102,7 +102,7 @@ fn settle_first(roster: &mut Roster, machine: &Machine, ways: &[Way]) -> Result<
         calls: roster.calls.len(),
         ways: ways.len(),
     };
-    roster.settle(machine, ways, since);
+    roster.settle(machine, ways, since, true);
     Ok(())
 }
 
@@ -422,6 +422,14 @@ fn new_since(anew: bool, before: Since, now: Since) -> Since
     if anew { now } else { before }
 }
 
+// Whether calls are new, or none may rely on what it has seen.
+#[inline(always)]
+fn has_grown(anew: bool, since: Since, count: usize) -> bool
+    ensures { (IsTrue result → ⊥) → ((IsTrue anew → ⊥) × (count ≤ since.calls)) }
+{
+    anew || since.calls < count
+}
+
 // Notes that an item has run, and has each call forget what it has seen.
 #[inline(never)]
 #[tactic(auto, using(crate::proofs::Following::forgotten_noted, crate::proofs::Following::forgotten_fresh))]
@@ -442,6 +450,7 @@ fn note(roster: &mut Roster, machine: &Machine, ways: &[Way], item: Item, hint: 
     requires seen { (IsTrue anew → ⊥) → (call : Call) → Contains roster.old.calls.items call
         → HasSeen (IsSequence machine.now ways.now) roster.old.calls.items call }
     ensures noted { ArePairwise (IsNoted item) roster.old.calls.items roster.new.calls.items }
+    ensures told { (IsTrue anew → ⊥) → ArePairwise (IsTold item) roster.old.calls.items roster.new.calls.items }
     ensures seen { (call : Call) → Contains roster.new.calls.items call
         → HasSeen (IsSequence machine.now ways.now) roster.new.calls.items call }
 {
@@ -472,8 +481,11 @@ fn finish(
     requires seen { (IsTrue anew → ⊥) → (call : Call) → Contains roster.old.calls.items call
         → HasSeen (IsSequence machine.now ways.now) roster.old.calls.items call }
     requires new { AreNewSince machine.now ways.now roster.old.calls.items since }
+    requires through { (IsTrue anew → ⊥) → length roster.old.calls.items ≤ since.calls
+        → AreThrough roster.old.calls.items }
     ensures { IsFinished machine.now ways.now item roster.old.calls.items roster.new.calls.items }
 {
+    let grown = has_grown(anew, since, roster.calls.len());
     note(roster, machine, ways, item, hint, anew);
-    roster.settle(machine, ways, since);
+    roster.settle(machine, ways, since, grown);
 }

@@ -5,7 +5,7 @@ ghost use Rattle.pssm_legs.specs.Calls.{IsItemIn};
 ghost use Rattle.pssm_plan.specs.declared.roster.Call.{Call};
 ghost use Rattle.pssm_plan.specs.Waiting.{HoldsUp};
 ghost use Rattle.pssm_plan.specs.Ways.{AreWaysIn};
-ghost use Rattle.pssm_plan.specs.inner.Marks.{HasSeen, IsHeldAt, IsUpToDate, IsSettled, IsSettledSo, ArePairwise};
+ghost use Rattle.pssm_plan.specs.inner.Marks.{HasSeen, IsHeldAt, IsUpToDate, AreThrough, IsSettled, IsSettledSo, ArePairwise};
 ghost use Rattle.pssm_plan.specs.inner.Sequence.{IsSomeLong, IsSequence, IsNestedPair, AreItemsOf};
 ghost use Rattle.pssm_plan.specs.inner.Sequence.{AreNewSince, IsNewCall, IsApart, IsNoStay, AreLooseUpTo};
 ghost use Rattle.pssm_model.specs.declared.steps.Item.{Item as Waiting};
@@ -52,15 +52,17 @@ fn holds_at(calls: &[Call], place: u32) -> bool
     }
 }
 
-// Whether a call is blocked by one that has not run yet, or has seen them all.
+// Whether a call is blocked by one that has not run yet, or has seen them all; it has where it is not blocked and the
+// calls are not more than they were.
 #[inline(always)]
-fn is_up_to_date(calls: &[Call], call: Call) -> bool
+fn is_up_to_date(calls: &[Call], call: Call, grown: bool) -> bool
+    requires through { (IsTrue grown → ⊥) → (IsTrue call.blocked → ⊥) → length calls.now ≤ call.seen }
     ensures { IsTrue result → IsUpToDate calls.now call }
 {
     if call.blocked {
         holds_at(calls, call.seen)
     } else {
-        calls.len() <= call.seen as usize
+        !grown || calls.len() <= call.seen as usize
     }
 }
 
@@ -339,18 +341,19 @@ fn look(
 }
 
 // Says of each call whether it waits, and for which one.
-fn settle_all(machine: &Machine, ways: &[Way], calls: &mut [Call], since: Since)
+fn settle_all(machine: &Machine, ways: &[Way], calls: &mut [Call], since: Since, grown: bool)
     requires rules { KeepsModelRules machine.now }
     requires ways { AreWaysIn machine.now ways.now }
     requires items { AreItemsOf machine.now calls.old }
     requires few { length calls.old < 2 ^ 32 }
     requires seen { (call : Call) → Contains calls.old call → HasSeen (IsSequence machine.now ways.now) calls.old call }
     requires new { AreNewSince machine.now ways.now calls.old since }
+    requires through { (IsTrue grown → ⊥) → AreThrough calls.old }
     ensures { ArePairwise (IsSettled (IsSequence machine.now ways.now) calls.old) calls.old calls.new }
 {
     let nests = first_nesting(machine, calls, since.calls);
     for k in 0..calls.len() {
-        if !is_up_to_date(calls, calls[k]) {
+        if !is_up_to_date(calls, calls[k], grown) {
             let all = &calls[..];
             let wait = look(machine, ways, all, &all[k], k, since, nests);
             calls[k] = Call {
@@ -363,9 +366,10 @@ fn settle_all(machine: &Machine, ways: &[Way], calls: &mut [Call], since: Since)
 }
 
 impl Roster {
-    /// Says of each call whether it waits, and for which one.
+    /// Says of each call whether it waits, and for which one. Where the calls are not more than they were, those that are
+    /// not blocked have seen them all.
     #[inline(never)]
-    pub fn settle(&mut self, machine: &Machine, ways: &[Way], since: Since)
+    pub fn settle(&mut self, machine: &Machine, ways: &[Way], since: Since, grown: bool)
         requires rules { KeepsModelRules machine.now }
         requires ways { AreWaysIn machine.now ways.now }
         requires items { AreItemsOf machine.now self.old.calls.items }
@@ -373,9 +377,10 @@ impl Roster {
         requires seen { (call : Call) → Contains self.old.calls.items call
             → HasSeen (IsSequence machine.now ways.now) self.old.calls.items call }
         requires new { AreNewSince machine.now ways.now self.old.calls.items since }
+        requires through { (IsTrue grown → ⊥) → AreThrough self.old.calls.items }
         ensures { ArePairwise (IsSettled (IsSequence machine.now ways.now) self.old.calls.items)
             self.old.calls.items self.new.calls.items }
     {
-        settle_all(machine, ways, self.calls.as_mut_slice(), since);
+        settle_all(machine, ways, self.calls.as_mut_slice(), since, grown);
     }
 }

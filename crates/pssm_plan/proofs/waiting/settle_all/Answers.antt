@@ -1,4 +1,4 @@
-use Rattle.std.proofs.Common.{◌<◌, ◌+◌, List, false, length, get_or, sym, subst, arith}
+use Rattle.std.proofs.Common.{◌<◌, ◌+◌, IsTrue, ap, List, false, length, get_or, sym, subst, arith}
 use Rattle.std.proofs.lemmas.List.Elements.{Contains-get_or}
 use Rattle.pssm_model.specs.declared.steps.Item.TheVariants.{Exit}
 use Rattle.pssm_plan.specs.declared.roster.Call.{Call}
@@ -10,6 +10,20 @@ use Rattle.pssm_plan.proofs.Rewriting.{IsRewritten}
 use Rattle.pssm_plan.proofs.Settling.{settled_alike, settled_seen, settled_more, settled_already}
 use Rattle.pssm_plan.proofs.waiting.settle_all.Goals.{then-not-is_up_to_date, else-not-is_up_to_date}
 use Rattle.pssm_plan.proofs.waiting.settle_all.Goals as goal
+
+pub is_up_to_date-requires : goal.is_up_to_date-requires
+is_up_to_date-requires c = record {
+  through = λ same free.
+      (let d : Call = record { item = Exit (record { 0 = 0 }); ran = false; blocked = false; seen = 0 } in
+      let old = c.args.calls.now in
+      let k = c.loop-k.k in
+      let lt : c.loop-k.k < length c.args.calls.now = omega (arith, c.loop-k.invariant.same_length, c.loop-k-test.true) in
+      let is = c.loop-k.invariant.rest k d (omega arith) in
+      let seen = c.requires.through same (get_or old k d) (Contains-get_or old k d lt)
+      (λ blocked. free (subst (λ (x : Call). IsTrue x.blocked) (sym is) blocked)) in
+      let here = ap (λ (x : Call). x.seen) is in
+      omega (arith, seen, here, c.loop-k.invariant.same_length));
+}
 
 pub look-wait-requires-clause-seen : goal.look-wait-requires-clause-seen
 look-wait-requires-clause-seen c =

@@ -5,3 +5,6 @@ settle_all-requires-clause-seen c = rw (← c.as_mut_slice.ensures.value) at c.r
 
 pub settle_all-requires-clause-new : goal.settle_all-requires-clause-new
 settle_all-requires-clause-new c = rw (← c.as_mut_slice.ensures.value) at c.requires.new
+
+pub settle_all-requires-clause-through : goal.settle_all-requires-clause-through
+settle_all-requires-clause-through c = rw (← c.as_mut_slice.ensures.value) at c.requires.through
