@@ -125,9 +125,17 @@ fn look_by(machine: &Machine, ways: &[Way], calls: &[Call], call: &Call) -> Wait
     }
 }
 
+// Whether ways may order something before an item: nothing before an exit where none of them is long.
+#[inline(always)]
+fn asks_ways(ways: &[Way], item: Item) -> bool
+    ensures { (IsTrue result → ⊥) → IsSomeLong ways.now → ⊥ }
+{
+    !matches!(item, Item::Exit(_)) || some_is_long(ways)
+}
+
 // Whether a call waits, once it has looked further. Of the ways, those that do not call its item say nothing of it.
 #[inline(always)]
-fn look_on(machine: &Machine, ways: &[Way], calls: &[Call], call: &Call) -> Wait
+fn look_near(machine: &Machine, ways: &[Way], calls: &[Call], call: &Call) -> Wait
     requires rules { KeepsModelRules machine.now }
     requires ways { AreWaysIn machine.now ways.now }
     requires items { AreItemsOf machine.now calls.now }
@@ -171,6 +179,24 @@ fn look_nested(machine: &Machine, calls: &[Call], call: &Call) -> Wait
     Wait {
         blocked: false,
         seen: count,
+    }
+}
+
+// Whether a call waits, once it has looked further.
+#[inline(always)]
+fn look_on(machine: &Machine, ways: &[Way], calls: &[Call], call: &Call) -> Wait
+    requires rules { KeepsModelRules machine.now }
+    requires ways { AreWaysIn machine.now ways.now }
+    requires items { AreItemsOf machine.now calls.now }
+    requires item { IsItemIn machine.now call.now.item }
+    requires few { length calls.now < 2 ^ 32 }
+    requires seen { HasSeen (IsSequence machine.now ways.now) calls.now call.now }
+    ensures { IsSettledSo (IsSequence machine.now ways.now) calls.now call.now result }
+{
+    if asks_ways(ways, call.item) {
+        look_near(machine, ways, calls, call)
+    } else {
+        look_further(machine, ways, false, calls, call)
     }
 }
 

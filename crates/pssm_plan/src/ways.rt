@@ -10,6 +10,7 @@ ghost use Rattle.pssm_plan.specs.inner.ByWays.{calls_by, opens_by, orders_by};
 ghost use Rattle.pssm_plan.specs.inner.Sequence.{IsLong, IsSomeLong, MayOrder, IsNestedPair, IsSequence, IsOrderedBySome};
 ghost use Rattle.pssm_plan.specs.inner.Sequence.{IsOpenedBySome, kind_number};
 
+use crate::direct::may_call;
 use pssm_legs::{Legs, calls, legs_of, lone_legs, lone_start, opens_for, orders};
 use pssm_model::{Item, Machine, RegionId, Route, VertexId};
 use std::alloc::{AllocError as NoMemory, Global};
@@ -271,7 +272,7 @@ pub fn comes_before(
     may_come_before(long, *first, *second) && are_in_sequence(machine, ways, long, first, second)
 }
 
-// How many of the ways stand before the first that calls an item.
+// How many of the ways stand before the first that may call an item.
 #[inline(never)]
 fn first_calling(machine: &Machine, ways: &[Way], item: Item) -> usize
     requires rules { KeepsModelRules machine.now }
@@ -281,14 +282,14 @@ fn first_calling(machine: &Machine, ways: &[Way], item: Item) -> usize
     ensures none { (k : ℕ) (way : TakenWay) → k < result → slice_get ways.now k ≡ Some way → calls_by machine.now way item → ⊥ }
 {
     for k in 0..ways.len() {
-        if way_calls(machine, &ways[k], item) {
+        if may_call(machine, &ways[k], item) {
             return k;
         }
     }
     ways.len()
 }
 
-// The number of the ways up to the last that calls an item, of those from a place on; that place where none does.
+// The number of the ways up to the last that may call an item, of those from a place on; that place where none does.
 #[inline(never)]
 fn last_calling(machine: &Machine, ways: &[Way], item: Item, from: usize) -> usize
     requires rules { KeepsModelRules machine.now }
@@ -300,7 +301,7 @@ fn last_calling(machine: &Machine, ways: &[Way], item: Item, from: usize) -> usi
 {
     let mut last = from;
     for k in from..ways.len() {
-        if way_calls(machine, &ways[k], item) {
+        if may_call(machine, &ways[k], item) {
             last = k + 1;
         }
     }
