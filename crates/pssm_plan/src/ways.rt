@@ -1,5 +1,6 @@
 //! `Way`: a route by which a step goes, with its legs.
 ghost use Rattle.std.specs.Prelude.{◌≡◌, ◌≤◌, ◌<◌, ◌↔◌, ◌⊎◌, ℕ, IsTrue, IfOk, Contains, length, slice_get, Some};
+ghost use Rattle.pssm_model.specs.declared.steps.Item.{Item as Called};
 ghost use Rattle.pssm_model.specs.Forest.{LiesInState};
 ghost use Rattle.pssm_model.specs.RouteWords.{IsStepRoute};
 ghost use Rattle.pssm_model.specs.WellFormed.{KeepsModelRules};
@@ -8,9 +9,10 @@ ghost use Rattle.pssm_plan.specs.declared.ways.Way.{Way as TakenWay};
 ghost use Rattle.pssm_plan.specs.Ways.{IsWayIn, AreWaysIn};
 ghost use Rattle.pssm_plan.specs.inner.ByWays.{calls_by, opens_by, orders_by};
 ghost use Rattle.pssm_plan.specs.inner.Sequence.{IsLong, IsSomeLong, MayOrder, IsNestedPair, IsSequence, IsOrderedBySome};
-ghost use Rattle.pssm_plan.specs.inner.Sequence.{IsOpenedBySome, kind_number};
+ghost use Rattle.pssm_plan.specs.inner.Sequence.{IsOpenedBySome, IsNoEnd, kind_number};
 
 use crate::direct::may_call;
+use crate::near::leads_on_near;
 use pssm_legs::{Legs, calls, legs_of, lone_legs, lone_start, opens_for, orders};
 use pssm_model::{Item, Machine, RegionId, Route, VertexId};
 use std::alloc::{AllocError as NoMemory, Global};
@@ -102,6 +104,44 @@ pub fn some_way_opens(machine: &Machine, ways: &[Way], s: VertexId, r: RegionId)
     false
 }
 
+// Whether an item is an opening or a pick, which a leg may call at its end.
+#[inline(always)]
+fn is_end(item: Item) -> bool
+    ensures { (IsTrue result → ⊥) → IsNoEnd item }
+{
+    matches!(item, Item::Opened(_, _) | Item::Pick(_))
+}
+
+// Whether the entry of a State may come before an item by a way: before what its leg calls at the end, or what another
+// leg calls.
+#[inline(always)]
+fn entry_may_lead(machine: &Machine, way: &Way, s: VertexId, second: Item) -> bool
+    requires rules { KeepsModelRules machine.now }
+    requires way { IsWayIn machine.now way.now }
+    requires state { s.0 < length machine.now.vertices }
+    ensures { orders_by machine.now way.now (Called.Enter s) second → IsTrue result }
+{
+    let _shaped = machine.regions();
+    if is_end(second) {
+        return true;
+    }
+    leads_on_near(machine, way, s)
+}
+
+// Whether the first of two items may come before the second by a way.
+#[inline(always)]
+fn may_lead(machine: &Machine, way: &Way, first: Item, second: Item) -> bool
+    requires rules { KeepsModelRules machine.now }
+    requires way { IsWayIn machine.now way.now }
+    requires first { IsItemIn machine.now first }
+    ensures { orders_by machine.now way.now first second → IsTrue result }
+{
+    match first {
+        Item::Enter(s) => entry_may_lead(machine, way, s, second),
+        Item::Exit(_) | Item::Effect(_) | Item::Opened(_, _) | Item::Pick(_) => true,
+    }
+}
+
 // Whether the first of two items comes before the second by a way that calls both.
 #[inline(always)]
 fn way_orders(machine: &Machine, way: &Way, first: Item, second: Item) -> bool
@@ -111,7 +151,7 @@ fn way_orders(machine: &Machine, way: &Way, first: Item, second: Item) -> bool
     requires second { IsItemIn machine.now second }
     ensures { IsTrue result ↔ orders_by machine.now way.now first second }
 {
-    orders(machine, &way.legs, way.fires, first, second)
+    may_lead(machine, way, first, second) && orders(machine, &way.legs, way.fires, first, second)
 }
 
 // Whether the first of two items comes before the second by one of the ways.

@@ -90,6 +90,12 @@ pub record IsApart (m : DraftMachine) (ways : List Way) (calls : List Call) (cal
   pub free : IsTrue call.blocked → ⊥
   pub apart : (k : ℕ) (d : Call) → call.seen ≤ k → k < length calls → IsOrderedBySome m ways (slice_index_or calls k d).item call.item → ⊥
 
+-- The item is neither an opening nor a pick.
+abbrev pub IsNoEnd : Item → Type 0
+IsNoEnd (Opened r mode) = ⊥
+IsNoEnd (Pick c) = ⊥
+IsNoEnd _ = Unit {0}
+
 -- The item is neither an exit nor an entry.
 abbrev pub IsNoStay : Item → Type 0
 IsNoStay (Exit s) = ⊥
