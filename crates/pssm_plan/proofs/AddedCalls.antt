@@ -219,11 +219,11 @@ abbrev pub MeetsNone : DraftMachine → Way → List Call → Type 0
 MeetsNone m way calls = (x : Item) → IsListed calls x → calls_by m way x → ⊥
 
 pub none_met_more : (m : DraftMachine) (way : Way) (calls : List Call) (i : ℕ) (d : Call) (found : Bool) → i < length calls
-    → (IsTrue found ↔ calls_by m way (get_or calls i d).item) → found ≡ false → MeetsNone m way (take i calls) → MeetsNone m way (take (i + 1) calls)
+    → (calls_by m way (get_or calls i d).item → IsTrue found) → found ≡ false → MeetsNone m way (take i calls) → MeetsNone m way (take (i + 1) calls)
 none_met_more m way calls i d found lt same missed h x listed called =
     ⊎_elim
     (λ was. h x (listed.0, was, listed.2) called)
     (λ now. let is : x ≡ (get_or calls i d).item = (let e = listed.2 in cc (now, e)) in
-    let met : found ≡ true = same.1 (subst (calls_by m way) is called) in
+    let met : found ≡ true = same (subst (calls_by m way) is called) in
     absurd (cc (met, missed)))
     (taken_cases calls i d listed.0 lt listed.1)

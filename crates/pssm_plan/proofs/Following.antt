@@ -1,7 +1,7 @@
 -- The progress of a step as an item runs: what is listed is a roster, and what each call has seen.
 use Rattle.std.proofs.Common.{◌≡◌, ◌⊎◌, ◌<◌, ◌++◌, ◌^◌, ℕ, Bool, List, [], ◌∷◌, length, get_or, take, Contains, IsTrue}
 use Rattle.std.proofs.Common.{arith, inl, inr, refl, sym, subst, ap, ⊎_elim, ◌∙◌}
-use Rattle.std.proofs.lemmas.List.{get_or_append_left, take_at}
+use Rattle.std.proofs.lemmas.List.{take_at}
 use Rattle.std.proofs.lemmas.List.Elements.{Contains-push_cases, Contains-append_left, Contains-get_or}
 use Rattle.pssm_model.specs.declared.elements.DraftMachine.{DraftMachine}
 use Rattle.pssm_model.specs.declared.steps.How.{How}
@@ -15,30 +15,31 @@ use Rattle.pssm_plan.specs.declared.progress.Restored.{Restored}
 use Rattle.pssm_plan.specs.Waiting.{IsExact}
 use Rattle.pssm_plan.specs.Ways.{AreWaysIn}
 use Rattle.pssm_plan.specs.inner.ByWays.{calls_by, orders_by}
-use Rattle.pssm_plan.specs.inner.Marks.{IsListed, IsLonger, IsFresh, IsTold, IsForgotten, IsNoted, IsSettled, HasSeen, ArePairwise}
-use Rattle.pssm_plan.specs.inner.Sequence.{IsSequence, AreItemsOf, IsRoster, IsExtended}
+use Rattle.pssm_plan.specs.inner.Marks.{IsListed, IsLonger, IsFresh, IsTold, IsForgotten, IsNoted, IsSettled, HasSeen, AreThrough, ArePairwise}
+use Rattle.pssm_plan.specs.inner.Sequence.{IsSequence, IsOrderedBySome, AreItemsOf, IsRoster, IsExtended}
 use Rattle.pssm_plan.specs.inner.Calling.{IsTopOpening, IsOfWays, IsEntered}
 use Rattle.pssm_plan.specs.inner.Going.{IsMadeOf, KeepsOrder, IsLongerProgress, IsFollowedPlainly, IsFollowedSo, IsFinished, IsRunSo, IsUnchanged}
 use Rattle.pssm_plan.proofs.Growing.{longer_same}
 use Rattle.pssm_plan.proofs.Firing.{nothing_among, one_more_way}
-use Rattle.pssm_plan.proofs.NearWays.{way_calls_second}
+use Rattle.pssm_plan.proofs.NearWays.{way_calls_first, way_calls_second}
 use Rattle.pssm_plan.proofs.Rewriting.{listed_along}
-use Rattle.pssm_plan.proofs.Settling.{seen_fresh, seen_within, seen_longer, seen_told}
+use Rattle.pssm_plan.proofs.Settling.{seen_fresh, seen_longer, seen_told}
 
 -- a way that calls no listed item orders none of them
 pub order_kept : (m : DraftMachine) (calls : List Call) (ways : List Way) (way : Way) → ((x : Item) × IsListed calls x × calls_by m way x → ⊥)
     → KeepsOrder m calls ways (ways ++ way ∷ [])
-order_kept m calls ways way none x y first second h =
+order_kept m calls ways way none x y listed h =
     ⊎_elim
-    (λ nested. inl nested)
-    (λ ordered. ⊎_elim
-    (λ was. inr (ordered.0, was, ordered.2))
-    (λ this. absurd (none (y, second, way_calls_second m way x y (subst (λ (w : Way). orders_by m w x y) (sym this) ordered.2))))
-    (Contains-push_cases ways way ordered.0 ordered.1))
-    h
+    (λ was. (h.0, was, h.2))
+    (λ this. (let orders = subst (λ (w : Way). orders_by m w x y) (sym this) h.2 in
+    ⊎_elim
+    (λ first. absurd (none (x, first, way_calls_first m way x y orders)))
+    (λ second. absurd (none (y, second, way_calls_second m way x y orders)))
+    listed))
+    (Contains-push_cases ways way h.0 h.1)
 
 pub order_same : (m : DraftMachine) (calls : List Call) (ways more : List Way) → more ≡ ways → KeepsOrder m calls ways more
-order_same m calls ways more same x y first second h = subst (λ (l : List Way). IsSequence m l x y) same h
+order_same m calls ways more same x y listed h = subst (λ (l : List Way). IsOrderedBySome m l x y) same h
 
 -- more ways order what the ways so far do
 sequence_longer : (m : DraftMachine) (ways more : List Way) (x y : Item) → IsLonger ways more → IsSequence m ways x y → IsSequence m more x y
@@ -58,21 +59,16 @@ module _ (m : DraftMachine) (old grown : List Call) (ways more : List Way) (long
   seen_over_ways : (call : Call) → Contains old call → IsExact (IsSequence m ways) old call → HasSeen (IsSequence m more) grown call
   seen_over_ways call inside exact =
       let seen = seen_longer (IsSequence m ways) old grown call longer exact in
-      let within = seen_within (IsSequence m ways) old call exact in
       record {
         within = seen.within;
         passed = λ k d lt there up.
-            (let low : k < length old = omega (arith, lt, within) in
-            seen.passed k d lt there (kept (get_or grown k d).item call.item (listed_at k d low) (call, inside, refl) up.0, up.1));
+            (let was = ⊎_elim
+            (λ nested. inl nested)
+            (λ ordered. inr (kept (get_or grown k d).item call.item (inr (call, inside, refl)) ordered))
+            up.0 in
+            seen.passed k d lt there (was, up.1));
         there = λ blocked d there. sequence_longer m ways more (get_or grown call.seen d).item call.item further (seen.there blocked d there);
       }
-    where
-      listed_at : (k : ℕ) (d : Call) → k < length old → IsListed old (get_or grown k d).item
-      listed_at k d low = (
-        get_or old k d,
-        Contains-get_or old k d low,
-        ap (λ (c : Call). c.item) (sym (ap (λ (l : List Call). get_or l k d) longer.1 ∙ get_or_append_left old longer.0 d k low)),
-      )
 
   pub all_seen_over_ways : ((call : Call) → Contains old call → IsExact (IsSequence m ways) old call)
       → ((call : Call) → Contains grown call → Contains old call ⊎ IsFresh call)
@@ -135,6 +131,24 @@ all_seen_told Comes grown now item told seen call inside =
     let g = get_or grown k call in
     subst (λ (c : Call). HasSeen Comes now c) inside.2
     (seen_told Comes grown now item g (get_or now k call) told (told.1 k call low) (seen g (Contains-get_or grown k call low)))
+
+-- those that are not blocked have seen all, as before
+pub told_through : (item : Item) (a b : List Call) → ArePairwise (IsTold item) a b → AreThrough a → AreThrough b
+told_through item a b told through call inside free =
+    let k = inside.0 in
+    let low : k < length a = omega (arith, told.0, inside.1) in
+    let t = told.1 k call low in
+    let was : IsTrue (get_or a k call).blocked → ⊥ =
+    λ blocked. free (subst (λ (c : Call). IsTrue c.blocked) inside.2 (subst (λ (v : Bool). IsTrue v) (sym t.blocked) blocked)) in
+    let seen = through (get_or a k call) (Contains-get_or a k call low) was in
+    let here = ap (λ (c : Call). c.seen) inside.2 in
+    omega (arith, seen, told.0, t.seen, here)
+
+-- where nothing has been added, what is exact has
+pub all_through : (Comes : Item → Item → Type 0) (old grown : List Call) → ((call : Call) → Contains old call → IsExact Comes old call)
+    → grown ≡ old → AreThrough grown
+all_through Comes old grown exact same =
+    subst AreThrough (sym same) (λ call inside free. (let all = (exact call inside).through free in omega (arith, all)))
 
 pub noted_items : (m : DraftMachine) (item : Item) (a b : List Call) → ArePairwise (IsNoted item) a b → AreItemsOf m a → AreItemsOf m b
 noted_items m item a b h were x listed =

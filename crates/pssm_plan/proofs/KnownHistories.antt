@@ -1,5 +1,5 @@
 -- Which vertices are history vertices, States and final states is known.
-use Rattle.std.proofs.Common.{◌≡◌, ◌<◌, ℕ, length, Some, inr}
+use Rattle.std.proofs.Common.{◌≡◌, ◌<◌, length, Some, inr}
 use Rattle.std.proofs.lemmas.Option.{slice_get_within}
 use Rattle.pssm_model.specs.declared.ids.VertexId.{VertexId}
 use Rattle.pssm_model.specs.declared.ids.RegionId.{RegionId}

@@ -12,6 +12,9 @@ pub mod BetweenWays
 pub mod OrderedKinds
 pub mod NearWays
 pub mod NearItems
+pub mod LeadingLegs
+pub mod DirectWays
+pub mod ApartCalls
 pub mod Telling
 pub mod StandingItems
 pub mod ReadyCalls

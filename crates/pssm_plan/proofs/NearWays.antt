@@ -38,6 +38,24 @@ module _ (m : DraftMachine) (p : Route) where
   leg_calls_second fires x y t is (enter_end first a b) = (t, is, inr (inl b))
   leg_calls_second fires x y t is (later next leads a b) = (next, later_is_on t next leads, b)
 
+  path_begins_on : (t u : TransId) → PathBefore m p t u → On p t
+  path_begins_on t u (next_step first second v k e l) = first
+  path_begins_on t u (after_step {u = w} first second) = path_begins_on t w first
+
+  -- and the first
+  leg_calls_first : (fires : Bool) (x y : Item) (t : TransId) → On p t → IsOrderedInLeg m fires p t x y → IsCalledBy m fires p x
+  leg_calls_first fires x y t is (exit_effect first second a b) = (t, is, inl a)
+  leg_calls_first fires x y t is (path {u = u} {w = w} same before) =
+      let on = path_begins_on u w before in (u, on, inl (itself on))
+  leg_calls_first fires x y t is (effect_enter first second a b) = (t, is, inl a)
+  leg_calls_first fires x y t is (effect_end first a b) = (t, is, inl a)
+  leg_calls_first fires x y t is (enter_end first a b) = (t, is, inl a)
+  leg_calls_first fires x y t is (later next leads a b) = (t, is, inl a)
+
+-- of two items that a way orders, it calls the first
+pub way_calls_first : (m : DraftMachine) (way : Way) (x y : Item) → orders_by m way x y → calls_by m way x
+way_calls_first m way x y h = leg_calls_first m way.route.value way.fires x y h.0 h.1 h.2
+
 -- of two items that a way orders, it calls the second
 pub way_calls_second : (m : DraftMachine) (way : Way) (x y : Item) → orders_by m way x y → calls_by m way y
 way_calls_second m way x y h = leg_calls_second m way.route.value way.fires x y h.0 h.1 h.2

@@ -40,8 +40,8 @@ use Rattle.pssm_plan.specs.Ways.{AreWaysOf}
 use Rattle.pssm_plan.specs.Plans.{IsPlanOf}
 use Rattle.pssm_plan.specs.inner.Marks.{IsListed, IsMarked, IsNoted, IsSettled, ArePairwise}
 use Rattle.pssm_plan.specs.inner.Sequence.{IsSequence, IsRoster, IsExtended}
-use Rattle.pssm_plan.specs.inner.Calling.{IsTopOpening, IsOfWays, IsLate, IsOfRestored, IsEntered}
-use Rattle.pssm_plan.specs.inner.Going.{IsMadeOf, AreFired, CanRunSo, IsFollowedRestoring, IsFollowedSo, IsRunSo}
+use Rattle.pssm_plan.specs.inner.Calling.{IsTopOpening, MayRun, IsNoExit, IsOfWays, IsLate, IsOfRestored, IsEntered}
+use Rattle.pssm_plan.specs.inner.Going.{IsMadeOf, AreFired, AreCovered, CanRunSo, IsFollowedRestoring, IsFollowedSo, IsRunSo}
 use Rattle.pssm_plan.specs.inner.Views.{nothing_held}
 use Rattle.pssm_plan.proofs.MoreRan.{gone_on, nothing_ran, run_more}
 use Rattle.pssm_plan.proofs.WayLaws.{called_is, called_of, before_both, called_there}
@@ -191,6 +191,18 @@ module _ (m : DraftMachine) (shape : HasShape m) (plan : Agenda) (h : IsPlanOf m
           let on = get_or plan.calls k d in
           before_both (course_of plan) plan.ways plan.restored h.ways on.item call.item
           ((h.called on.item).0 (on, Contains-get_or plan.calls k d lt, refl)) ((h.called call.item).0 (call, inside, refl))
+
+may_run : (course : Course) (x : Item) → IsNoExit x → MayRun course.at_head x
+may_run course (items.Exit s) none = absurd none
+may_run course (items.Effect t) none = tt
+may_run course (items.Enter s) none = tt
+may_run course (items.Opened r mode) none = tt
+may_run course (items.Pick c) none = tt
+
+-- what its ways call is listed, but for exits
+pub plan_covered : (m : DraftMachine) (plan : Agenda) → IsPlanOf m plan → AreCovered m plan.ways plan.calls
+plan_covered m plan h way x inside none calls =
+    (h.called x).1 (called_of (course_of plan) plan.ways plan.restored h.ways x (inr (inl (way, inside, may_run (course_of plan) x none, calls))))
 
 -- the tables of a start hold the configuration before anything has happened
 pub nothing_at_start : Agree (configuration_of nothing_held) nothing_yet

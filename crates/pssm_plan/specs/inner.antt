@@ -6,3 +6,4 @@ pub mod Views
 pub mod OverRoutes
 pub mod Near
 pub mod ByWays
+pub mod Direct

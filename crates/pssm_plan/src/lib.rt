@@ -4,6 +4,7 @@
 //! This crate knows nothing of behaviours, journals or objects.
 #![tactic(auto)]
 
+mod direct;
 mod laws;
 mod listing;
 mod near;

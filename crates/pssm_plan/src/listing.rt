@@ -15,8 +15,10 @@ ghost use Rattle.pssm_plan.specs.inner.Sequence.{IsRoster, IsExtended};
 ghost use Rattle.pssm_plan.specs.inner.Calling.{IsTopOpening, IsExitBy, IsEffectBy, IsEntryBy, IsOpeningBy, IsPickBy};
 ghost use Rattle.pssm_plan.specs.inner.Calling.{IsEffectAmong, IsEffectOf, IsEffectOfSome, IsPickAt, IsPickAtSome};
 ghost use Rattle.pssm_plan.specs.inner.Calling.{IsOtherBy, IsReopened, IsLate, IsOfRestored, IsOpeningOf, MayRun};
+ghost use Rattle.pssm_plan.specs.inner.Direct.{IsDirect, IsReopenedIn};
 ghost use Rattle.pssm_plan.specs.inner.Calling.{IsDefaultOf, IsRestoredOf, IsOpenedByEntry, IsEntered};
 
+use crate::direct::{direct_region, may_call_directly};
 use crate::near::comes_near;
 use crate::progress::Restored;
 use crate::roster::{Call, Roster, has_run};
@@ -26,8 +28,40 @@ use pssm_legs::Leg;
 use pssm_model::{Item, Machine, Mode, Owner, RegionId, TransId, VertexId};
 use std::alloc::AllocError as NoMemory;
 
-/// Whether a listed item is one that the way calls.
+// Whether a listed item is one that a way may call, which ends in the region where it exits and enters.
+#[inline(always)]
+fn meets_directly(machine: &Machine, calls: &[Call], way: &Way, r: RegionId) -> bool
+    requires rules { KeepsModelRules machine.now }
+    requires way { IsWayIn machine.now way.now }
+    requires direct { IsDirect machine.now way.now r }
+    ensures { ((x : Called) × IsListed calls.now x × calls_by machine.now way.now x) → IsTrue result }
+{
+    let _shaped = machine.regions();
+    for call in calls {
+        if may_call_directly(way, r, call.item) {
+            return true;
+        }
+    }
+    false
+}
+
+/// Whether a listed item may be one that the way calls.
+#[inline(always)]
 pub fn meets(machine: &Machine, calls: &[Call], way: &Way) -> bool
+    requires rules { KeepsModelRules machine.now }
+    requires way { IsWayIn machine.now way.now }
+    requires items { (x : Called) → IsListed calls.now x → IsItemIn machine.now x }
+    ensures { ((x : Called) × IsListed calls.now x × calls_by machine.now way.now x) → IsTrue result }
+{
+    match direct_region(machine, way) {
+        Some(r) => meets_directly(machine, calls, way, r),
+        None => meets_somewhere(machine, calls, way),
+    }
+}
+
+// Whether a listed item is one that the way calls.
+#[inline(never)]
+fn meets_somewhere(machine: &Machine, calls: &[Call], way: &Way) -> bool
     requires rules { KeepsModelRules machine.now }
     requires way { IsWayIn machine.now way.now }
     requires items { (x : Called) → IsListed calls.now x → IsItemIn machine.now x }
@@ -150,8 +184,24 @@ impl Roster {
         self.list_legs(machine, way.legs.more.as_slice())
     }
 
-    // Lists the entries that a way calls.
-    fn list_entries(&mut self, machine: &Machine, way: &Way) -> Result<(), NoMemory>
+    // Lists an item where a way calls it.
+    #[inline(always)]
+    fn list_called(&mut self, machine: &Machine, way: &Way, item: Item) -> Result<(), NoMemory>
+        requires rules { KeepsModelRules machine.now }
+        requires roster { IsRoster machine.now self.old.calls.items }
+        requires way { IsWayIn machine.now way.now }
+        requires item { IsItemIn machine.now item }
+        ensures calls { IsLonger self.old.calls.items self.new.calls.items }
+        ensures added { OnOk result (IsExtended machine.now self.old.calls.items
+            (λ x. (x ≡ item) × calls_by machine.now way.now item) self.new.calls.items) }
+    {
+        let wanted = way_calls(machine, way, item);
+        self.add(machine, item, wanted)
+    }
+
+    // Lists the entries that a way calls, asking of each vertex.
+    #[inline(never)]
+    fn list_all_entries(&mut self, machine: &Machine, way: &Way) -> Result<(), NoMemory>
         requires rules { KeepsModelRules machine.now }
         requires roster { IsRoster machine.now self.old.calls.items }
         requires way { IsWayIn machine.now way.now }
@@ -167,9 +217,31 @@ impl Roster {
         Ok(())
     }
 
-    // Lists the openings in a mode that a way calls.
+    // Lists the entries that a way calls.
     #[inline(always)]
-    fn list_openings(&mut self, machine: &Machine, way: &Way, mode: Mode) -> Result<(), NoMemory>
+    fn list_entries(&mut self, machine: &Machine, way: &Way) -> Result<(), NoMemory>
+        requires rules { KeepsModelRules machine.now }
+        requires roster { IsRoster machine.now self.old.calls.items }
+        requires way { IsWayIn machine.now way.now }
+        ensures calls { IsLonger self.old.calls.items self.new.calls.items }
+        ensures added { OnOk result (IsExtended machine.now self.old.calls.items
+            (IsEntryBy machine.now way.now) self.new.calls.items) }
+    {
+        let _shaped = machine.regions();
+        match direct_region(machine, way) {
+            Some(_) => self.list_called(machine, way, Item::Enter(way.legs.first.last)),
+            None => self.list_all_entries(machine, way),
+        }
+    }
+
+    // Lists the openings in a mode that a way calls, asking of each region.
+    #[inline(never)]
+    fn list_all_openings(
+        &mut self,
+        machine: &Machine,
+        way: &Way,
+        mode: Mode,
+    ) -> Result<(), NoMemory>
         requires rules { KeepsModelRules machine.now }
         requires roster { IsRoster machine.now self.old.calls.items }
         requires way { IsWayIn machine.now way.now }
@@ -183,6 +255,23 @@ impl Roster {
             self.add(machine, opening, wanted)?;
         }
         Ok(())
+    }
+
+    // Lists the openings in a mode that a way calls.
+    #[inline(always)]
+    fn list_openings(&mut self, machine: &Machine, way: &Way, mode: Mode) -> Result<(), NoMemory>
+        requires rules { KeepsModelRules machine.now }
+        requires roster { IsRoster machine.now self.old.calls.items }
+        requires way { IsWayIn machine.now way.now }
+        ensures calls { IsLonger self.old.calls.items self.new.calls.items }
+        ensures added { OnOk result (IsExtended machine.now self.old.calls.items
+            (IsOpeningBy machine.now way.now mode) self.new.calls.items) }
+    {
+        let _shaped = machine.regions();
+        match direct_region(machine, way) {
+            Some(r) => self.list_called(machine, way, Item::Opened(r, mode)),
+            None => self.list_all_openings(machine, way, mode),
+        }
     }
 
     // Lists the pick of the vertex on which a leg of a way ends, where the way calls it.
@@ -289,8 +378,32 @@ impl Roster {
         }
     }
 
-    // Lists the openings of regions of States whose entries have run, and which a way enters once more.
-    fn list_reopened(&mut self, machine: &Machine, way: &Way) -> Result<(), NoMemory>
+    // Lists the openings of regions of a State whose entry has run, and which a way enters once more.
+    fn list_reopened_in(
+        &mut self,
+        machine: &Machine,
+        way: &Way,
+        s: VertexId,
+    ) -> Result<(), NoMemory>
+        requires rules { KeepsModelRules machine.now }
+        requires roster { IsRoster machine.now self.old.calls.items }
+        requires way { IsWayIn machine.now way.now }
+        requires state { s.0 < length machine.now.vertices }
+        ensures calls { IsLonger self.old.calls.items self.new.calls.items }
+        ensures added { OnOk result (IsExtended machine.now self.old.calls.items
+            (IsReopenedIn machine.now self.old.calls.items way.now s) self.new.calls.items) }
+    {
+        for r in machine.regions_of(s) {
+            let reopened = self.is_reopened(machine, way, *r);
+            self.add(machine, Item::Opened(*r, Mode::Plain), reopened)?;
+        }
+        Ok(())
+    }
+
+    // Lists the openings of regions of States whose entries have run, and which a way enters once more, asking of each
+    // region.
+    #[inline(never)]
+    fn list_all_reopened(&mut self, machine: &Machine, way: &Way) -> Result<(), NoMemory>
         requires rules { KeepsModelRules machine.now }
         requires roster { IsRoster machine.now self.old.calls.items }
         requires way { IsWayIn machine.now way.now }
@@ -307,6 +420,22 @@ impl Roster {
             )?;
         }
         Ok(())
+    }
+
+    // Lists the openings of regions of States whose entries have run, and which a way enters once more.
+    fn list_reopened(&mut self, machine: &Machine, way: &Way) -> Result<(), NoMemory>
+        requires rules { KeepsModelRules machine.now }
+        requires roster { IsRoster machine.now self.old.calls.items }
+        requires way { IsWayIn machine.now way.now }
+        ensures calls { IsLonger self.old.calls.items self.new.calls.items }
+        ensures added { OnOk result (IsExtended machine.now self.old.calls.items
+            (IsReopened machine.now self.old.calls.items way.now) self.new.calls.items) }
+    {
+        let _shaped = machine.regions();
+        match direct_region(machine, way) {
+            Some(_) => self.list_reopened_in(machine, way, way.legs.first.last),
+            None => self.list_all_reopened(machine, way),
+        }
     }
 
     /// Lists what a late way calls.

@@ -4,7 +4,7 @@ ghost use Rattle.pssm_model.specs.declared.ids.TransId.{TransId as Transition};
 ghost use Rattle.pssm_legs.specs.declared.legs.Leg.{Leg as TakenLeg};
 ghost use Rattle.pssm_legs.specs.LegsOf.{IsLegIn};
 ghost use Rattle.pssm_plan.specs.Ways.{IsWayIn};
-ghost use Rattle.pssm_plan.specs.inner.Near.{IsNear, IsNearAmong, EndsNear, IsNearSome, ComesNear};
+ghost use Rattle.pssm_plan.specs.inner.Near.{IsNear, IsNearAmong, EndsNear, IsNearSome, ComesNear, LeadsOnNear};
 
 use crate::ways::{Way, lies_in};
 use pssm_legs::Leg;
@@ -89,4 +89,19 @@ pub fn comes_near(machine: &Machine, way: &Way, s: VertexId) -> bool
     ensures { IsTrue result ↔ ComesNear machine.now way.now s }
 {
     ends_near(machine, &way.legs.first, s) || more_end_near(machine, way, s)
+}
+
+/// Whether a leg of a way ends near a State behind which another leg is listed. Only then the entry of the State may come
+/// before what another leg calls.
+#[inline(never)]
+pub fn leads_on_near(machine: &Machine, way: &Way, s: VertexId) -> bool
+    requires way { IsWayIn machine.now way.now }
+    requires state { s.0 < length machine.now.vertices }
+    ensures { IsTrue result ↔ LeadsOnNear machine.now way.now s }
+{
+    let more = way.legs.more.as_slice();
+    if more.len() == 0 {
+        return false;
+    }
+    ends_near(machine, &way.legs.first, s) || some_ends_near(machine, &more[..more.len() - 1], s)
 }

@@ -1,5 +1,5 @@
 //! How far a step has come: what it calls, the routes by which it goes, and what it has restored.
-ghost use Rattle.std.specs.Prelude.{◌^◌, ◌≡◌, ◌≢◌, ◌<◌, [], length, take, AllPairs, Contains};
+ghost use Rattle.std.specs.Prelude.{◌^◌, ◌≡◌, ◌≢◌, ◌<◌, ◌≤◌, [], length, take, AllPairs, Contains};
 ghost use Rattle.std.specs.Prelude.{OnOk, OnErr, IfOk, IsTrue};
 ghost use Rattle.pssm_model.specs.declared.steps.Route.{Route as TheRoute};
 ghost use Rattle.pssm_model.specs.declared.steps.How.TheVariants.{Restore};
@@ -10,16 +10,17 @@ ghost use Rattle.pssm_legs.specs.Calls.{IsItemIn};
 ghost use Rattle.pssm_plan.specs.declared.roster.Call.{Call};
 ghost use Rattle.pssm_plan.specs.Waiting.{IsExact};
 ghost use Rattle.pssm_plan.specs.Ways.{AreWaysIn};
-ghost use Rattle.pssm_plan.specs.inner.Marks.{IsFresh, HasSeen, IsNoted, IsSettled, ArePairwise};
-ghost use Rattle.pssm_plan.specs.inner.Sequence.{IsSequence, AreItemsOf, IsRoster, IsExtended};
+ghost use Rattle.pssm_plan.specs.inner.Marks.{IsFresh, HasSeen, IsTold, IsNoted, AreThrough, IsSettled, ArePairwise};
+ghost use Rattle.pssm_plan.specs.inner.Sequence.{IsSequence, AreItemsOf, AreNewSince, IsRoster, IsExtended};
 ghost use Rattle.pssm_plan.specs.inner.Calling.{IsTopOpening, IsOfWays};
-ghost use Rattle.pssm_plan.specs.inner.Going.{IsMadeOf, AreFired, CanRunSo, KeepsOrder};
+ghost use Rattle.pssm_plan.specs.inner.Going.{IsMadeOf, AreFired, CanRunSo, KeepsOrder, AreCovered};
 ghost use Rattle.pssm_plan.specs.inner.Going.{IsFollowedBy, IsFollowedRestoring};
 ghost use Rattle.pssm_plan.specs.inner.Going.{IsFollowedPlainly, IsFollowedSo};
 ghost use Rattle.pssm_plan.specs.inner.Going.{IsLongerProgress, IsFinished, IsRunSo, IsUnchanged};
 
 use crate::listing::meets;
 use crate::roster::Roster;
+use crate::waiting::Since;
 use crate::ways::{Way, way_of};
 use pssm_config::Config;
 use pssm_model::{How, Item, Machine, Mode, Route, VertexId};
@@ -97,7 +98,11 @@ fn settle_first(roster: &mut Roster, machine: &Machine, ways: &[Way]) -> Result<
     if roster.calls.as_slice().len() > MOST_CALLS {
         return Err(NoMemory);
     }
-    roster.settle(machine, ways);
+    let since = Since {
+        calls: roster.calls.len(),
+        ways: ways.len(),
+    };
+    roster.settle(machine, ways, since, true);
     Ok(())
 }
 
@@ -180,6 +185,18 @@ impl Progress {
         list_all_fired(&mut self.roster, machine, config, ways)?;
         settle_first(&mut self.roster, machine, ways)?;
         Ok(())
+    }
+
+    // The places behind its calls and its ways.
+    #[inline(always)]
+    fn places(&self) -> Since
+        ensures calls { result.calls ≡ length self.now.roster.calls.items }
+        ensures ways { result.ways ≡ length self.now.ways.items }
+    {
+        Since {
+            calls: self.roster.calls.len(),
+            ways: self.ways.len(),
+        }
     }
 
     // Gives up what was listed, gone by and restored beyond these numbers.
@@ -371,6 +388,7 @@ impl Progress {
         requires roster { IsRoster machine.now self.old.roster.calls.items }
         requires ways { AreWaysIn machine.now self.old.ways.items }
         requires item { IsItemIn machine.now item }
+        requires covered { AreCovered machine.now self.old.ways.items self.old.roster.calls.items }
         requires exact { (call : Call) → Contains self.old.roster.calls.items call
             → IsExact (IsSequence machine.now self.old.ways.items) self.old.roster.calls.items
             call }
@@ -379,17 +397,37 @@ impl Progress {
         ensures few { OnOk result (length self.new.roster.calls.items < 2 ^ 32) }
         ensures refused { OnErr result (IsUnchanged self.old self.new) }
     {
+        let before = self.places();
         let anew = self.follow_whole(alloc, machine, item, how)?;
+        let since = new_since(anew, before, self.places());
         finish(
             &mut self.roster,
             machine,
             self.ways.as_slice(),
             item,
             hint,
+            since,
             anew,
         );
         Ok(())
     }
+}
+
+// From which places on calls and ways are new; where none may rely on what it has seen, none is.
+#[inline(always)]
+fn new_since(anew: bool, before: Since, now: Since) -> Since
+    ensures anew { IsTrue anew → result ≡ now }
+    ensures new { (IsTrue anew → ⊥) → result ≡ before }
+{
+    if anew { now } else { before }
+}
+
+// Whether calls are new, or none may rely on what it has seen.
+#[inline(always)]
+fn has_grown(anew: bool, since: Since, count: usize) -> bool
+    ensures { (IsTrue result → ⊥) → ((IsTrue anew → ⊥) × (count ≤ since.calls)) }
+{
+    anew || since.calls < count
 }
 
 // Notes that an item has run, and has each call forget what it has seen.
@@ -412,6 +450,7 @@ fn note(roster: &mut Roster, machine: &Machine, ways: &[Way], item: Item, hint: 
     requires seen { (IsTrue anew → ⊥) → (call : Call) → Contains roster.old.calls.items call
         → HasSeen (IsSequence machine.now ways.now) roster.old.calls.items call }
     ensures noted { ArePairwise (IsNoted item) roster.old.calls.items roster.new.calls.items }
+    ensures told { (IsTrue anew → ⊥) → ArePairwise (IsTold item) roster.old.calls.items roster.new.calls.items }
     ensures seen { (call : Call) → Contains roster.new.calls.items call
         → HasSeen (IsSequence machine.now ways.now) roster.new.calls.items call }
 {
@@ -426,15 +465,27 @@ fn note(roster: &mut Roster, machine: &Machine, ways: &[Way], item: Item, hint: 
 // none may rely on what it has seen.
 #[inline(always)]
 #[tactic(auto, using(crate::proofs::Following::noted_items))]
-fn finish(roster: &mut Roster, machine: &Machine, ways: &[Way], item: Item, hint: usize, anew: bool)
+fn finish(
+    roster: &mut Roster,
+    machine: &Machine,
+    ways: &[Way],
+    item: Item,
+    hint: usize,
+    since: Since,
+    anew: bool,
+)
     requires rules { KeepsModelRules machine.now }
     requires ways { AreWaysIn machine.now ways.now }
     requires roster { IsRoster machine.now roster.old.calls.items }
     requires few { length roster.old.calls.items < 2 ^ 32 }
     requires seen { (IsTrue anew → ⊥) → (call : Call) → Contains roster.old.calls.items call
         → HasSeen (IsSequence machine.now ways.now) roster.old.calls.items call }
+    requires new { AreNewSince machine.now ways.now roster.old.calls.items since }
+    requires through { (IsTrue anew → ⊥) → length roster.old.calls.items ≤ since.calls
+        → AreThrough roster.old.calls.items }
     ensures { IsFinished machine.now ways.now item roster.old.calls.items roster.new.calls.items }
 {
+    let grown = has_grown(anew, since, roster.calls.len());
     note(roster, machine, ways, item, hint, anew);
-    roster.settle(machine, ways);
+    roster.settle(machine, ways, since, grown);
 }

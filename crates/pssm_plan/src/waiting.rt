@@ -1,22 +1,31 @@
 //! Which of the listed items wait for others.
-ghost use Rattle.std.specs.Prelude.{◌↔◌, ◌<◌, ◌^◌, IsTrue, Contains, length};
+ghost use Rattle.std.specs.Prelude.{◌≡◌, ◌↔◌, ◌<◌, ◌≤◌, ◌^◌, IsTrue, Contains, length};
 ghost use Rattle.pssm_model.specs.WellFormed.{KeepsModelRules};
 ghost use Rattle.pssm_legs.specs.Calls.{IsItemIn};
 ghost use Rattle.pssm_plan.specs.declared.roster.Call.{Call};
 ghost use Rattle.pssm_plan.specs.Waiting.{HoldsUp};
 ghost use Rattle.pssm_plan.specs.Ways.{AreWaysIn};
-ghost use Rattle.pssm_plan.specs.inner.Marks.{HasSeen, IsHeldAt, IsUpToDate, IsSettled, IsSettledSo, ArePairwise};
-ghost use Rattle.pssm_plan.specs.inner.Sequence.{IsSomeLong, IsSequence, AreItemsOf};
+ghost use Rattle.pssm_plan.specs.inner.Marks.{HasSeen, IsHeldAt, IsUpToDate, AreThrough, IsSettled, IsSettledSo, ArePairwise};
+ghost use Rattle.pssm_plan.specs.inner.Sequence.{IsSomeLong, IsSequence, IsNestedPair, AreItemsOf};
+ghost use Rattle.pssm_plan.specs.inner.Sequence.{AreNewSince, IsNewCall, IsApart, IsNoStay, AreLooseUpTo};
+ghost use Rattle.pssm_model.specs.declared.steps.Item.{Item as Waiting};
 
 use crate::roster::{Call, Roster};
-use crate::ways::{Way, comes_before, some_is_long, ways_of};
-use pssm_model::Machine;
+use crate::ways::{Way, comes_before, nests, some_is_long, ways_of};
+use pssm_model::{Item, Machine};
 
 /// Whether an item waits, and how far it has looked.
 #[derive(Clone, Copy)]
 pub struct Wait {
     pub blocked: bool,
     pub seen: u32,
+}
+
+/// From which places on the calls and the ways of a step are new.
+#[derive(Clone, Copy)]
+pub struct Since {
+    pub calls: usize,
+    pub ways: usize,
 }
 
 // Whether a call holds up another: it comes before it and has not run.
@@ -43,15 +52,17 @@ fn holds_at(calls: &[Call], place: u32) -> bool
     }
 }
 
-// Whether a call is blocked by one that has not run yet, or has seen them all.
+// Whether a call is blocked by one that has not run yet, or has seen them all; it has where it is not blocked and the
+// calls are not more than they were.
 #[inline(always)]
-fn is_up_to_date(calls: &[Call], call: Call) -> bool
+fn is_up_to_date(calls: &[Call], call: Call, grown: bool) -> bool
+    requires through { (IsTrue grown → ⊥) → (IsTrue call.blocked → ⊥) → length calls.now ≤ call.seen }
     ensures { IsTrue result → IsUpToDate calls.now call }
 {
     if call.blocked {
         holds_at(calls, call.seen)
     } else {
-        calls.len() <= call.seen as usize
+        !grown || calls.len() <= call.seen as usize
     }
 }
 
@@ -114,9 +125,17 @@ fn look_by(machine: &Machine, ways: &[Way], calls: &[Call], call: &Call) -> Wait
     }
 }
 
+// Whether ways may order something before an item: nothing before an exit where none of them is long.
+#[inline(always)]
+fn asks_ways(ways: &[Way], item: Item) -> bool
+    ensures { (IsTrue result → ⊥) → IsSomeLong ways.now → ⊥ }
+{
+    !matches!(item, Item::Exit(_)) || some_is_long(ways)
+}
+
 // Whether a call waits, once it has looked further. Of the ways, those that do not call its item say nothing of it.
 #[inline(always)]
-fn look_on(machine: &Machine, ways: &[Way], calls: &[Call], call: &Call) -> Wait
+fn look_near(machine: &Machine, ways: &[Way], calls: &[Call], call: &Call) -> Wait
     requires rules { KeepsModelRules machine.now }
     requires ways { AreWaysIn machine.now ways.now }
     requires items { AreItemsOf machine.now calls.now }
@@ -129,19 +148,240 @@ fn look_on(machine: &Machine, ways: &[Way], calls: &[Call], call: &Call) -> Wait
     look_by(machine, near, calls, call)
 }
 
+// Whether a call holds up another since one of their States lies in the other: it comes before it so and has not run.
+#[inline(always)]
+fn holds_up_nested(machine: &Machine, on: &Call, call: &Call) -> bool
+    requires on { IsItemIn machine.now on.now.item }
+    requires item { IsItemIn machine.now call.now.item }
+    ensures { IsTrue result ↔ HoldsUp (IsNestedPair machine.now) on.now call.now.item }
+{
+    !on.ran && nests(machine, on.item, call.item)
+}
+
+// Whether a call waits, once it has looked further for the first call that holds it up by where their States lie.
+#[inline(always)]
+fn look_nested(machine: &Machine, calls: &[Call], call: &Call) -> Wait
+    requires items { AreItemsOf machine.now calls.now }
+    requires item { IsItemIn machine.now call.now.item }
+    requires few { length calls.now < 2 ^ 32 }
+    requires seen { HasSeen (IsNestedPair machine.now) calls.now call.now }
+    ensures { IsSettledSo (IsNestedPair machine.now) calls.now call.now result }
+{
+    let count = calls.len() as u32;
+    for place in call.seen..count {
+        if holds_up_nested(machine, &calls[place as usize], call) {
+            return Wait {
+                blocked: true,
+                seen: place,
+            };
+        }
+    }
+    Wait {
+        blocked: false,
+        seen: count,
+    }
+}
+
+// Whether a call waits, once it has looked further.
+#[inline(always)]
+fn look_on(machine: &Machine, ways: &[Way], calls: &[Call], call: &Call) -> Wait
+    requires rules { KeepsModelRules machine.now }
+    requires ways { AreWaysIn machine.now ways.now }
+    requires items { AreItemsOf machine.now calls.now }
+    requires item { IsItemIn machine.now call.now.item }
+    requires few { length calls.now < 2 ^ 32 }
+    requires seen { HasSeen (IsSequence machine.now ways.now) calls.now call.now }
+    ensures { IsSettledSo (IsSequence machine.now ways.now) calls.now call.now result }
+{
+    if asks_ways(ways, call.item) {
+        look_near(machine, ways, calls, call)
+    } else {
+        look_further(machine, ways, false, calls, call)
+    }
+}
+
+// Whether an item is an exit or an entry, which another may come before by where their States lie.
+#[inline(always)]
+fn may_nest(item: Item) -> bool
+    ensures { (IsTrue result → ⊥) → IsNoStay item }
+{
+    matches!(item, Item::Exit(_) | Item::Enter(_))
+}
+
+// A new call as it looks at the others: exits and entries look at all, and others begin with those that are new.
+#[inline(always)]
+fn begun(machine: &Machine, ways: &[Way], calls: &[Call], call: &Call, since: Since) -> Call
+    requires few { length calls.now < 2 ^ 32 }
+    requires seen { HasSeen (IsSequence machine.now ways.now) calls.now call.now }
+    requires new { IsNewCall machine.now ways.now calls.now call.now since }
+    ensures item { result.item ≡ call.now.item }
+    ensures ran { result.ran ≡ call.now.ran }
+    ensures seen { HasSeen (IsSequence machine.now ways.now) calls.now result }
+{
+    if may_nest(call.item) {
+        return *call;
+    }
+    Call {
+        blocked: false,
+        seen: since.calls as u32,
+        ..*call
+    }
+}
+
+// Whether a new call waits, once it has looked further. Only new ways say something of it.
+#[inline(always)]
+fn look_new(machine: &Machine, ways: &[Way], calls: &[Call], call: &Call, since: Since) -> Wait
+    requires rules { KeepsModelRules machine.now }
+    requires ways { AreWaysIn machine.now ways.now }
+    requires items { AreItemsOf machine.now calls.now }
+    requires item { IsItemIn machine.now call.now.item }
+    requires few { length calls.now < 2 ^ 32 }
+    requires seen { HasSeen (IsSequence machine.now ways.now) calls.now call.now }
+    requires new { IsNewCall machine.now ways.now calls.now call.now since }
+    ensures { IsSettledSo (IsSequence machine.now ways.now) calls.now call.now result }
+{
+    let begun = begun(machine, ways, calls, call, since);
+    let near = &ways[since.ways..];
+    look_by(machine, near, calls, &begun)
+}
+
+// Whether an item may come before others by where their States lie: exits may, and entries of States with regions.
+#[inline(always)]
+fn may_hold(machine: &Machine, item: Item) -> bool
+    requires { IsItemIn machine.now item }
+    ensures { (x : Waiting) → IsNestedPair machine.now item x → IsTrue result }
+{
+    match item {
+        Item::Exit(_) => true,
+        Item::Enter(s) => !machine.regions_of(s).is_empty(),
+        Item::Effect(_) | Item::Opened(_, _) | Item::Pick(_) => false,
+    }
+}
+
+// The place of the first of the new calls that may come before others by where their States lie, or that behind all.
+fn first_nesting(machine: &Machine, calls: &[Call], first: usize) -> usize
+    requires items { AreItemsOf machine.now calls.now }
+    requires first { first ≤ length calls.now }
+    ensures within { result ≤ length calls.now }
+    ensures loose { AreLooseUpTo machine.now calls.now first result }
+{
+    for k in first..calls.len() {
+        if may_hold(machine, calls[k].item) {
+            return k;
+        }
+    }
+    calls.len()
+}
+
+// A call that is not blocked and has seen all before the new ones, as one that has seen all up to a place.
+#[inline(always)]
+fn raised(machine: &Machine, calls: &[Call], call: &Call, first: usize, nests: usize) -> Call
+    requires few { length calls.now < 2 ^ 32 }
+    requires within { nests ≤ length calls.now }
+    requires loose { AreLooseUpTo machine.now calls.now first nests }
+    requires come { first ≤ call.now.seen }
+    requires free { IsTrue call.now.blocked → ⊥ }
+    requires seen { HasSeen (IsNestedPair machine.now) calls.now call.now }
+    ensures item { result.item ≡ call.now.item }
+    ensures ran { result.ran ≡ call.now.ran }
+    ensures seen { HasSeen (IsNestedPair machine.now) calls.now result }
+{
+    if nests <= call.seen as usize {
+        return *call;
+    }
+    Call {
+        seen: nests as u32,
+        ..*call
+    }
+}
+
+// Whether a call is not blocked and has seen all before the new ones.
+#[inline(always)]
+fn has_come_to(call: &Call, since: Since) -> bool
+    ensures { IsTrue result → ((since.calls ≤ call.now.seen) × (IsTrue call.now.blocked → ⊥)) }
+{
+    !call.blocked && since.calls <= call.seen as usize
+}
+
+// Whether a call that is not new waits, once it has looked further.
+#[inline(always)]
+fn look_again(
+    machine: &Machine,
+    ways: &[Way],
+    calls: &[Call],
+    call: &Call,
+    since: Since,
+    nests: usize,
+) -> Wait
+    requires rules { KeepsModelRules machine.now }
+    requires ways { AreWaysIn machine.now ways.now }
+    requires items { AreItemsOf machine.now calls.now }
+    requires item { IsItemIn machine.now call.now.item }
+    requires few { length calls.now < 2 ^ 32 }
+    requires seen { HasSeen (IsSequence machine.now ways.now) calls.now call.now }
+    requires apart { since.calls ≤ call.now.seen → (IsTrue call.now.blocked → ⊥) → IsApart machine.now ways.now calls.now call.now }
+    requires within { nests ≤ length calls.now }
+    requires loose { AreLooseUpTo machine.now calls.now since.calls nests }
+    ensures { IsSettledSo (IsSequence machine.now ways.now) calls.now call.now result }
+{
+    if has_come_to(call, since) {
+        look_nested(
+            machine,
+            calls,
+            &raised(machine, calls, call, since.calls, nests),
+        )
+    } else {
+        look_on(machine, ways, calls, call)
+    }
+}
+
+// Whether the call at a place waits, once it has looked further.
+#[inline(always)]
+fn look(
+    machine: &Machine,
+    ways: &[Way],
+    calls: &[Call],
+    call: &Call,
+    place: usize,
+    since: Since,
+    nests: usize,
+) -> Wait
+    requires rules { KeepsModelRules machine.now }
+    requires ways { AreWaysIn machine.now ways.now }
+    requires items { AreItemsOf machine.now calls.now }
+    requires item { IsItemIn machine.now call.now.item }
+    requires few { length calls.now < 2 ^ 32 }
+    requires seen { HasSeen (IsSequence machine.now ways.now) calls.now call.now }
+    requires apart { place < since.calls → since.calls ≤ call.now.seen → (IsTrue call.now.blocked → ⊥)
+        → IsApart machine.now ways.now calls.now call.now }
+    requires new { since.calls ≤ place → IsNewCall machine.now ways.now calls.now call.now since }
+    requires within { nests ≤ length calls.now }
+    requires loose { AreLooseUpTo machine.now calls.now since.calls nests }
+    ensures { IsSettledSo (IsSequence machine.now ways.now) calls.now call.now result }
+{
+    if place < since.calls {
+        look_again(machine, ways, calls, call, since, nests)
+    } else {
+        look_new(machine, ways, calls, call, since)
+    }
+}
+
 // Says of each call whether it waits, and for which one.
-fn settle_all(machine: &Machine, ways: &[Way], calls: &mut [Call])
+fn settle_all(machine: &Machine, ways: &[Way], calls: &mut [Call], since: Since, grown: bool)
     requires rules { KeepsModelRules machine.now }
     requires ways { AreWaysIn machine.now ways.now }
     requires items { AreItemsOf machine.now calls.old }
     requires few { length calls.old < 2 ^ 32 }
     requires seen { (call : Call) → Contains calls.old call → HasSeen (IsSequence machine.now ways.now) calls.old call }
+    requires new { AreNewSince machine.now ways.now calls.old since }
+    requires through { (IsTrue grown → ⊥) → AreThrough calls.old }
     ensures { ArePairwise (IsSettled (IsSequence machine.now ways.now) calls.old) calls.old calls.new }
 {
+    let nests = first_nesting(machine, calls, since.calls);
     for k in 0..calls.len() {
-        if !is_up_to_date(calls, calls[k]) {
+        if !is_up_to_date(calls, calls[k], grown) {
             let all = &calls[..];
-            let wait = look_on(machine, ways, all, &all[k]);
+            let wait = look(machine, ways, all, &all[k], k, since, nests);
             calls[k] = Call {
                 blocked: wait.blocked,
                 seen: wait.seen,
@@ -152,18 +392,21 @@ fn settle_all(machine: &Machine, ways: &[Way], calls: &mut [Call])
 }
 
 impl Roster {
-    /// Says of each call whether it waits, and for which one.
+    /// Says of each call whether it waits, and for which one. Where the calls are not more than they were, those that are
+    /// not blocked have seen them all.
     #[inline(never)]
-    pub fn settle(&mut self, machine: &Machine, ways: &[Way])
+    pub fn settle(&mut self, machine: &Machine, ways: &[Way], since: Since, grown: bool)
         requires rules { KeepsModelRules machine.now }
         requires ways { AreWaysIn machine.now ways.now }
         requires items { AreItemsOf machine.now self.old.calls.items }
         requires few { length self.old.calls.items < 2 ^ 32 }
         requires seen { (call : Call) → Contains self.old.calls.items call
             → HasSeen (IsSequence machine.now ways.now) self.old.calls.items call }
+        requires new { AreNewSince machine.now ways.now self.old.calls.items since }
+        requires through { (IsTrue grown → ⊥) → AreThrough self.old.calls.items }
         ensures { ArePairwise (IsSettled (IsSequence machine.now ways.now) self.old.calls.items)
             self.old.calls.items self.new.calls.items }
     {
-        settle_all(machine, ways, self.calls.as_mut_slice());
+        settle_all(machine, ways, self.calls.as_mut_slice(), since, grown);
     }
 }

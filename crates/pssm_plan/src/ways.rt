@@ -1,5 +1,6 @@
 //! `Way`: a route by which a step goes, with its legs.
 ghost use Rattle.std.specs.Prelude.{◌≡◌, ◌≤◌, ◌<◌, ◌↔◌, ◌⊎◌, ℕ, IsTrue, IfOk, Contains, length, slice_get, Some};
+ghost use Rattle.pssm_model.specs.declared.steps.Item.{Item as Called};
 ghost use Rattle.pssm_model.specs.Forest.{LiesInState};
 ghost use Rattle.pssm_model.specs.RouteWords.{IsStepRoute};
 ghost use Rattle.pssm_model.specs.WellFormed.{KeepsModelRules};
@@ -8,8 +9,10 @@ ghost use Rattle.pssm_plan.specs.declared.ways.Way.{Way as TakenWay};
 ghost use Rattle.pssm_plan.specs.Ways.{IsWayIn, AreWaysIn};
 ghost use Rattle.pssm_plan.specs.inner.ByWays.{calls_by, opens_by, orders_by};
 ghost use Rattle.pssm_plan.specs.inner.Sequence.{IsLong, IsSomeLong, MayOrder, IsNestedPair, IsSequence, IsOrderedBySome};
-ghost use Rattle.pssm_plan.specs.inner.Sequence.{IsOpenedBySome, kind_number};
+ghost use Rattle.pssm_plan.specs.inner.Sequence.{IsOpenedBySome, IsNoEnd, kind_number};
 
+use crate::direct::may_call;
+use crate::near::leads_on_near;
 use pssm_legs::{Legs, calls, legs_of, lone_legs, lone_start, opens_for, orders};
 use pssm_model::{Item, Machine, RegionId, Route, VertexId};
 use std::alloc::{AllocError as NoMemory, Global};
@@ -101,6 +104,44 @@ pub fn some_way_opens(machine: &Machine, ways: &[Way], s: VertexId, r: RegionId)
     false
 }
 
+// Whether an item is an opening or a pick, which a leg may call at its end.
+#[inline(always)]
+fn is_end(item: Item) -> bool
+    ensures { (IsTrue result → ⊥) → IsNoEnd item }
+{
+    matches!(item, Item::Opened(_, _) | Item::Pick(_))
+}
+
+// Whether the entry of a State may come before an item by a way: before what its leg calls at the end, or what another
+// leg calls.
+#[inline(always)]
+fn entry_may_lead(machine: &Machine, way: &Way, s: VertexId, second: Item) -> bool
+    requires rules { KeepsModelRules machine.now }
+    requires way { IsWayIn machine.now way.now }
+    requires state { s.0 < length machine.now.vertices }
+    ensures { orders_by machine.now way.now (Called.Enter s) second → IsTrue result }
+{
+    let _shaped = machine.regions();
+    if is_end(second) {
+        return true;
+    }
+    leads_on_near(machine, way, s)
+}
+
+// Whether the first of two items may come before the second by a way.
+#[inline(always)]
+fn may_lead(machine: &Machine, way: &Way, first: Item, second: Item) -> bool
+    requires rules { KeepsModelRules machine.now }
+    requires way { IsWayIn machine.now way.now }
+    requires first { IsItemIn machine.now first }
+    ensures { orders_by machine.now way.now first second → IsTrue result }
+{
+    match first {
+        Item::Enter(s) => entry_may_lead(machine, way, s, second),
+        Item::Exit(_) | Item::Effect(_) | Item::Opened(_, _) | Item::Pick(_) => true,
+    }
+}
+
 // Whether the first of two items comes before the second by a way that calls both.
 #[inline(always)]
 fn way_orders(machine: &Machine, way: &Way, first: Item, second: Item) -> bool
@@ -110,7 +151,7 @@ fn way_orders(machine: &Machine, way: &Way, first: Item, second: Item) -> bool
     requires second { IsItemIn machine.now second }
     ensures { IsTrue result ↔ orders_by machine.now way.now first second }
 {
-    orders(machine, &way.legs, way.fires, first, second)
+    may_lead(machine, way, first, second) && orders(machine, &way.legs, way.fires, first, second)
 }
 
 // Whether the first of two items comes before the second by one of the ways.
@@ -190,10 +231,10 @@ fn are_ordered(machine: &Machine, ways: &[Way], long: bool, first: &Item, second
     may_be_ordered(long, *first, *second) && some_way_orders(machine, ways, first, second)
 }
 
-// Whether the first of two items comes before the second since one of their States lies in the other: exits from
-// within, entries from without.
+/// Whether the first of two items comes before the second since one of their States lies in the other: exits from
+/// within, entries from without.
 #[inline(always)]
-fn nests(machine: &Machine, first: Item, second: Item) -> bool
+pub fn nests(machine: &Machine, first: Item, second: Item) -> bool
     requires first { IsItemIn machine.now first }
     requires second { IsItemIn machine.now second }
     ensures { IsTrue result ↔ IsNestedPair machine.now first second }
@@ -271,7 +312,7 @@ pub fn comes_before(
     may_come_before(long, *first, *second) && are_in_sequence(machine, ways, long, first, second)
 }
 
-// How many of the ways stand before the first that calls an item.
+// How many of the ways stand before the first that may call an item.
 #[inline(never)]
 fn first_calling(machine: &Machine, ways: &[Way], item: Item) -> usize
     requires rules { KeepsModelRules machine.now }
@@ -281,14 +322,14 @@ fn first_calling(machine: &Machine, ways: &[Way], item: Item) -> usize
     ensures none { (k : ℕ) (way : TakenWay) → k < result → slice_get ways.now k ≡ Some way → calls_by machine.now way item → ⊥ }
 {
     for k in 0..ways.len() {
-        if way_calls(machine, &ways[k], item) {
+        if may_call(machine, &ways[k], item) {
             return k;
         }
     }
     ways.len()
 }
 
-// The number of the ways up to the last that calls an item, of those from a place on; that place where none does.
+// The number of the ways up to the last that may call an item, of those from a place on; that place where none does.
 #[inline(never)]
 fn last_calling(machine: &Machine, ways: &[Way], item: Item, from: usize) -> usize
     requires rules { KeepsModelRules machine.now }
@@ -300,7 +341,7 @@ fn last_calling(machine: &Machine, ways: &[Way], item: Item, from: usize) -> usi
 {
     let mut last = from;
     for k in from..ways.len() {
-        if way_calls(machine, &ways[k], item) {
+        if may_call(machine, &ways[k], item) {
             last = k + 1;
         }
     }

@@ -1,5 +1,5 @@
 -- How the progress of a step begins, and how it goes on as an item runs.
-use Rattle.std.specs.Prelude.{◌≡◌, ◌↔◌, ◌<◌, ◌++◌, List, [], ◌∷◌, length, Contains, false}
+use Rattle.std.specs.Prelude.{◌≡◌, ◌⊎◌, ◌↔◌, ◌<◌, ◌++◌, List, [], ◌∷◌, length, Contains, false}
 use Rattle.pssm_model.specs.declared.ids.VertexId.{VertexId}
 use Rattle.pssm_model.specs.declared.ids.RegionId.{RegionId}
 use Rattle.pssm_model.specs.declared.elements.DraftMachine.{DraftMachine}
@@ -15,8 +15,9 @@ use Rattle.pssm_plan.specs.declared.roster.Call.{Call}
 use Rattle.pssm_plan.specs.declared.progress.Progress.{Progress}
 use Rattle.pssm_plan.specs.Ways.{IsWayIn, AreWaysIn, IsWayTaken, IsWayFired}
 use Rattle.pssm_plan.specs.inner.Marks.{IsListed, IsLonger, IsNoted, IsSettled, ArePairwise}
-use Rattle.pssm_plan.specs.inner.Sequence.{IsSequence, IsExtended}
-use Rattle.pssm_plan.specs.inner.Calling.{IsLate, IsOfRestored, IsEntered}
+use Rattle.pssm_plan.specs.inner.ByWays.{calls_by}
+use Rattle.pssm_plan.specs.inner.Sequence.{IsSequence, IsOrderedBySome, IsExtended}
+use Rattle.pssm_plan.specs.inner.Calling.{IsNoExit, IsLate, IsOfRestored, IsEntered}
 
 -- the list of a roster that has these items, none of which has run
 pub record IsMadeOf (m : DraftMachine) (ways : List Way) (Added : Item → Type 0) (calls : List Call) : Type 0 where
@@ -36,9 +37,13 @@ CanRunSo m item (By p) = IsStepRoute m p
 CanRunSo m item (Restore s) = (s.0 < length m.vertices) × ((r : RegionId) × (mode : Mode) × (item ≡ Opened r mode))
 CanRunSo m item Nothing = Unit {0}
 
--- Of listed items, more ways order none that the ways so far do not.
+-- Of two items one of which is listed, more ways order none that the ways so far do not.
 abbrev pub KeepsOrder : DraftMachine → List Call → List Way → List Way → Type 0
-KeepsOrder m calls ways more = (x y : Item) → IsListed calls x → IsListed calls y → IsSequence m more x y → IsSequence m ways x y
+KeepsOrder m calls ways more = (x y : Item) → (IsListed calls x ⊎ IsListed calls y) → IsOrderedBySome m more x y → IsOrderedBySome m ways x y
+
+-- What the ways call is listed, but for exits.
+abbrev pub AreCovered : DraftMachine → List Way → List Call → Type 0
+AreCovered m ways calls = (way : Way) (x : Item) → Contains ways way → IsNoExit x → calls_by m way x → IsListed calls x
 
 -- More is listed, gone by and restored than before.
 pub record IsLongerProgress (old new : Progress) : Type 0 where

@@ -1,5 +1,5 @@
 -- Near which States the legs of a way end: only such a State may they enter.
-use Rattle.std.specs.Prelude.{◌≡◌, ◌⊎◌, List, Some, IsTrue, Contains}
+use Rattle.std.specs.Prelude.{◌≡◌, ◌⊎◌, ◌<◌, ◌-◌, List, Some, IsTrue, Contains, length, take}
 use Rattle.pssm_model.specs.declared.ids.VertexId.{VertexId}
 use Rattle.pssm_model.specs.declared.ids.TransId.{TransId}
 use Rattle.pssm_model.specs.declared.elements.DraftMachine.{DraftMachine}
@@ -34,3 +34,9 @@ IsNearSome m legs s = (leg : Leg) × Contains legs leg × EndsNear m leg s
 -- A leg of the way does.
 abbrev pub ComesNear : DraftMachine → Way → VertexId → Type 0
 ComesNear m way s = EndsNear m way.legs.first s ⊎ IsNearSome m way.legs.more.items s
+
+-- A leg of the way does behind which another is listed.
+abbrev pub LeadsOnNear : DraftMachine → Way → VertexId → Type 0
+LeadsOnNear m way s =
+    (0 < length way.legs.more.items)
+    × (EndsNear m way.legs.first s ⊎ IsNearSome m (take (length way.legs.more.items - 1) way.legs.more.items) s)

@@ -1,5 +1,5 @@
 -- Which of the items that a step calls come before which, in a step that goes by these ways; and the lists of its items.
-use Rattle.std.specs.Prelude.{◌⊎◌, ◌↔◌, ◌<◌, ◌≢◌, ℕ, List, Contains, AllPairs, length}
+use Rattle.std.specs.Prelude.{◌⊎◌, ◌↔◌, ◌<◌, ◌≤◌, ◌≢◌, ℕ, List, IsTrue, Contains, AllPairs, drop, length, slice_index_or}
 use Rattle.pssm_model.specs.declared.ids.VertexId.{VertexId}
 use Rattle.pssm_model.specs.declared.ids.RegionId.{RegionId}
 use Rattle.pssm_model.specs.declared.elements.DraftMachine.{DraftMachine}
@@ -9,7 +9,8 @@ use Rattle.pssm_model.specs.Forest.{LiesInState}
 use Rattle.pssm_legs.specs.Calls.{IsItemIn}
 use Rattle.pssm_plan.specs.declared.ways.Way.{Way}
 use Rattle.pssm_plan.specs.declared.roster.Call.{Call}
-use Rattle.pssm_plan.specs.inner.ByWays.{opens_by, orders_by}
+use Rattle.pssm_plan.specs.declared.waiting.Since.{Since}
+use Rattle.pssm_plan.specs.inner.ByWays.{calls_by, opens_by, orders_by}
 use Rattle.pssm_plan.specs.inner.Marks.{IsListed, IsMarked, IsFresh}
 
 -- One of the ways opens the region of the State.
@@ -56,6 +57,50 @@ kind_number (Pick c) = 4
 -- The first of two called items comes before the second.
 abbrev pub IsSequence : DraftMachine → List Way → Item → Item → Type 0
 IsSequence m ways x y = IsNestedPair m x y ⊎ IsOrderedBySome m ways x y
+
+-- Of these calls, no way orders one from this place on and one that stands before the place.
+abbrev pub AreApartFrom : DraftMachine → List Way → List Call → ℕ → Type 0
+AreApartFrom m ways calls first =
+    (j k : ℕ) (d : Call) → j < first → first ≤ k → k < length calls
+    → (IsOrderedBySome m ways (slice_index_or calls k d).item (slice_index_or calls j d).item
+    ⊎ IsOrderedBySome m ways (slice_index_or calls j d).item (slice_index_or calls k d).item) → ⊥
+
+-- Of these calls, none from the first of these places on and before the second comes before any by where their States lie.
+abbrev pub AreLooseUpTo : DraftMachine → List Call → ℕ → ℕ → Type 0
+AreLooseUpTo m calls first nests =
+    (k : ℕ) (d : Call) (x : Item) → first ≤ k → k < nests → k < length calls → IsNestedPair m (slice_index_or calls k d).item x → ⊥
+
+-- The calls from this place on are new: no way orders one of them and another, and only ways from this place on call them.
+pub record AreNewSince (m : DraftMachine) (ways : List Way) (calls : List Call) (since : Since) : Type 0 where
+  pub within : since.calls ≤ length calls
+  pub ways_within : since.ways ≤ length ways
+  pub apart : AreApartFrom m ways calls since.calls
+  pub by : (k : ℕ) (d : Call) → since.calls ≤ k → k < length calls → (way : Way) → Contains ways way
+      → calls_by m way (slice_index_or calls k d).item → Contains (drop since.ways ways) way
+
+-- The call is one of these.
+pub record IsNewCall (m : DraftMachine) (ways : List Way) (calls : List Call) (call : Call) (since : Since) : Type 0 where
+  pub within : since.calls ≤ length calls
+  pub ways_within : since.ways ≤ length ways
+  pub apart : (j : ℕ) (d : Call) → j < since.calls → j < length calls → IsOrderedBySome m ways (slice_index_or calls j d).item call.item → ⊥
+  pub by : (way : Way) → Contains ways way → calls_by m way call.item → Contains (drop since.ways ways) way
+
+-- The call is not blocked, and no way orders one that it has not seen before it.
+pub record IsApart (m : DraftMachine) (ways : List Way) (calls : List Call) (call : Call) : Type 0 where
+  pub free : IsTrue call.blocked → ⊥
+  pub apart : (k : ℕ) (d : Call) → call.seen ≤ k → k < length calls → IsOrderedBySome m ways (slice_index_or calls k d).item call.item → ⊥
+
+-- The item is neither an opening nor a pick.
+abbrev pub IsNoEnd : Item → Type 0
+IsNoEnd (Opened r mode) = ⊥
+IsNoEnd (Pick c) = ⊥
+IsNoEnd _ = Unit {0}
+
+-- The item is neither an exit nor an entry.
+abbrev pub IsNoStay : Item → Type 0
+IsNoStay (Exit s) = ⊥
+IsNoStay (Enter s) = ⊥
+IsNoStay _ = Unit {0}
 
 -- What each listed item names is there.
 abbrev pub AreItemsOf : DraftMachine → List Call → Type 0

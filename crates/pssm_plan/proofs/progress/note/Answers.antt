@@ -5,6 +5,12 @@ use Rattle.pssm_plan.proofs.Settling.{seen_fresh}
 use Rattle.pssm_plan.proofs.Following.{all_seen_told}
 use Rattle.pssm_plan.proofs.progress.note.Goals as goal
 
+pub returns-then-anew-clause-told : goal.returns-then-anew-clause-told
+returns-then-anew-clause-told c = λ free. absurd (free c.if-anew.true)
+
+pub returns-else-anew-clause-told : goal.returns-else-anew-clause-told
+returns-else-anew-clause-told c = λ free. c.tell.ensures.told
+
 pub returns-then-anew-clause-seen : goal.returns-then-anew-clause-seen
 returns-then-anew-clause-seen c =
     λ call inside. seen_fresh (IsSequence c.args.machine.now c.args.ways.now) c.note_anew.new.roster.calls.items call

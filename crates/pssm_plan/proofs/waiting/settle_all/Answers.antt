@@ -1,22 +1,59 @@
-use Rattle.std.proofs.Common.{◌<◌, ◌+◌, List, false, length, get_or, sym, subst, arith}
+use Rattle.std.proofs.Common.{◌<◌, ◌+◌, IsTrue, ap, List, false, length, get_or, sym, subst, arith}
 use Rattle.std.proofs.lemmas.List.Elements.{Contains-get_or}
 use Rattle.pssm_model.specs.declared.steps.Item.TheVariants.{Exit}
 use Rattle.pssm_plan.specs.declared.roster.Call.{Call}
 use Rattle.pssm_plan.specs.inner.Marks.{IsSettled}
 use Rattle.pssm_plan.specs.inner.Sequence.{IsSequence}
+use Rattle.pssm_plan.proofs.ApartCalls.{apart_now, new_now, loose_along}
 use Rattle.pssm_plan.proofs.Looking.{waiting}
 use Rattle.pssm_plan.proofs.Rewriting.{IsRewritten}
-use Rattle.pssm_plan.proofs.Settling.{settled_seen, settled_more, settled_already}
+use Rattle.pssm_plan.proofs.Settling.{settled_alike, settled_seen, settled_more, settled_already}
 use Rattle.pssm_plan.proofs.waiting.settle_all.Goals.{then-not-is_up_to_date, else-not-is_up_to_date}
 use Rattle.pssm_plan.proofs.waiting.settle_all.Goals as goal
 
-pub look_on-wait-requires-clause-seen : goal.look_on-wait-requires-clause-seen
-look_on-wait-requires-clause-seen c =
+pub is_up_to_date-requires : goal.is_up_to_date-requires
+is_up_to_date-requires c = record {
+  through = λ same free.
+      (let d : Call = record { item = Exit (record { 0 = 0 }); ran = false; blocked = false; seen = 0 } in
+      let old = c.args.calls.now in
+      let k = c.loop-k.k in
+      let lt : c.loop-k.k < length c.args.calls.now = omega (arith, c.loop-k.invariant.same_length, c.loop-k-test.true) in
+      let is = c.loop-k.invariant.rest k d (omega arith) in
+      let seen = c.requires.through same (get_or old k d) (Contains-get_or old k d lt)
+      (λ blocked. free (subst (λ (x : Call). IsTrue x.blocked) (sym is) blocked)) in
+      let here = ap (λ (x : Call). x.seen) is in
+      omega (arith, seen, here, c.loop-k.invariant.same_length));
+}
+
+pub look-wait-requires-clause-seen : goal.look-wait-requires-clause-seen
+look-wait-requires-clause-seen c =
     let d : Call = record { item = Exit (record { 0 = 0 }); ran = false; blocked = false; seen = 0 } in
     let old = c.args.calls.now in
     let lt : c.loop-k.k < length c.args.calls.now = omega (arith, c.loop-k.invariant.same_length, c.loop-k-test.true) in
     settled_seen (IsSequence c.args.machine.now c.args.ways.now) old c.loop-k.calls c.loop-k.k c.loop-k.invariant d lt
     (c.requires.seen (get_or old c.loop-k.k d) (Contains-get_or old c.loop-k.k d lt))
+
+pub look-wait-requires-clause-apart : goal.look-wait-requires-clause-apart
+look-wait-requires-clause-apart c = λ below come free.
+    let d : Call = record { item = Exit (record { 0 = 0 }); ran = false; blocked = false; seen = 0 } in
+    let lt : c.loop-k.k < length c.args.calls.now = omega (arith, c.loop-k.invariant.same_length, c.loop-k-test.true) in
+    apart_now c.args.machine.now c.args.ways.now c.args.calls.now c.loop-k.calls c.args.since.calls c.loop-k.k d
+    (settled_alike (IsSequence c.args.machine.now c.args.ways.now) c.args.calls.now c.loop-k.calls c.loop-k.k c.loop-k.invariant)
+    c.requires.new.apart lt below come free
+
+pub look-wait-requires-clause-new : goal.look-wait-requires-clause-new
+look-wait-requires-clause-new c = λ above.
+    let d : Call = record { item = Exit (record { 0 = 0 }); ran = false; blocked = false; seen = 0 } in
+    let lt : c.loop-k.k < length c.args.calls.now = omega (arith, c.loop-k.invariant.same_length, c.loop-k-test.true) in
+    new_now c.args.machine.now c.args.ways.now c.args.calls.now c.loop-k.calls c.args.since c.loop-k.k d
+    (settled_alike (IsSequence c.args.machine.now c.args.ways.now) c.args.calls.now c.loop-k.calls c.loop-k.k c.loop-k.invariant)
+    c.requires.new lt above
+
+pub look-wait-requires-clause-loose : goal.look-wait-requires-clause-loose
+look-wait-requires-clause-loose c =
+    loose_along c.args.machine.now c.args.calls.now c.loop-k.calls c.args.since.calls c.first_nesting-nests.result
+    (settled_alike (IsSequence c.args.machine.now c.args.ways.now) c.args.calls.now c.loop-k.calls c.loop-k.k c.loop-k.invariant)
+    c.first_nesting-nests.ensures.loose
 
 pub loop-k-preserved : goal.loop-k-preserved
 loop-k-preserved c =
@@ -30,7 +67,7 @@ loop-k-preserved c =
     let Is : List Call → Type 0 = (λ l. IsRewritten (IsSettled (IsSequence m c.args.ways.now) old) old l (k + 1)) in
     elim c.if-not-is_up_to_date.branch [
       | then-not-is_up_to_date w ↦ subst Is (sym w.calls-is)
-          (settled_more (IsSequence m c.args.ways.now) old now k c.loop-k.invariant d (waiting (get_or now k d) w.look_on-wait.result) lt w.look_on-wait.ensures)
+          (settled_more (IsSequence m c.args.ways.now) old now k c.loop-k.invariant d (waiting (get_or now k d) w.look-wait.result) lt w.look-wait.ensures)
       | else-not-is_up_to_date w ↦ subst Is (sym w.calls-is)
           (settled_already (IsSequence m c.args.ways.now) old now k c.loop-k.invariant d lt seen
           (c.is_up_to_date.ensures w.if-not-is_up_to_date.false))

@@ -3,11 +3,11 @@ use Rattle.std.proofs.lemmas.Option.{slice_get_within}
 use Rattle.pssm_plan.specs.declared.ways.Way.{Way}
 use Rattle.pssm_plan.specs.inner.ByWays.{calls_by}
 use Rattle.pssm_plan.proofs.SomeWay.{is_there, NoneFrom, none_from_here, none_from_next}
-use Rattle.pssm_plan.proofs.ways.last_calling.Goals.{then-way_calls, else-way_calls}
+use Rattle.pssm_plan.proofs.ways.last_calling.Goals.{then-may_call, else-may_call}
 use Rattle.pssm_plan.proofs.ways.last_calling.Goals as goal
 
-pub way_calls-requires-clause-way : goal.way_calls-requires-clause-way
-way_calls-requires-clause-way c =
+pub may_call-requires-clause-way : goal.may_call-requires-clause-way
+may_call-requires-clause-way c =
     c.requires.ways c.index-ways-k.result (is_there c.args.ways.now c.loop-k.k c.index-ways-k.result c.loop-k-test.true c.index-ways-k.is)
 
 pub loop-k-preserved : goal.loop-k-preserved
@@ -15,13 +15,13 @@ loop-k-preserved c =
     let Q : Way → Type 0 = (λ way. calls_by c.args.machine.now way c.args.item) in
     let k = c.loop-k.k in
     let Is : ℕ → Type 0 = (λ n. NoneFrom Q c.args.ways.now n (k + 1)) in
-    elim c.if-way_calls.branch [
-      | then-way_calls w ↦
+    elim c.if-may_call.branch [
+      | then-may_call w ↦
           let is = subst Is (sym w.last-is) (none_from_here Q c.args.ways.now (k + 1)) in record { within = is.within; none = is.none }
-      | else-way_calls w ↦
+      | else-may_call w ↦
           let is = subst Is (sym w.last-is)
           (none_from_next c.args.ways.now k c.index-ways-k.result c.loop-k-test.true c.index-ways-k.is Q c.loop-k.last
-          (λ h. absurd (let yes : c.way_calls.result ≡ true = c.way_calls.ensures.1 h in let no = w.if-way_calls.false in cc))
+          (λ h. absurd (let yes : c.may_call.result ≡ true = c.may_call.ensures h in let no = w.if-may_call.false in cc))
           c.loop-k.invariant.within c.loop-k.invariant.none) in
           record { within = is.within; none = is.none }
     ]

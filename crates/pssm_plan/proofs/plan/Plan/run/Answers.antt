@@ -12,8 +12,9 @@ use Rattle.pssm_plan.specs.declared.roster.Call.{Call}
 use Rattle.pssm_plan.specs.Waiting.{IsExact}
 use Rattle.pssm_plan.specs.Ways.{AreWaysIn}
 use Rattle.pssm_plan.specs.inner.Sequence.{IsRoster, IsSequence}
+use Rattle.pssm_plan.specs.inner.Going.{AreCovered}
 use Rattle.pssm_plan.specs.inner.Views.{head_of, tables_of, steps_of}
-use Rattle.pssm_plan.proofs.Settled.{agenda_of, plan_roster, plan_exact, can_run_so, run_plan}
+use Rattle.pssm_plan.proofs.Settled.{agenda_of, plan_roster, plan_covered, plan_exact, can_run_so, run_plan}
 use Rattle.pssm_plan.proofs.plan.Plan.run.Goals as goal
 
 pub run-outcome-requires-clause-roster : goal.run-outcome-requires-clause-roster
@@ -29,6 +30,11 @@ pub run-outcome-requires-clause-item : goal.run-outcome-requires-clause-item
 run-outcome-requires-clause-item c =
     (plan_roster c.args.machine.now c.regions-shaped.ensures.shaped c.args.self.now c.requires.plan).items c.args.item
     ((c.requires.plan.called c.args.item).1 c.requires.ready.waiting.called)
+
+pub run-outcome-requires-clause-covered : goal.run-outcome-requires-clause-covered
+run-outcome-requires-clause-covered c =
+    subst (λ (p : Agenda). AreCovered c.args.machine.now p.ways p.calls) (sym c.self.view_is)
+    (plan_covered c.args.machine.now c.args.self.now c.requires.plan)
 
 pub run-outcome-requires-clause-exact : goal.run-outcome-requires-clause-exact
 run-outcome-requires-clause-exact c =

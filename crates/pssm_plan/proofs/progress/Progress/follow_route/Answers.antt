@@ -41,4 +41,4 @@ returns-clause-kept c = λ free.
     let ways = c.args.self.now.ways.items in
     subst (λ (l : List Way). KeepsOrder m calls ways l) (sym c.in_ok-push.ensures.items)
     (order_kept m calls ways c.in_ok-way.way
-    (λ h. free (c.meets-anew.ensures.1 (h.0, subst (λ (l : List Call). IsListed l h.0) (sym c.as_slice.ensures.value) h.1, h.2))))
+    (λ h. free (c.meets-anew.ensures (h.0, subst (λ (l : List Call). IsListed l h.0) (sym c.as_slice.ensures.value) h.1, h.2))))

@@ -1,6 +1,6 @@
 use Rattle.pssm_plan.proofs.Growing.{HasGrown}
 use Rattle.pssm_plan.proofs.AddedCalls.{CalledBelow, entry_of}
-use Rattle.pssm_plan.proofs.roster.Roster.list_entries.Given as goal
+use Rattle.pssm_plan.proofs.roster.Roster.list_all_entries.Given as goal
 
 -- the entries of the vertices so far are listed
 abbrev pub invariant-loop-number : goal.invariant-loop-number

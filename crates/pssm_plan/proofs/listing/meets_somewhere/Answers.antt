@@ -4,12 +4,12 @@ use Rattle.std.proofs.lemmas.Bool.{false≢true}
 use Rattle.pssm_plan.specs.declared.roster.Call.{Call}
 use Rattle.pssm_plan.specs.inner.Marks.{IsListed}
 use Rattle.pssm_plan.proofs.AddedCalls.{none_met_more}
-use Rattle.pssm_plan.proofs.listing.meets.Goals as goal
+use Rattle.pssm_plan.proofs.listing.meets_somewhere.Goals as goal
 
 pub loop-call-preserved : goal.loop-call-preserved
 loop-call-preserved c =
     none_met_more c.args.machine.now c.args.way.now c.args.calls.now c.loop-call.call-index _ _ c.loop-call-test.true
-    c.way_calls.ensures c.if-way_calls.false c.loop-call.invariant
+    c.way_calls.ensures.1 c.if-way_calls.false c.loop-call.invariant
 
 pub returns : goal.returns
 returns c =

@@ -1,6 +1,6 @@
 use Rattle.pssm_plan.proofs.Growing.{HasGrown}
 use Rattle.pssm_plan.proofs.AddedCalls.{ReopenedBelow}
-use Rattle.pssm_plan.proofs.roster.Roster.list_reopened.Given as goal
+use Rattle.pssm_plan.proofs.roster.Roster.list_all_reopened.Given as goal
 
 -- the openings of the regions that open once more so far are listed
 abbrev pub invariant-loop-number : goal.invariant-loop-number

@@ -1,6 +1,6 @@
 use Rattle.pssm_plan.proofs.Looking.{waiting}
 use Rattle.pssm_plan.proofs.NearWays.{near_ways, near_seen, near_settled}
-use Rattle.pssm_plan.proofs.waiting.look_on.Goals as goal
+use Rattle.pssm_plan.proofs.waiting.look_near.Goals as goal
 
 pub look_by-requires-clause-ways : goal.look_by-requires-clause-ways
 look_by-requires-clause-ways c =

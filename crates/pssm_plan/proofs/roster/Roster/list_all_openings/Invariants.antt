@@ -1,6 +1,6 @@
 use Rattle.pssm_plan.proofs.Growing.{HasGrown}
 use Rattle.pssm_plan.proofs.AddedCalls.{CalledBelow, opening_of}
-use Rattle.pssm_plan.proofs.roster.Roster.list_openings.Given as goal
+use Rattle.pssm_plan.proofs.roster.Roster.list_all_openings.Given as goal
 
 -- the openings of the regions so far are listed
 abbrev pub invariant-loop-number : goal.invariant-loop-number

@@ -1,0 +1,320 @@
+-- Calls before which no way orders those that they have not seen yet.
+use Rattle.std.proofs.Common.{◌≡◌, ◌⊎◌, ◌<◌, ◌≤◌, ℕ, Bool, List, length, get_or, take, drop, ◌+◌, ◌-◌, Contains, IsTrue, arith, length-append, refl, sym, subst, ap, inl, inr, ⊎_elim, ◌∙◌, ◌↔◌, Some}
+use Rattle.std.proofs.lemmas.Bool.{cases_lt}
+use Rattle.std.proofs.lemmas.List.{get_or_default, get_or_append_left, get_or-drop, length-drop, take_all}
+use Rattle.std.proofs.Math.Seq.{drop-append_seam}
+use Rattle.std.proofs.lemmas.List.Elements.{Contains-get_or, Contains-append_cases}
+use Rattle.pssm_model.specs.declared.ids.VertexId.{VertexId}
+use Rattle.pssm_model.specs.declared.ids.RegionId.{RegionId}
+use Rattle.pssm_model.specs.declared.ids.TransId.{TransId}
+use Rattle.pssm_model.specs.declared.elements.Owner.TheVariants.{Region, State}
+use Rattle.pssm_model.specs.Forest.{owner_of}
+use Rattle.pssm_model.specs.declared.elements.DraftMachine.{DraftMachine}
+use Rattle.pssm_model.specs.declared.steps.How.{How}
+use Rattle.pssm_model.specs.declared.steps.How.TheVariants.{By, Restore, Nothing}
+use Rattle.pssm_model.specs.declared.steps.Mode.{Mode}
+use Rattle.pssm_model.specs.declared.steps.Item.{Item}
+use Rattle.pssm_model.specs.declared.steps.Item.TheVariants as items
+use Rattle.pssm_plan.specs.declared.ways.Way.{Way}
+use Rattle.pssm_plan.specs.declared.roster.Call.{Call}
+use Rattle.pssm_plan.specs.declared.progress.Progress.{Progress}
+use Rattle.pssm_plan.specs.declared.progress.Restored.{Restored}
+use Rattle.pssm_plan.specs.inner.ByWays.{calls_by}
+use Rattle.pssm_plan.specs.inner.Marks.{IsListed, IsLonger, IsNoted, IsSettled, HasSeen, ArePairwise}
+use Rattle.pssm_plan.specs.declared.waiting.Since.{Since}
+use Rattle.pssm_plan.specs.declared.waiting.Wait.{Wait}
+use Rattle.pssm_plan.specs.Waiting.{IsExact}
+use Rattle.pssm_plan.specs.inner.Sequence.{IsSequence, IsNestedPair, IsOrderedBySome, IsNoStay, AreLooseUpTo, AreApartFrom, AreNewSince, IsNewCall, IsApart, IsRoster}
+use Rattle.pssm_plan.specs.inner.Calling.{IsNoExit, IsLate, IsOfRestored, IsEntered}
+use Rattle.pssm_plan.specs.inner.Going.{KeepsOrder, AreCovered, IsFollowedSo}
+use Rattle.pssm_plan.proofs.Growing.{lower_or_same}
+use Rattle.pssm_plan.proofs.Looking.{waiting}
+use Rattle.pssm_plan.proofs.NearWays.{way_calls_first, way_calls_second}
+use Rattle.pssm_plan.proofs.Rewriting.{AreAlike}
+
+-- of what such a call has not seen, only that comes before it which does so by where the States lie
+module _ (m : DraftMachine) (ways : List Way) (calls : List Call) (call : Call) (h : IsApart m ways calls call)
+    (s : HasSeen (IsSequence m ways) calls call) where
+  pub nested_seen : HasSeen (IsNestedPair m) calls call
+  nested_seen = record {
+    within = s.within;
+    passed = λ k d lt inside up. s.passed k d lt inside (inl up.0, up.1);
+    there = λ blocked. absurd (h.free blocked);
+  }
+
+  pub nested_settled : (new : Call) → IsSettled (IsNestedPair m) calls call new → IsSettled (IsSequence m ways) calls call new
+  nested_settled new n = record {
+    item_is = n.item_is;
+    ran = n.ran;
+    exact = record {
+      passed = λ k d lt inside up. ⊎_elim
+          (λ low. s.passed k d low inside (subst (λ (i : Item). IsSequence m ways (get_or calls k d).item i) n.item_is up.0, up.1))
+          (λ high. ⊎_elim
+          (λ nested. n.exact.passed k d lt inside (nested, up.1))
+          (λ ordered. h.apart k d high inside (subst (λ (i : Item). IsOrderedBySome m ways (get_or calls k d).item i) n.item_is ordered))
+          up.0)
+          (cases_lt k call.seen);
+      waits = λ blocked. (let w = n.exact.waits blocked in (w.0, λ d. (inl (w.1 d).0, (w.1 d).1)));
+      through = n.exact.through;
+    };
+  }
+
+-- a call before the first of those that no way orders before the others, which has come to it
+pub apart_now : (m : DraftMachine) (ways : List Way) (old now : List Call) (first i : ℕ) (d : Call) → AreAlike old now → AreApartFrom m ways old first
+    → i < length old → i < first → first ≤ (get_or now i d).seen → (IsTrue (get_or now i d).blocked → ⊥) → IsApart m ways now (get_or now i d)
+apart_now m ways old now first i d alike apart lt below come free = record {
+  free = free;
+  apart = λ k e le inside ordered.
+      (let low : k < length old = omega (arith, alike.0, inside) in
+      let high : first ≤ k = omega (arith, come, le) in
+      let there : i < length now = omega (arith, alike.0, lt) in
+      let here : (get_or now i d).item ≡ (get_or old i e).item = ap (λ (c : Call). c.item) (get_or_default now i d e there) ∙ (alike.1 i e lt).0 in
+      apart i k e below high low
+      (inl (subst (λ (y : Item). IsOrderedBySome m ways (get_or old k e).item y) here
+      (subst (λ (x : Item). IsOrderedBySome m ways x (get_or now i d).item) (alike.1 k e low).0 ordered))));
+}
+
+-- a new call
+pub new_now : (m : DraftMachine) (ways : List Way) (old now : List Call) (since : Since) (i : ℕ) (d : Call) → AreAlike old now
+    → AreNewSince m ways old since → i < length old → since.calls ≤ i → IsNewCall m ways now (get_or now i d) since
+new_now m ways old now since i d alike h lt le = record {
+  within = omega (arith, alike.0, h.within);
+  ways_within = h.ways_within;
+  apart = λ j e before inside ordered.
+      (let low : j < length old = omega (arith, alike.0, inside) in
+      let there : i < length now = omega (arith, alike.0, lt) in
+      let here : (get_or now i d).item ≡ (get_or old i e).item = ap (λ (c : Call). c.item) (get_or_default now i d e there) ∙ (alike.1 i e lt).0 in
+      h.apart j i e before le lt
+      (inr (subst (λ (y : Item). IsOrderedBySome m ways (get_or old j e).item y) here
+      (subst (λ (x : Item). IsOrderedBySome m ways x (get_or now i d).item) (alike.1 j e low).0 ordered))));
+  by = λ way inside calls. h.by i d le lt way inside (subst (calls_by m way) (alike.1 i d lt).0 calls);
+}
+
+no_stay_nested : (m : DraftMachine) (x y : Item) → IsNoStay y → IsNestedPair m x y → ⊥
+no_stay_nested m (items.Exit s) (items.Exit q) none h = none
+no_stay_nested m (items.Exit s) (items.Effect t) none h = h
+no_stay_nested m (items.Exit s) (items.Enter q) none h = none
+no_stay_nested m (items.Exit s) (items.Opened r mode) none h = h
+no_stay_nested m (items.Exit s) (items.Pick c) none h = h
+no_stay_nested m (items.Enter s) (items.Exit q) none h = none
+no_stay_nested m (items.Enter s) (items.Effect t) none h = h
+no_stay_nested m (items.Enter s) (items.Enter q) none h = none
+no_stay_nested m (items.Enter s) (items.Opened r mode) none h = h
+no_stay_nested m (items.Enter s) (items.Pick c) none h = h
+no_stay_nested m (items.Effect t) y none h = h
+no_stay_nested m (items.Opened r mode) y none h = h
+no_stay_nested m (items.Pick c) y none h = h
+
+-- a new call that is neither an exit nor an entry has as good as seen all before the new ones
+pub begun_seen : (m : DraftMachine) (ways : List Way) (calls : List Call) (call begun : Call) (since : Since) → IsNewCall m ways calls call since
+    → IsNoStay call.item → begun.item ≡ call.item → begun.seen ≡ since.calls → (IsTrue begun.blocked → ⊥) → HasSeen (IsSequence m ways) calls begun
+begun_seen m ways calls call begun since h none item seen free = record {
+  within = omega (arith, h.within, seen);
+  passed = λ k d lt inside up. ⊎_elim
+      (λ nested. no_stay_nested m (get_or calls k d).item call.item none
+      (subst (λ (y : Item). IsNestedPair m (get_or calls k d).item y) item nested))
+      (λ ordered. h.apart k d (omega (arith, lt, seen)) inside (subst (λ (y : Item). IsOrderedBySome m ways (get_or calls k d).item y) item ordered))
+      up.0;
+  there = λ blocked. absurd (free blocked);
+}
+
+-- the rest of a list, as a slice from a place on
+module _ {X : Type 0} (xs : List X) (first : ℕ) where
+  rest_is : take (length xs - first) (drop first xs) ≡ drop first xs
+  rest_is = let long = length-drop first xs in take_all (length xs - first) (drop first xs) (omega (arith, long))
+
+  pub rest_some : (x : X) → Contains (take (length xs - first) (drop first xs)) x → Contains xs x
+  rest_some x h =
+      let inside = subst (λ (l : List X). Contains l x) rest_is h in
+      let long = length-drop first xs in
+      (first + inside.0, omega (arith, long, inside.1), sym (get_or-drop first xs inside.0 x) ∙ inside.2)
+
+-- the new ways are all that call a new call
+pub rest_all : (m : DraftMachine) (ways : List Way) (calls : List Call) (call begun : Call) (since : Since) → IsNewCall m ways calls call since
+    → begun.item ≡ call.item → (way : Way) → Contains ways way → calls_by m way begun.item
+    → Contains (take (length ways - since.ways) (drop since.ways ways)) way
+rest_all m ways calls call begun since h same way inside by =
+    subst (λ (l : List Way). Contains l way) (sym (rest_is ways since.ways)) (h.by way inside (subst (calls_by m way) same by))
+
+-- what comes before none by where States lie
+pub loose_regions : (m : DraftMachine) (s : VertexId) (rs : List RegionId)
+    → ((r : RegionId) → Contains rs r ↔ (owner_of m (Region r) ≡ Some (State s))) → (x : Item) → IsNestedPair m (items.Enter s) x
+    → (d : RegionId) → 0 < length rs
+loose_regions m s rs all (items.Enter q) h d = let inside = (all h.0).1 h.1 in let lt = inside.1 in omega (arith, lt)
+loose_regions m s rs all (items.Exit q) h d = absurd h
+loose_regions m s rs all (items.Effect t) h d = absurd h
+loose_regions m s rs all (items.Opened r mode) h d = absurd h
+loose_regions m s rs all (items.Pick c) h d = absurd h
+
+pub loose_effect : (m : DraftMachine) (t : TransId) (x : Item) → IsNestedPair m (items.Effect t) x → ⊥
+loose_effect m t x h = h
+
+pub loose_none : (m : DraftMachine) (calls : List Call) (first : ℕ) → AreLooseUpTo m calls first first
+loose_none m calls first k d x le lt = absurd (omega (arith, le, lt))
+
+pub loose_more : (m : DraftMachine) (calls : List Call) (first k : ℕ) (d : Call) → k < length calls
+    → ((x : Item) → IsNestedPair m (get_or calls k d).item x → ⊥) → AreLooseUpTo m calls first k → AreLooseUpTo m calls first (k + 1)
+loose_more m calls first k d there none h j e x le lt inside nested =
+    ⊎_elim
+    (λ low. h j e x le low inside nested)
+    (λ same. none x (subst (λ (c : Call). IsNestedPair m c.item x) (ap (λ (n : ℕ). get_or calls n e) same ∙ get_or_default calls k e d there) nested))
+    (lower_or_same j k lt)
+
+-- over the same items
+pub loose_along : (m : DraftMachine) (old now : List Call) (first nests : ℕ) → AreAlike old now → AreLooseUpTo m old first nests
+    → AreLooseUpTo m now first nests
+loose_along m old now first nests alike h k d x le lt inside nested =
+    let low : k < length old = omega (arith, alike.0, inside) in
+    h k d x le lt low (subst (λ (i : Item). IsNestedPair m i x) (alike.1 k d low).0 nested)
+
+-- a call that has come to the new ones has as good as seen those that come before none so
+pub raised_seen : (m : DraftMachine) (calls : List Call) (call raised : Call) (first nests : ℕ) → nests ≤ length calls
+    → AreLooseUpTo m calls first nests → first ≤ call.seen → (IsTrue call.blocked → ⊥) → HasSeen (IsNestedPair m) calls call
+    → raised.item ≡ call.item → raised.blocked ≡ call.blocked → raised.seen ≡ nests → HasSeen (IsNestedPair m) calls raised
+raised_seen m calls call raised first nests within loose come free s item blocked seen = record {
+  within = omega (arith, within, seen);
+  passed = λ k d lt inside up.
+      (let here = subst (λ (y : Item). IsNestedPair m (get_or calls k d).item y) item up.0 in
+      ⊎_elim
+      (λ low. s.passed k d low inside (here, up.1))
+      (λ high. loose k d call.item (omega (arith, come, high)) (omega (arith, lt, seen)) inside here)
+      (cases_lt k call.seen));
+  there = λ b. absurd (free (subst (λ (v : Bool). IsTrue v) blocked b));
+}
+
+-- what is settled of a call is so of one of the same item
+pub settled_begun : (Comes : Item → Item → Type 0) (calls : List Call) (begun call : Call) (wait : Wait) → begun.item ≡ call.item
+    → begun.ran ≡ call.ran → IsSettled Comes calls begun (waiting begun wait) → IsSettled Comes calls call (waiting call wait)
+settled_begun Comes calls begun call wait item ran s = record {
+  item_is = refl;
+  ran = refl;
+  exact =
+      subst (λ (c : Call). IsExact Comes calls c)
+      (ap (λ (i : Item). let c : Call = record { item = i; ran = begun.ran; blocked = wait.blocked; seen = wait.seen } in c) item
+      ∙ ap (λ (r : Bool). let c : Call = record { item = call.item; ran = r; blocked = wait.blocked; seen = wait.seen } in c) ran)
+      s.exact;
+}
+
+-- once an item is noted as run
+pub noted_new : (m : DraftMachine) (ways : List Way) (item : Item) (old now : List Call) (since : Since) → ArePairwise (IsNoted item) old now
+    → AreNewSince m ways old since → AreNewSince m ways now since
+noted_new m ways item old now since noted h = record {
+  within = omega (arith, noted.0, h.within);
+  ways_within = h.ways_within;
+  apart = λ j k d before behind inside ordered.
+      (let high : k < length old = omega (arith, noted.0, inside) in
+      let low : j < length old = omega (arith, high, before, behind) in
+      h.apart j k d before behind high
+      (⊎_elim
+      (λ second. inl (along k j d high low second))
+      (λ first. inr (along j k d low high first))
+      ordered));
+  by = λ k d le inside way there calls.
+      (let high : k < length old = omega (arith, noted.0, inside) in
+      h.by k d le high way there (subst (calls_by m way) (noted.1 k d high).item_is calls));
+}
+  where
+    along : (i k : ℕ) (d : Call) → i < length old → k < length old → IsOrderedBySome m ways (get_or now i d).item (get_or now k d).item
+        → IsOrderedBySome m ways (get_or old i d).item (get_or old k d).item
+    along i k d x y ordered =
+        subst (λ (z : Item). IsOrderedBySome m ways (get_or old i d).item z) (noted.1 k d y).item_is
+        (subst (λ (z : Item). IsOrderedBySome m ways z (get_or now k d).item) (noted.1 i d x).item_is ordered)
+
+pub none_new : (m : DraftMachine) (ways : List Way) (calls : List Call) (since : Since) → since.calls ≡ length calls → since.ways ≡ length ways
+    → AreNewSince m ways calls since
+none_new m ways calls since same all = record {
+  within = omega (arith, same);
+  ways_within = omega (arith, all);
+  apart = λ j k d before behind inside. absurd (omega (arith, same, behind, inside));
+  by = λ k d le inside. absurd (omega (arith, same, le, inside));
+}
+
+no_exit_opened : (x : Item) (y : Item) → x ≡ y → IsNoExit y → IsNoExit x
+no_exit_opened x y same h = subst IsNoExit (sym same) h
+
+entered_no_exit : (m : DraftMachine) (ways : List Way) (restored : List Restored) (item x : Item) → IsEntered m ways restored item x → IsNoExit x
+entered_no_exit m ways restored (items.Enter s) x h =
+    ⊎_elim
+    (λ default. no_exit_opened x (items.Opened default.0 Mode.Plain) default.1 tt)
+    (λ back. no_exit_opened x _ back.2.1 tt)
+    h
+entered_no_exit m ways restored (items.Exit s) x h = absurd h
+entered_no_exit m ways restored (items.Effect t) x h = absurd h
+entered_no_exit m ways restored (items.Opened r mode) x h = absurd h
+entered_no_exit m ways restored (items.Pick c) x h = absurd h
+
+late_no_exit : (m : DraftMachine) (calls : List Call) (way : Way) (x : Item) → IsLate m calls way x → IsNoExit x
+late_no_exit m calls way x h = ⊎_elim (λ other. other.0) (λ again. no_exit_opened x _ again.2 tt) h
+
+restored_no_exit : (m : DraftMachine) (calls : List Call) (mode : Mode) (s : VertexId) (x : Item) → IsOfRestored m calls mode s x → IsNoExit x
+restored_no_exit m calls mode s x h =
+    ⊎_elim (λ entry. no_exit_opened x (items.Enter s) entry tt) (λ opening. no_exit_opened x _ opening.1.1 tt) h
+
+-- what is listed beyond what was is no exit
+pub followed_no_exit : (m : DraftMachine) (old : Progress) (item : Item) (how : How) (new : Progress) → IsFollowedSo m old item how new
+    → (x : Item) → IsListed new.roster.calls.items x → IsListed old.roster.calls.items x ⊎ IsNoExit x
+followed_no_exit m old item (By p) new h x listed =
+    ⊎_elim (λ was. inl was) (λ added. inr (late_no_exit m old.roster.calls.items h.way x added)) ((h.extended.listed x).0 listed)
+followed_no_exit m old item (Restore s) new h x listed =
+    ⊎_elim (λ was. inl was) (λ added. inr (restored_no_exit m old.roster.calls.items h.1 s x added)) ((h.3.extended.listed x).0 listed)
+followed_no_exit m old item Nothing new h x listed =
+    ⊎_elim (λ was. inl was) (λ added. inr (entered_no_exit m old.ways.items old.restored.items item x added)) ((h.extended.listed x).0 listed)
+
+-- no way orders what has been added before what was there
+module _ (m : DraftMachine) (old grown : List Call) (ways more : List Way) (longer : IsLonger old grown) (roster : IsRoster m grown)
+    (kept : KeepsOrder m old ways more) (covered : AreCovered m ways old)
+    (added : (x : Item) → IsListed grown x → IsListed old x ⊎ IsNoExit x) where
+  same : (k : ℕ) (d : Call) → k < length old → get_or grown k d ≡ get_or old k d
+  same k d low = ap (λ (l : List Call). get_or l k d) longer.1 ∙ get_or_append_left old longer.0 d k low
+
+  -- what has been added was not listed
+  not_listed : (k : ℕ) (d : Call) → length old ≤ k → k < length grown → IsListed old (get_or grown k d).item → ⊥
+  not_listed k d le lt listed =
+      let i = listed.1.0 in
+      let low : i < length old = listed.1.1 in
+      let at : get_or grown i d ≡ listed.0 = same i d low ∙ get_or_default old i d listed.0 low ∙ listed.1.2 in
+      roster.once i k d (omega (arith, low, le)) lt (ap (λ (c : Call). c.item) at ∙ listed.2)
+
+  -- nor do the ways so far call it
+  not_called : (k : ℕ) (d : Call) (way : Way) → length old ≤ k → k < length grown → Contains ways way → calls_by m way (get_or grown k d).item → ⊥
+  not_called k d way le lt inside calls =
+      ⊎_elim
+      (λ was. not_listed k d le lt was)
+      (λ no_exit. not_listed k d le lt (covered way (get_or grown k d).item inside no_exit calls))
+      (added (get_or grown k d).item (get_or grown k d, Contains-get_or grown k d lt, refl))
+
+  listed_before : (j : ℕ) (d : Call) → j < length old → IsListed old (get_or grown j d).item
+  listed_before j d low = (get_or old j d, Contains-get_or old j d low, ap (λ (c : Call). c.item) (sym (same j d low)))
+
+  apart_from : AreApartFrom m more grown (length old)
+  apart_from j k d before behind inside h =
+      let x = (get_or grown k d).item in
+      let y = (get_or grown j d).item in
+      ⊎_elim
+      (λ ordered.
+      (let by = kept x y (inr (listed_before j d before)) ordered in
+      not_called k d by.0 behind inside by.1 (way_calls_first m by.0 x y by.2)))
+      (λ ordered.
+      (let by = kept y x (inl (listed_before j d before)) ordered in
+      not_called k d by.0 behind inside by.1 (way_calls_second m by.0 y x by.2)))
+      h
+
+  called_by_new : (further : IsLonger ways more) (k : ℕ) (d : Call) → length old ≤ k → k < length grown → (way : Way) → Contains more way
+      → calls_by m way (get_or grown k d).item → Contains (drop (length ways) more) way
+  called_by_new further k d le lt way inside calls =
+      ⊎_elim
+      (λ was. absurd (not_called k d way le lt was calls))
+      (λ new. subst (λ (l : List Way). Contains l way)
+      (sym (ap (λ (l : List Way). drop (length ways) l) further.1 ∙ drop-append_seam ways further.0)) new)
+      (Contains-append_cases ways further.0 way (subst (λ (l : List Way). Contains l way) further.1 inside))
+
+  -- they are new since the places behind what was
+  pub new_from : IsLonger ways more → (since : Since) → since.calls ≡ length old → since.ways ≡ length ways → AreNewSince m more grown since
+  new_from further since first from = record {
+    within = (let e = ap length longer.1 in omega (arith, e, first, length-append old longer.0));
+    ways_within = (let e = ap length further.1 in omega (arith, e, from, length-append ways further.0));
+    apart = subst (λ (n : ℕ). AreApartFrom m more grown n) (sym first) apart_from;
+    by = λ k d le lt way inside calls.
+        (let behind : length old ≤ k = omega (arith, le, first) in
+        subst (λ (n : ℕ). Contains (drop n more) way) (sym from) (called_by_new further k d behind lt way inside calls));
+  }
