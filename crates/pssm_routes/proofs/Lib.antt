@@ -5,6 +5,7 @@ pub mod Conflicts
 pub mod Settling
 pub mod LoneCandidates
 pub mod Sought
+pub mod Looks
 pub mod OneSearch
 pub mod Ceilings
 pub mod Rooms

@@ -9,6 +9,7 @@ mod guards;
 mod joining;
 mod late;
 mod leading;
+mod looking;
 mod passing;
 mod pick;
 mod reacting;

@@ -143,8 +143,8 @@ impl Search {
     }
 }
 
-// Whether the vertex is a junction or exit point.
-fn is_passed_over(machine: &Machine, v: VertexId) -> bool
+/// Whether the vertex is a junction or exit point.
+pub fn is_passed_over(machine: &Machine, v: VertexId) -> bool
     requires { v.0 < length machine.now.vertices }
     ensures { IsTrue result ↔ IsPassedOver machine.now v }
 {
@@ -223,9 +223,9 @@ fn is_allowed(machine: &Machine, within: Option<RegionId>, v: VertexId) -> bool
     }
 }
 
-// Whether the transition is true, ends where it may, and not on an entry point from which no way
-// leads on.
-fn is_open<T: Fn(GuardId) -> bool>(
+/// Whether the transition is true, ends where it may, and not on an entry point from which no way
+/// leads on.
+pub fn is_open<T: Fn(GuardId) -> bool>(
     machine: &Machine,
     truth: &T,
     within: Option<RegionId>,
