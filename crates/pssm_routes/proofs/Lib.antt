@@ -6,6 +6,8 @@ pub mod Settling
 pub mod LoneCandidates
 pub mod Sought
 pub mod Looks
+pub mod WaysOut
+pub mod Sights
 pub mod OneSearch
 pub mod Ceilings
 pub mod Rooms

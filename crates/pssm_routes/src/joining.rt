@@ -19,7 +19,8 @@ ghost use Rattle.pssm_routes.specs.inner.Rooms.{Touches, IsNextOut, IsRoomFor, I
 
 use crate::areas::{Footprint, anchor_of, are_on_one_chain};
 use crate::leading::onward;
-use crate::seeking::{Search, Step, ends_inside, find_way};
+use crate::looking::look;
+use crate::seeking::{Search, Step, find_way};
 use pssm_legs::covers;
 use pssm_model::{GuardId, Machine, Owner, RegionId, TransId, TransKind, VertexId};
 
@@ -218,8 +219,12 @@ pub fn has_joiner<T: Fn(GuardId) -> bool>(
     ensures { (values : Truth) → Tells machine.now (T.post truth.now) values
         → (IsTrue result ↔ HasFreeRoute machine.now values footprints.now t) }
 {
-    if ends_inside(machine, onward(machine, t)) {
-        return has_joiner_by_search(machine, truth, footprints, t);
+    let _shaped = machine.regions();
+    match room_for(machine, footprints, t) {
+        Room::Shut => false,
+        Room::Open(within) => match look(machine, truth, within, onward(machine, t)) {
+            Some(leads) => leads,
+            None => has_joiner_by_search(machine, truth, footprints, t),
+        },
     }
-    finds_joiner(machine, truth, footprints, t, &mut [])
 }
