@@ -38,6 +38,7 @@ pub mod SettledStarts
 pub mod Marks
 pub mod SameOrder
 pub mod Fitting
+pub mod FewOn
 pub mod Started
 pub mod PassingLaws
 pub mod Descent

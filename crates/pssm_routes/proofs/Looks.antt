@@ -118,7 +118,6 @@ module _ {m : DraftMachine} {truth : Truth} {within : Option RegionId} where
   open_leads t (ends opened enters not) = opened
   open_leads t (on opened enters passed leaves rest) = opened
 
-
   -- an open transition that ends on no junction or exit point leads out
   pub open_alone : (t : TransId) → (EndsInside m t → ⊥) → IsOpen m truth within t → LeadsOut m truth within t
   open_alone t none opened =

@@ -5,6 +5,7 @@
 #![tactic(auto)]
 
 mod areas;
+mod few;
 mod guards;
 mod joining;
 mod late;

@@ -19,17 +19,17 @@ loop-number-preserved g c =
     let before = c.loop-number.invariant in
     elim c.if-is_some.branch [
       | then-is_some+else-is_some-2 w ↦ (
-          subst There (sym w.alone-is) c.in_ok-found.ensures.there,
-          λ values tells. subst (λ o. IsLone m now values c.args.event o (c.loop-number.number + 1)) (sym w.alone-is)
-              (lone_take m now values c.args.event c.loop-number.alone c.in_ok-found.found c.loop-number.number r refl
-              (sym w.is_some-then-is_some.ensures ∙ w.if-is_some-2.false) (c.in_ok-found.ensures.reacting values tells) (before.1 values tells)),
-        )
+        subst There (sym w.alone-is) c.in_ok-found.ensures.there,
+        λ values tells. subst (λ o. IsLone m now values c.args.event o (c.loop-number.number + 1)) (sym w.alone-is)
+            (lone_take m now values c.args.event c.loop-number.alone c.in_ok-found.found c.loop-number.number r refl
+            (sym w.is_some-then-is_some.ensures ∙ w.if-is_some-2.false) (c.in_ok-found.ensures.reacting values tells) (before.1 values tells)),
+      )
       | else-is_some w ↦ (
-          subst There (sym w.alone-is) before.0,
-          λ values tells. subst (λ o. IsLone m now values c.args.event o (c.loop-number.number + 1)) (sym w.alone-is)
-              (lone_skip m now values c.args.event c.loop-number.alone c.in_ok-found.found c.loop-number.number r refl
-              (sym c.is_some.ensures ∙ w.if-is_some.false) (c.in_ok-found.ensures.reacting values tells) (before.1 values tells)),
-        )
+        subst There (sym w.alone-is) before.0,
+        λ values tells. subst (λ o. IsLone m now values c.args.event o (c.loop-number.number + 1)) (sym w.alone-is)
+            (lone_skip m now values c.args.event c.loop-number.alone c.in_ok-found.found c.loop-number.number r refl
+            (sym c.is_some.ensures ∙ w.if-is_some.false) (c.in_ok-found.ensures.reacting values tells) (before.1 values tells)),
+      )
     ]
 
 pub returns-clause-alone : goal.returns-clause-alone

@@ -29,7 +29,7 @@ loop-number-preserved g c =
       | in-Some-found+in_ok-push-in-Some-found w ↦
           let is = ap (λ (v : Vec VertexId Global). v.items) w.states-is ∙ w.in_ok-push-in-Some-found.ensures.items in (
             all_more There c.loop-number.states.items c.match-found.states.items w.in-Some-found.s is before.0
-            (subst (λ (o : Option VertexId). IfSome o There) w.in-Some-found.is c.in-Some.ensures.there),
+                (subst (λ (o : Option VertexId). IfSome o There) w.in-Some-found.is c.in-Some.ensures.there),
             λ values tells. found_take m now values c.args.event c.loop-number.states.items c.match-found.states.items c.loop-number.number r
                 w.in-Some-found.s is refl
                 (subst (IsReactingIn m now values c.args.event r) w.in-Some-found.is (c.in-Some.ensures.reacting values tells)) (before.1 values tells),
