@@ -1,5 +1,5 @@
 -- A State that reacts alone: the one route from there fires where its footprint is complete.
-use Rattle.std.proofs.Common.{◌↔◌, ◌<◌, List, [], ◌∷◌, length, All, arith}
+use Rattle.std.proofs.Common.{◌↔◌, [], ◌∷◌, All, arith}
 use Rattle.pssm_model.specs.declared.ids.VertexId.{VertexId}
 use Rattle.pssm_model.specs.declared.elements.DraftMachine.{DraftMachine}
 use Rattle.pssm_model.specs.declared.steps.Event.{Event}

@@ -1,5 +1,5 @@
 -- What looks tell: of one transition, of all out of a vertex, and of the active vertices of one region after another.
-use Rattle.std.proofs.Common.{◌≡◌, ◌∙◌, ◌⊎◌, ◌↔◌, ◌<◌, ◌≤◌, ◌+◌, ◌++◌, ℕ, List, [], ◌∷◌, length, take, get_or, Bool, true, false, Option, Some, None, is_some, IfSome, IsTrue, All, Contains, refl, sym, ap, subst, inl, inr, ⊎_elim, arith}
+use Rattle.std.proofs.Common.{◌≡◌, ◌∙◌, ◌⊎◌, ◌↔◌, ◌<◌, ◌≤◌, ◌+◌, ◌++◌, ℕ, List, [], ◌∷◌, length, take, get_or, Bool, false, Option, Some, None, is_some, IfSome, IsTrue, Contains, sym, ap, subst, inl, inr, ⊎_elim, arith}
 use Rattle.std.proofs.lemmas.Bool.{cases_eq, true≢false}
 use Rattle.std.proofs.lemmas.List.{take_all}
 use Rattle.std.proofs.lemmas.List.Elements.{Contains-push, Contains-push_cases, Contains-append_left}
@@ -20,7 +20,7 @@ use Rattle.pssm_model.specs.Legs.{Leaves}
 use Rattle.pssm_model.specs.Routes.{Truth}
 use Rattle.pssm_model.specs.Shapes.{HasShape, OwnsVertex}
 use Rattle.pssm_model.specs.WellFormed.{KeepsModelRules}
-use Rattle.pssm_model.proofs.ElementLaws.{mapped_some, mapped_at, nothing_in_nil, same_vertex}
+use Rattle.pssm_model.proofs.ElementLaws.{mapped_some, mapped_at, nothing_in_nil}
 use Rattle.pssm_model_laws.proofs.Through.{kinds_clash}
 use Rattle.pssm_config.specs.Tables.{Tables, Fits, configuration_of, held_in}
 use Rattle.pssm_routes.specs.inner.Starts.{IsStartedWith, GoesOnBy, Reacts, StartsWay, IsReactingIn, ReactsAlone}

@@ -1,6 +1,4 @@
 -- a transition that ends on no junction or exit point leads out where it is open
-use Rattle.std.proofs.Common.{subst}
-use Rattle.pssm_routes.specs.inner.Passing.{IsPassedOver}
 use Rattle.pssm_routes.proofs.ListPlaces.{refuted}
 use Rattle.pssm_routes.proofs.Looks.{open_leads, open_alone}
 use Rattle.pssm_routes.proofs.looking.look.Goals as goal

@@ -1,7 +1,7 @@
 -- the look begins with the start
-use Rattle.std.proofs.Common.{refl, subst}
+use Rattle.std.proofs.Common.{subst}
 use Rattle.pssm_routes.specs.inner.Looking.{IsSight}
-use Rattle.pssm_routes.proofs.Looks.{none_there, looking_start}
+use Rattle.pssm_routes.proofs.Looks.{looking_start}
 use Rattle.pssm_routes.proofs.looking.look_over.Goals as goal
 
 pub returns-in-On : goal.returns-in-On

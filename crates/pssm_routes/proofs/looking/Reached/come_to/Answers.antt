@@ -1,5 +1,5 @@
 -- the vertex is put after those that were reached
-use Rattle.std.proofs.Common.{rules, ◌≡◌, ◌<◌, length, arith}
+use Rattle.std.proofs.Common.{rules, ◌≡◌, ◌<◌, length}
 use Rattle.pssm_routes.proofs.Looks.{comes_now}
 use Rattle.pssm_routes.proofs.looking.Reached.come_to.Goals as goal
 

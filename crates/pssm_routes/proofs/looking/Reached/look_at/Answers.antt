@@ -1,7 +1,4 @@
 -- the transition is not open, or leads out, or comes to a vertex
-use Rattle.std.proofs.Common.{subst}
-use Rattle.pssm_model.proofs.ElementLaws.{enters_one}
-use Rattle.pssm_routes.specs.inner.Passing.{IsPassedOver}
 use Rattle.pssm_routes.specs.inner.Ways.LeadsOut.{ends}
 use Rattle.pssm_routes.proofs.ListPlaces.{refuted}
 use Rattle.pssm_routes.proofs.Looks.{looks_shut, looks_to, there_more}

@@ -1,9 +1,8 @@
 -- each transition out of the vertex is looked at in turn
-use Rattle.std.proofs.Common.{rules, ◌≡◌, length, subst, sym}
+use Rattle.std.proofs.Common.{rules, ◌≡◌, length, subst}
 use Rattle.std.proofs.lemmas.List.Elements.{Contains-get_or}
 use Rattle.std.proofs.lemmas.Option.{slice_get-get_or}
-use Rattle.pssm_routes.specs.inner.Looking.{IsSight, LooksOn}
-use Rattle.pssm_routes.specs.declared.looking.Sight.TheVariants.{Out, On}
+use Rattle.pssm_routes.specs.inner.Looking.{IsSight}
 use Rattle.pssm_routes.proofs.Looks.{at_place, place_there, looking_on_start, looking_on_more, looking_on_out, looking_on_end}
 use Rattle.pssm_routes.proofs.looking.Reached.look_on.Goals as goal
 

@@ -1,6 +1,5 @@
 -- what the look on from each vertex tells
-use Rattle.std.proofs.Common.{refl, subst, ◌<◌, ◌≤◌, arith}
-use Rattle.std.proofs.lemmas.Bool.{true≢false}
+use Rattle.std.proofs.Common.{refl, subst}
 use Rattle.pssm_routes.specs.inner.Looking.{LooksOn}
 use Rattle.pssm_routes.proofs.Looks.{looked_none}
 use Rattle.pssm_routes.proofs.looking.Reached.look_out.Goals as goal
