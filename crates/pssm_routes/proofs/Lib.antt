@@ -41,6 +41,7 @@ pub mod Fitting
 pub mod FewOn
 pub mod Started
 pub mod PassingLaws
+pub mod EntryLaws
 pub mod Descent
 pub mod StartLaws
 pub mod StartedWith
