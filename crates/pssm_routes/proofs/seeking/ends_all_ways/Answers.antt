@@ -1,10 +1,8 @@
 -- each turn looks at one transition more
-use Rattle.std.proofs.Common.{◌≡◌, ◌<◌, length, get_or, refl, subst, arith}
-use Rattle.std.proofs.lemmas.List.Elements.{Contains-get_or}
-use Rattle.pssm_model.specs.declared.ids.TransId.{TransId}
+use Rattle.std.proofs.Common.{◌≡◌, ◌<◌, length, subst, arith}
 use Rattle.pssm_model.proofs.ElementLaws.{enters_one}
 use Rattle.pssm_routes.specs.inner.Passing.{EndsWay, EndsWayBehind}
-use Rattle.pssm_routes.proofs.ListPlaces.{below_next, below_all, refuted}
+use Rattle.pssm_routes.proofs.ListPlaces.{below_next, below_all}
 use Rattle.pssm_routes.proofs.seeking.ends_all_ways.Goals as goal
 
 pub returns-then-not-ends_way : goal.returns-then-not-ends_way
