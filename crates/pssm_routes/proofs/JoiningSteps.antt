@@ -54,7 +54,7 @@ module _ {m : DraftMachine} (rules : KeepsModelRules m) (shape : HasShape m) (va
       pub step_true : (x : TransId) → On q x → IsTrueAt m values x
       step_true = over_true shape rules values within t u last path way.passed way.way on outside over.end over.enters over.behind over.goes_on q over.over
 
-    ends_within : (within : Option RegionId) → IsOpenRoom m footprints t within → (s : VertexId) → Leaves m t s → HasKind m s kinds.State
+    pub ends_within : (within : Option RegionId) → IsOpenRoom m footprints t within → (s : VertexId) → Leaves m t s → HasKind m s kinds.State
         → (last : TransId) (path : List TransId) → IsWayOut m values within u last path → (q : Route) → IsRouteBehind m values t last path q
         → IsStateRoute m q → EndsWithin m within q
     ends_within None opened s leaves state last path way q over states = λ x v is enters. tt

@@ -5,6 +5,9 @@ pub mod Conflicts
 pub mod Settling
 pub mod LoneCandidates
 pub mod Sought
+pub mod Looks
+pub mod WaysOut
+pub mod Sights
 pub mod OneSearch
 pub mod Ceilings
 pub mod Rooms
@@ -35,8 +38,10 @@ pub mod SettledStarts
 pub mod Marks
 pub mod SameOrder
 pub mod Fitting
+pub mod FewOn
 pub mod Started
 pub mod PassingLaws
+pub mod EntryLaws
 pub mod Descent
 pub mod StartLaws
 pub mod StartedWith

@@ -183,7 +183,7 @@ module _ (m : DraftMachine) (v : VertexId) where
   other_ends passed entry = record { passed = passed; entry = λ is. absurd (entry is) }
 
   module _ (truth : Truth) where
-    ending_leads : EndsWay m v → HasWay m truth v
+    pub ending_leads : EndsWay m v → HasWay m truth v
     ending_leads h =
         ⊎_elim
         (λ entry. all entry (λ t w leaves enters. absurd (h.entry entry t leaves)))

@@ -36,7 +36,7 @@ module _ {m : DraftMachine} (rules : KeepsModelRules m) (shape : HasShape m) (tr
       (q.0, record { end = v; enters = further.1; behind = behind.0; goes_on = behind.1; over = q.1 })
 
   module _ (footprints : List Footprint) (t : TransId) where
-    starts_here : t.0 < length m.transitions → (starts : List TransId) × AreStartsWith m t starts
+    pub starts_here : t.0 < length m.transitions → (starts : List TransId) × AreStartsWith m t starts
     starts_here there =
         let x = some_at m.transitions t.0 there in
         some_starts m t x.0.target (mapped_at (λ (y : Transition). y.target) (transition_at m t) x.0 x.1)

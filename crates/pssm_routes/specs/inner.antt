@@ -2,6 +2,7 @@ pub mod Footprints
 pub mod Spans
 pub mod Starts
 pub mod Ways
+pub mod Looking
 pub mod Steps
 pub mod Seeking
 pub mod Sets

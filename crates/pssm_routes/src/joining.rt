@@ -1,5 +1,5 @@
 //! Which routes can join others without a conflict.
-ghost use Rattle.std.specs.Prelude.{◌↔◌, ◌<◌, Option, length, All, IsTrue, IfSome, IfNone};
+ghost use Rattle.std.specs.Prelude.{◌≡◌, ◌↔◌, ◌<◌, Option, length, All, IsTrue, IfSome, IfNone};
 ghost use Rattle.pssm_model.specs.declared.ids.VertexId.{VertexId};
 ghost use Rattle.pssm_model.specs.declared.ids.RegionId.{RegionId};
 ghost use Rattle.pssm_model.specs.declared.ids.TransId.{TransId};
@@ -15,11 +15,12 @@ ghost use Rattle.pssm_routes.specs.inner.Starts.{GoesOnBy};
 ghost use Rattle.pssm_routes.specs.inner.Ways.{EndsInside};
 ghost use Rattle.pssm_routes.specs.inner.Steps.{KnowsDeadEnds, IsJoiningStep, steps_of};
 ghost use Rattle.pssm_routes.specs.inner.Sets.{HasFreeRoute, IsTouched, HoldsSource, IsCeiling};
-ghost use Rattle.pssm_routes.specs.inner.Rooms.{Touches, IsNextOut, IsRoomFor, IsRoomIn};
+ghost use Rattle.pssm_routes.specs.inner.Rooms.{Touches, IsAnchorAmong, IsNextOut, IsRoomFor, IsRoomIn};
 
 use crate::areas::{Footprint, anchor_of, are_on_one_chain};
 use crate::leading::onward;
-use crate::seeking::{Search, Step, ends_inside, find_way};
+use crate::looking::look;
+use crate::seeking::{Search, Step, find_way};
 use pssm_legs::covers;
 use pssm_model::{GuardId, Machine, Owner, RegionId, TransId, TransKind, VertexId};
 
@@ -32,12 +33,34 @@ fn touches(machine: &Machine, footprint: Footprint, s: VertexId) -> bool
     covers(machine, footprint.area, s) || are_on_one_chain(machine, footprint.source, s)
 }
 
+// Whether the State is the anchor of the footprint.
+fn starts_at(footprint: Footprint, s: VertexId) -> bool
+    ensures { IsTrue result ↔ (footprint.source ≡ s) }
+{
+    footprint.source == s
+}
+
+// Whether an anchor is the State.
+fn is_anchor(footprints: &[Footprint], s: VertexId) -> bool
+    ensures { IsTrue result ↔ IsAnchorAmong footprints.now s }
+{
+    for footprint in footprints {
+        if starts_at(*footprint, s) {
+            return true;
+        }
+    }
+    false
+}
+
 // Whether an anchor is the State, lies in it or has it inside, or an area covers the State.
 fn is_touched(machine: &Machine, footprints: &[Footprint], s: VertexId) -> bool
     requires there { s.0 < length machine.now.vertices }
     requires footprints { All (IsFootprintIn machine.now) footprints.now }
     ensures { IsTrue result ↔ IsTouched machine.now footprints.now s }
 {
+    if is_anchor(footprints, s) {
+        return true;
+    }
     for footprint in footprints {
         if touches(machine, *footprint, s) {
             return true;
@@ -218,8 +241,12 @@ pub fn has_joiner<T: Fn(GuardId) -> bool>(
     ensures { (values : Truth) → Tells machine.now (T.post truth.now) values
         → (IsTrue result ↔ HasFreeRoute machine.now values footprints.now t) }
 {
-    if ends_inside(machine, onward(machine, t)) {
-        return has_joiner_by_search(machine, truth, footprints, t);
+    let _shaped = machine.regions();
+    match room_for(machine, footprints, t) {
+        Room::Shut => false,
+        Room::Open(within) => match look(machine, truth, within, onward(machine, t)) {
+            Some(leads) => leads,
+            None => has_joiner_by_search(machine, truth, footprints, t),
+        },
     }
-    finds_joiner(machine, truth, footprints, t, &mut [])
 }

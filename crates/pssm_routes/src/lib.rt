@@ -5,10 +5,12 @@
 #![tactic(auto)]
 
 mod areas;
+mod few;
 mod guards;
 mod joining;
 mod late;
 mod leading;
+mod looking;
 mod passing;
 mod pick;
 mod reacting;

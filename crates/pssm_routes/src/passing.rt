@@ -43,8 +43,8 @@ fn is_entry_point(machine: &Machine, v: VertexId) -> bool
     machine.vertex(v).kind == VertexKind::EntryPoint
 }
 
-// Whether a route that comes to the vertex ends or forks there, or cannot go on from an entry point.
-fn ends_way(machine: &Machine, v: VertexId) -> bool
+/// Whether a route that comes to the vertex ends or forks there, or cannot go on from an entry point.
+pub fn ends_way(machine: &Machine, v: VertexId) -> bool
     requires there { v.0 < length machine.now.vertices }
     ensures { IsTrue result ↔ EndsWay machine.now v }
 {

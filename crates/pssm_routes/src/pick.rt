@@ -286,6 +286,27 @@ fn choose<T: Fn(GuardId) -> bool>(
     Ok(routes)
 }
 
+// The States that react to the event and in which none does, in ascending number.
+fn candidates_in_order<T: Fn(GuardId) -> bool>(
+    alloc: Global,
+    machine: &Machine,
+    config: &Config,
+    truth: &T,
+    event: Event,
+) -> Result<Vec<VertexId>, NoMemory>
+    requires rules { KeepsModelRules machine.now }
+    requires fits { Fits machine.now config.now }
+    requires askable { CanBeAsked machine.now (T.pre truth.now) }
+    ensures there { IfOk result (λ found. All (λ s. s.0 < length machine.now.vertices) found.items) }
+    ensures states { (values : Truth) → Tells machine.now (T.post truth.now) values
+        → IfOk result (λ found. (s : VertexId) → Contains found.items s
+        ↔ IsCandidate machine.now (configuration_of config.now) values event s) }
+{
+    let mut states = candidates(alloc, machine, config, truth, event)?;
+    states.sort_by_key(|s| s.0)?;
+    Ok(states)
+}
+
 /// Routes that the event fires together. From all sets that it may fire the word settles one: of
 /// the States that react, those from a place on come first that the word names (UML 2.5.1,
 /// 14.2.3.9, transition selection).
@@ -305,7 +326,7 @@ pub fn pick_firing_set<T: Fn(GuardId) -> bool>(
     ensures { (values : Truth) → Tells machine.now (T.post truth.now) values
         → IfOk result (λ firing. IsFiring machine.now (configuration_of config.now) values event firing.routes) }
 {
-    let states = candidates(alloc, machine, config, truth, event)?;
+    let states = candidates_in_order(alloc, machine, config, truth, event)?;
     let mut routes = choose(
         alloc,
         machine,

@@ -15,15 +15,16 @@ ghost use Rattle.pssm_config.specs.Tables.{Fits, configuration_of};
 ghost use Rattle.pssm_routes.specs.Telling.{CanBeAsked, Tells};
 ghost use Rattle.pssm_model.specs.WellFormed.{KeepsModelRules};
 ghost use Rattle.pssm_routes.specs.inner.Starts.{IsStartedWith, GoesOnBy, Reacts, IsCandidate, HasSearch};
-ghost use Rattle.pssm_routes.specs.inner.Starts.{IsFirstReacting, NoneReactsFrom, ReactsAlone};
+ghost use Rattle.pssm_routes.specs.inner.Starts.{StartsWay, IsReactingIn, ReactsAlone};
 ghost use Rattle.pssm_routes.specs.inner.Ways.{EndsInside, LeadsOut};
 ghost use Rattle.pssm_routes.specs.inner.Steps.{KnowsDeadEnds};
 
 use crate::areas::state_around;
 use crate::leading::{is_started_with, onward};
+use crate::looking::look;
 use crate::seeking::{Search, find_way, search_if};
 use pssm_config::Config;
-use pssm_model::{Event, GuardId, Machine, SignalId, TransId, VertexId, VertexKind};
+use pssm_model::{Event, GuardId, Machine, RegionId, SignalId, TransId, VertexId, VertexKind};
 use std::alloc::{AllocError as NoMemory, Global};
 
 // Whether the event starts the transition, alone or with the others into its join, and a way leads
@@ -283,65 +284,79 @@ fn reacts_afresh<T: Fn(GuardId) -> bool>(
     false
 }
 
-// The first vertex from a number on that reacts to the event, if one does.
-fn reacting_from<T: Fn(GuardId) -> bool>(
+// Whether the event starts the transition, alone or with the others into its join, and a way leads out from there. It is
+// left open where a look does not tell.
+fn leads_at_sight<T: Fn(GuardId) -> bool>(
     machine: &Machine,
     config: &Config,
     truth: &T,
     event: Event,
-    first: u16,
-    search: &mut [Search],
-) -> Option<VertexId>
+    t: TransId,
+) -> Option<bool>
     requires rules { KeepsModelRules machine.now }
     requires fits { Fits machine.now config.now }
     requires askable { CanBeAsked machine.now (T.pre truth.now) }
-    requires room { HasSearch machine.now (configuration_of config.now) event search.old }
-    ensures there { IfSome result (λ s. s.0 < length machine.now.vertices) }
-    ensures same { length search.new ≡ length search.old }
-    ensures some { (values : Truth) → Tells machine.now (T.post truth.now) values
-        → KnowsDeadEnds machine.now values None search.old
-        → IfSome result (IsFirstReacting machine.now (configuration_of config.now) values event first) }
-    ensures none { (values : Truth) → Tells machine.now (T.post truth.now) values
-        → KnowsDeadEnds machine.now values None search.old
-        → IfNone result (NoneReactsFrom machine.now (configuration_of config.now) values event first) }
-    ensures dead { (values : Truth) → Tells machine.now (T.post truth.now) values
-        → KnowsDeadEnds machine.now values None search.old
-        → KnowsDeadEnds machine.now values None search.new }
+    requires there { t.0 < length machine.now.transitions }
+    ensures { (values : Truth) → Tells machine.now (T.post truth.now) values
+        → IfSome result (λ is. IsTrue is ↔ StartsWay machine.now (configuration_of config.now) values event t) }
 {
-    for number in first..machine.vertices() {
-        let source = VertexId(number);
-        if reacts_afresh(machine, config, truth, event, source, search) {
-            return Some(source);
+    if !is_started_with(machine, config, event, t) {
+        return Some(false);
+    }
+    look(machine, truth, None, onward(machine, t))
+}
+
+// Whether a route that the event enables starts at the vertex. It is left open where a look does not tell.
+fn reacts_at_sight<T: Fn(GuardId) -> bool>(
+    machine: &Machine,
+    config: &Config,
+    truth: &T,
+    event: Event,
+    source: VertexId,
+) -> Option<bool>
+    requires rules { KeepsModelRules machine.now }
+    requires fits { Fits machine.now config.now }
+    requires askable { CanBeAsked machine.now (T.pre truth.now) }
+    requires there { source.0 < length machine.now.vertices }
+    ensures { (values : Truth) → Tells machine.now (T.post truth.now) values
+        → IfSome result (λ is. IsTrue is ↔ Reacts machine.now (configuration_of config.now) values event source) }
+{
+    for t in machine.outgoing(source) {
+        if leads_at_sight(machine, config, truth, event, *t)? {
+            return Some(true);
         }
     }
-    None
+    Some(false)
 }
 
-// The vertex that reacts to the event, where it is the only one, by this search.
-fn lone_with<T: Fn(GuardId) -> bool>(
+// The State that lies directly in the region and reacts to the event, if one does. It is left open where a look does not
+// tell.
+fn reacting_in<T: Fn(GuardId) -> bool>(
     machine: &Machine,
     config: &Config,
     truth: &T,
     event: Event,
-    search: &mut [Search],
-) -> Option<VertexId>
+    region: RegionId,
+) -> Option<Option<VertexId>>
     requires rules { KeepsModelRules machine.now }
     requires fits { Fits machine.now config.now }
     requires askable { CanBeAsked machine.now (T.pre truth.now) }
-    requires room { HasSearch machine.now (configuration_of config.now) event search.old }
-    requires nothing { (values : Truth) → KnowsDeadEnds machine.now values None search.old }
-    ensures there { IfSome result (λ s. s.0 < length machine.now.vertices) }
-    ensures alone { (values : Truth) → Tells machine.now (T.post truth.now) values
-        → IfSome result (ReactsAlone machine.now (configuration_of config.now) values event) }
+    requires region { region.0 < length machine.now.regions }
+    ensures there { IfSome result (λ found. IfSome found (λ s. s.0 < length machine.now.vertices)) }
+    ensures reacting { (values : Truth) → Tells machine.now (T.post truth.now) values
+        → IfSome result (IsReactingIn machine.now (configuration_of config.now) values event region) }
 {
-    let alone = reacting_from(machine, config, truth, event, 0, search)?;
-    match reacting_from(machine, config, truth, event, alone.0 + 1, search) {
-        Some(_) => None,
-        None => Some(alone),
+    let Some(s) = config.active_in(region) else {
+        return Some(None);
+    };
+    if reacts_at_sight(machine, config, truth, event, s)? {
+        Some(Some(s))
+    } else {
+        Some(None)
     }
 }
 
-/// The vertex that reacts to the event, where it is the only one and no start of the event wants a search. It takes no memory.
+/// The vertex that reacts to the event, where it is the only one and looks tell so. It takes no memory.
 pub fn lone_reacting<T: Fn(GuardId) -> bool>(
     machine: &Machine,
     config: &Config,
@@ -355,14 +370,21 @@ pub fn lone_reacting<T: Fn(GuardId) -> bool>(
     ensures alone { (values : Truth) → Tells machine.now (T.post truth.now) values
         → IfSome result (ReactsAlone machine.now (configuration_of config.now) values event) }
 {
-    if some_start_search(machine, config, event) {
-        return None;
+    let mut alone = None;
+    for number in 0..machine.regions() {
+        let found = reacting_in(machine, config, truth, event, RegionId(number))?;
+        if found.is_some() {
+            if alone.is_some() {
+                return None;
+            }
+            alone = found;
+        }
     }
-    lone_with(machine, config, truth, event, &mut [])
+    alone
 }
 
-// The States that react to the event.
-fn reacting_states<T: Fn(GuardId) -> bool>(
+// The States that react to the event, by one search.
+fn reacting_by_search<T: Fn(GuardId) -> bool>(
     alloc: Global,
     machine: &Machine,
     config: &Config,
@@ -387,6 +409,57 @@ fn reacting_states<T: Fn(GuardId) -> bool>(
         }
     }
     Ok(found)
+}
+
+// The States that react to the event. They are left open where a look does not tell.
+fn reacting_at_sight<T: Fn(GuardId) -> bool>(
+    alloc: Global,
+    machine: &Machine,
+    config: &Config,
+    truth: &T,
+    event: Event,
+) -> Result<Option<Vec<VertexId>>, NoMemory>
+    requires rules { KeepsModelRules machine.now }
+    requires fits { Fits machine.now config.now }
+    requires askable { CanBeAsked machine.now (T.pre truth.now) }
+    ensures states { (values : Truth) → Tells machine.now (T.post truth.now) values
+        → IfOk result (λ found. IfSome found (λ states. (s : VertexId) → Contains states.items s
+        ↔ Reacts machine.now (configuration_of config.now) values event s)) }
+    ensures there { IfOk result (λ found. IfSome found (λ states. All (λ s. s.0 < length machine.now.vertices) states.items)) }
+{
+    let mut states = Vec::new(alloc);
+    for number in 0..machine.regions() {
+        let Some(found) = reacting_in(machine, config, truth, event, RegionId(number)) else {
+            return Ok(None);
+        };
+        match found {
+            Some(s) => states.push(s)?,
+            None => {}
+        }
+    }
+    Ok(Some(states))
+}
+
+// The States that react to the event.
+fn reacting_states<T: Fn(GuardId) -> bool>(
+    alloc: Global,
+    machine: &Machine,
+    config: &Config,
+    truth: &T,
+    event: Event,
+) -> Result<Vec<VertexId>, NoMemory>
+    requires rules { KeepsModelRules machine.now }
+    requires fits { Fits machine.now config.now }
+    requires askable { CanBeAsked machine.now (T.pre truth.now) }
+    ensures states { (values : Truth) → Tells machine.now (T.post truth.now) values
+        → IfOk result (λ found. (s : VertexId) → Contains found.items s
+        ↔ Reacts machine.now (configuration_of config.now) values event s) }
+    ensures there { IfOk result (λ found. All (λ s. s.0 < length machine.now.vertices) found.items) }
+{
+    match reacting_at_sight(alloc, machine, config, truth, event)? {
+        Some(states) => Ok(states),
+        None => reacting_by_search(alloc, machine, config, truth, event),
+    }
 }
 
 // Marks the States in which the vertex lies.

@@ -16,6 +16,7 @@ ghost use Rattle.pssm_routes.specs.inner.Fitting.{IsMarked, IsMarkedTransition, 
 ghost use Rattle.pssm_routes.specs.inner.Fitting.{EndsAlone, AreInto, IsSet, AreSet, IsBegun};
 ghost use Rattle.pssm_routes.specs.inner.Fitting.{ComesTo, AreComeTo, HasDeadEnd, LeavesMarked};
 
+use crate::few::fit_few;
 use crate::guards::is_true_at;
 use crate::starting::are_started;
 use pssm_config::Config;
@@ -99,16 +100,16 @@ fn has_every(machine: &Machine, on: &[bool; 8192], v: VertexId) -> bool
     true
 }
 
-// Whether the vertex is a junction.
-fn is_junction(machine: &Machine, v: VertexId) -> bool
+/// Whether the vertex is a junction.
+pub fn is_junction(machine: &Machine, v: VertexId) -> bool
     requires there { v.0 < length machine.now.vertices }
     ensures { IsTrue result ↔ HasKind machine.now v kinds.Junction }
 {
     machine.vertex(v).kind == VertexKind::Junction
 }
 
-// Whether the vertex is a fork, join, entry or exit point.
-fn is_cut(machine: &Machine, v: VertexId) -> bool
+/// Whether the vertex is a fork, join, entry or exit point.
+pub fn is_cut(machine: &Machine, v: VertexId) -> bool
     requires there { v.0 < length machine.now.vertices }
     ensures { IsTrue result ↔ IsCut machine.now v }
 {
@@ -223,8 +224,8 @@ fn come_to_all(
     true
 }
 
-// Whether a route goes on through the vertex.
-fn is_through(machine: &Machine, v: VertexId) -> bool
+/// Whether a route goes on through the vertex.
+pub fn is_through(machine: &Machine, v: VertexId) -> bool
     requires there { v.0 < length machine.now.vertices }
     ensures { IsTrue result ↔ IsThrough machine.now v }
 {
@@ -301,7 +302,6 @@ fn fit_rest(machine: &Machine, on: &mut [bool; 8192], starts: &[TransId], rest: 
 
 // Whether the starts fit together with the other transitions. What is marked stands in this call alone.
 #[inline(never)]
-#[inline(never)]
 fn fit_over(machine: &Machine, starts: &[TransId], rest: &[TransId]) -> bool
     requires starts { All (λ t. t.0 < length machine.now.transitions) starts.now }
     requires rest { All (λ t. t.0 < length machine.now.transitions) rest.now }
@@ -343,6 +343,9 @@ fn fit_together(machine: &Machine, starts: &[TransId], rest: &[TransId]) -> bool
 {
     if rest.is_empty() {
         return end_alone(machine, starts);
+    }
+    if starts.len() <= 32 && rest.len() <= 32 {
+        return fit_few(machine, starts, rest);
     }
     fit_over(machine, starts, rest)
 }

@@ -9,14 +9,13 @@ ghost use Rattle.pssm_model.specs.Routes.{Truth};
 ghost use Rattle.pssm_routes.specs.declared.seeking.Search.{Search};
 ghost use Rattle.pssm_routes.specs.declared.seeking.Step.{Step};
 ghost use Rattle.pssm_routes.specs.Telling.{CanBeAsked, Tells};
-ghost use Rattle.pssm_routes.specs.inner.Passing.{IsPassedOver, HasWay, CanBePassed};
+ghost use Rattle.pssm_routes.specs.inner.Passing.{IsPassedOver, HasWay, CanBePassed, AllEndWays};
 ghost use Rattle.pssm_routes.specs.inner.Ways.{IsAllowed, EndsInside, IsOpen, LeadsOut};
 ghost use Rattle.pssm_routes.specs.inner.Steps.{SeesDeadEnds, KnowsDeadEnds, steps_of, IsFound};
 ghost use Rattle.pssm_routes.specs.inner.Seeking.{ComesTo, Tries, ComesOnce, IsUnderWay};
 
 use crate::guards::is_true_at;
-use crate::passing::Points;
-use crate::route::has_no_out;
+use crate::passing::{Points, ends_way};
 use pssm_model::{GuardId, Machine, RegionId, TransId, VertexId, VertexKind};
 use std::alloc::{AllocError as NoMemory, Global};
 
@@ -143,8 +142,8 @@ impl Search {
     }
 }
 
-// Whether the vertex is a junction or exit point.
-fn is_passed_over(machine: &Machine, v: VertexId) -> bool
+/// Whether the vertex is a junction or exit point.
+pub fn is_passed_over(machine: &Machine, v: VertexId) -> bool
     requires { v.0 < length machine.now.vertices }
     ensures { IsTrue result ↔ IsPassedOver machine.now v }
 {
@@ -183,7 +182,60 @@ fn is_entry_point(machine: &Machine, v: VertexId) -> bool
     machine.vertex(v).kind == VertexKind::EntryPoint
 }
 
-// Whether a way leads on from the entry point. One without transitions out is passed at once.
+// Whether all transitions out of the vertex end where ways do.
+fn ends_all_ways(machine: &Machine, v: VertexId) -> bool
+    requires { v.0 < length machine.now.vertices }
+    ensures { IsTrue result → AllEndWays machine.now v }
+{
+    for t in machine.outgoing(v) {
+        if !ends_way(machine, machine.target(*t)) {
+            return false;
+        }
+    }
+    true
+}
+
+// The entry point to which the one transition out of an entry point leads, if there is one.
+fn next_entry(machine: &Machine, v: VertexId) -> Option<VertexId>
+    requires there { v.0 < length machine.now.vertices }
+    requires entry { HasKind machine.now v kinds.EntryPoint }
+    ensures there { IfSome result (λ w. w.0 < length machine.now.vertices) }
+    ensures entry { IfSome result (λ w. HasKind machine.now w kinds.EntryPoint) }
+    ensures same { (values : Truth) → IfSome result (λ w. HasWay machine.now values v ↔ HasWay machine.now values w) }
+{
+    let _shaped = machine.regions();
+    let [t] = machine.outgoing(v) else {
+        return None;
+    };
+    let w = machine.target(*t);
+    if is_entry_point(machine, w) {
+        Some(w)
+    } else {
+        None
+    }
+}
+
+// The last of the entry points that lead from one to the next. No more than 32 States stand around one another.
+fn last_entry(machine: &Machine, v: VertexId) -> VertexId
+    requires there { v.0 < length machine.now.vertices }
+    requires entry { HasKind machine.now v kinds.EntryPoint }
+    ensures there { result.0 < length machine.now.vertices }
+    ensures entry { HasKind machine.now result kinds.EntryPoint }
+    ensures same { (values : Truth) → HasWay machine.now values v ↔ HasWay machine.now values result }
+{
+    let mut at = v;
+    let mut left: u16 = 32;
+    while left > 0 {
+        let Some(next) = next_entry(machine, at) else {
+            return at;
+        };
+        at = next;
+        left -= 1;
+    }
+    at
+}
+
+// Whether a way leads on from the entry point. Marks are made only where ways branch on behind it.
 fn passes_entry<T: Fn(GuardId) -> bool>(machine: &Machine, truth: &T, v: VertexId) -> bool
     requires there { v.0 < length machine.now.vertices }
     requires entry { HasKind machine.now v kinds.EntryPoint }
@@ -191,10 +243,11 @@ fn passes_entry<T: Fn(GuardId) -> bool>(machine: &Machine, truth: &T, v: VertexI
     ensures { (values : Truth) → Tells machine.now (T.post truth.now) values
         → (IsTrue result ↔ HasWay machine.now values v) }
 {
-    if has_no_out(machine, v) {
+    let last = last_entry(machine, v);
+    if ends_all_ways(machine, last) {
         return true;
     }
-    has_way(machine, truth, v)
+    has_way(machine, truth, last)
 }
 
 // Whether the transition ends on no entry point from which no way leads on.
@@ -223,9 +276,9 @@ fn is_allowed(machine: &Machine, within: Option<RegionId>, v: VertexId) -> bool
     }
 }
 
-// Whether the transition is true, ends where it may, and not on an entry point from which no way
-// leads on.
-fn is_open<T: Fn(GuardId) -> bool>(
+/// Whether the transition is true, ends where it may, and not on an entry point from which no way
+/// leads on.
+pub fn is_open<T: Fn(GuardId) -> bool>(
     machine: &Machine,
     truth: &T,
     within: Option<RegionId>,

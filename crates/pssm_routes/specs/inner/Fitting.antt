@@ -67,6 +67,18 @@ EndsAlone m t = (v : VertexId) → Enters m t v → PassesBy m (λ u. ⊥) v
 abbrev pub IsOrUnmarked : List Bool → TransId → TransId → Type 0
 IsOrUnmarked on t u = (u ≡ t) ⊎ (IsMarkedTransition on u → ⊥)
 
+-- The transition is this one or not among these.
+abbrev pub IsOrOff : (TransId → Type 0) → TransId → TransId → Type 0
+IsOrOff These t u = (u ≡ t) ⊎ (These u → ⊥)
+
+-- The route of these transitions goes on from the vertex on which this one ends.
+abbrev pub GoesOnBehind : DraftMachine → (TransId → Type 0) → TransId → Type 0
+GoesOnBehind m These t = (v : VertexId) → Enters m t v → PassesBy m These v
+
+-- The transition leaves a vertex through which a route goes on, and on which one of these ends.
+abbrev pub LeavesEntered : DraftMachine → (TransId → Type 0) → TransId → Type 0
+LeavesEntered m These t = (v : VertexId) → Leaves m t v → IsThrough m v × ((u : TransId) × These u × Enters m u v)
+
 -- The place is marked as well.
 abbrev pub IsSet : List Bool → List Bool → ℕ → Type 0
 IsSet before after n = (n < length before) × (after ≡ slice_set before n true)

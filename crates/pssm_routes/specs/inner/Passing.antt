@@ -35,6 +35,14 @@ pub record EndsWay (m : DraftMachine) (v : VertexId) : Type 0 where
   pub passed : IsPassedOver m v → ⊥
   pub entry : HasKind m v kinds.EntryPoint → (t : TransId) → Leaves m t v → ⊥
 
+-- A way ends at the vertex on which the transition does.
+abbrev pub EndsWayBehind : DraftMachine → TransId → Type 0
+EndsWayBehind m t = (w : VertexId) → Enters m t w → EndsWay m w
+
+-- Ways end behind all transitions out of the vertex.
+abbrev pub AllEndWays : DraftMachine → VertexId → Type 0
+AllEndWays m v = (t : TransId) → Leaves m t v → EndsWayBehind m t
+
 -- The transition ends on a marked vertex.
 abbrev pub EndsOnMarked : DraftMachine → List Bool → TransId → Type 0
 EndsOnMarked m good t = (w : VertexId) → Enters m t w → IsMarked good w.0

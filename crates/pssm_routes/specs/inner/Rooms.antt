@@ -1,5 +1,5 @@
 -- Where a route may go that clashes with none of the routes that fire.
-use Rattle.std.specs.Prelude.{◌⊎◌, ◌<◌, List, length, Option, IfSome, Contains}
+use Rattle.std.specs.Prelude.{◌≡◌, ◌⊎◌, ◌<◌, List, length, Option, IfSome, Contains}
 use Rattle.pssm_model.specs.declared.ids.VertexId.{VertexId}
 use Rattle.pssm_model.specs.declared.ids.RegionId.{RegionId}
 use Rattle.pssm_model.specs.declared.ids.TransId.{TransId}
@@ -20,6 +20,10 @@ use Rattle.pssm_routes.specs.inner.Ways.{IsAllowed}
 -- The State, or one that it lies in or that lies in it, is the source of the footprint, or its area covers the State.
 abbrev pub Touches : DraftMachine → VertexId → Footprint → Type 0
 Touches m s a = LiesInScope m s (scope_of a.area) ⊎ IsOrLiesIn m a.source s ⊎ IsOrLiesIn m s a.source
+
+-- The State is an anchor.
+abbrev pub IsAnchorAmong : List Footprint → VertexId → Type 0
+IsAnchorAmong footprints s = (a : Footprint) × Contains footprints a × (a.source ≡ s)
 
 -- the innermost region in which the region is nested
 pub record IsNextOut (m : DraftMachine) (r next : RegionId) : Type 0 where

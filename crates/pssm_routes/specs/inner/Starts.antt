@@ -1,6 +1,7 @@
 -- Which transitions an event starts, and the States that react to it.
-use Rattle.std.specs.Prelude.{◌≡◌, ◌≢◌, ◌⊎◌, ◌↔◌, ◌<◌, ◌≤◌, ℕ, List, [], ◌∷◌, length, Contains}
+use Rattle.std.specs.Prelude.{◌≡◌, ◌≢◌, ◌⊎◌, ◌↔◌, ◌<◌, List, [], ◌∷◌, length, Option, Some, None, Contains}
 use Rattle.pssm_model.specs.declared.ids.VertexId.{VertexId}
+use Rattle.pssm_model.specs.declared.ids.RegionId.{RegionId}
 use Rattle.pssm_model.specs.declared.ids.TransId.{TransId}
 use Rattle.pssm_model.specs.declared.elements.DraftMachine.{DraftMachine}
 use Rattle.pssm_model.specs.declared.elements.VertexKind.TheVariants as kinds
@@ -8,11 +9,11 @@ use Rattle.pssm_model.specs.declared.steps.Route.{Route}
 use Rattle.pssm_model.specs.declared.steps.Event.{Event}
 use Rattle.pssm_model.specs.declared.steps.Event.TheVariants.{Signal, Completion}
 use Rattle.pssm_model.specs.Forest.{HasKind, LiesInState}
-use Rattle.pssm_model.specs.Configuration.{Configuration, IsComplete}
+use Rattle.pssm_model.specs.Configuration.{Configuration, IsComplete, IsDirect}
 use Rattle.pssm_model.specs.Legs.{Leaves, Enters}
 use Rattle.pssm_model.specs.Routes.{Truth, IsSource, IsEnabled, Lists, HasNoTrigger, IsAscending}
 use Rattle.pssm_routes.specs.declared.seeking.Search.{Search}
-use Rattle.pssm_routes.specs.inner.Ways.{EndsInside}
+use Rattle.pssm_routes.specs.inner.Ways.{EndsInside, LeadsOut}
 
 -- The signal triggers the transition, or it is the completion of the transition's source, which has no trigger.
 abbrev pub IsCausedBy : DraftMachine → Event → TransId → VertexId → Type 0
@@ -92,14 +93,13 @@ IsOutranked m now truth event s = (q : VertexId) × Reacts m now truth event q �
 abbrev pub IsCandidate : DraftMachine → Configuration → Truth → Event → VertexId → Type 0
 IsCandidate m now truth event s = Reacts m now truth event s × (IsOutranked m now truth event s → ⊥)
 
--- The vertex reacts, and none before it from a number on.
-pub record IsFirstReacting (m : DraftMachine) (now : Configuration) (truth : Truth) (event : Event) (from : ℕ) (s : VertexId) : Type 0 where
-  pub reacts : Reacts m now truth event s
-  pub first : (q : VertexId) → from ≤ q.0 → q.0 < s.0 → Reacts m now truth event q → ⊥
+-- The event starts the transition, and a way leads out from that by which a route with it goes on.
+abbrev pub StartsWay : DraftMachine → Configuration → Truth → Event → TransId → Type 0
+StartsWay m now truth event t = IsStartedWith m now event t × ((u : TransId) × GoesOnBy m t u × LeadsOut m truth None u)
 
--- No vertex from a number on reacts.
-abbrev pub NoneReactsFrom : DraftMachine → Configuration → Truth → Event → ℕ → Type 0
-NoneReactsFrom m now truth event from = (q : VertexId) → from ≤ q.0 → Reacts m now truth event q → ⊥
+-- It is the State that lies directly in the region and reacts, if one does.
+abbrev pub IsReactingIn : DraftMachine → Configuration → Truth → Event → RegionId → Option VertexId → Type 0
+IsReactingIn m now truth event r found = (s : VertexId) → (found ≡ Some s) ↔ (IsDirect m s r × Reacts m now truth event s)
 
 -- The vertex reacts, and no other does.
 abbrev pub ReactsAlone : DraftMachine → Configuration → Truth → Event → VertexId → Type 0

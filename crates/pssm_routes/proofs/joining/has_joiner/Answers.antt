@@ -1,11 +1,17 @@
--- no search is wanted where the route goes on to no junction or exit point
-use Rattle.std.proofs.Common.{subst}
-use Rattle.pssm_routes.specs.inner.Ways.{EndsInside}
-use Rattle.pssm_routes.proofs.ListPlaces.{refuted}
-use Rattle.pssm_routes.proofs.StartLaws.{one_onward}
+-- in the room for the start there is a free route exactly where a way leads out
+use Rattle.std.proofs.Common.{sym}
+use Rattle.std.proofs.lemmas.Bool.{true≢false}
+use Rattle.pssm_routes.proofs.JoiningSteps.{none_joins_shut}
+use Rattle.pssm_routes.proofs.WaysOut.{looked_free}
 use Rattle.pssm_routes.proofs.joining.has_joiner.Goals as goal
 
-pub finds_joiner-requires-clause-room : goal.finds_joiner-requires-clause-room
-finds_joiner-requires-clause-room g c u on ends =
-    absurd (refuted c.ends_inside.result c.if-ends_inside.false c.ends_inside.ensures
-    (subst (EndsInside c.args.machine.now) (one_onward c.requires.rules c.args.t u c.onward.result on c.onward.ensures.on) ends))
+pub returns-in-Shut : goal.returns-in-Shut
+returns-in-Shut g c values tells = (
+  λ e. absurd (true≢false (sym e)),
+  λ free. absurd (none_joins_shut c.requires.rules c.regions-shaped.ensures.shaped values _ _ c.in-Shut.ensures.room free),
+)
+
+pub returns-in-Some : goal.returns-in-Some
+returns-in-Some g c values tells =
+    looked_free c.requires.rules c.regions-shaped.ensures.shaped values _ _ c.in-Open.within c.in-Open.ensures.room c.onward.result c.onward.ensures.on
+    c.requires.there c.requires.source c.in-Some.leads (c.in-Some.ensures values tells)

@@ -1,10 +1,17 @@
--- where no transition leaves it, the route ends there
+-- where ways end behind the last of the entry points a way leads on, and else the marks tell
 use Rattle.std.proofs.Common.{refl}
-use Rattle.pssm_routes.specs.inner.Passing.HasWay.{all}
+use Rattle.pssm_routes.proofs.EntryLaws.{ends_behind}
 use Rattle.pssm_routes.proofs.seeking.passes_entry.Goals as goal
 
-pub returns-then-has_no_out : goal.returns-then-has_no_out
-returns-then-has_no_out g c values tells = (
-  λ h. all c.requires.entry (λ t w leaves enters. absurd (c.has_no_out.ensures.0 c.if-has_no_out.true t leaves)),
+pub returns-then-ends_all_ways : goal.returns-then-ends_all_ways
+returns-then-ends_all_ways g c values tells = (
+  λ h. (c.last_entry-last.ensures.same values).1
+      (ends_behind c.args.machine.now values c.last_entry-last.result c.last_entry-last.ensures.entry (c.ends_all_ways.ensures c.if-ends_all_ways.true)),
   λ way. refl,
 )
+
+pub returns : goal.returns
+returns g c values tells =
+    let is = c.has_way.ensures values tells in
+    let same = c.last_entry-last.ensures.same values in
+    (λ h. same.1 (is.0 h), λ way. is.1 (same.0 way))

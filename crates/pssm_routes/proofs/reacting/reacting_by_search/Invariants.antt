@@ -6,7 +6,7 @@ use Rattle.pssm_config.specs.Tables.{configuration_of}
 use Rattle.pssm_routes.specs.Telling.{Tells}
 use Rattle.pssm_routes.specs.inner.Starts.{HasSearch}
 use Rattle.pssm_routes.proofs.Fruitless.{AreReacting}
-use Rattle.pssm_routes.proofs.reacting.reacting_states.Given as goal
+use Rattle.pssm_routes.proofs.reacting.reacting_by_search.Given as goal
 
 abbrev pub invariant-loop-number : goal.invariant-loop-number
 invariant-loop-number g l =
