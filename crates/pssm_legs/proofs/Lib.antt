@@ -11,6 +11,7 @@ pub mod FewLegs
 pub mod LaterPlaces
 pub mod LoneLegs
 pub mod ItemOrder
+pub mod OrdersTold
 pub mod TheLegs
 pub mod LegsSoFar
 pub mod NextLegs

@@ -10,7 +10,7 @@ ghost use Rattle.pssm_legs.specs.inner.Told.{IsCoveredBefore, IsExited, IsPassed
 ghost use Rattle.pssm_legs.specs.inner.Told.{HasTransition, HasBefore, Meets, IsAimIn, EndsWhere, HasFurtherTarget, HasLast};
 ghost use Rattle.pssm_legs.specs.inner.Told.{IsAimedLater, IsAimedFrom, IsLeftToOpen, IsInOwner, IsBeside, IsHistoryEnd, IsChoiceEnd};
 ghost use Rattle.pssm_legs.specs.inner.Told.{IsCalledAsTold, IsCalledLater, ComesFirst, ComesBeforeLater, IsPathPair, HasLeg, HasFurther};
-ghost use Rattle.pssm_legs.specs.inner.Told.{IsOrderedWithin, IsOrderedOver, IsOrderedAsTold};
+ghost use Rattle.pssm_legs.specs.inner.Told.{ComesBehind, IsOrderedWithin, IsOrderedOver, IsOrderedAsTold};
 
 use crate::areas::{Area, covers};
 use crate::legs::{Leg, Legs, leg_at};
@@ -270,7 +270,7 @@ fn is_later_inside(
     requires region { r.0 < length machine.now.regions }
     ensures { IsTrue result ↔ (StandsLater (leg_list legs.now) place other × EndsInside machine.now leg.now r) }
 {
-    is_later(legs, leg, other, place) && ends_inside(machine, leg, r)
+    ends_inside(machine, leg, r) && is_later(legs, leg, other, place)
 }
 
 // Whether a leg that stands later than the place aims at the region.
@@ -439,7 +439,7 @@ fn is_later_calling(
     ensures { IsTrue result ↔ (StandsLater (leg_list legs.now) place other
         × IsCalledAsTold machine.now legs.now other leg.now fires item) }
 {
-    is_later(legs, leg, other, place) && is_called(machine, legs, leg, other, fires, item)
+    is_called(machine, legs, leg, other, fires, item) && is_later(legs, leg, other, place)
 }
 
 // Whether a leg that stands later than the place calls the item, by what is told of it.
@@ -584,7 +584,53 @@ fn are_ordered_within(
         || are_called_in_order(machine, legs, leg, place, fires, first, second)
 }
 
+// Whether the second item comes behind the first where the leg with the place calls the first: the leg calls the second
+// too, and they come in this order by their kinds, or a later leg calls it.
+#[inline(always)]
+fn comes_behind(
+    machine: &Machine,
+    legs: &Legs,
+    leg: &Leg,
+    place: usize,
+    fires: bool,
+    first: Item,
+    second: Item,
+) -> bool
+    requires legs { AreLegsIn machine.now legs.now }
+    requires place { IsAt legs.now place leg.now }
+    requires leg { IsLegIn machine.now leg.now }
+    requires second { IsItemIn machine.now second }
+    ensures { IsTrue result ↔ ComesBehind machine.now legs.now place leg.now fires first second }
+{
+    (comes_first(first, second) && is_called(machine, legs, leg, place, fires, second))
+        || (comes_before_later(first) && is_called_later(machine, legs, place, fires, second))
+}
+
+// Whether the leg with the place calls the first item, and the second comes behind it.
+#[inline(always)]
+fn calls_before(
+    machine: &Machine,
+    legs: &Legs,
+    leg: &Leg,
+    place: usize,
+    fires: bool,
+    first: Item,
+    second: Item,
+) -> bool
+    requires legs { AreLegsIn machine.now legs.now }
+    requires place { IsAt legs.now place leg.now }
+    requires leg { IsLegIn machine.now leg.now }
+    requires first { IsItemIn machine.now first }
+    requires second { IsItemIn machine.now second }
+    ensures { IsTrue result ↔ (IsCalledAsTold machine.now legs.now place leg.now fires first
+        × ComesBehind machine.now legs.now place leg.now fires first second) }
+{
+    is_called(machine, legs, leg, place, fires, first)
+        && comes_behind(machine, legs, leg, place, fires, first, second)
+}
+
 // Whether the leg with the place orders the items so, by what is told of it.
+#[tactic(auto, using(crate::proofs::OrdersTold::ordered_so))]
 fn are_ordered(
     machine: &Machine,
     legs: &Legs,
@@ -601,8 +647,8 @@ fn are_ordered(
     requires second { IsItemIn machine.now second }
     ensures { IsTrue result ↔ IsOrderedAsTold machine.now legs.now place leg.now fires first second }
 {
-    are_ordered_within(machine, legs, leg, place, fires, first, second)
-        || are_called_over_legs(machine, legs, leg, place, fires, first, second)
+    are_path_pair(leg, first, second)
+        || calls_before(machine, legs, leg, place, fires, first, second)
 }
 
 // Whether some leg but the first orders the items so, by what is told of it.
@@ -641,6 +687,25 @@ fn are_ordered_over(machine: &Machine, legs: &Legs, fires: bool, first: Item, se
         || are_ordered_further(machine, legs, fires, first, second)
 }
 
+// The same, where the kind of the first item is asked first: nothing comes behind an opening or a pick.
+#[inline(always)]
+#[tactic(auto, using(crate::proofs::OrdersTold::over_starts, crate::proofs::OrdersTold::further_starts))]
+fn may_be_ordered_over(
+    machine: &Machine,
+    legs: &Legs,
+    fires: bool,
+    first: Item,
+    second: Item,
+) -> bool
+    requires legs { AreLegsIn machine.now legs.now }
+    requires first { IsItemIn machine.now first }
+    requires second { IsItemIn machine.now second }
+    ensures { IsTrue result ↔ (IsOrderedOver machine.now legs.now 0 legs.now.first fires first second
+        ⊎ HasFurther legs.now (λ i a. IsOrderedAsTold machine.now legs.now i a fires first second)) }
+{
+    comes_before_later(first) && are_ordered_over(machine, legs, fires, first, second)
+}
+
 // Whether there are several legs, and the first orders the items over another one, or one but the first orders them.
 #[inline(always)]
 fn are_ordered_by_more(
@@ -660,7 +725,7 @@ fn are_ordered_by_more(
     if alone {
         false
     } else {
-        are_ordered_over(machine, legs, fires, first, second)
+        may_be_ordered_over(machine, legs, fires, first, second)
     }
 }
 
