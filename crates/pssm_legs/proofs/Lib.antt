@@ -17,3 +17,4 @@ pub mod LegsSoFar
 pub mod NextLegs
 pub mod LoneRoutes
 pub mod RegionsAround
+pub mod SpanLaws

@@ -5,7 +5,7 @@ ghost use Rattle.pssm_model.specs.Legs.{IsEnteredFor, IsEndState};
 ghost use Rattle.pssm_model.specs.WellFormed.{KeepsModelRules};
 ghost use Rattle.pssm_legs.specs.declared.legs.Leg.{Leg};
 ghost use Rattle.pssm_legs.specs.Calls.{IsItemIn, IsCalledBy, IsOpenedFor, IsOrderedBy};
-ghost use Rattle.pssm_legs.specs.LegsOf.{StandsBefore, StandsLater, IsAt, IsLegIn, AreLegsIn, AreLegsOf, leg_list};
+ghost use Rattle.pssm_legs.specs.LegsOf.{StandsLater, IsAt, IsLegIn, AreLegsIn, AreLegsOf, leg_list};
 ghost use Rattle.pssm_legs.specs.inner.Told.{IsCoveredBefore, IsExited, IsPassed, IsEnteredAt, IsEntered, EndsInside};
 ghost use Rattle.pssm_legs.specs.inner.Told.{HasTransition, HasBefore, Meets, IsAimIn, EndsWhere, HasFurtherTarget, HasLast};
 ghost use Rattle.pssm_legs.specs.inner.Told.{IsAimedLater, IsAimedFrom, IsLeftToOpen, IsInOwner, IsBeside, IsHistoryEnd, IsChoiceEnd};
@@ -23,41 +23,12 @@ pub enum Aim {
     EndingIn(RegionId),
 }
 
-// Whether a transition has been seen, or is this one.
-fn comes_to(seen: bool, w: TransId, t: TransId) -> bool
-    ensures { IsTrue result ↔ (IsTrue seen ⊎ (w ≡ t)) }
-{
-    seen || w == t
-}
-
-// Whether a transition has been seen, and this is another one.
-fn is_second(seen: bool, w: TransId, u: TransId) -> bool
-    ensures { IsTrue result ↔ (IsTrue seen × (w ≡ u)) }
-{
-    seen && w == u
-}
-
-// Whether the first of two transitions stands in the list before the second.
-#[tactic(auto, using(crate::proofs::SeenBefore::none_seen))]
-fn stands_before(path: &[TransId], t: TransId, u: TransId) -> bool
-    ensures { IsTrue result ↔ StandsBefore path.now t u }
-{
-    let mut seen = false;
-    for w in path {
-        if is_second(seen, *w, u) {
-            return true;
-        }
-        seen = comes_to(seen, *w, t);
-    }
-    false
-}
-
 // Whether the leg has the transition.
 #[inline(always)]
 fn has_transition(leg: &Leg, t: TransId) -> bool
     ensures { IsTrue result ↔ HasTransition leg.now t }
 {
-    leg.named == t || leg.further.as_slice().contains(&t)
+    leg.named == t || leg.further.contains(t)
 }
 
 // Whether the leg has the first of two transitions before the second.
@@ -65,8 +36,7 @@ fn has_transition(leg: &Leg, t: TransId) -> bool
 fn has_before(leg: &Leg, t: TransId, u: TransId) -> bool
     ensures { IsTrue result ↔ HasBefore leg.now t u }
 {
-    (leg.named == t && leg.further.as_slice().contains(&u))
-        || stands_before(leg.further.as_slice(), t, u)
+    (leg.named == t && leg.further.contains(u)) || leg.further.puts_before(t, u)
 }
 
 // Whether the leg with the place stands later than that with the other place.
