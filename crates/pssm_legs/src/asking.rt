@@ -1,6 +1,7 @@
 //! What the legs of a route call, and in which order.
 ghost use Rattle.std.specs.Prelude.{◌≡◌, ◌⊎◌, ◌↔◌, ◌<◌, ℕ, IsTrue, Some, length};
 ghost use Rattle.pssm_model.specs.declared.steps.Route.{Route};
+ghost use Rattle.pssm_model.specs.Forest.{LiesInState};
 ghost use Rattle.pssm_model.specs.Legs.{IsEnteredFor, IsEndState};
 ghost use Rattle.pssm_model.specs.WellFormed.{KeepsModelRules};
 ghost use Rattle.pssm_legs.specs.declared.legs.Leg.{Leg};
@@ -28,7 +29,7 @@ pub enum Aim {
 fn has_transition(leg: &Leg, t: TransId) -> bool
     ensures { IsTrue result ↔ HasTransition leg.now t }
 {
-    leg.named == t || leg.further.contains(t)
+    leg.named == t || (leg.further.len() > 0 && leg.further.contains(t))
 }
 
 // Whether the leg has the first of two transitions before the second.
@@ -112,6 +113,16 @@ fn is_end_state(machine: &Machine, v: VertexId, s: VertexId) -> bool
     }
 }
 
+// Whether a vertex lies in a State; in one without regions none does.
+#[inline(always)]
+fn lies_in(machine: &Machine, v: VertexId, s: VertexId) -> bool
+    requires vertex { v.0 < length machine.now.vertices }
+    requires state { s.0 < length machine.now.vertices }
+    ensures { IsTrue result ↔ LiesInState machine.now v s }
+{
+    !machine.regions_of(s).is_empty() && machine.lies_in_state(v, s)
+}
+
 // Whether the State lies where the leg exits and enters, and the vertex in it.
 #[inline(always)]
 fn is_passed(machine: &Machine, leg: &Leg, v: VertexId, s: VertexId) -> bool
@@ -120,7 +131,7 @@ fn is_passed(machine: &Machine, leg: &Leg, v: VertexId, s: VertexId) -> bool
     requires state { s.0 < length machine.now.vertices }
     ensures { IsTrue result ↔ IsPassed machine.now leg.now v s }
 {
-    covers(machine, leg.area, s) && machine.lies_in_state(v, s)
+    lies_in(machine, v, s) && covers(machine, leg.area, s)
 }
 
 // Whether the State is passed, or stands at the end.
