@@ -11,8 +11,10 @@ pub mod FewLegs
 pub mod LaterPlaces
 pub mod LoneLegs
 pub mod ItemOrder
+pub mod OrdersTold
 pub mod TheLegs
 pub mod LegsSoFar
 pub mod NextLegs
 pub mod LoneRoutes
 pub mod RegionsAround
+pub mod SpanLaws

@@ -1,16 +1,17 @@
 //! What the legs of a route call, and in which order.
 ghost use Rattle.std.specs.Prelude.{◌≡◌, ◌⊎◌, ◌↔◌, ◌<◌, ℕ, IsTrue, Some, length};
 ghost use Rattle.pssm_model.specs.declared.steps.Route.{Route};
+ghost use Rattle.pssm_model.specs.Forest.{LiesInState};
 ghost use Rattle.pssm_model.specs.Legs.{IsEnteredFor, IsEndState};
 ghost use Rattle.pssm_model.specs.WellFormed.{KeepsModelRules};
 ghost use Rattle.pssm_legs.specs.declared.legs.Leg.{Leg};
 ghost use Rattle.pssm_legs.specs.Calls.{IsItemIn, IsCalledBy, IsOpenedFor, IsOrderedBy};
-ghost use Rattle.pssm_legs.specs.LegsOf.{StandsBefore, StandsLater, IsAt, IsLegIn, AreLegsIn, AreLegsOf, leg_list};
+ghost use Rattle.pssm_legs.specs.LegsOf.{StandsLater, IsAt, IsLegIn, AreLegsIn, AreLegsOf, leg_list};
 ghost use Rattle.pssm_legs.specs.inner.Told.{IsCoveredBefore, IsExited, IsPassed, IsEnteredAt, IsEntered, EndsInside};
 ghost use Rattle.pssm_legs.specs.inner.Told.{HasTransition, HasBefore, Meets, IsAimIn, EndsWhere, HasFurtherTarget, HasLast};
 ghost use Rattle.pssm_legs.specs.inner.Told.{IsAimedLater, IsAimedFrom, IsLeftToOpen, IsInOwner, IsBeside, IsHistoryEnd, IsChoiceEnd};
 ghost use Rattle.pssm_legs.specs.inner.Told.{IsCalledAsTold, IsCalledLater, ComesFirst, ComesBeforeLater, IsPathPair, HasLeg, HasFurther};
-ghost use Rattle.pssm_legs.specs.inner.Told.{IsOrderedWithin, IsOrderedOver, IsOrderedAsTold};
+ghost use Rattle.pssm_legs.specs.inner.Told.{ComesBehind, IsOrderedWithin, IsOrderedOver, IsOrderedAsTold};
 
 use crate::areas::{Area, covers};
 use crate::legs::{Leg, Legs, leg_at};
@@ -23,41 +24,12 @@ pub enum Aim {
     EndingIn(RegionId),
 }
 
-// Whether a transition has been seen, or is this one.
-fn comes_to(seen: bool, w: TransId, t: TransId) -> bool
-    ensures { IsTrue result ↔ (IsTrue seen ⊎ (w ≡ t)) }
-{
-    seen || w == t
-}
-
-// Whether a transition has been seen, and this is another one.
-fn is_second(seen: bool, w: TransId, u: TransId) -> bool
-    ensures { IsTrue result ↔ (IsTrue seen × (w ≡ u)) }
-{
-    seen && w == u
-}
-
-// Whether the first of two transitions stands in the list before the second.
-#[tactic(auto, using(crate::proofs::SeenBefore::none_seen))]
-fn stands_before(path: &[TransId], t: TransId, u: TransId) -> bool
-    ensures { IsTrue result ↔ StandsBefore path.now t u }
-{
-    let mut seen = false;
-    for w in path {
-        if is_second(seen, *w, u) {
-            return true;
-        }
-        seen = comes_to(seen, *w, t);
-    }
-    false
-}
-
 // Whether the leg has the transition.
 #[inline(always)]
 fn has_transition(leg: &Leg, t: TransId) -> bool
     ensures { IsTrue result ↔ HasTransition leg.now t }
 {
-    leg.named == t || leg.further.as_slice().contains(&t)
+    leg.named == t || (leg.further.len() > 0 && leg.further.contains(t))
 }
 
 // Whether the leg has the first of two transitions before the second.
@@ -65,8 +37,7 @@ fn has_transition(leg: &Leg, t: TransId) -> bool
 fn has_before(leg: &Leg, t: TransId, u: TransId) -> bool
     ensures { IsTrue result ↔ HasBefore leg.now t u }
 {
-    (leg.named == t && leg.further.as_slice().contains(&u))
-        || stands_before(leg.further.as_slice(), t, u)
+    (leg.named == t && leg.further.contains(u)) || leg.further.puts_before(t, u)
 }
 
 // Whether the leg with the place stands later than that with the other place.
@@ -142,6 +113,16 @@ fn is_end_state(machine: &Machine, v: VertexId, s: VertexId) -> bool
     }
 }
 
+// Whether a vertex lies in a State; in one without regions none does.
+#[inline(always)]
+fn lies_in(machine: &Machine, v: VertexId, s: VertexId) -> bool
+    requires vertex { v.0 < length machine.now.vertices }
+    requires state { s.0 < length machine.now.vertices }
+    ensures { IsTrue result ↔ LiesInState machine.now v s }
+{
+    !machine.regions_of(s).is_empty() && machine.lies_in_state(v, s)
+}
+
 // Whether the State lies where the leg exits and enters, and the vertex in it.
 #[inline(always)]
 fn is_passed(machine: &Machine, leg: &Leg, v: VertexId, s: VertexId) -> bool
@@ -150,7 +131,7 @@ fn is_passed(machine: &Machine, leg: &Leg, v: VertexId, s: VertexId) -> bool
     requires state { s.0 < length machine.now.vertices }
     ensures { IsTrue result ↔ IsPassed machine.now leg.now v s }
 {
-    covers(machine, leg.area, s) && machine.lies_in_state(v, s)
+    lies_in(machine, v, s) && covers(machine, leg.area, s)
 }
 
 // Whether the State is passed, or stands at the end.
@@ -270,7 +251,7 @@ fn is_later_inside(
     requires region { r.0 < length machine.now.regions }
     ensures { IsTrue result ↔ (StandsLater (leg_list legs.now) place other × EndsInside machine.now leg.now r) }
 {
-    is_later(legs, leg, other, place) && ends_inside(machine, leg, r)
+    ends_inside(machine, leg, r) && is_later(legs, leg, other, place)
 }
 
 // Whether a leg that stands later than the place aims at the region.
@@ -439,7 +420,7 @@ fn is_later_calling(
     ensures { IsTrue result ↔ (StandsLater (leg_list legs.now) place other
         × IsCalledAsTold machine.now legs.now other leg.now fires item) }
 {
-    is_later(legs, leg, other, place) && is_called(machine, legs, leg, other, fires, item)
+    is_called(machine, legs, leg, other, fires, item) && is_later(legs, leg, other, place)
 }
 
 // Whether a leg that stands later than the place calls the item, by what is told of it.
@@ -584,7 +565,53 @@ fn are_ordered_within(
         || are_called_in_order(machine, legs, leg, place, fires, first, second)
 }
 
+// Whether the second item comes behind the first where the leg with the place calls the first: the leg calls the second
+// too, and they come in this order by their kinds, or a later leg calls it.
+#[inline(always)]
+fn comes_behind(
+    machine: &Machine,
+    legs: &Legs,
+    leg: &Leg,
+    place: usize,
+    fires: bool,
+    first: Item,
+    second: Item,
+) -> bool
+    requires legs { AreLegsIn machine.now legs.now }
+    requires place { IsAt legs.now place leg.now }
+    requires leg { IsLegIn machine.now leg.now }
+    requires second { IsItemIn machine.now second }
+    ensures { IsTrue result ↔ ComesBehind machine.now legs.now place leg.now fires first second }
+{
+    (comes_first(first, second) && is_called(machine, legs, leg, place, fires, second))
+        || (comes_before_later(first) && is_called_later(machine, legs, place, fires, second))
+}
+
+// Whether the leg with the place calls the first item, and the second comes behind it.
+#[inline(always)]
+fn calls_before(
+    machine: &Machine,
+    legs: &Legs,
+    leg: &Leg,
+    place: usize,
+    fires: bool,
+    first: Item,
+    second: Item,
+) -> bool
+    requires legs { AreLegsIn machine.now legs.now }
+    requires place { IsAt legs.now place leg.now }
+    requires leg { IsLegIn machine.now leg.now }
+    requires first { IsItemIn machine.now first }
+    requires second { IsItemIn machine.now second }
+    ensures { IsTrue result ↔ (IsCalledAsTold machine.now legs.now place leg.now fires first
+        × ComesBehind machine.now legs.now place leg.now fires first second) }
+{
+    is_called(machine, legs, leg, place, fires, first)
+        && comes_behind(machine, legs, leg, place, fires, first, second)
+}
+
 // Whether the leg with the place orders the items so, by what is told of it.
+#[tactic(auto, using(crate::proofs::OrdersTold::ordered_so))]
 fn are_ordered(
     machine: &Machine,
     legs: &Legs,
@@ -601,8 +628,8 @@ fn are_ordered(
     requires second { IsItemIn machine.now second }
     ensures { IsTrue result ↔ IsOrderedAsTold machine.now legs.now place leg.now fires first second }
 {
-    are_ordered_within(machine, legs, leg, place, fires, first, second)
-        || are_called_over_legs(machine, legs, leg, place, fires, first, second)
+    are_path_pair(leg, first, second)
+        || calls_before(machine, legs, leg, place, fires, first, second)
 }
 
 // Whether some leg but the first orders the items so, by what is told of it.
@@ -641,6 +668,25 @@ fn are_ordered_over(machine: &Machine, legs: &Legs, fires: bool, first: Item, se
         || are_ordered_further(machine, legs, fires, first, second)
 }
 
+// The same, where the kind of the first item is asked first: nothing comes behind an opening or a pick.
+#[inline(always)]
+#[tactic(auto, using(crate::proofs::OrdersTold::over_starts, crate::proofs::OrdersTold::further_starts))]
+fn may_be_ordered_over(
+    machine: &Machine,
+    legs: &Legs,
+    fires: bool,
+    first: Item,
+    second: Item,
+) -> bool
+    requires legs { AreLegsIn machine.now legs.now }
+    requires first { IsItemIn machine.now first }
+    requires second { IsItemIn machine.now second }
+    ensures { IsTrue result ↔ (IsOrderedOver machine.now legs.now 0 legs.now.first fires first second
+        ⊎ HasFurther legs.now (λ i a. IsOrderedAsTold machine.now legs.now i a fires first second)) }
+{
+    comes_before_later(first) && are_ordered_over(machine, legs, fires, first, second)
+}
+
 // Whether there are several legs, and the first orders the items over another one, or one but the first orders them.
 #[inline(always)]
 fn are_ordered_by_more(
@@ -660,7 +706,7 @@ fn are_ordered_by_more(
     if alone {
         false
     } else {
-        are_ordered_over(machine, legs, fires, first, second)
+        may_be_ordered_over(machine, legs, fires, first, second)
     }
 }
 

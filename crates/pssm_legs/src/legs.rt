@@ -10,6 +10,7 @@ ghost use Rattle.pssm_legs.specs.LegsOf.{GoesOn, IsLoneStart, AreLegsOf, IsAt, l
 ghost use Rattle.pssm_legs.specs.inner.Chained.{BeginsChain, BeginsChains, BeginsRoute, IsStarAt, IsMade, AreDone, EndsLeg};
 
 use crate::areas::{Area, area_of_path, has_kind};
+use crate::further::Further;
 use crate::path::{Chain, chain_of};
 use pssm_model::{Machine, Route, TransId, VertexId, VertexKind};
 use std::alloc::{AllocError as NoMemory, Global};
@@ -20,7 +21,7 @@ pub struct Leg {
     /// One of its transitions, the first where they are taken in order.
     pub named: TransId,
     /// Its other transitions.
-    pub further: Vec<TransId>,
+    pub further: Further,
     /// Whether its transitions are taken in this order; else all enter one join or leave one fork.
     pub in_order: bool,
     /// Where it exits and enters.
@@ -70,6 +71,7 @@ fn chain_leg(
     let chain = chain_of(alloc, machine, route, named)?;
     let Chain { further, last } = chain;
     let area = area_of_path(machine, named, further.as_slice(), last);
+    let further = Further::new(alloc, further, machine.transitions())?;
     Ok(Leg {
         named,
         further,
@@ -105,7 +107,8 @@ fn star_leg(
     ensures { IfOk result (λ leg. (p : DraftRoute) → IsStepRoute machine.now p → On p named → IsMade machine.now p named before leg) }
 {
     let _shaped = machine.regions();
-    let further = copy_of(alloc, more)?;
+    let copy = copy_of(alloc, more)?;
+    let further = Further::new(alloc, copy, machine.transitions())?;
     Ok(Leg {
         named,
         further,
@@ -295,7 +298,7 @@ pub fn lone_legs(alloc: Global, machine: &Machine, route: &Route, start: TransId
 {
     let _shaped = machine.regions();
     let last = machine.target(start);
-    let further = Vec::new(alloc);
+    let further = Further::none(alloc);
     let more = Vec::new(alloc);
     let area = area_of_path(machine, start, further.as_slice(), last);
     let first = Leg {

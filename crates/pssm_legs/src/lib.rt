@@ -7,9 +7,11 @@
 
 mod areas;
 mod asking;
+mod further;
 mod legs;
 mod path;
 
 pub use areas::{Area, covers};
 pub use asking::{calls, opens_for, orders};
+pub use further::Further;
 pub use legs::{Leg, Legs, legs_of, lone_legs, lone_start};

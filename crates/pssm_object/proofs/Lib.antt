@@ -58,3 +58,4 @@ pub mod Configurations
 pub mod EightParameters
 pub mod Latest
 pub mod Memories
+pub mod Homes

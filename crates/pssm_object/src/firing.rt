@@ -2,14 +2,14 @@
 ghost use Rattle.std.specs.Prelude.{◌≡◌, ◌↔◌, ◌<◌, IsTrue, IfOk, length, slice_get};
 ghost use Rattle.std.specs.Option.{option_copied};
 ghost use Rattle.pssm_model.specs.WellFormed.{KeepsModelRules};
-ghost use Rattle.pssm_config.specs.Tables.{Fits};
+ghost use Rattle.pssm_config.specs.Tables.{Fits, configuration_of};
 ghost use Rattle.pssm_semantics.specs.Values.{eight_of};
 ghost use Rattle.pssm_semantics.specs.Behaviours.{guards_under};
 ghost use Rattle.pssm_semantics.specs.Deferral.{Defers};
-ghost use Rattle.pssm_object.specs.inner.Firing.{Fires, OverridesThere, StateDefers, IsDeferredThere};
+ghost use Rattle.pssm_object.specs.inner.Firing.{Fires, OverridesThere, StateDefers, RegionDefers, IsDeferredThere};
 
 use pssm_config::Config;
-use pssm_model::{Event, Firing, GuardId, Machine, SignalId, VertexId};
+use pssm_model::{Event, Firing, GuardId, Machine, RegionId, SignalId, VertexId};
 use pssm_pool::Waiting;
 use pssm_routes::{is_firing_set, overrides, pick_firing_set};
 use pssm_semantics::{Args, Class, Cond, truth};
@@ -119,7 +119,7 @@ fn lists_deferred(machine: &Machine, state: VertexId, signal: SignalId) -> bool
     machine.vertex(state).defers.as_slice().contains(&signal)
 }
 
-// Whether the State is active there and defers the signal.
+// Whether the State, which is active there, defers the signal.
 fn state_defers(
     class: &Class,
     config: &Config,
@@ -130,11 +130,30 @@ fn state_defers(
     requires rules { KeepsModelRules class.now.machine }
     requires fits { Fits class.now.machine config.now }
     requires there { state.0 < length class.now.machine.vertices }
+    requires active { (configuration_of config.now).Active state }
     ensures { IsTrue result ↔ StateDefers class.now config.now store.now signal.now state }
 {
-    config.is_active(state)
-        && lists_deferred(&class.machine, state, signal.signal)
+    lists_deferred(&class.machine, state, signal.signal)
         && !is_overridden(class, config, signal, store, state)
+}
+
+// Whether the active direct vertex of the region defers the signal.
+fn region_defers(
+    class: &Class,
+    config: &Config,
+    signal: &Waiting,
+    store: &[i64],
+    region: RegionId,
+) -> bool
+    requires rules { KeepsModelRules class.now.machine }
+    requires fits { Fits class.now.machine config.now }
+    requires there { region.0 < length class.now.machine.regions }
+    ensures { IsTrue result ↔ RegionDefers class.now config.now store.now signal.now region }
+{
+    match config.active_in(region) {
+        Some(state) => state_defers(class, config, signal, store, state),
+        None => false,
+    }
 }
 
 /// Whether some State is active there and defers the signal. It takes no memory.
@@ -143,8 +162,8 @@ pub fn is_deferred(class: &Class, config: &Config, signal: &Waiting, store: &[i6
     requires fits { Fits class.now.machine config.now }
     ensures { IsTrue result ↔ IsDeferredThere class.now config.now store.now signal.now }
 {
-    for number in 0..class.machine.vertices() {
-        if state_defers(class, config, signal, store, VertexId(number)) {
+    for number in 0..class.machine.regions() {
+        if region_defers(class, config, signal, store, RegionId(number)) {
             return true;
         }
     }

@@ -156,6 +156,12 @@ IsOrderedOver m legs i a fires x y = ComesBeforeLater x × IsCalledAsTold m legs
 abbrev pub IsOrderedAsTold : DraftMachine → Legs → ℕ → Leg → Bool → Item → Item → Type 0
 IsOrderedAsTold m legs i a fires x y = IsOrderedWithin m legs i a fires x y ⊎ IsOrderedOver m legs i a fires x y
 
+-- Where the leg with the place calls the first item, the second comes behind it: the leg calls it too, and they come in this order by
+-- their kinds, or a later leg calls it.
+abbrev pub ComesBehind : DraftMachine → Legs → ℕ → Leg → Bool → Item → Item → Type 0
+ComesBehind m legs i a fires x y =
+    (ComesFirst x y × IsCalledAsTold m legs i a fires y) ⊎ (ComesBeforeLater x × IsCalledLater m legs i fires y)
+
 -- Some leg is such.
 abbrev pub HasLeg : Legs → (ℕ → Leg → Type 0) → Type 0
 HasLeg legs P = P 0 legs.first ⊎ HasFurther legs P

@@ -9,6 +9,7 @@ use Rattle.pssm_model.specs.declared.steps.Mode.{Mode}
 use Rattle.pssm_model.specs.declared.steps.How.{How}
 use Rattle.pssm_model.specs.declared.steps.How.TheVariants.{By}
 use Rattle.pssm_model.specs.declared.steps.Event.{Event}
+use Rattle.pssm_model.specs.Configuration.{IsDirect}
 use Rattle.pssm_model.specs.Routes.{Truth}
 use Rattle.pssm_model.specs.FiringSets.{IsFiring, IsLateRoute, Overrides}
 use Rattle.pssm_model.specs.Ways.{IsHistoryOf, OpensByDefault, OpensByHistory, CanOpen}
@@ -37,6 +38,10 @@ OverridesThere class tables store signal s =
 abbrev pub StateDefers : Class → Tables → Store → Waiting → VertexId → Type 0
 StateDefers class tables store signal s =
     (configuration_of tables).Active s × Defers class.machine s signal.signal × (OverridesThere class tables store signal s → ⊥)
+
+-- The active direct vertex of the region does so.
+abbrev pub RegionDefers : Class → Tables → Store → Waiting → RegionId → Type 0
+RegionDefers class tables store signal r = (s : VertexId) × IsDirect class.machine s r × StateDefers class tables store signal s
 
 -- Some State of the machine does so.
 abbrev pub IsDeferredThere : Class → Tables → Store → Waiting → Type 0

@@ -16,7 +16,9 @@ area_of_path-area-requires-clause-path c =
 
 pub returns : goal.returns
 returns c =
-    chain_is_made c.regions-shaped.ensures.shaped c.requires.rules c.args.route.now c.requires.route _ refl c.requires.begins c.in_ok-chain.ensures.chain
+    let chain = c.in_ok-chain.ensures.chain in
+    chain_is_made c.regions-shaped.ensures.shaped c.requires.rules c.args.route.now c.requires.route _ refl c.requires.begins
+    (subst (λ ts. IsChainOf c.args.machine.now c.args.route.now c.args.named ts c.in_ok-chain.chain.last) (sym c.in_ok-further.ensures.items) chain)
     (c.area_of_path-area.ensures.area c.args.route.now c.requires.route c.requires.begins
-    (subst (λ ts. IsChainOf c.args.machine.now c.args.route.now c.args.named ts c.in_ok-chain.chain.last) (sym c.as_slice.ensures.value) c.in_ok-chain.ensures.chain))
+    (subst (λ ts. IsChainOf c.args.machine.now c.args.route.now c.args.named ts c.in_ok-chain.chain.last) (sym c.as_slice.ensures.value) chain))
     _ refl c.area_of_path-area.ensures.there c.in_ok-chain.ensures.there

@@ -19,14 +19,14 @@ area_of_path-area-requires-clause-first c =
 pub area_of_path-area-requires-clause-path : goal.area_of_path-area-requires-clause-path
 area_of_path-area-requires-clause-path c =
     (lone_chain c.regions-shaped.ensures.shaped c.requires.rules c.args.route.now c.requires.route c.args.start c.target-last.result
-    c.requires.start c.target-last.ensures.enters _ (c.as_slice.ensures.value ∙ c.new-further.ensures.items)).path
+    c.requires.start c.target-last.ensures.enters _ (c.as_slice.ensures.value ∙ c.none-further.ensures.items)).path
 
 pub returns : goal.returns
 returns c =
     let shape = c.regions-shaped.ensures.shaped in
     let begins = lone_begins shape c.requires.rules c.args.route.now c.requires.route c.args.start c.target-last.result c.requires.start c.target-last.ensures.enters in
     let chain = lone_chain shape c.requires.rules c.args.route.now c.requires.route c.args.start c.target-last.result
-    c.requires.start c.target-last.ensures.enters c.as_slice.result.now (c.as_slice.ensures.value ∙ c.new-further.ensures.items) in
-    lone_are_legs shape c.requires.rules c.args.route.now c.requires.route _ c.new-more.ensures.items c.new-further.ensures.items refl refl
+    c.requires.start c.target-last.ensures.enters c.as_slice.result.now (c.as_slice.ensures.value ∙ c.none-further.ensures.items) in
+    lone_are_legs shape c.requires.rules c.args.route.now c.requires.route _ c.new-more.ensures.items c.none-further.ensures.items refl refl
     c.requires.start c.target-last.ensures.enters (c.area_of_path-area.ensures.area c.args.route.now c.requires.route begins chain)
     c.area_of_path-area.ensures.there (target_there shape c.args.start c.target-last.result c.target-last.ensures.enters)

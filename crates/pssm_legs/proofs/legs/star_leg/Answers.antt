@@ -1,5 +1,5 @@
 -- what has been made is a leg
-use Rattle.std.proofs.Common.{◌≡◌, ◌∷◌, true, false, refl, sym, subst, ⊎_elim}
+use Rattle.std.proofs.Common.{◌≡◌, ◌∷◌, ◌∙◌, true, false, refl, sym, subst, ⊎_elim}
 use Rattle.pssm_legs.specs.inner.Chained.{IsStarAt}
 use Rattle.pssm_legs.proofs.PathRegions.{in_head, enters_there, leaves_there}
 use Rattle.pssm_legs.proofs.LegsMade.{star_is_made}
@@ -17,5 +17,5 @@ pub returns : goal.returns
 returns c = λ p step on.
     star_is_made c.regions-shaped.ensures.shaped c.requires.rules p step _ (λ wrong. (let e : false ≡ true = wrong in cc)) on c.target.ensures.enters
     c.args.hub c.home.result c.home.ensures.home refl
-    (subst (λ ts. IsStarAt c.args.machine.now (c.args.named ∷ ts) c.args.hub) (sym c.in_ok-further.ensures) c.requires.star)
+    (subst (λ ts. IsStarAt c.args.machine.now (c.args.named ∷ ts) c.args.hub) (sym (c.in_ok-further.ensures.items ∙ c.in_ok-copy.ensures)) c.requires.star)
     _ refl c.home.ensures.there c.target.ensures.there

@@ -3,7 +3,7 @@ use Rattle.std.proofs.Common.{◌<◌, ◌≤◌, length, refl, arith}
 use Rattle.std.proofs.lemmas.Option.{slice_get-get_or}
 use Rattle.pssm_legs.proofs.NoneSoFar.{refuted}
 use Rattle.pssm_legs.proofs.SeenBefore.{second_found, one_more_seen, none_stands}
-use Rattle.pssm_legs.proofs.asking.stands_before.Goals as goal
+use Rattle.pssm_legs.proofs.further.stands_before.Goals as goal
 
 pub loop-w-preserved : goal.loop-w-preserved
 loop-w-preserved c =
