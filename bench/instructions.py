@@ -32,12 +32,12 @@ def need_valgrind():
         sys.exit('install valgrind first')
 
 
-def instructions(words, output=subprocess.DEVNULL):
-    """How many instructions one call takes."""
+def instructions(words, output=subprocess.DEVNULL, wanted=0):
+    """How many instructions one call takes that ends with the wanted status."""
     command = ['valgrind', '--tool=callgrind', '--callgrind-out-file=/dev/null', PROGRAM] + words
     call = subprocess.run(command, stdout=output, stderr=subprocess.PIPE, universal_newlines=True)
     counted = COUNTED.search(call.stderr)
-    if call.returncode != 0 or counted is None:
+    if call.returncode != wanted or counted is None:
         sys.exit('%s ended with status %d' % (' '.join(words[:3]), call.returncode))
     return int(counted.group(1))
 
