@@ -5,3 +5,7 @@ pub mod Writing
 pub mod Growing
 pub mod Meeting
 pub mod Holding
+pub mod Coming
+pub mod Leaving
+pub mod Finding
+pub mod Unused

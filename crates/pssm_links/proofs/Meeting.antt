@@ -33,7 +33,9 @@ module _ {T : Type 0} where
   unfolding lists_from
   lists-met slots start [] given = refl
   lists-met slots start (row ∷ rows) given =
-      ap (λ k. met_from slots (length slots) (next_of slots k) ∷ lists_from slots (start + 1) (length rows)) (let zero-more : start ≡ start + 0 = omega arith in zero-more)
+      ap
+      (λ k. met_from slots (length slots) (next_of slots k) ∷ lists_from slots (start + 1) (length rows))
+      (let zero-more : start ≡ start + 0 = omega arith in zero-more)
       ∙ ap (λ first. first ∷ lists_from slots (start + 1) (length rows)) (given 0 (omega arith))
       ∙ ap (λ rest. row ∷ rest)
       (lists-met slots (start + 1) rows
@@ -50,7 +52,8 @@ module _ {T : Type 0} where
       let size = hold.rings.size in
       let longest = row-length hold.rows j within in
       let same : length (row_of hold.rows j) ≡ length (slots_of (list_of lists j)) = ap length (hold.same j lt) in
-      let short : length (list_of lists j) < length slots = omega (arith, size, longest, same, count, length-map (list_of lists j) (λ (e : Linked T). e.slot.0)) in
+      let short : length (list_of lists j) < length slots =
+      omega (arith, size, longest, same, count, length-map (list_of lists j) (λ (e : Linked T). e.slot.0)) in
       let path = subst (λ row. IsPath slots j row j) (hold.same j lt) (hold.rings.rings j within) in
       let met = met-path slots (length slots) j (list_of lists j) j short path (hold.stand j lt) (hold.ends j within) in
       subst (λ k. met_from slots (length slots) (next_of slots k) ≡ list_of lists j) (let zero : j ≡ 0 + j = omega arith in zero) met)

@@ -74,7 +74,8 @@ module _ {T : Type 0} (old new : List (Slot T)) (rows : List (List ℕ)) (k r i 
       subst
       (λ row. IsPath new l row l)
       (sym e)
-      (kept-path old new k (prev_of old k) (next_of old k) joins before after l (row_of rows l) l lk lk (omega (arith, two, there, once)) (rings.rings l within)))
+      (kept-path old new k (prev_of old k) (next_of old k) joins before after l (row_of rows l) l lk lk (omega (arith, two, there, once))
+      (rings.rings l within)))
       (eqb_tells l r)
 
   pub less-rings : AreRings new (less rows r i)

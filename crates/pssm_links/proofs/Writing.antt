@@ -32,7 +32,8 @@ module _ {T X : Type 0} (read : Slot T → X) (none : X) (slots : List (Slot T))
   kept d same k =
       ⊎_elim
       (λ yes.
-      let here : option_map_or read (slice_get slots at) none ≡ read (get_or slots at d) = ap (λ o. option_map_or read o none) (slice_get-get_or slots at d lt) in
+      let here : option_map_or read (slice_get slots at) none ≡ read (get_or slots at d) =
+      ap (λ o. option_map_or read o none) (slice_get-get_or slots at d lt) in
       subst
       (λ j. option_map_or read (slice_get (set slots at y) j) none ≡ option_map_or read (slice_get slots j) none)
       (sym yes.1)

@@ -1,6 +1,7 @@
 //! `Chains`: several lists in one array of slots.
 ghost use Rattle.std.specs.Prelude.{◌≡◌, ◌≤◌, ◌<◌, ◌+◌, ℕ, [], length, replicate, Some, IfOk, OnOk};
-ghost use Rattle.pssm_links.specs.Chained.{list_of, held_in, with_pushed, without, slot_at, value_at, IsSlotAt, IsSlot, HaveOwnSlots};
+ghost use Rattle.pssm_links.specs.Chained.{list_of, held_in, with_pushed, without, slot_at, value_at};
+ghost use Rattle.pssm_links.specs.Chained.{IsSlotAt, IsSlot, HaveOwnSlots};
 
 use crate::links::{LINKS, Slot, attach, move_slot, new_ends, put_value, ring_of_one, take_value};
 use crate::slot::SlotId;
@@ -15,8 +16,8 @@ use std::sync::ledger::Ledger;
 /// come before memory has to be taken. No call but `new` and `reserve` takes memory.
 #[derive(Drop)]
 pub struct Chains<T> {
-    // The first slots are the ends of the lists, and the one after them that of the unused slots: each is the slot before
-    // the first and after the last of its list. No value stands in them.
+    // The first slots are the ends of the lists, and the one after them that of the unused slots: each
+    // is the slot before the first and after the last of its list. No value stands in them.
     slots: Vec<Slot<T>>,
     lists: u32,
     spare: u32,
@@ -145,6 +146,7 @@ impl<T: Drop> Chains<T> {
         ensures own { HaveOwnSlots self.now.lists }
         ensures short { (l : ℕ) → length (list_of self.now.lists l) < 4_294_967_296 }
     {
+        // What is kept of the slots is known once they are looked into.
         let _lists = self.lists;
     }
 

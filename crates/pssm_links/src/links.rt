@@ -1,7 +1,8 @@
 //! Slots, and how they are linked.
 ghost use Rattle.std.specs.Prelude.{◌≡◌, ◌<◌, ◌+◌, ℕ, List, length, IfOk, IsSome};
 ghost use Rattle.pssm_links.specs.declared.links.Slot.{Slot as ASlot};
-ghost use Rattle.pssm_links.specs.inner.Rings.{next_of, prev_of, value_of, moved, Joins, IsWritten, AreEnds, AreRings, CanMove};
+ghost use Rattle.pssm_links.specs.inner.Rings.{next_of, prev_of, value_of, moved};
+ghost use Rattle.pssm_links.specs.inner.Rings.{Joins, IsWritten, AreEnds, AreRings, CanMove};
 
 use std::alloc::{AllocError as NoMemory, Global};
 

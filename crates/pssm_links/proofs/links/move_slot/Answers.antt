@@ -22,7 +22,8 @@ attach-requires-clause-here g c =
 pub attach-requires-clause-before : goal.attach-requires-clause-before
 attach-requires-clause-before g c =
     let can = c.requires.3 in
-    let rings = less-rings c.args.slots.now c.detach.new.slots c.requires.0 c.args.slot c.requires.1 c.requires.2 can.rings can.from can.place c.detach.ensures in
+    let rings = less-rings c.args.slots.now c.detach.new.slots c.requires.0 c.args.slot c.requires.1 c.requires.2 can.rings can.from can.place
+    c.detach.ensures in
     let e = ring-edge c.detach.new.slots (less c.requires.0 c.requires.1 c.requires.2) c.args.to rings
     (omega (arith, less-length c.requires.0 c.requires.1 c.requires.2, can.into)) in
     e.from

@@ -1,5 +1,5 @@
 -- the first slot is read off the end of the list
-use Rattle.pssm_links.proofs.Holding.{first-found}
+use Rattle.pssm_links.proofs.Finding.{first-found}
 use Rattle.pssm_links.proofs.chains.Chains.first.Goals as goal
 
 pub returns : goal.returns

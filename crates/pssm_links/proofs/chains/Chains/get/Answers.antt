@@ -1,6 +1,7 @@
 -- the value is read off the slot
 use Rattle.std.proofs.Common.{IsSome, refl, sym, subst, ◌∙◌, arith}
-use Rattle.pssm_links.proofs.Holding.{value-found, take-some, take-is, slot-there}
+use Rattle.pssm_links.proofs.Finding.{value-found}
+use Rattle.pssm_links.proofs.Leaving.{take-some, take-is, slot-there}
 use Rattle.pssm_links.proofs.chains.Chains.get.Goals as goal
 
 pub index-requires : goal.index-requires

@@ -1,6 +1,7 @@
 -- the next slot is read off the slot
 use Rattle.std.proofs.Common.{refl, arith}
-use Rattle.pssm_links.proofs.Holding.{next-found, slot-there}
+use Rattle.pssm_links.proofs.Finding.{next-found}
+use Rattle.pssm_links.proofs.Leaving.{slot-there}
 use Rattle.pssm_links.proofs.chains.Chains.next.Goals as goal
 
 pub index-requires : goal.index-requires

@@ -1,5 +1,5 @@
 -- a slot stands in at most one row, once
-use Rattle.pssm_links.proofs.Holding.{own-slots, short-list}
+use Rattle.pssm_links.proofs.Finding.{own-slots, short-list}
 use Rattle.pssm_links.proofs.chains.Chains.own_slots.Goals as goal
 
 pub returns-clause-own : goal.returns-clause-own

@@ -1,7 +1,7 @@
 -- a value comes into the last of the unused slots
 use Rattle.std.proofs.Common.{arith}
 use Rattle.pssm_links.proofs.Turning.{can-stand}
-use Rattle.pssm_links.proofs.Holding.{push-ready, push-done}
+use Rattle.pssm_links.proofs.Coming.{push-ready, push-done}
 use Rattle.pssm_links.proofs.chains.Chains.push_back.Goals as goal
 
 pub move_slot-requires : goal.move_slot-requires

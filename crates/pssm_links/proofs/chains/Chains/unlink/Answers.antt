@@ -1,6 +1,6 @@
 -- a value leaves, and its slot is unused
 use Rattle.std.proofs.Common.{IsSome, sym, subst, ◌∙◌, arith}
-use Rattle.pssm_links.proofs.Holding.{take-ready, slot-there, take-some, take-is, take-done}
+use Rattle.pssm_links.proofs.Leaving.{take-ready, slot-there, take-some, take-is, take-done}
 use Rattle.pssm_links.proofs.chains.Chains.unlink.Goals as goal
 
 pub move_slot-requires : goal.move_slot-requires
