@@ -1,5 +1,6 @@
 -- Calls before which no way orders those that they have not seen yet.
-use Rattle.std.proofs.Common.{◌≡◌, ◌⊎◌, ◌<◌, ◌≤◌, ℕ, Bool, List, length, get_or, take, drop, ◌+◌, ◌-◌, Contains, IsTrue, arith, length-append, refl, sym, subst, ap, inl, inr, ⊎_elim, ◌∙◌, ◌↔◌, Some}
+use Rattle.std.proofs.Common.{◌≡◌, ◌⊎◌, ◌<◌, ◌≤◌, ℕ, Bool, List, length, get_or, take, drop, ◌+◌, ◌-◌}
+use Rattle.std.proofs.Common.{Contains, IsTrue, arith, length-append, refl, sym, subst, ap, inl, inr, ⊎_elim, ◌∙◌, ◌↔◌, Some}
 use Rattle.std.proofs.lemmas.Bool.{cases_lt}
 use Rattle.std.proofs.lemmas.List.{get_or_default, get_or_append_left, get_or-drop, length-drop, take_all}
 use Rattle.std.proofs.Math.Seq.{drop-append_seam}
@@ -24,7 +25,7 @@ use Rattle.pssm_plan.specs.inner.Marks.{IsListed, IsLonger, IsNoted, IsSettled, 
 use Rattle.pssm_plan.specs.declared.waiting.Since.{Since}
 use Rattle.pssm_plan.specs.declared.waiting.Wait.{Wait}
 use Rattle.pssm_plan.specs.Waiting.{IsExact}
-use Rattle.pssm_plan.specs.inner.Sequence.{IsSequence, IsNestedPair, IsOrderedBySome, IsNoStay, AreLooseUpTo, AreApartFrom, AreNewSince, IsNewCall, IsApart, IsRoster}
+use Rattle.pssm_plan.specs.inner.Sequence.{IsSequence, IsNestedPair, IsOrderedBySome, IsNoStay, AreLooseUpTo, ArePassedNested, AreApartFrom, AreNewSince, IsNewCall, IsApart, IsRoster}
 use Rattle.pssm_plan.specs.inner.Calling.{IsNoExit, IsLate, IsOfRestored, IsEntered}
 use Rattle.pssm_plan.specs.inner.Going.{KeepsOrder, AreCovered, IsFollowedSo}
 use Rattle.pssm_plan.proofs.Growing.{lower_or_same}
@@ -105,15 +106,18 @@ no_stay_nested m (items.Effect t) y none h = h
 no_stay_nested m (items.Opened r mode) y none h = h
 no_stay_nested m (items.Pick c) y none h = h
 
--- a new call that is neither an exit nor an entry has as good as seen all before the new ones
+pub no_stay_passed : (m : DraftMachine) (calls : List Call) (item : Item) (place : ℕ) → IsNoStay item → ArePassedNested m calls item place
+no_stay_passed m calls item place none k d lt inside up = no_stay_nested m (get_or calls k d).item item none up.0
+
+-- a new call has as good as seen all before the new ones of which none holds it up by where their States lie
 pub begun_seen : (m : DraftMachine) (ways : List Way) (calls : List Call) (call begun : Call) (since : Since) → IsNewCall m ways calls call since
-    → IsNoStay call.item → begun.item ≡ call.item → begun.seen ≡ since.calls → (IsTrue begun.blocked → ⊥) → HasSeen (IsSequence m ways) calls begun
-begun_seen m ways calls call begun since h none item seen free = record {
-  within = omega (arith, h.within, seen);
+    → ArePassedNested m calls call.item begun.seen → begun.seen ≤ since.calls → begun.item ≡ call.item → (IsTrue begun.blocked → ⊥)
+    → HasSeen (IsSequence m ways) calls begun
+begun_seen m ways calls call begun since h none low item free = record {
+  within = omega (arith, h.within, low);
   passed = λ k d lt inside up. ⊎_elim
-      (λ nested. no_stay_nested m (get_or calls k d).item call.item none
-      (subst (λ (y : Item). IsNestedPair m (get_or calls k d).item y) item nested))
-      (λ ordered. h.apart k d (omega (arith, lt, seen)) inside (subst (λ (y : Item). IsOrderedBySome m ways (get_or calls k d).item y) item ordered))
+      (λ nested. none k d lt inside (subst (λ (y : Item). IsNestedPair m (get_or calls k d).item y) item nested, up.1))
+      (λ ordered. h.apart k d (omega (arith, lt, low)) inside (subst (λ (y : Item). IsOrderedBySome m ways (get_or calls k d).item y) item ordered))
       up.0;
   there = λ blocked. absurd (free blocked);
 }

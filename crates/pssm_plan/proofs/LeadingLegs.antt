@@ -1,8 +1,10 @@
 -- A leg enters only near where it ends; and its entries come before what is no end of it only where another leg is listed behind it.
-use Rattle.std.proofs.Common.{◌≡◌, ◌↔◌, ◌<◌, Bool, true, false, IsTrue, subst, ◌+◌, ◌-◌, ℕ, List, Some, length, take, slice_get, Contains, inl, inr, ⊎_elim, arith, ◌∙◌}
+use Rattle.std.proofs.Common.{refl, ◌⊎◌, ◌≡◌, ◌↔◌, ◌<◌, Bool, true, false, IsTrue, subst, ◌+◌, ◌-◌, ℕ}
+use Rattle.std.proofs.Common.{List, Some, length, take, slice_get, Contains, inl, inr, ⊎_elim, arith, ◌∙◌}
 use Rattle.std.proofs.lemmas.List.{get_or-take, length-take-le}
 use Rattle.std.proofs.lemmas.Option.{slice_get_within, get_or_from_slice_get}
 use Rattle.pssm_model.specs.declared.ids.VertexId.{VertexId}
+use Rattle.pssm_model.specs.declared.ids.TransId.{TransId}
 use Rattle.pssm_model.specs.declared.elements.DraftMachine.{DraftMachine}
 use Rattle.pssm_model.specs.declared.steps.Item.{Item}
 use Rattle.pssm_model.specs.declared.steps.Item.TheVariants.{Exit, Effect, Enter, Opened, Pick}
@@ -17,8 +19,9 @@ use Rattle.pssm_plan.specs.declared.ways.Way.{Way}
 use Rattle.pssm_plan.specs.Ways.{IsWayIn}
 use Rattle.pssm_plan.specs.inner.ByWays.{orders_by}
 use Rattle.pssm_plan.specs.inner.Near.{IsNear, EndsNear, IsNearSome, LeadsOnNear}
-use Rattle.pssm_plan.specs.inner.Sequence.{IsNoEnd}
-use Rattle.pssm_plan.proofs.NearItems.{more_in}
+use Rattle.pssm_plan.specs.inner.Sequence.{IsNoEnd, IsLong}
+use Rattle.pssm_plan.proofs.NearItems.{more_in, effects_are}
+use Rattle.pssm_plan.proofs.NearWays.{way_calls_first}
 
 pub taken_inside : {X : Type 0} (xs : List X) (n : ℕ) (x : X) → n < length xs → Contains (take n xs) x → Contains xs x
 taken_inside {X} xs n x few h =
@@ -103,3 +106,15 @@ near_or_leads m way s said first some same there has failed one =
       λ t. (there, inr (near.0 t)),
       λ h. ⊎_elim (λ here. absurd (let yes : first ≡ true = has.1 here in cc (yes, failed))) (λ more. near.1 more) h.1,
     )
+
+-- a way that calls an effect is long, or this is that of its one transition
+pub effect_leads : {m : DraftMachine} (way : Way) → IsWayIn m way → (t : TransId) (y : Item) → orders_by m way (Effect t) y
+    → (way.legs.first.named ≡ t) ⊎ IsLong way
+effect_leads {m} way is t y h =
+    ⊎_elim
+    (λ first. ⊎_elim
+    (λ named. inl (let e = named in cc e))
+    (λ further. inr (inr (let lt = further.1.1 in omega (arith, lt))))
+    first)
+    (λ more. inr (inl (let lt = more.1.1 in omega (arith, lt))))
+    ((effects_are way is (Effect t)).1 (t, refl, way_calls_first m way (Effect t) y h))

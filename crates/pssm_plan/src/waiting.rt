@@ -7,7 +7,7 @@ ghost use Rattle.pssm_plan.specs.Waiting.{HoldsUp};
 ghost use Rattle.pssm_plan.specs.Ways.{AreWaysIn};
 ghost use Rattle.pssm_plan.specs.inner.Marks.{HasSeen, IsHeldAt, IsUpToDate, AreThrough, IsSettled, IsSettledSo, ArePairwise};
 ghost use Rattle.pssm_plan.specs.inner.Sequence.{IsSomeLong, IsSequence, IsNestedPair, AreItemsOf};
-ghost use Rattle.pssm_plan.specs.inner.Sequence.{AreNewSince, IsNewCall, IsApart, IsNoStay, AreLooseUpTo};
+ghost use Rattle.pssm_plan.specs.inner.Sequence.{AreNewSince, IsNewCall, IsApart, IsNoStay, AreLooseUpTo, ArePassedNested};
 ghost use Rattle.pssm_model.specs.declared.steps.Item.{Item as Waiting};
 
 use crate::roster::{Call, Roster};
@@ -208,22 +208,53 @@ fn may_nest(item: Item) -> bool
     matches!(item, Item::Exit(_) | Item::Enter(_))
 }
 
-// A new call as it looks at the others: exits and entries look at all, and others begin with those that are new.
+// The place of the first of the calls before a place that holds up a call by where their States lie, or that place.
+fn first_nested(machine: &Machine, calls: &[Call], call: &Call, first: usize) -> usize
+    requires items { AreItemsOf machine.now calls.now }
+    requires item { IsItemIn machine.now call.now.item }
+    requires first { first ≤ length calls.now }
+    ensures within { result ≤ first }
+    ensures none { ArePassedNested machine.now calls.now call.now.item result }
+{
+    for k in 0..first {
+        if holds_up_nested(machine, &calls[k], call) {
+            return k;
+        }
+    }
+    first
+}
+
+// The same; for what is neither exit nor entry it is the place itself.
+#[inline(always)]
+fn first_before(machine: &Machine, calls: &[Call], call: &Call, first: usize) -> usize
+    requires items { AreItemsOf machine.now calls.now }
+    requires item { IsItemIn machine.now call.now.item }
+    requires first { first ≤ length calls.now }
+    ensures within { result ≤ first }
+    ensures none { ArePassedNested machine.now calls.now call.now.item result }
+{
+    if may_nest(call.item) {
+        first_nested(machine, calls, call, first)
+    } else {
+        first
+    }
+}
+
+// A new call as it looks at the others: before the new ones only such holds it up in whose State its own lies.
 #[inline(always)]
 fn begun(machine: &Machine, ways: &[Way], calls: &[Call], call: &Call, since: Since) -> Call
+    requires items { AreItemsOf machine.now calls.now }
+    requires item { IsItemIn machine.now call.now.item }
     requires few { length calls.now < 2 ^ 32 }
-    requires seen { HasSeen (IsSequence machine.now ways.now) calls.now call.now }
     requires new { IsNewCall machine.now ways.now calls.now call.now since }
     ensures item { result.item ≡ call.now.item }
     ensures ran { result.ran ≡ call.now.ran }
     ensures seen { HasSeen (IsSequence machine.now ways.now) calls.now result }
 {
-    if may_nest(call.item) {
-        return *call;
-    }
+    let seen = first_before(machine, calls, call, since.calls);
     Call {
         blocked: false,
-        seen: since.calls as u32,
+        seen: seen as u32,
         ..*call
     }
 }
@@ -319,7 +350,8 @@ fn look_again(
     requires item { IsItemIn machine.now call.now.item }
     requires few { length calls.now < 2 ^ 32 }
     requires seen { HasSeen (IsSequence machine.now ways.now) calls.now call.now }
-    requires apart { since.calls ≤ call.now.seen → (IsTrue call.now.blocked → ⊥) → IsApart machine.now ways.now calls.now call.now }
+    requires apart { since.calls ≤ call.now.seen → (IsTrue call.now.blocked → ⊥)
+        → IsApart machine.now ways.now calls.now call.now }
     requires within { nests ≤ length calls.now }
     requires loose { AreLooseUpTo machine.now calls.now since.calls nests }
     ensures { IsSettledSo (IsSequence machine.now ways.now) calls.now call.now result }

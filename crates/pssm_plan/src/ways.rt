@@ -14,7 +14,7 @@ ghost use Rattle.pssm_plan.specs.inner.Sequence.{IsOpenedBySome, IsNoEnd, kind_n
 use crate::direct::may_call;
 use crate::near::leads_on_near;
 use pssm_legs::{Legs, calls, legs_of, lone_legs, lone_start, opens_for, orders};
-use pssm_model::{Item, Machine, RegionId, Route, VertexId};
+use pssm_model::{Item, Machine, RegionId, Route, TransId, VertexId};
 use std::alloc::{AllocError as NoMemory, Global};
 use std::snapshot::Snapshot;
 
@@ -128,6 +128,26 @@ fn entry_may_lead(machine: &Machine, way: &Way, s: VertexId, second: Item) -> bo
     leads_on_near(machine, way, s)
 }
 
+// Whether the first leg of a way is named by a transition.
+#[inline(always)]
+fn is_named(way: &Way, t: TransId) -> bool
+    ensures { IsTrue result ↔ (way.now.legs.first.named ≡ t) }
+{
+    way.legs.first.named == t
+}
+
+// Whether an effect may come before an item by a way: one of a way that is not long is that of its one transition.
+#[inline(always)]
+fn effect_may_lead(machine: &Machine, way: &Way, t: TransId, second: Item) -> bool
+    requires way { IsWayIn machine.now way.now }
+    ensures { orders_by machine.now way.now (Called.Effect t) second → IsTrue result }
+{
+    if is_named(way, t) {
+        return true;
+    }
+    is_long(way)
+}
+
 // Whether the first of two items may come before the second by a way.
 #[inline(always)]
 fn may_lead(machine: &Machine, way: &Way, first: Item, second: Item) -> bool
@@ -138,7 +158,8 @@ fn may_lead(machine: &Machine, way: &Way, first: Item, second: Item) -> bool
 {
     match first {
         Item::Enter(s) => entry_may_lead(machine, way, s, second),
-        Item::Exit(_) | Item::Effect(_) | Item::Opened(_, _) | Item::Pick(_) => true,
+        Item::Effect(t) => effect_may_lead(machine, way, t, second),
+        Item::Exit(_) | Item::Opened(_, _) | Item::Pick(_) => true,
     }
 }
 
