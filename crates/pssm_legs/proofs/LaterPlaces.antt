@@ -121,3 +121,8 @@ places_left (Some k) = k + 1
 pub fewer_places : (k : ℕ) (before : Option ℕ) → ((i : ℕ) → before ≡ Some i → i < k) → places_left before < k + 1
 fewer_places k None lower = omega arith
 fewer_places k (Some i) lower = let lt = lower i refl in omega (arith, lt)
+
+-- no further leg with a place up to this one stands later than it
+pub none_up_to : (legs : Legs) → ((i j : ℕ) (leg : Leg) → IsAt legs j leg → leg.before ≡ Some i → i < j) → (P : ℕ → Leg → Type 0) (place : ℕ)
+    → NoneYet legs (λ j b. StandsLater (leg_list legs) place j × P j b) place
+none_up_to legs lower P place k b lt at is = let less = later_lower legs lower place (k + 1) is.0 in omega (arith, lt, less)

@@ -254,14 +254,14 @@ fn is_later_inside(
     ends_inside(machine, leg, r) && is_later(legs, leg, other, place)
 }
 
-// Whether a leg that stands later than the place aims at the region.
+// Whether a leg that stands later than the place aims at the region. Such a leg has a higher place.
 fn is_aimed_later(machine: &Machine, legs: &Legs, place: usize, r: RegionId) -> bool
     requires legs { AreLegsIn machine.now legs.now }
     requires region { r.0 < length machine.now.regions }
     ensures { IsTrue result ↔ IsAimedLater machine.now legs.now place r }
 {
     let more = legs.more.as_slice();
-    for k in 0..more.len() {
+    for k in place..more.len() {
         if is_later_inside(machine, legs, &more[k], k + 1, place, r) {
             return true;
         }
@@ -423,7 +423,7 @@ fn is_later_calling(
     is_called(machine, legs, leg, other, fires, item) && is_later(legs, leg, other, place)
 }
 
-// Whether a leg that stands later than the place calls the item, by what is told of it.
+// Whether a leg that stands later than the place calls the item, by what is told of it. Such a leg has a higher place.
 #[inline(never)]
 fn is_called_later(machine: &Machine, legs: &Legs, place: usize, fires: bool, item: Item) -> bool
     requires legs { AreLegsIn machine.now legs.now }
@@ -431,7 +431,7 @@ fn is_called_later(machine: &Machine, legs: &Legs, place: usize, fires: bool, it
     ensures { IsTrue result ↔ IsCalledLater machine.now legs.now place fires item }
 {
     let more = legs.more.as_slice();
-    for k in 0..more.len() {
+    for k in place..more.len() {
         if is_later_calling(machine, legs, &more[k], k + 1, place, fires, item) {
             return true;
         }

@@ -59,3 +59,4 @@ pub mod EightParameters
 pub mod Latest
 pub mod Memories
 pub mod Homes
+pub mod QueueMarks

@@ -85,7 +85,7 @@ module _ {X : Type 0} where
   first_before R x xs h y (k, lt, at) = subst (R x) at (h 0 (suc k) y (omega arith) (omega (arith, lt)))
 
 -- a test of numbers tells vertices apart
-differs : (s v : VertexId) → v ≢ s → not (v.0 == s.0) ≡ true
+pub differs : (s v : VertexId) → v ≢ s → not (v.0 == s.0) ≡ true
 differs s v apart = ⊎_elim (λ yes. absurd (apart (same_vertex v s yes.1))) (λ no. ap not no.0) (eqb_tells v.0 s.0)
 
 is_other : (s v : VertexId) → not (v.0 == s.0) ≡ true → v ≡ s → ⊥

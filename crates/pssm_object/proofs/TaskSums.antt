@@ -1,6 +1,5 @@
 -- The ready tasks of an object are those of its step, and then the do steps.
-use Rattle.std.proofs.Common.{◌≡◌, ◌↔◌, ◌≤◌, ◌<◌, ◌+◌, ◌-◌, ◌++◌, ℕ, zero, suc, List, [], ◌∷◌, length, Bool, true, false, IsTrue, if◌then◌else◌, Some, None, slice_get, refl, sym, ap, subst, ◌∙◌, ⊎_elim, arith, length-append}
-use Rattle.std.proofs.lemmas.Bool.{cases_lt, false≢true}
+use Rattle.std.proofs.Common.{◌≡◌, ◌<◌, ◌+◌, ◌++◌, ℕ, zero, suc, List, [], ◌∷◌, length, Bool, true, false, if◌then◌else◌, Some, None, slice_get, refl, sym, ap, subst, ◌∙◌, arith, length-append}
 use Rattle.pssm_model.specs.declared.elements.DraftMachine.{DraftMachine}
 use Rattle.pssm_semantics.specs.declared.stimulus.Task.{Task}
 use Rattle.pssm_object.specs.Doing.{do_tasks}
@@ -21,10 +20,6 @@ get_back (z ∷ xs) ys k = ap (slice_get (z ∷ xs ++ ys)) (let same : suc (leng
 is_kept : (flag : Bool) (xs : List Task) (i : ℕ) → i < length (if flag then [] else xs) → flag ≡ false
 is_kept true xs i lt = absurd (omega (arith, lt))
 is_kept false xs i lt = refl
-
--- a number that is found not to be below another
-pub not_below : (answer : Bool) (i n : ℕ) → IsTrue answer ↔ (i < n) → answer ≡ false → n ≤ i
-not_below answer i n is fails = ⊎_elim (λ (below : i < n). absurd (false≢true (sym fails ∙ is.1 below))) (λ (past : n ≤ i). past) (cases_lt i n)
 
 module _ (m : DraftMachine) (x : Standing) where
   abbrev in_step : List Task
@@ -51,11 +46,10 @@ module _ (m : DraftMachine) (x : Standing) where
     nth_front task e =
         subst (λ (b : Bool). slice_get (if b then [] else (in_step ++ doing)) i ≡ Some task) (sym living) (get_front in_step doing i task e)
 
-    pub nth_left : length in_step ≤ i → i - length in_step < length doing
-    nth_left past = let all = counted_all living in omega (arith, all, past, there)
+    pub nth_rest : (rest : ℕ) → length in_step + rest ≡ i → rest < length doing
+    nth_rest rest is = let all = counted_all living in omega (arith, all, is, there)
 
-    pub nth_back : length in_step ≤ i → (task : Task) → slice_get doing (i - length in_step) ≡ Some task → slice_get (ready_tasks m x) i ≡ Some task
-    nth_back past task e =
-        let same : length in_step + (i - length in_step) ≡ i = omega (arith, past) in
+    pub nth_past : (rest : ℕ) → length in_step + rest ≡ i → (task : Task) → slice_get doing rest ≡ Some task → slice_get (ready_tasks m x) i ≡ Some task
+    nth_past rest is task e =
         subst (λ (b : Bool). slice_get (if b then [] else (in_step ++ doing)) i ≡ Some task) (sym living)
-        (subst (λ k. slice_get (in_step ++ doing) k ≡ Some task) same (get_back in_step doing (i - length in_step) ∙ e))
+        (subst (λ k. slice_get (in_step ++ doing) k ≡ Some task) is (get_back in_step doing rest ∙ e))

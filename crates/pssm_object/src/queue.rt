@@ -1,5 +1,6 @@
 //! The completion queue of an object, and how an entry brings it on.
-ghost use Rattle.std.specs.Prelude.{◌≡◌, ◌↔◌, ◌<◌, ◌++◌, ◌∷◌, [], length, slice_get, Contains, Option, Some, IsTrue, IfOk, IfSome};
+ghost use Rattle.std.specs.Prelude.{◌≡◌, ◌≢◌, ◌↔◌, ◌<◌, ◌++◌, ◌∷◌, [], false, length, slice_get, slice_index_or, AllPairs, Contains, Option, Some, IsTrue, IfOk, IfSome};
+ghost use Rattle.std.specs.VecDeque.{deque_capacity};
 ghost use Rattle.pssm_model.specs.declared.ids.VertexId.{VertexId as AVertex};
 ghost use Rattle.pssm_model.specs.declared.elements.Owner.{Owner};
 ghost use Rattle.pssm_model.specs.declared.steps.How.{How as AWay};
@@ -14,6 +15,7 @@ ghost use Rattle.pssm_object.specs.inner.Queueing.{QueueFits, state_of as state_
 use pssm_config::Config;
 use pssm_model::{How, Item, Machine, Owner, RegionId, TransId, VertexId, VertexKind};
 use std::alloc::{AllocError as NoMemory, Global};
+use std::collections::VecDeque;
 use std::marker::Model;
 
 /// The States whose completion waits, in the order in which they became complete.
@@ -21,16 +23,22 @@ use std::marker::Model;
 /// No call but `new` takes memory.
 #[derive(Drop)]
 pub struct Queue {
-    states: Vec<VertexId>,
+    states: VecDeque<VertexId>,
+    /// By vertex: whether its completion waits.
+    waits: Vec<bool>,
 }
 
 impl Model for Queue {
-    ghost use Rattle.std.specs.Prelude.{vec_capacity};
+    ghost use Rattle.std.specs.Prelude.{◌≤◌, length};
+    ghost use Rattle.std.specs.VecDeque.{deque_capacity};
     ghost use Rattle.pssm_object.specs.Queue.{CompletionQueue};
+    ghost use Rattle.pssm_object.specs.inner.Queueing.{AreMarked};
 
     ghost Value = { CompletionQueue };
 
-    ghost view = { λ q. record { states = q.states.items; room = vec_capacity q.states } };
+    ghost view = { λ q. record { states = q.states.items; room = length q.waits.items } };
+
+    ghost invariant = { λ q. AreMarked q.states.items q.waits.items × (length q.waits.items ≤ deque_capacity q.states) };
 }
 
 impl Queue {
@@ -41,32 +49,36 @@ impl Queue {
         ensures empty { IfOk result (λ queue. queue.states ≡ []) }
         ensures room { IfOk result (λ queue. queue.room ≡ length machine.now.vertices) }
     {
-        Ok(Queue {
-            states: Vec::with_capacity(alloc, machine.vertices() as usize)?,
-        })
+        let width = usize::from(machine.vertices());
+        let waits = vec![in alloc; false; width]?;
+        let states = VecDeque::with_capacity(alloc, width)?;
+        Ok(Queue { states, waits })
     }
 
     /// The State whose completion is the next, if one waits.
     pub fn first(&self) -> Option<VertexId>
         ensures { result ≡ slice_get self.now.states 0 }
     {
-        self.states.as_slice().first().copied()
+        first_of(&self.states)
     }
 
     /// Whether the completion of the State waits.
     pub fn contains(&self, s: VertexId) -> bool
         ensures { IsTrue result ↔ Contains self.now.states s }
     {
-        self.states.as_slice().contains(&s)
+        is_marked(self.waits.as_slice(), s)
     }
 
-    /// Puts a State at the end.
-    pub fn push(&mut self, s: VertexId)
-        requires { length self.old.states < self.old.room }
+    // Puts a State at the end that is not in the queue.
+    fn push(&mut self, s: VertexId)
+        requires room { length self.old.states < self.old.room }
+        requires there { s.0 < self.old.room }
+        requires absent { Contains self.old.states s → ⊥ }
         ensures states { self.new.states ≡ self.old.states ++ s ∷ [] }
         ensures room { self.new.room ≡ self.old.room }
     {
-        self.states.push_reserved(s);
+        self.states.push_back_reserved(s);
+        self.waits[usize::from(s.0)] = true;
     }
 
     /// Takes the State out, if it is in the queue.
@@ -74,7 +86,10 @@ impl Queue {
         ensures states { self.new.states ≡ without (Some s) self.old.states }
         ensures room { self.new.room ≡ self.old.room }
     {
-        self.states.retain(|v: &VertexId| *v != s);
+        if is_marked(self.waits.as_slice(), s) {
+            take_out(&mut self.states, s);
+            self.waits[usize::from(s.0)] = false;
+        }
     }
 
     // Takes the State out, if there is one.
@@ -150,6 +165,46 @@ impl Queue {
         ensures room { self.new.room ≡ self.old.room }
     {
         self.settle(machine, config, leaving_by(item), due);
+    }
+}
+
+// The first of these States, if there is one.
+fn first_of(states: &VecDeque<VertexId>) -> Option<VertexId>
+    ensures { result ≡ slice_get states.now.items 0 }
+{
+    match states.front() {
+        Some(s) => Some(*s),
+        None => None,
+    }
+}
+
+// Whether a State is the first of these.
+fn begins_with(states: &VecDeque<VertexId>, s: VertexId) -> bool
+    ensures { IsTrue result ↔ (slice_get states.now.items 0 ≡ Some s) }
+{
+    first_of(states) == Some(s)
+}
+
+// Whether a State is marked.
+fn is_marked(marks: &[bool], s: VertexId) -> bool
+    ensures { result ≡ slice_index_or marks.now s.0 false }
+{
+    match marks.get(usize::from(s.0)) {
+        Some(mark) => *mark,
+        None => false,
+    }
+}
+
+// Takes a State out of these, each of which is there once: most often it is the first.
+fn take_out(states: &mut VecDeque<VertexId>, s: VertexId)
+    requires { AllPairs (λ v w. v ≢ w) states.old.items }
+    ensures items { states.new.items ≡ without (Some s) states.old.items }
+    ensures capacity { deque_capacity states.new ≡ deque_capacity states.old }
+{
+    if begins_with(states, s) {
+        states.pop_front();
+    } else {
+        states.retain(|v: &VertexId| *v != s);
     }
 }
 

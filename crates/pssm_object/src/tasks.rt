@@ -1,5 +1,5 @@
 //! The ready tasks of an object.
-ghost use Rattle.std.specs.Prelude.{◌≡◌, ◌≤◌, ◌<◌, ◌+◌, ◌-◌, ◌↔◌, length, slice_get, Some, IsTrue, IfSome, if◌then◌else◌, is_some};
+ghost use Rattle.std.specs.Prelude.{◌≡◌, ◌≤◌, ◌<◌, ◌+◌, ◌↔◌, length, slice_get, Some, IsTrue, IfOk, IfErr, IfSome, if◌then◌else◌, is_some};
 ghost use Rattle.pssm_model.specs.declared.elements.DraftMachine.{DraftMachine};
 ghost use Rattle.pssm_model.specs.Order.{IsReady};
 ghost use Rattle.pssm_config.specs.Tables.{Fits};
@@ -58,38 +58,21 @@ impl Situation {
         requires there { i < length (ready_tasks machine.now (standing_of self.now)) }
         ensures { slice_get (ready_tasks machine.now (standing_of self.now)) i ≡ Some result }
     {
-        if self.is_in_step(i) {
-            self.nth_in_step(i)
-        } else {
-            self.nth_doing(machine, i)
+        match self.nth_in_step(i) {
+            Ok(task) => task,
+            Err(rest) => nth_do_task(machine, &self.config, rest),
         }
     }
 
-    // Whether the task with a number is one of its step.
-    fn is_in_step(&self, i: u32) -> bool
-        ensures { IsTrue result ↔ (i < length (tasks_of_plan self.now.plan)) }
-    {
-        i < self.count_in_step()
-    }
-
-    // The do step with a number that counts the tasks of its step too.
-    fn nth_doing(&self, machine: &Machine, i: u32) -> Task
-        requires fits { Fits machine.now self.now.config }
-        requires past { length (tasks_of_plan self.now.plan) ≤ i }
-        requires there { i - length (tasks_of_plan self.now.plan) < length (do_tasks machine.now self.now.config) }
-        ensures { slice_get (do_tasks machine.now self.now.config) (i - length (tasks_of_plan self.now.plan)) ≡ Some result }
-    {
-        nth_do_task(machine, &self.config, i - self.count_in_step())
-    }
-
-    // The ready task of its step with a number.
-    fn nth_in_step(&self, i: u32) -> Task
-        requires { i < length (tasks_of_plan self.now.plan) }
-        ensures { slice_get (tasks_of_plan self.now.plan) i ≡ Some result }
+    // The ready task of its step with a number; where the number is past them, by how much it is past the first place
+    // behind them.
+    fn nth_in_step(&self, i: u32) -> Result<Task, u32>
+        ensures there { IfOk result (λ task. slice_get (tasks_of_plan self.now.plan) i ≡ Some task) }
+        ensures past { IfErr result (λ rest. length (tasks_of_plan self.now.plan) + rest ≡ i) }
     {
         match &self.plan {
             Some(plan) => nth_task(plan, i),
-            None => unreachable!(),
+            None => Err(i),
         }
     }
 
@@ -186,19 +169,20 @@ fn count_tasks(plan: &Plan) -> u32
     count
 }
 
-// The ready task of the plan with a number.
-fn nth_task(plan: &Plan, i: u32) -> Task
-    requires { i < length (tasks_of_plan (Some plan.now)) }
-    ensures { slice_get (tasks_of_plan (Some plan.now)) i ≡ Some result }
+// The ready task of the plan with a number; where the number is past them, by how much it is past the first place behind
+// them.
+fn nth_task(plan: &Plan, i: u32) -> Result<Task, u32>
+    ensures there { IfOk result (λ task. slice_get (tasks_of_plan (Some plan.now)) i ≡ Some task) }
+    ensures past { IfErr result (λ rest. length (tasks_of_plan (Some plan.now)) + rest ≡ i) }
 {
     let mut rest = i;
     for k in 0..plan.ready_count() {
         if let Some(task) = task_of(plan.ready_at(k)) {
             if rest == 0 {
-                return task;
+                return Ok(task);
             }
             rest -= 1;
         }
     }
-    unreachable!()
+    Err(rest)
 }

@@ -1,5 +1,5 @@
 -- What an entry does to the completion queue, by the configurations before and after it.
-use Rattle.std.specs.Prelude.{◌≡◌, ◌≢◌, ◌⊎◌, ◌↔◌, ◌==◌, ◌++◌, ◌<◌, ◌≤◌, List, [], ◌∷◌, length, not, filter, Option, Some, None, All, AllPairs, Contains}
+use Rattle.std.specs.Prelude.{Bool, false, IsTrue, slice_index_or, ◌≡◌, ◌≢◌, ◌⊎◌, ◌↔◌, ◌==◌, ◌++◌, ◌<◌, ◌≤◌, List, [], ◌∷◌, length, not, filter, Option, Some, None, All, AllPairs, Contains}
 use Rattle.std.specs.Option.{option_map}
 use Rattle.pssm_model.specs.declared.ids.VertexId.{VertexId}
 use Rattle.pssm_model.specs.declared.elements.DraftMachine.{DraftMachine}
@@ -21,6 +21,11 @@ pub record QueueFits (m : DraftMachine) (queue : CompletionQueue) : Type 0 where
   pub within : All (λ s. s.0 < length m.vertices) queue.states
   pub once : AllPairs (λ s q. s ≢ q) queue.states
   pub room : length m.vertices ≤ queue.room
+
+-- The marks are those of the States in the list, each of which is there once.
+pub record AreMarked (states : List VertexId) (marks : List Bool) : Type 0 where
+  pub marked : (s : VertexId) → IsTrue (slice_index_or marks s.0 false) ↔ Contains states s
+  pub once : AllPairs (λ s q. s ≢ q) states
 
 -- the State that is the owner
 abbrev pub state_of : Option Owner → Option VertexId

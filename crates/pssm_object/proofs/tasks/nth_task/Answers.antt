@@ -1,12 +1,13 @@
 -- each turn passes one task at most
-use Rattle.std.proofs.Common.{◌<◌, length, arith}
+use Rattle.std.proofs.Common.{◌≡◌, ◌≤◌, ◌<◌, ◌+◌, length, subst, arith}
+use Rattle.std.proofs.lemmas.List.{take_all}
 use Rattle.pssm_plan.specs.Standings.{ready_calls}
-use Rattle.pssm_object.proofs.Counting.{counts_task, counts_none, task_here}
+use Rattle.pssm_object.proofs.Counting.{tasks_in, counts_task, counts_none, task_here}
 use Rattle.pssm_object.proofs.tasks.nth_task.Goals.{in-Some+else-rest-eq0, in_default}
 use Rattle.pssm_object.proofs.tasks.nth_task.Goals as goal
 
-pub returns-then-rest-eq0 : goal.returns-then-rest-eq0
-returns-then-rest-eq0 c =
+pub returns-then-rest-eq0-clause-there : goal.returns-then-rest-eq0-clause-there
+returns-then-rest-eq0-clause-there c =
     let calls = ready_calls c.args.plan.now in
     let count = c.ready_count-k-end.ensures.count in
     let within : c.loop-k.k < length calls = omega (arith, count) in
@@ -30,3 +31,11 @@ loop-k-preserved c =
           let so_far = c.loop-k.invariant in
           omega (arith, same, is, so_far)
     ]
+
+pub returns-clause-past : goal.returns-clause-past
+returns-clause-past c =
+    let calls = ready_calls c.args.plan.now in
+    let count = c.ready_count-k-end.ensures.count in
+    let past = c.loop-k-test.false in
+    let all : length calls ≤ c.loop-k.k = omega (arith, count, past) in
+    subst (λ cs. length (tasks_in cs) + c.loop-k.rest ≡ c.args.i) (take_all c.loop-k.k calls all) c.loop-k.invariant

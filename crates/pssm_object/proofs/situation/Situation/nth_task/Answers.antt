@@ -1,23 +1,16 @@
 -- it is one of the step, or a do step
-use Rattle.std.proofs.Common.{length}
-use Rattle.pssm_object.specs.Tasks.{tasks_of_plan}
 use Rattle.pssm_object.specs.inner.Situations.{standing_of}
-use Rattle.pssm_object.proofs.TaskSums.{not_below, nth_front, nth_left, nth_back}
+use Rattle.pssm_object.proofs.TaskSums.{nth_front, nth_rest, nth_past}
 use Rattle.pssm_object.proofs.situation.Situation.nth_task.Goals as goal
 
-pub returns-then-is_in_step : goal.returns-then-is_in_step
-returns-then-is_in_step c = nth_front c.args.machine.now (standing_of c.args.self.now) c.args.i c.requires.there c.nth_in_step.result c.nth_in_step.ensures
+pub returns-in-Ok : goal.returns-in-Ok
+returns-in-Ok c = nth_front c.args.machine.now (standing_of c.args.self.now) c.args.i c.requires.there c.in-Ok.task c.in-Ok.ensures.there
 
-pub nth_doing-requires-clause-past : goal.nth_doing-requires-clause-past
-nth_doing-requires-clause-past c = not_below c.is_in_step.result c.args.i (length (tasks_of_plan c.args.self.now.plan)) c.is_in_step.ensures c.if-is_in_step.false
+pub nth_do_task-requires-clause-there : goal.nth_do_task-requires-clause-there
+nth_do_task-requires-clause-there c =
+    nth_rest c.args.machine.now (standing_of c.args.self.now) c.args.i c.requires.there c.in-Err.rest c.in-Err.ensures.past
 
-pub nth_doing-requires-clause-there : goal.nth_doing-requires-clause-there
-nth_doing-requires-clause-there c =
-    nth_left c.args.machine.now (standing_of c.args.self.now) c.args.i c.requires.there
-    (not_below c.is_in_step.result c.args.i (length (tasks_of_plan c.args.self.now.plan)) c.is_in_step.ensures c.if-is_in_step.false)
-
-pub returns-else-is_in_step : goal.returns-else-is_in_step
-returns-else-is_in_step c =
-    nth_back c.args.machine.now (standing_of c.args.self.now) c.args.i c.requires.there
-    (not_below c.is_in_step.result c.args.i (length (tasks_of_plan c.args.self.now.plan)) c.is_in_step.ensures c.if-is_in_step.false)
-    c.nth_doing.result c.nth_doing.ensures
+pub returns-in-Err : goal.returns-in-Err
+returns-in-Err c =
+    nth_past c.args.machine.now (standing_of c.args.self.now) c.args.i c.requires.there c.in-Err.rest c.in-Err.ensures.past
+    c.nth_do_task.result c.nth_do_task.ensures
