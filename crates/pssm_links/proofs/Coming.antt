@@ -9,7 +9,7 @@ use Rattle.pssm_links.specs.declared.links.Slot.{Slot}
 use Rattle.pssm_links.specs.Chained.{Linked, Chained, list_of, with_pushed}
 use Rattle.pssm_links.specs.inner.Rings.{count_of, row_of, moved, prev_of, value_of, slots_of, lists_from, IsWritten, AreRings, CanMove, StandThere, Hold}
 use Rattle.pssm_links.proofs.Turning.{no-end, moved-length, row-to, row-from, row-other, elsewhere}
-use Rattle.pssm_links.proofs.Holding.{shown, shows, rings-written, stand-kept, stand-more, can-push, opened, end-there, prev-read, come-back, held, count-is, spare-is}
+use Rattle.pssm_links.proofs.Holding.{shown, shows, rings-written, stand-kept, stand-more, can-push, opened, end-there, prev-read, come-back, held, count-is}
 
 -- a value has come to a list, into the last of the unused slots
 module _ {T : Type 0} (old new : List (Slot T)) (lists : List (List (Linked T))) (unused m list k : ℕ) (v : T) (hold : Hold old lists unused)
@@ -115,28 +115,28 @@ module _ {T : Type 0} where
       written.value (λ j off. written.values j off ∙ values j)
 
 -- a value comes, as the code has it come
-module _ {T : Type 0} (items : List (Slot T)) (n spare : ℕ) (value : Chained T) (is : record { lists = lists_from items 0 n; spare = spare } ≡ value)
+module _ {T : Type 0} (items : List (Slot T)) (n spare total : ℕ) (value : Chained T) (is : record { lists = lists_from items 0 n; spare = total } ≡ value)
     (keeps : Hold items (lists_from items 0 n) spare × (n ≡ length (lists_from items 0 n))) (lent : List (Slot T)) (same : lent ≡ items) where
   here : Hold lent value.lists spare
-  here = held items n spare value is keeps lent same
+  here = held items n spare total value is keeps lent same
 
   counted : n ≡ length value.lists
-  counted = count-is items n spare value is keeps lent same
+  counted = count-is items n spare total value is keeps lent same
 
-  module _ (x : Slot T) (list : ℕ) (reads : x ≡ get_or items n x) (lt : list < length value.lists) (some : 1 ≤ value.spare) where
+  module _ (x : Slot T) (list : ℕ) (reads : x ≡ get_or items n x) (lt : list < length value.lists) (some : 1 ≤ spare) where
     end-is : prev_of lent n ≡ x.prev
     end-is =
         subst
         (λ slots. prev_of slots n ≡ x.prev)
         (sym same)
-        (prev-read items n x (end-there items value.lists spare n (opened items n spare value is keeps).0 (omega (arith, counted))) reads)
+        (prev-read items n x (end-there items value.lists spare n (opened items n spare total value is keeps).0 (omega (arith, counted))) reads)
 
     pub push-ready : (rows : List (List ℕ)) × (r : ℕ) × (i : ℕ) × CanMove lent rows x.prev r i list
     push-ready = (
       here.rows,
       length value.lists,
       spare - 1,
-      push-can lent value.lists spare n list x.prev here counted (omega (arith, some, spare-is items n spare value is keeps lent same)) lt end-is,
+      push-can lent value.lists spare n list x.prev here counted some lt end-is,
     )
 
     pub push-done : (mid new : List (Slot T)) (v : T) (len : ℕ) → len ≡ length items
@@ -144,15 +144,16 @@ module _ {T : Type 0} (items : List (Slot T)) (n spare : ℕ) (value : Chained T
         → ((j : ℕ) → value_of mid j ≡ value_of lent j) → length mid ≡ length lent → IsWritten mid new x.prev (Some v)
         → let back = take len (new ++ drop (length new) items) in
         (Hold back (lists_from back 0 n) (spare - 1) × (n ≡ length (lists_from back 0 n)))
-        × (lists_from back 0 n ≡ with_pushed value.lists list (record { 0 = x.prev }) v)
+        × (lists_from back 0 n ≡ with_pushed value.lists list (record { 0 = x.prev }) v) × (length back ≡ length items)
     push-done mid new v len all rings values size written =
         let back = take len (new ++ drop (length new) items) in
         let e : back ≡ new = come-back len new items all (written.size ∙ size ∙ ap length same) in
         let hold = push-holds lent mid new value.lists spare n list x.prev v here counted
-        (omega (arith, some, spare-is items n spare value is keeps lent same)) lt end-is rings values written in
+        some lt end-is rings values written in
         let there = subst (λ slots. Hold slots (with_pushed value.lists list (record { 0 = x.prev }) v) (spare - 1)) (sym e) hold in
         let count : n ≡ length (with_pushed value.lists list (record { 0 = x.prev }) v) =
         counted ∙ sym (length-set value.lists list (list_of value.lists list ++ record { slot = record { 0 = x.prev }; value = v } ∷ [])) in (
           shows back (with_pushed value.lists list (record { 0 = x.prev }) v) (spare - 1) n count there,
           shown back (with_pushed value.lists list (record { 0 = x.prev }) v) (spare - 1) n count there,
+          ap length e ∙ written.size ∙ size ∙ ap length same,
         )

@@ -50,46 +50,46 @@ module _ {T : Type 0} where
       (far-option slots hold.rows (length lists) l j (slice_get (list_of lists l) j) hold.rings count (omega (arith, lt, count)) at) end slot
 
   -- the first slot of a list, and the one after a slot
-  pub first-found : (slots : List (Slot T)) (n spare : ℕ) (value : Chained T) → record { lists = lists_from slots 0 n; spare = spare } ≡ value
+  pub first-found : (slots : List (Slot T)) (n spare total : ℕ) (value : Chained T) → record { lists = lists_from slots 0 n; spare = total } ≡ value
       → Hold slots (lists_from slots 0 n) spare × (n ≡ length (lists_from slots 0 n)) → (l : ℕ) (x : Slot T) (found : Option SlotId) → l < length value.lists
       → x ≡ get_or slots l x → (x.next ≤ length value.lists → found ≡ None) → (length value.lists < x.next → found ≡ Some (record { 0 = x.next }))
       → found ≡ slot_at value.lists l 0
-  first-found slots n spare value is keeps l x found lt reads end slot =
-      let hold = (opened slots n spare value is keeps).0 in
+  first-found slots n spare total value is keeps l x found lt reads end slot =
+      let hold = (opened slots n spare total value is keeps).0 in
       let count = hold.count in
       let there = end-there slots value.lists spare l hold (omega (arith, lt)) in
       slot-found slots value.lists spare l 0 x.next found hold lt
       (sym (next-read slots l x there reads) ∙ path-first slots l (row_of hold.rows l) l (hold.rings.rings l (omega (arith, lt, count)))) end slot
 
-  pub next-found : (slots : List (Slot T)) (n spare : ℕ) (value : Chained T) → record { lists = lists_from slots 0 n; spare = spare } ≡ value
+  pub next-found : (slots : List (Slot T)) (n spare total : ℕ) (value : Chained T) → record { lists = lists_from slots 0 n; spare = total } ≡ value
       → Hold slots (lists_from slots 0 n) spare × (n ≡ length (lists_from slots 0 n)) → (at : SlotId) (x : Slot T) (found : Option SlotId)
       → x ≡ get_or slots at.0 x → (x.next ≤ length value.lists → found ≡ None) → (length value.lists < x.next → found ≡ Some (record { 0 = x.next }))
       → (l i : ℕ) → IsSlotAt value.lists at l i → found ≡ slot_at value.lists l (i + 1)
-  next-found slots n spare value is keeps at x found reads end slot l i stands =
-      let hold = (opened slots n spare value is keeps).0 in
+  next-found slots n spare total value is keeps at x found reads end slot l i stands =
+      let hold = (opened slots n spare total value is keeps).0 in
       let count = hold.count in
       let lt = list-within value.lists at l i stands in
-      let there = slot-there slots n spare value is keeps slots refl at l i stands in
+      let there = slot-there slots n spare total value is keeps slots refl at l i stands in
       slot-found slots value.lists spare l (i + 1) x.next found hold lt
       (sym (next-read slots at.0 x there reads)
       ∙ path-next slots l (row_of hold.rows l) l i at.0 (hold.rings.rings l (omega (arith, lt, count))) (place-of slots value.lists spare at l i hold stands))
       end slot
 
   -- the value that stands in a slot, as it is read
-  pub value-found : (slots : List (Slot T)) (n spare : ℕ) (value : Chained T) → record { lists = lists_from slots 0 n; spare = spare } ≡ value
+  pub value-found : (slots : List (Slot T)) (n spare total : ℕ) (value : Chained T) → record { lists = lists_from slots 0 n; spare = total } ≡ value
       → Hold slots (lists_from slots 0 n) spare × (n ≡ length (lists_from slots 0 n)) → (at : SlotId) (x : Slot T)
       → x ≡ get_or slots at.0 x → (l i : ℕ) → IsSlotAt value.lists at l i → x.value ≡ value_at value.lists l i
-  value-found slots n spare value is keeps at x reads l i stands =
-      let there = slot-there slots n spare value is keeps slots refl at l i stands in
+  value-found slots n spare total value is keeps at x reads l i stands =
+      let there = slot-there slots n spare total value is keeps slots refl at l i stands in
       ap (λ (s : Slot T). s.value) reads ∙ sym (read-at (λ s. s.value) None slots at.0 x there)
-      ∙ take-is slots n spare value is keeps slots refl at l i stands
+      ∙ take-is slots n spare total value is keeps slots refl at l i stands
 
 -- no two values stand in the same slot
 module _ {T : Type 0} where
-  pub own-slots : (slots : List (Slot T)) (n spare : ℕ) (value : Chained T) → record { lists = lists_from slots 0 n; spare = spare } ≡ value
+  pub own-slots : (slots : List (Slot T)) (n spare total : ℕ) (value : Chained T) → record { lists = lists_from slots 0 n; spare = total } ≡ value
       → Hold slots (lists_from slots 0 n) spare × (n ≡ length (lists_from slots 0 n)) → HaveOwnSlots value.lists
-  own-slots slots n spare value is keeps slot l m k j one other =
-      let hold = (opened slots n spare value is keeps).0 in
+  own-slots slots n spare total value is keeps slot l m k j one other =
+      let hold = (opened slots n spare total value is keeps).0 in
       let count = hold.count in
       let once = hold.rings.once slot.0 in
       let first = list-within value.lists slot l k one in
@@ -108,10 +108,10 @@ module _ {T : Type 0} where
       absurd (omega (arith, two, at-one, at-two, once)))
       (eqb_tells m l)
 
-  pub short-list : (slots : List (Slot T)) (n spare : ℕ) (value : Chained T) → record { lists = lists_from slots 0 n; spare = spare } ≡ value
+  pub short-list : (slots : List (Slot T)) (n spare total : ℕ) (value : Chained T) → record { lists = lists_from slots 0 n; spare = total } ≡ value
       → Hold slots (lists_from slots 0 n) spare × (n ≡ length (lists_from slots 0 n)) → (l : ℕ) → length (list_of value.lists l) < 2 ^ 32
-  short-list slots n spare value is keeps l =
-      let hold = (opened slots n spare value is keeps).0 in
+  short-list slots n spare total value is keeps l =
+      let hold = (opened slots n spare total value is keeps).0 in
       ⊎_elim
       (λ lt.
       let count = hold.count in

@@ -169,9 +169,9 @@ module _ {T : Type 0} where
       }
 
   -- what is known of the slots of lists that are seen as a value
-  pub opened : (slots : List (Slot T)) (n spare : ℕ) (value : Chained T) → record { lists = lists_from slots 0 n; spare = spare } ≡ value
+  pub opened : (slots : List (Slot T)) (n spare total : ℕ) (value : Chained T) → record { lists = lists_from slots 0 n; spare = total } ≡ value
       → Hold slots (lists_from slots 0 n) spare × (n ≡ length (lists_from slots 0 n)) → Hold slots value.lists spare × (n ≡ length value.lists)
-  opened slots n spare value is keeps = subst (λ (v : Chained T). Hold slots v.lists spare × (n ≡ length v.lists)) is keeps
+  opened slots n spare total value is keeps = subst (λ (v : Chained T). Hold slots v.lists spare × (n ≡ length v.lists)) is keeps
 
   -- the end of a list is there
   pub end-there : (slots : List (Slot T)) (lists : List (List (Linked T))) (unused l : ℕ) → Hold slots lists unused → l ≤ length lists → l < length slots
@@ -216,13 +216,13 @@ module _ {T : Type 0} where
       subst (λ o. IsSome o) (sym (value-held slots lists unused slot l i hold at)) (some-value (list_of lists l) slot i at)
 
 -- slots that are lent
-module _ {T : Type 0} (items : List (Slot T)) (n spare : ℕ) (value : Chained T) (is : record { lists = lists_from items 0 n; spare = spare } ≡ value)
+module _ {T : Type 0} (items : List (Slot T)) (n spare total : ℕ) (value : Chained T) (is : record { lists = lists_from items 0 n; spare = total } ≡ value)
     (keeps : Hold items (lists_from items 0 n) spare × (n ≡ length (lists_from items 0 n))) (lent : List (Slot T)) (same : lent ≡ items) where
   abbrev pub held : Hold lent value.lists spare
-  held = subst (λ slots. Hold slots value.lists spare) (sym same) (opened items n spare value is keeps).0
+  held = subst (λ slots. Hold slots value.lists spare) (sym same) (opened items n spare total value is keeps).0
 
   abbrev pub count-is : n ≡ length value.lists
-  count-is = (opened items n spare value is keeps).1
+  count-is = (opened items n spare total value is keeps).1
 
-  pub spare-is : spare ≡ value.spare
+  pub spare-is : total ≡ value.spare
   spare-is = ap (λ (v : Chained T). v.spare) is

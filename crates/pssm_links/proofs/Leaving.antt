@@ -112,13 +112,13 @@ module _ {T : Type 0} where
       (λ j off. written.values j off ∙ values j)
 
 -- a value leaves, as the code has it leave
-module _ {T : Type 0} (items : List (Slot T)) (n spare : ℕ) (value : Chained T) (is : record { lists = lists_from items 0 n; spare = spare } ≡ value)
+module _ {T : Type 0} (items : List (Slot T)) (n spare total : ℕ) (value : Chained T) (is : record { lists = lists_from items 0 n; spare = total } ≡ value)
     (keeps : Hold items (lists_from items 0 n) spare × (n ≡ length (lists_from items 0 n))) (lent : List (Slot T)) (same : lent ≡ items) where
   here : Hold lent value.lists spare
-  here = held items n spare value is keeps lent same
+  here = held items n spare total value is keeps lent same
 
   counted : n ≡ length value.lists
-  counted = count-is items n spare value is keeps lent same
+  counted = count-is items n spare total value is keeps lent same
 
   module _ (slot : SlotId) where
     pub take-ready : (l i : ℕ) → IsSlotAt value.lists slot l i → (rows : List (List ℕ)) × (r : ℕ) × (j : ℕ) × CanMove lent rows slot.0 r j n
@@ -139,11 +139,14 @@ module _ {T : Type 0} (items : List (Slot T)) (n spare : ℕ) (value : Chained T
         → (l i : ℕ) → IsSlotAt value.lists slot l i
         → let back = take len (new ++ drop (length new) items) in
         (Hold back (lists_from back 0 n) (spare + 1) × (n ≡ length (lists_from back 0 n)))
-        × (lists_from back 0 n ≡ without value.lists l i)
+        × (lists_from back 0 n ≡ without value.lists l i) × (length back ≡ length items)
     take-done mid new len all rings values size written l i at =
         let back = take len (new ++ drop (length new) items) in
         let e : back ≡ new = come-back len new items all (written.size ∙ size ∙ ap length same) in
         let hold = take-holds lent mid new value.lists spare n l i slot here counted at rings values written in
         let there = subst (λ slots. Hold slots (without value.lists l i) (spare + 1)) (sym e) hold in
-        let count : n ≡ length (without value.lists l i) = counted ∙ sym (length-set value.lists l (remove (list_of value.lists l) i)) in
-        (shows back (without value.lists l i) (spare + 1) n count there, shown back (without value.lists l i) (spare + 1) n count there)
+        let count : n ≡ length (without value.lists l i) = counted ∙ sym (length-set value.lists l (remove (list_of value.lists l) i)) in (
+          shows back (without value.lists l i) (spare + 1) n count there,
+          shown back (without value.lists l i) (spare + 1) n count there,
+          ap length e ∙ written.size ∙ size ∙ ap length same,
+        )

@@ -8,4 +8,4 @@ pub mod Holding
 pub mod Coming
 pub mod Leaving
 pub mod Finding
-pub mod Unused
+pub mod Fresh

@@ -3,7 +3,7 @@ ghost use Rattle.std.specs.Prelude.{◌≡◌, ◌≤◌, ◌<◌, ◌+◌, ℕ,
 ghost use Rattle.pssm_links.specs.Chained.{list_of, held_in, with_pushed, without, slot_at, value_at};
 ghost use Rattle.pssm_links.specs.Chained.{IsSlotAt, IsSlot, HaveOwnSlots};
 
-use crate::links::{LINKS, Slot, attach, move_slot, new_ends, put_value, ring_of_one, take_value};
+use crate::links::{LINKS, Slot, move_slot, new_ends, push_slot, put_value, take_value};
 use crate::slot::SlotId;
 use crate::steps::Steps;
 use std::alloc::{AllocError as NoMemory, Global};
@@ -20,11 +20,16 @@ pub struct Chains<T> {
     // is the slot before the first and after the last of its list. No value stands in them.
     slots: Vec<Slot<T>>,
     lists: u32,
-    spare: u32,
+    // How many slots no list uses, and how many more can be made without memory being taken.
+    unused: u32,
+    fresh: u32,
 }
 
+// The most slots that there are numbers for.
+const MOST: usize = 4_294_967_296;
+
 impl<T> Model for Chains<T> {
-    ghost use Rattle.std.specs.Prelude.{◌≡◌, length};
+    ghost use Rattle.std.specs.Prelude.{◌≡◌, ◌≤◌, ◌+◌, length, vec_capacity};
     ghost use Rattle.pssm_links.specs.Chained.{Chained, chained_code};
 
     ghost Value = { Chained T };
@@ -33,10 +38,12 @@ impl<T> Model for Chains<T> {
 
     ghost use Rattle.pssm_links.specs.inner.Rings.{lists_from, Hold};
 
-    ghost view = { λ c. record { lists = lists_from c.slots.items 0 c.lists; spare = c.spare } };
+    ghost view = { λ c. record { lists = lists_from c.slots.items 0 c.lists; spare = c.unused + c.fresh } };
 
-    ghost invariant = { λ c. Hold c.slots.items (lists_from c.slots.items 0 c.lists) c.spare
-        × (c.lists ≡ length (lists_from c.slots.items 0 c.lists)) };
+    ghost invariant = { λ c. Hold c.slots.items (lists_from c.slots.items 0 c.lists) c.unused
+        × (c.lists ≡ length (lists_from c.slots.items 0 c.lists))
+        × (length c.slots.items + c.fresh ≤ vec_capacity c.slots)
+        × (length c.slots.items + c.fresh ≤ 4_294_967_296) };
 }
 
 impl<T: Drop> Chains<T> {
@@ -50,7 +57,8 @@ impl<T: Drop> Chains<T> {
         Ok(Chains {
             slots,
             lists,
-            spare: 0,
+            unused: 0,
+            fresh: 0,
         })
     }
 
@@ -64,14 +72,18 @@ impl<T: Drop> Chains<T> {
         ensures spare { self.old.spare ≤ self.new.spare }
         ensures ok { OnOk result (n ≤ self.new.spare) }
     {
-        if n <= self.spare {
+        if n <= self.unused {
             return Ok(());
         }
-        let more = n - self.spare;
-        self.slots.reserve(more as usize)?;
-        for _ in 0..more {
-            self.add_slot()?;
+        let more = n - self.unused;
+        if more <= self.fresh {
+            return Ok(());
         }
+        if more as usize > MOST - self.slots.len() {
+            return Err(NoMemory);
+        }
+        self.slots.reserve(more as usize)?;
+        self.fresh = more;
         Ok(())
     }
 
@@ -84,11 +96,17 @@ impl<T: Drop> Chains<T> {
         ensures lists { self.new.lists ≡ with_pushed self.old.lists list result value }
         ensures spare { self.old.spare ≡ self.new.spare + 1 }
     {
+        if self.unused == 0 {
+            let slot = self.slots.len() as u32;
+            push_slot(&mut self.slots, slot, list, value);
+            self.fresh -= 1;
+            return SlotId(slot);
+        }
         let slot = self.slots[self.lists as usize].prev;
         let slots = self.slots.as_mut_slice();
         move_slot(slots, slot, list);
         put_value(slots, slot, value);
-        self.spare -= 1;
+        self.unused -= 1;
         SlotId(slot)
     }
 
@@ -108,7 +126,7 @@ impl<T: Drop> Chains<T> {
         let slots = self.slots.as_mut_slice();
         move_slot(slots, slot.0, self.lists);
         let value = take_value(slots, slot.0);
-        self.spare += 1;
+        self.unused += 1;
         value
     }
 
@@ -148,21 +166,6 @@ impl<T: Drop> Chains<T> {
     {
         // What is kept of the slots is known once they are looked into.
         let _lists = self.lists;
-    }
-
-    // One more slot that no list uses.
-    fn add_slot(&mut self) -> Result<(), NoMemory>
-        ensures lists { self.new.lists ≡ self.old.lists }
-        ensures spare { self.old.spare ≤ self.new.spare }
-        ensures ok { OnOk result (self.new.spare ≡ self.old.spare + 1) }
-    {
-        let Ok(slot) = u32::try_from(self.slots.len()) else {
-            return Err(NoMemory);
-        };
-        self.slots.push(ring_of_one(slot))?;
-        attach(self.slots.as_mut_slice(), slot, self.lists);
-        self.spare += 1;
-        Ok(())
     }
 
     // The slot, or none where it is the end of a list.

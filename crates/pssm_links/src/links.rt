@@ -1,5 +1,5 @@
 //! Slots, and how they are linked.
-ghost use Rattle.std.specs.Prelude.{◌≡◌, ◌<◌, ◌+◌, ℕ, List, length, IfOk, IsSome};
+ghost use Rattle.std.specs.Prelude.{◌≡◌, ◌<◌, ◌+◌, ◌++◌, ◌∷◌, [], ℕ, List, length, vec_capacity, IfOk, IsSome};
 ghost use Rattle.pssm_links.specs.declared.links.Slot.{Slot as ASlot};
 ghost use Rattle.pssm_links.specs.inner.Rings.{next_of, prev_of, value_of, moved};
 ghost use Rattle.pssm_links.specs.inner.Rings.{Joins, IsWritten, AreEnds, AreRings, CanMove};
@@ -29,17 +29,6 @@ pub fn new_ends<T: Drop>(alloc: Global, lists: u32) -> Result<Vec<Slot<T>>, NoMe
     Ok(slots)
 }
 
-/// The slot with this number, linked to itself, in which no value stands.
-pub fn ring_of_one<T>(number: u32) -> Slot<T>
-    ensures { result ≡ record { prev = number; next = number; value = None } }
-{
-    Slot {
-        prev: number,
-        next: number,
-        value: None,
-    }
-}
-
 /// The slot leaves its ring, and becomes the last of another. At most six links are written.
 pub fn move_slot<T>(slots: &mut [Slot<T>], slot: u32, to: u32)
     requires { (rows : List (List ℕ)) × (r : ℕ) × (i : ℕ) × CanMove slots.old rows slot r i to }
@@ -63,8 +52,28 @@ fn detach<T>(slots: &mut [Slot<T>], slot: u32)
     join(slots, before, after);
 }
 
-/// The slot is linked between another and the one before that. Four links are written.
-pub fn attach<T>(slots: &mut [Slot<T>], slot: u32, after: u32)
+/// A new slot, in which the value stands, becomes the last of a ring. Four links are written.
+pub fn push_slot<T>(slots: &mut Vec<Slot<T>>, slot: u32, list: u32, value: T)
+    requires last { slot ≡ length slots.old.items }
+    requires room { slot < vec_capacity slots.old }
+    requires after { list < length slots.old.items }
+    requires before { let new = slots.old.items ++ record { prev = slot; next = slot; value = Some value } ∷ [] in
+        prev_of new list < length new }
+    ensures items { let new = slots.old.items ++ record { prev = slot; next = slot; value = Some value } ∷ [] in
+        (between : List (ASlot T)) × Joins new between (prev_of new list) slot × Joins between slots.new.items slot list }
+    ensures size { length slots.new.items ≡ length slots.old.items + 1 }
+    ensures capacity { vec_capacity slots.new ≡ vec_capacity slots.old }
+{
+    slots.push_reserved(Slot {
+        prev: slot,
+        next: slot,
+        value: Some(value),
+    });
+    attach(slots.as_mut_slice(), slot, list);
+}
+
+// The slot is linked between another and the one before that. Four links are written.
+fn attach<T>(slots: &mut [Slot<T>], slot: u32, after: u32)
     requires here { slot < length slots.old }
     requires before { prev_of slots.old after < length slots.old }
     requires after { after < length slots.old }
@@ -95,6 +104,17 @@ pub fn put_value<T: Drop>(slots: &mut [Slot<T>], slot: u32, value: T)
     ensures { IsWritten slots.old slots.new slot (Some value) }
 {
     slots[slot as usize].value = Some(value);
+}
+
+// The slot with this number, linked to itself, in which no value stands.
+fn ring_of_one<T>(number: u32) -> Slot<T>
+    ensures { result ≡ record { prev = number; next = number; value = None } }
+{
+    Slot {
+        prev: number,
+        next: number,
+        value: None,
+    }
 }
 
 // The numbers of the slots before and after the slot.
