@@ -260,7 +260,7 @@ fn begun(machine: &Machine, ways: &[Way], calls: &[Call], call: &Call, since: Si
 }
 
 // Whether a new call waits, once it has looked further. Only new ways say something of it.
-#[inline(always)]
+#[inline(never)]
 fn look_new(machine: &Machine, ways: &[Way], calls: &[Call], call: &Call, since: Since) -> Wait
     requires rules { KeepsModelRules machine.now }
     requires ways { AreWaysIn machine.now ways.now }
