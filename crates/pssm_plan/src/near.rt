@@ -91,8 +91,8 @@ pub fn comes_near(machine: &Machine, way: &Way, s: VertexId) -> bool
     ends_near(machine, &way.legs.first, s) || more_end_near(machine, way, s)
 }
 
-/// Whether a leg of a way ends near a State behind which another leg is listed. Only then the entry of the State may come
-/// before what another leg calls.
+/// Whether a leg of a way ends near a State behind which another leg is listed. Only then the entry of
+/// the State may come before what another leg calls.
 #[inline(never)]
 pub fn leads_on_near(machine: &Machine, way: &Way, s: VertexId) -> bool
     requires way { IsWayIn machine.now way.now }

@@ -260,7 +260,7 @@ fn begun(machine: &Machine, ways: &[Way], calls: &[Call], call: &Call, since: Si
 }
 
 // Whether a new call waits, once it has looked further. Only new ways say something of it.
-#[inline(always)]
+#[inline(never)]
 fn look_new(machine: &Machine, ways: &[Way], calls: &[Call], call: &Call, since: Since) -> Wait
     requires rules { KeepsModelRules machine.now }
     requires ways { AreWaysIn machine.now ways.now }
@@ -424,8 +424,8 @@ fn settle_all(machine: &Machine, ways: &[Way], calls: &mut [Call], since: Since,
 }
 
 impl Roster {
-    /// Says of each call whether it waits, and for which one. Where the calls are not more than they were, those that are
-    /// not blocked have seen them all.
+    /// Says of each call whether it waits, and for which one. Where the calls are not more than they
+    /// were, those that are not blocked have seen them all.
     #[inline(never)]
     pub fn settle(&mut self, machine: &Machine, ways: &[Way], since: Since, grown: bool)
         requires rules { KeepsModelRules machine.now }
