@@ -1,8 +1,8 @@
 -- Footprints with a region each: one more is apart from those before where no region around its anchor is claimed and its own is not met.
-use Rattle.std.proofs.Common.{◌≡◌, ◌⊎◌, ◌<◌, ◌≤◌, ◌+◌, ◌∙◌, ℕ, suc, List, [], ◌∷◌, ◌++◌, length, take, get_or, set, Bool, true, false, Contains, refl, sym, ap, subst, inl, inr, ⊎_elim, arith}
+use Rattle.std.proofs.Common.{◌≡◌, ◌⊎◌, ◌<◌, ◌≤◌, ◌+◌, ◌∙◌, ℕ, suc, List, [], ◌∷◌, ◌++◌, length, take, get_or, set, Bool, true, false, Contains, refl, sym, subst, inl, inr, ⊎_elim, arith}
 use Rattle.std.proofs.lemmas.Bool.{cases_eq}
 use Rattle.std.proofs.lemmas.List.{get_or-set_same, get_or-set_other, length-set, take_more, take_all}
-use Rattle.std.proofs.lemmas.List.Elements.{Contains-push_cases, Contains-append_cases, Contains-append_left}
+use Rattle.std.proofs.lemmas.List.Elements.{Contains-push_cases}
 use Rattle.pssm_model.specs.declared.ids.VertexId.{VertexId}
 use Rattle.pssm_model.specs.declared.ids.RegionId.{RegionId}
 use Rattle.pssm_model.specs.declared.elements.DraftMachine.{DraftMachine}
@@ -11,7 +11,7 @@ use Rattle.pssm_legs.specs.Areas.{scope_of}
 use Rattle.pssm_legs.specs.declared.areas.Area.{Area}
 use Rattle.pssm_legs.specs.declared.areas.Area.TheVariants.{Inside}
 use Rattle.pssm_model.specs.Legs.{LiesInScope}
-use Rattle.pssm_model.specs.Forest.{LiesInRegion, LiesInState, LiesUnder, IsHome, IsWithin}
+use Rattle.pssm_model.specs.Forest.{LiesInRegion, LiesInState, LiesUnder, IsHome}
 use Rattle.pssm_model.proofs.ElementLaws.{nothing_in_nil}
 use Rattle.pssm_routes.specs.declared.areas.Footprint.{Footprint}
 use Rattle.pssm_routes.specs.inner.Footprints.{Clash, ClashesWithSome}
