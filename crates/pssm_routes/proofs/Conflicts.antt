@@ -55,7 +55,7 @@ same_footprint : (a c : Footprint) → a.source ≡ c.source → a.area ≡ c.ar
 same_footprint a c e f = λ i. record { source = e i; area = f i }
 
 -- what is or lies in a State lies where that lies
-lies_with : (m : DraftMachine) (x s : VertexId) (r : RegionId) → IsOrLiesIn m x s → LiesInRegion m s r → LiesInRegion m x r
+pub lies_with : (m : DraftMachine) (x s : VertexId) (r : RegionId) → IsOrLiesIn m x s → LiesInRegion m s r → LiesInRegion m x r
 lies_with m x s r h lies =
     ⊎_elim
     (λ same. subst (λ y. LiesInRegion m y r) (sym same) lies)

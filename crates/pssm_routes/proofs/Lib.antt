@@ -52,5 +52,6 @@ pub mod WayPaths
 pub mod WayEnds
 pub mod Bounds
 pub mod Spans
+pub mod Spreading
 pub mod Expanding
 pub mod LoneReacting

@@ -15,7 +15,7 @@ use Rattle.pssm_model.specs.declared.elements.VertexKind.{VertexKind}
 use Rattle.pssm_model.specs.declared.elements.VertexKind.TheVariants as kinds
 use Rattle.pssm_model.specs.declared.steps.Event.{Event}
 use Rattle.pssm_model.specs.Configuration.{Configuration, IsDirect}
-use Rattle.pssm_model.specs.Forest.{owner_of, vertex_at, HasKind}
+use Rattle.pssm_model.specs.Forest.{owner_of, vertex_at, HasKind, IsOrLiesIn}
 use Rattle.pssm_model.specs.Legs.{Leaves}
 use Rattle.pssm_model.specs.Routes.{Truth}
 use Rattle.pssm_model.specs.Shapes.{HasShape, OwnsVertex}
@@ -125,6 +125,18 @@ module _ (m : DraftMachine) (now : Configuration) (truth : Truth) (event : Event
         (below_cases n r (Some x) e is s below)),
   )
 
+  -- None that reacts so far is the State or lies in it.
+  abbrev pub NoneInside : VertexId → ℕ → Type 0
+  NoneInside state n = (s : VertexId) → ReactsBelow n s → IsOrLiesIn m s state → ⊥
+
+  pub inside_none : (state : VertexId) → NoneInside state 0
+  inside_none state s h inside = below_none s h
+
+  pub inside_more : (state : VertexId) (found : Option VertexId) (n : ℕ) (r : RegionId) → r.0 ≡ n → IsReactingIn m now truth event r found
+      → ((s : VertexId) × (found ≡ Some s) × IsOrLiesIn m s state → ⊥) → NoneInside state n → NoneInside state (n + 1)
+  inside_more state found n r e is not h s below inside =
+      ⊎_elim (λ was. h s was inside) (λ at. not (s, at, inside)) (below_cases n r found e is s below)
+
 module _ {m : DraftMachine} (rules : KeepsModelRules m) (now : Configuration) (truth : Truth) (event : Event) where
   -- a transition that is started, and that a look was cast on
   pub looked_starts : (t u : TransId) → IsStartedWith m now event t → GoesOnBy m t u → (is : Bool) → (IsTrue is ↔ LeadsOut m truth None u)
@@ -210,7 +222,7 @@ module _ {m : DraftMachine} (tables : Tables) (fits : Fits m tables) (truth : Tr
       of_kind k is = let at = mapped_some (λ (y : Vertex). y.kind) (vertex_at m x) k is in slice_get_within m.vertices x.0 at.0 at.1
 
   -- where all regions were looked at
-  below_all : (n : ℕ) → length m.regions ≤ n → (s : VertexId) → Reacts m now truth event s → ReactsBelow m now truth event n s
+  pub below_all : (n : ℕ) → length m.regions ≤ n → (s : VertexId) → Reacts m now truth event s → ReactsBelow m now truth event n s
   below_all n all s reacts = let home = reacts_home s reacts in (home.0, (let lt = home.2 in omega (arith, lt, all)), home.1, reacts)
 
   pub lone_end : (alone : Option VertexId) (n : ℕ) → length m.regions ≤ n → IsLone m now truth event alone n

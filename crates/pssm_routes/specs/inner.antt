@@ -6,6 +6,7 @@ pub mod Looking
 pub mod Steps
 pub mod Seeking
 pub mod Sets
+pub mod Spread
 pub mod Rooms
 pub mod Trails
 pub mod Behind

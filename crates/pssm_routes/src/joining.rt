@@ -33,8 +33,8 @@ fn touches(machine: &Machine, footprint: Footprint, s: VertexId) -> bool
     covers(machine, footprint.area, s) || are_on_one_chain(machine, footprint.source, s)
 }
 
-// Whether the State is the anchor of the footprint.
-fn starts_at(footprint: Footprint, s: VertexId) -> bool
+/// Whether the State is the anchor of the footprint.
+pub fn starts_at(footprint: Footprint, s: VertexId) -> bool
     ensures { IsTrue result ↔ (footprint.source ≡ s) }
 {
     footprint.source == s
@@ -83,8 +83,8 @@ fn holds_source(machine: &Machine, footprints: &[Footprint], region: RegionId) -
     false
 }
 
-// The innermost region in which a region is nested, if there is one.
-fn next_out(machine: &Machine, region: RegionId) -> Option<RegionId>
+/// The innermost region in which a region is nested, if there is one.
+pub fn next_out(machine: &Machine, region: RegionId) -> Option<RegionId>
     requires there { region.0 < length machine.now.regions }
     ensures inside { IfSome result (λ r. r.0 < length machine.now.regions) }
     ensures some { IfSome result (IsNextOut machine.now region) }

@@ -17,6 +17,7 @@ mod reacting;
 mod route;
 mod seeking;
 mod set;
+mod spread;
 mod starting;
 mod tracing;
 

@@ -1,6 +1,6 @@
 //! The States that react to an event, and those in which none reacts (UML 2.5.1, 14.2.3.9, firing
 //! priorities).
-ghost use Rattle.std.specs.Prelude.{◌≡◌, ◌↔◌, ◌<◌, ◌⊎◌, false, true, None, length, slice_index_or};
+ghost use Rattle.std.specs.Prelude.{◌≡◌, ◌↔◌, ◌<◌, ◌⊎◌, false, true, None, Some, length, slice_index_or};
 ghost use Rattle.std.specs.Prelude.{Option, All, Contains, IsTrue, IsFalse, IfOk, IfSome, IfNone};
 ghost use Rattle.pssm_model.specs.declared.ids.VertexId.{VertexId};
 ghost use Rattle.pssm_model.specs.declared.ids.RegionId.{RegionId};
@@ -221,9 +221,8 @@ fn overrides_by_search<T: Fn(GuardId) -> bool>(
     overrides_with(machine, config, truth, signal, state, &mut [Search::new()])
 }
 
-/// Whether a route that the signal enables starts at the State or in it, and so keeps the State
-/// from deferring the signal (UML 2.5.1, 14.2.3.4, deferred events). It takes no memory.
-pub fn overrides<T: Fn(GuardId) -> bool>(
+// Whether a route that the signal enables starts at the State or in it, by a search if one is wanted.
+fn overrides_by_reach<T: Fn(GuardId) -> bool>(
     machine: &Machine,
     config: &Config,
     truth: &T,
@@ -353,6 +352,65 @@ fn reacting_in<T: Fn(GuardId) -> bool>(
         Some(Some(s))
     } else {
         Some(None)
+    }
+}
+
+// Whether a route that the signal enables starts at the State or in it. It is left open where a look does not tell.
+fn overrides_at_sight<T: Fn(GuardId) -> bool>(
+    machine: &Machine,
+    config: &Config,
+    truth: &T,
+    signal: SignalId,
+    state: VertexId,
+) -> Option<bool>
+    requires rules { KeepsModelRules machine.now }
+    requires fits { Fits machine.now config.now }
+    requires askable { CanBeAsked machine.now (T.pre truth.now) }
+    requires there { state.0 < length machine.now.vertices }
+    ensures { (values : Truth) → Tells machine.now (T.post truth.now) values
+        → IfSome result (λ is. IsTrue is ↔ Overrides machine.now (configuration_of config.now) values signal state) }
+{
+    let event = Event::Signal(signal);
+    for number in 0..machine.regions() {
+        let found = reacting_in(machine, config, truth, event, RegionId(number))?;
+        if is_found_in(machine, found, state) {
+            return Some(true);
+        }
+    }
+    Some(false)
+}
+
+// Whether a vertex was found, and is the State or lies in it.
+fn is_found_in(machine: &Machine, found: Option<VertexId>, state: VertexId) -> bool
+    requires found { IfSome found (λ s. s.0 < length machine.now.vertices) }
+    requires state { state.0 < length machine.now.vertices }
+    ensures { IsTrue result ↔ ((s : VertexId) × (found ≡ Some s) × IsOrLiesIn machine.now s state) }
+{
+    match found {
+        Some(s) => is_or_lies_in(machine, s, state),
+        None => false,
+    }
+}
+
+/// Whether a route that the signal enables starts at the State or in it, and so keeps the State
+/// from deferring the signal (UML 2.5.1, 14.2.3.4, deferred events). It takes no memory.
+pub fn overrides<T: Fn(GuardId) -> bool>(
+    machine: &Machine,
+    config: &Config,
+    truth: &T,
+    signal: SignalId,
+    state: VertexId,
+) -> bool
+    requires rules { KeepsModelRules machine.now }
+    requires fits { Fits machine.now config.now }
+    requires askable { CanBeAsked machine.now (T.pre truth.now) }
+    requires there { state.0 < length machine.now.vertices }
+    ensures { (values : Truth) → Tells machine.now (T.post truth.now) values
+        → (IsTrue result ↔ Overrides machine.now (configuration_of config.now) values signal state) }
+{
+    match overrides_at_sight(machine, config, truth, signal, state) {
+        Some(is) => is,
+        None => overrides_by_reach(machine, config, truth, signal, state),
     }
 }
 

@@ -18,6 +18,7 @@ use crate::joining::has_joiner;
 use crate::leading::{is_started_with, leave_among, start_all_among};
 use crate::reacting::{candidates, lone_reacting};
 use crate::route::check_route;
+use crate::spread::are_spread;
 use pssm_config::Config;
 use pssm_model::{Event, Firing, GuardId, Machine, Route, TransId, VertexId};
 use std::alloc::{AllocError as NoMemory, Global};
@@ -218,7 +219,16 @@ fn joins_from_some<T: Fn(GuardId) -> bool>(
     false
 }
 
-// Whether the sources of the routes are among the States, no two of their footprints clash, and no
+// Whether no two of the footprints clash, which may be known.
+fn are_all_apart(machine: &Machine, footprints: &[Footprint], apart: bool) -> bool
+    requires there { All (IsFootprintIn machine.now) footprints.now }
+    requires known { IsTrue apart → AreApart machine.now footprints.now }
+    ensures { IsTrue result ↔ AreApart machine.now footprints.now }
+{
+    apart || are_apart(machine, footprints)
+}
+
+// Whether the sources of the routes are among the States, no two of their footprints clash, which may be known, and no
 // route that starts at the States could join them.
 fn are_complete<T: Fn(GuardId) -> bool>(
     machine: &Machine,
@@ -227,10 +237,12 @@ fn are_complete<T: Fn(GuardId) -> bool>(
     event: Event,
     routes: &[Route],
     footprints: &[Footprint],
+    apart: bool,
     states: &[VertexId],
 ) -> bool
     requires rules { KeepsModelRules machine.now }
     requires fits { Fits machine.now config.now }
+    requires apart { IsTrue apart → AreApart machine.now footprints.now }
     requires routes { All (IsStateRoute machine.now) routes.now }
     requires footprints { All (IsFootprintIn machine.now) footprints.now }
     requires askable { CanBeAsked machine.now (T.pre truth.now) }
@@ -240,7 +252,7 @@ fn are_complete<T: Fn(GuardId) -> bool>(
         routes.now footprints.now) }
 {
     start_among(machine, states, routes)
-        && are_apart(machine, footprints)
+        && are_all_apart(machine, footprints, apart)
         && !joins_from_some(machine, config, truth, event, footprints, states)
 }
 
@@ -273,6 +285,7 @@ fn told_by_lone<T: Fn(GuardId) -> bool>(
                 event,
                 routes,
                 &[footprint],
+                false,
                 &[state],
             ))
         }
@@ -302,6 +315,7 @@ fn is_set_of_enabled<T: Fn(GuardId) -> bool>(
         return Ok(false);
     }
     let footprints = footprints_of(alloc, machine, routes)?;
+    let apart = are_spread(alloc, machine, footprints.as_slice())?;
     let states = candidates(alloc, machine, config, truth, event)?;
     Ok(are_complete(
         machine,
@@ -310,6 +324,7 @@ fn is_set_of_enabled<T: Fn(GuardId) -> bool>(
         event,
         routes,
         footprints.as_slice(),
+        apart,
         states.as_slice(),
     ))
 }

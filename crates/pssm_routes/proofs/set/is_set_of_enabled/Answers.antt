@@ -25,7 +25,7 @@ returns g c values tells enabled =
     let states = c.in_ok-states.states.items in
     let fires = fires_complete c.requires.rules c.requires.fits.shape now values event routes footprints states
     c.in_ok-footprints.ensures.footprints (c.in_ok-states.ensures.states values tells) enabled (c.are_listed.ensures.0 c.if-not-are_listed.false) in
-    let complete = subst (λ ss. IsTrue c.are_complete.result ↔ AreComplete m now values event ss routes footprints) c.as_slice-2.ensures.value
-    (subst (λ gs. IsTrue c.are_complete.result ↔ AreComplete m now values event c.as_slice-2.result.now routes gs) c.as_slice.ensures.value
+    let complete = subst (λ ss. IsTrue c.are_complete.result ↔ AreComplete m now values event ss routes footprints) c.as_slice-3.ensures.value
+    (subst (λ gs. IsTrue c.are_complete.result ↔ AreComplete m now values event c.as_slice-3.result.now routes gs) c.as_slice-2.ensures.value
     (c.are_complete.ensures values tells)) in
     (λ t. fires.1 (complete.0 t), λ h. complete.1 (fires.0 h))
