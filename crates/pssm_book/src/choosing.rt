@@ -90,16 +90,42 @@ impl Desk {
         ensures some { IfOk result (λ found. IfSome found (GoesOn self.now)) }
         ensures none { IfOk result (λ found. IfNone found (HasNothingOf self.now object)) }
     {
-        let free = self.open_of(object);
         if word % 2 == 0 {
-            if let Some(task) = free {
-                return Ok(Some(Next::Work(object, task)));
-            }
+            self.work_or_move(object, word / 2)
+        } else {
+            self.move_or_work(object, word / 2)
         }
-        match (self.system.choose_move_of(object, word / 2)?, free) {
-            (Some(entry), _) => Ok(Some(Next::Append(entry))),
-            (None, Some(task)) => Ok(Some(Next::Work(object, task))),
-            (None, None) => Ok(None),
+    }
+
+    // A task of the object that is not handed out, and where there is none a move of it.
+    fn work_or_move(&self, object: ObjectId, word: u64) -> Result<Option<Next>, NoMemory>
+        requires order { IsInOrder self.now }
+        requires there { object.0 < length self.now.system.setting.objects }
+        ensures some { IfOk result (λ found. IfSome found (GoesOn self.now)) }
+        ensures none { IfOk result (λ found. IfNone found (HasNothingOf self.now object)) }
+    {
+        if let Some(task) = self.open_of(object) {
+            return Ok(Some(Next::Work(object, task)));
+        }
+        match self.system.choose_move_of(object, word)? {
+            Some(entry) => Ok(Some(Next::Append(entry))),
+            None => Ok(None),
+        }
+    }
+
+    // A move of the object, and where there is none a task of it that is not handed out.
+    fn move_or_work(&self, object: ObjectId, word: u64) -> Result<Option<Next>, NoMemory>
+        requires order { IsInOrder self.now }
+        requires there { object.0 < length self.now.system.setting.objects }
+        ensures some { IfOk result (λ found. IfSome found (GoesOn self.now)) }
+        ensures none { IfOk result (λ found. IfNone found (HasNothingOf self.now object)) }
+    {
+        if let Some(entry) = self.system.choose_move_of(object, word)? {
+            return Ok(Some(Next::Append(entry)));
+        }
+        match self.open_of(object) {
+            Some(task) => Ok(Some(Next::Work(object, task))),
+            None => Ok(None),
         }
     }
 
@@ -132,11 +158,12 @@ impl Desk {
         ensures some { IfSome result (λ task. IsOpen self.now.system self.now.claims.items object task) }
         ensures none { IfNone result (AreOutOf self.now object) }
     {
-        for i in 0..self.system.task_count_of(object) {
-            let task = self.system.task_of(object, i);
+        let mut i = 0;
+        while let Some(task) = self.system.find_task_of(object, i) {
             if !self.has_claim(object, task) {
                 return Some(task);
             }
+            i += 1;
         }
         None
     }

@@ -7,7 +7,9 @@ use Rattle.std.proofs.lemmas.List.{take-append-drop}
 use Rattle.std.proofs.lemmas.List.Elements.{filter_map-append}
 use Rattle.pssm_model.specs.declared.steps.Item.{Item}
 use Rattle.pssm_plan.specs.declared.roster.Call.{Call}
-use Rattle.pssm_plan.specs.Standings.{IsItemAt}
+use Rattle.pssm_plan.specs.declared.ready.ReadyItem.{ReadyItem}
+use Rattle.pssm_plan.specs.Agenda.{Agenda}
+use Rattle.pssm_plan.specs.Standings.{IsItemAt, IsNextReady, ready_before, ready_calls}
 use Rattle.pssm_semantics.specs.declared.stimulus.Task.{Task}
 use Rattle.pssm_object.specs.Tasks.{task_of}
 
@@ -54,6 +56,25 @@ module _ (calls : List Call) (k : ℕ) (item : Item) (lt : k < length calls) (at
           ∙ filter_map-append (λ (call : Call). task_of call.item) (take (k + 1) calls) (drop (k + 1) calls)
           ∙ ap (λ ts. ts ++ tasks_in (drop (k + 1) calls)) (with_task t is)
           ∙ append_assoc (tasks_in (take k calls)) (t ∷ []) (tasks_in (drop (k + 1) calls))
+
+-- the tasks before the place behind a ready item
+module _ (plan : Agenda) (place : ℕ) (next : ReadyItem) (is : IsNextReady plan.calls place next) where
+  -- those among the ready items before a place
+  abbrev pub tasks_before : ℕ → List Task
+  tasks_before k = tasks_in (take (ready_before plan.calls k) (ready_calls plan))
+
+  pub passes_task : (task : Task) → Some task ≡ task_of next.item → length (tasks_before next.behind) ≡ length (tasks_before place) + 1
+  passes_task task e =
+      ap (λ (n : ℕ). length (tasks_in (take n (ready_calls plan)))) is.counted
+      ∙ counts_task (ready_calls plan) (ready_before plan.calls place) next.item is.within is.item task e
+
+  pub passes_none : (let none : Option Task = None in none) ≡ task_of next.item → length (tasks_before next.behind) ≡ length (tasks_before place)
+  passes_none e =
+      ap (λ (n : ℕ). length (tasks_in (take n (ready_calls plan)))) is.counted
+      ∙ counts_none (ready_calls plan) (ready_before plan.calls place) next.item is.within is.item e
+
+  pub next_task : (task : Task) (n : ℕ) → Some task ≡ task_of next.item → length (tasks_before place) ≡ n → slice_get (tasks_in (ready_calls plan)) n ≡ Some task
+  next_task task n e count = task_here (ready_calls plan) (ready_before plan.calls place) next.item is.within is.item task n e count
 
 -- whether an item is a task
 pub is_task : (r : Option Task) → is_some r ≡ true → (task : Task) × (Some task ≡ r)

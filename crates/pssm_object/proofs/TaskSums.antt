@@ -1,5 +1,5 @@
 -- The ready tasks of an object are those of its step, and then the do steps.
-use Rattle.std.proofs.Common.{◌≡◌, ◌<◌, ◌+◌, ◌++◌, ℕ, zero, suc, List, [], ◌∷◌, length, Bool, true, false, if◌then◌else◌, Some, None, slice_get, refl, sym, ap, subst, ◌∙◌, arith, length-append}
+use Rattle.std.proofs.Common.{◌≡◌, ◌<◌, ◌+◌, ◌++◌, ℕ, zero, suc, List, [], ◌∷◌, length, Bool, true, false, if◌then◌else◌, Option, Some, None, slice_get, refl, sym, ap, subst, ◌∙◌, arith, length-append}
 use Rattle.pssm_model.specs.declared.elements.DraftMachine.{DraftMachine}
 use Rattle.pssm_semantics.specs.declared.stimulus.Task.{Task}
 use Rattle.pssm_object.specs.Doing.{do_tasks}
@@ -53,3 +53,18 @@ module _ (m : DraftMachine) (x : Standing) where
     nth_past rest is task e =
         subst (λ (b : Bool). slice_get (if b then [] else (in_step ++ doing)) i ≡ Some task) (sym living)
         (subst (λ k. slice_get (in_step ++ doing) k ≡ Some task) is (get_back in_step doing rest ∙ e))
+
+  -- the task with a number, if there are as many
+  module _ (i : ℕ) where
+    pub found_none : x.ended ≡ true → None ≡ slice_get (ready_tasks m x) i
+    found_none ended = subst (λ (b : Bool). (let none : Option Task = None in none) ≡ slice_get (if b then [] else (in_step ++ doing)) i) (sym ended) refl
+
+    pub found_front : x.ended ≡ false → (task : Task) → slice_get in_step i ≡ Some task → slice_get (ready_tasks m x) i ≡ Some task
+    found_front living task e =
+        subst (λ (b : Bool). slice_get (if b then [] else (in_step ++ doing)) i ≡ Some task) (sym living) (get_front in_step doing i task e)
+
+    pub found_past : x.ended ≡ false → (rest : ℕ) → length in_step + rest ≡ i → (found : Option Task) → found ≡ slice_get doing rest
+        → found ≡ slice_get (ready_tasks m x) i
+    found_past living rest is found e =
+        subst (λ (b : Bool). found ≡ slice_get (if b then [] else (in_step ++ doing)) i) (sym living)
+        (subst (λ k. found ≡ slice_get (in_step ++ doing) k) is (e ∙ sym (get_back in_step doing rest)))

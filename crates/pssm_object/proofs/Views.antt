@@ -156,6 +156,9 @@ module _ (situation : Situation) (x : Standing) (view_is : standing_of situation
           let transitions = limits.transitions in
           omega (arith, few, vertices, transitions))
 
+      pub few_there : Stands class x → length (ready_tasks class.machine x) < 4294967296
+      few_there stands = seen (λ y. length (ready_tasks class.machine y) < 4294967296) (few_seen stands)
+
       pub tasks_seen : AreReadyTasks class x (ready_tasks class.machine x)
       tasks_seen = λ J s. lists_tasks class b s
 

@@ -363,11 +363,17 @@ fn first_choice(plan: &Plan, from: u32, to: u32) -> Option<Item>
     ensures none { IfNone result (LacksChoices (ready_calls plan.now) from to) }
     ensures ready { (m : DraftMachine) → IsPlanOf m plan.now → IfSome result (IsReadyChoice m plan.now) }
 {
-    for i in from..to {
-        let item = plan.ready_at(i);
-        if has_ways(item) {
-            return Some(item);
+    let mut i = 0;
+    let mut place = 0;
+    while let Some(next) = plan.ready_from(place) {
+        if i == to {
+            return None;
         }
+        if from <= i && has_ways(next.item) {
+            return Some(next.item);
+        }
+        i += 1;
+        place = next.behind;
     }
     None
 }

@@ -118,6 +118,24 @@ pub fn nth_do_task(machine: &Machine, config: &Config, i: u32) -> Task
     unreachable!()
 }
 
+/// The ready do task with a number, if there are as many; only vertices below the number of doers are looked at.
+pub fn find_do_task(machine: &Machine, config: &Config, doers: u16, i: u32) -> Option<Task>
+    requires fits { Fits machine.now config.now }
+    requires doers { AreDoersBelow machine.now doers }
+    ensures { result ≡ slice_get (do_tasks machine.now config.now) i }
+{
+    let mut rest = i;
+    for v in 0..doers {
+        if let Some(task) = task_of_vertex(machine, config, VertexId(v)) {
+            if rest == 0 {
+                return Some(task);
+            }
+            rest -= 1;
+        }
+    }
+    None
+}
+
 // The behaviour of a do step, if there is one.
 fn step_act(class: &Class, s: VertexId, step: u16) -> Option<&Act>
     requires { s.0 < length class.now.machine.vertices }

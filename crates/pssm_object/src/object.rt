@@ -199,6 +199,16 @@ impl Object {
         self.situation.nth_task(&class.machine, i)
     }
 
+    /// The ready task with a number, in the same order, if there are as many.
+    pub fn find_task(&self, class: &Class, i: u32) -> Option<Task>
+        requires class { IsWellFormedClass class.now }
+        requires stands { Stands class.now self.now }
+        ensures task { result ≡ slice_get (ready_tasks class.now.machine self.now) i }
+        ensures few { length (ready_tasks class.now.machine self.now) < 4294967296 }
+    {
+        self.situation.find_task(&class.machine, i)
+    }
+
     /// Whether a task of the object is ready; none is once the object has ended, and none that names no place of the
     /// machine (UML 2.5.1, 14.2.3.9 and 14.2.3.4). It takes no memory.
     pub fn is_ready(&self, class: &Class, task: Task) -> bool

@@ -11,7 +11,7 @@ ghost use Rattle.pssm_object.specs.inner.Situations.{standing_of};
 ghost use Rattle.pssm_object.specs.inner.Choosing.{HasNothingLeft, IsStill};
 ghost use Rattle.pssm_object.specs.inner.Judging.{IsReadyIn, IsWorkReady, IsTaskReady};
 
-use crate::doing::{count_do_tasks, is_next_there, nth_do_task};
+use crate::doing::{count_do_tasks, find_do_task, is_next_there, nth_do_task};
 use crate::situation::Situation;
 use pssm_model::{Item, Machine};
 use pssm_plan::{Plan, Standing};
@@ -61,6 +61,21 @@ impl Situation {
         match self.nth_in_step(i) {
             Ok(task) => task,
             Err(rest) => nth_do_task(machine, &self.config, rest),
+        }
+    }
+
+    /// The ready task with a number, if there are as many.
+    pub fn find_task(&self, machine: &Machine, i: u32) -> Option<Task>
+        requires fits { Fits machine.now self.now.config }
+        requires doers { AreDoersBelow machine.now self.now.doers }
+        ensures { result ≡ slice_get (ready_tasks machine.now (standing_of self.now)) i }
+    {
+        if self.ended {
+            return None;
+        }
+        match self.nth_in_step(i) {
+            Ok(task) => Some(task),
+            Err(rest) => find_do_task(machine, &self.config, self.doers, rest),
         }
     }
 
@@ -161,10 +176,12 @@ fn count_tasks(plan: &Plan) -> u32
     ensures { result ≡ length (tasks_of_plan (Some plan.now)) }
 {
     let mut count = 0;
-    for k in 0..plan.ready_count() {
-        if task_of(plan.ready_at(k)).is_some() {
+    let mut place = 0;
+    while let Some(next) = plan.ready_from(place) {
+        if task_of(next.item).is_some() {
             count += 1;
         }
+        place = next.behind;
     }
     count
 }
@@ -176,13 +193,15 @@ fn nth_task(plan: &Plan, i: u32) -> Result<Task, u32>
     ensures past { IfErr result (λ rest. length (tasks_of_plan (Some plan.now)) + rest ≡ i) }
 {
     let mut rest = i;
-    for k in 0..plan.ready_count() {
-        if let Some(task) = task_of(plan.ready_at(k)) {
+    let mut place = 0;
+    while let Some(next) = plan.ready_from(place) {
+        if let Some(task) = task_of(next.item) {
             if rest == 0 {
                 return Ok(task);
             }
             rest -= 1;
         }
+        place = next.behind;
     }
     Err(rest)
 }

@@ -1,8 +1,9 @@
 -- The calls of ready items.
-use Rattle.std.proofs.Common.{◌≡◌, ◌≢◌, ◌<◌, ◌+◌, ◌++◌, ℕ, List, [], ◌∷◌, length, get_or, take, drop, Contains, IsTrue, Bool, true, false, cond, refl, sym, ap, subst, ⊎_elim, arith, ◌∙◌, append_assoc}
+use Rattle.std.proofs.Common.{◌≡◌, ◌≢◌, ◌<◌, ◌+◌, ◌++◌, ℕ, List, [], ◌∷◌, ◌≤◌, length, get_or, take, drop, Contains, IsTrue, IfSome, Option, Some, None, Bool, true, false, cond, refl, sym, ap, subst, ⊎_elim, arith, ◌∙◌, append_assoc}
 use Rattle.std.specs.Prelude.{not, ◌&&◌}
 use Rattle.std.specs.List.{filter}
-use Rattle.std.proofs.lemmas.List.{take-append-drop, get_or_default}
+use Rattle.std.proofs.lemmas.List.{take-append-drop, get_or_default, length-append}
+use Rattle.std.proofs.lemmas.List.Filters.{length-filter_more}
 use Rattle.std.proofs.Math.Seq.{get_or-append_seam}
 use Rattle.std.proofs.lemmas.List.Elements.{filter-append, filter_more, filter_passes, All-filter, All-contains, All-contains_itself, Contains-append_right}
 use Rattle.std.proofs.lemmas.List.Kept.{AllPairs-filter}
@@ -14,7 +15,8 @@ use Rattle.pssm_plan.proofs.KnownRuns.{run_known}
 use Rattle.pssm_plan.specs.declared.roster.Call.{Call}
 use Rattle.pssm_plan.specs.Agenda.{Agenda, course_of}
 use Rattle.pssm_plan.specs.Plans.{IsOfCall, IsPlanOf}
-use Rattle.pssm_plan.specs.Standings.{stands_ready, ready_calls, IsItemAt, ListsReady}
+use Rattle.pssm_plan.specs.declared.ready.ReadyItem.{ReadyItem}
+use Rattle.pssm_plan.specs.Standings.{stands_ready, ready_calls, ready_before, IsItemAt, IsNextReady, ListsReady}
 use Rattle.pssm_plan.proofs.StandingItems.{one_call}
 
 -- the calls around one that stands as ready
@@ -35,6 +37,27 @@ item_there calls k i d lt ready e other =
     (ap (λ (n : ℕ). get_or (filter stands_ready calls) n other) e
     ∙ ap (λ (l : List Call). get_or l (length (filter stands_ready (take k calls))) other) (ready_split calls k d lt ready)
     ∙ get_or-append_seam (filter stands_ready (take k calls)) (get_or calls k d) (filter stands_ready (drop (k + 1) calls)) other)
+
+-- the first ready item from a place on: none stands before it
+module _ (calls : List Call) (place k : ℕ) (lt : k < length calls) (before : ready_before calls k ≡ ready_before calls place) where
+  pub next_there : (d : Call) → stands_ready (get_or calls k d) ≡ true → place ≤ k → IsNextReady calls place (record { item = (get_or calls k d).item; behind = k + 1 })
+  next_there d ready from =
+      let here = ready_split calls k d lt ready in
+      let long = ap (λ (l : List Call). length l) here
+          ∙ length-append (filter stands_ready (take k calls)) (get_or calls k d ∷ filter stands_ready (drop (k + 1) calls)) in
+      let more = length-filter_more stands_ready calls k d lt ∙ ap (λ (b : Bool). length (filter stands_ready (take k calls)) + cond b 1 0) ready in
+      record {
+        item = item_there calls k (ready_before calls place) d lt ready (sym before);
+        within = omega (arith, long, before);
+        counted = omega (arith, more, before);
+        further = omega (arith, from);
+        listed = omega (arith, lt);
+      }
+
+  pub none_there : (d : Call) → stands_ready (get_or calls k d) ≡ false → ready_before calls (k + 1) ≡ ready_before calls place
+  none_there d not_ready =
+      let more = length-filter_more stands_ready calls k d lt ∙ ap (λ (b : Bool). length (filter stands_ready (take k calls)) + cond b 1 0) not_ready in
+      omega (arith, more, before)
 
 pub one_above : (b : Bool) (n : ℕ) → n < cond b 1 0 → (b ≡ true) × (n ≡ 0)
 one_above true n lt = (refl, omega arith)
@@ -118,3 +141,11 @@ module _ (m : DraftMachine) (plan : Agenda) (h : IsPlanOf m plan) where
           let d = first calls n lt in
           let call = get_or calls n d in
           (call, (n, lt, get_or_default calls n call d lt), at d)
+
+  pub next_is_ready : (place : ℕ) (next : ReadyItem) → IsNextReady plan.calls place next → IsReady m (course_of plan) next.item
+  next_is_ready place next is = item_is_ready (ready_before plan.calls place) next.item is.within is.item
+
+  pub found_is_ready : (place : ℕ) (found : Option ReadyItem) → IfSome found (IsNextReady plan.calls place)
+      → IfSome found (λ (next : ReadyItem). IsReady m (course_of plan) next.item)
+  found_is_ready place None is = tt
+  found_is_ready place (Some next) is = next_is_ready place next is

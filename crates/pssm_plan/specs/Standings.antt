@@ -1,5 +1,5 @@
 -- How an item stands in a step, and which items are ready.
-use Rattle.std.specs.Prelude.{◌≡◌, ◌≢◌, ◌↔◌, ℕ, Bool, List, AllPairs, ◌&&◌, not, slice_index_or}
+use Rattle.std.specs.Prelude.{◌≡◌, ◌≢◌, ◌↔◌, ◌<◌, ◌≤◌, ◌+◌, ℕ, Bool, List, length, take, AllPairs, ◌&&◌, not, slice_index_or}
 use Rattle.std.specs.List.{filter}
 use Rattle.pssm_model.specs.declared.elements.DraftMachine.{DraftMachine}
 use Rattle.pssm_model.specs.declared.steps.Item.{Item}
@@ -7,6 +7,7 @@ use Rattle.pssm_model.specs.Course.{Course, HasRun}
 use Rattle.pssm_model.specs.Items.{Called, Before, IsWaiting}
 use Rattle.pssm_model.specs.Order.{IsReady}
 use Rattle.pssm_plan.specs.declared.roster.Call.{Call}
+use Rattle.pssm_plan.specs.declared.ready.ReadyItem.{ReadyItem}
 use Rattle.pssm_plan.specs.declared.standing.Standing.{Standing}
 use Rattle.pssm_plan.specs.declared.standing.Standing.TheVariants.{Ready, NotCalled, Ran, Waits}
 use Rattle.pssm_plan.specs.Agenda.{Agenda}
@@ -36,3 +37,15 @@ IsItemAt calls i item = (call : Call) → (slice_index_or calls i call).item ≡
 pub record ListsReady (m : DraftMachine) (course : Course) (calls : List Call) : Type 0 where
   pub ready : (item : Item) → IsOfCall calls item ↔ IsReady m course item
   pub once : AllPairs (λ a b. a.item ≢ b.item) calls
+
+-- how many of the calls before this place are of ready items
+abbrev pub ready_before : List Call → ℕ → ℕ
+ready_before calls place = length (filter stands_ready (take place calls))
+
+-- It is the first ready item from this place on, and the place behind it.
+pub record IsNextReady (calls : List Call) (place : ℕ) (next : ReadyItem) : Type 0 where
+  pub item : IsItemAt (filter stands_ready calls) (ready_before calls place) next.item
+  pub within : ready_before calls place < length (filter stands_ready calls)
+  pub counted : ready_before calls next.behind ≡ ready_before calls place + 1
+  pub further : place < next.behind
+  pub listed : next.behind ≤ length calls

@@ -19,4 +19,5 @@ mod ways;
 pub use laws::{ready_items, step_length};
 pub use plan::Plan;
 pub use pssm_model::{How, Item, Mode};
+pub use ready::ReadyItem;
 pub use standing::Standing;

@@ -1,5 +1,5 @@
 //! `Plan`: the items that a step calls, which of them have run, and which are ready.
-ghost use Rattle.std.specs.Prelude.{◌≡◌, ◌↔◌, ◌<◌, ◌++◌, ◌∷◌, [], length, slice_get, Some, IsTrue, IfOk, OnOk, OnErr, Contains};
+ghost use Rattle.std.specs.Prelude.{◌≡◌, ◌↔◌, ◌<◌, ◌++◌, ◌∷◌, [], length, slice_get, Some, IsTrue, IfOk, IfSome, IfNone, OnOk, OnErr, Contains};
 ghost use Rattle.pssm_model.specs.declared.elements.DraftMachine.{DraftMachine};
 ghost use Rattle.pssm_model.specs.WellFormed.{KeepsModelRules};
 ghost use Rattle.pssm_model.specs.Course.Head.{Starts, Fires};
@@ -11,10 +11,10 @@ ghost use Rattle.pssm_model.specs.Order.{IsReady, IsWayNow};
 ghost use Rattle.pssm_config.specs.Tables.{Fits, configuration_of};
 ghost use Rattle.pssm_plan.specs.Agenda.{course_of};
 ghost use Rattle.pssm_plan.specs.Plans.{IsPlanOf};
-ghost use Rattle.pssm_plan.specs.Standings.{StandsAs, ListsReady, IsItemAt, ready_calls};
+ghost use Rattle.pssm_plan.specs.Standings.{StandsAs, ListsReady, IsItemAt, IsNextReady, ready_before, ready_calls};
 
 use crate::progress::Progress;
-use crate::ready::{count_ready, ready_item};
+use crate::ready::{ReadyItem, count_ready, next_ready, ready_item};
 use crate::roster::{call_at, call_of, have_all_run};
 use crate::standing::Standing;
 use pssm_config::Config;
@@ -109,6 +109,18 @@ impl Plan {
         ensures ready { (m : DraftMachine) → IsPlanOf m self.now → IsReady m (course_of self.now) result }
     {
         ready_item(self.progress.roster.calls.as_slice(), i)
+    }
+
+    /// The first ready item from a place of the plan's list on, with the place behind it, if there is one. So all ready
+    /// items are met in the order of the list, from the place 0 on.
+    #[inline(always)]
+    pub fn ready_from(&self, place: u32) -> Option<ReadyItem>
+        ensures some { IfSome result (IsNextReady self.now.calls place) }
+        ensures none { IfNone result (ready_before self.now.calls place ≡ length (ready_calls self.now)) }
+        ensures ready { (m : DraftMachine) → IsPlanOf m self.now
+            → IfSome result (λ next. IsReady m (course_of self.now) next.item) }
+    {
+        next_ready(self.progress.roster.calls.as_slice(), place)
     }
 
     /// The plan of a start, which opens the top regions.

@@ -1,10 +1,17 @@
 //! Which of the listed items are ready.
-ghost use Rattle.std.specs.Prelude.{◌≡◌, ◌<◌, ◌^◌, length, if◌then◌else◌};
+ghost use Rattle.std.specs.Prelude.{◌≡◌, ◌<◌, ◌^◌, length, IfSome, IfNone, if◌then◌else◌};
 ghost use Rattle.std.specs.List.{filter};
-ghost use Rattle.pssm_plan.specs.Standings.{stands_ready, IsItemAt};
+ghost use Rattle.pssm_plan.specs.Standings.{stands_ready, ready_before, IsItemAt, IsNextReady};
 
 use crate::roster::Call;
 use pssm_model::Item;
+
+/// A ready item, and the place behind it in the plan's list.
+#[derive(Clone, Copy, PartialEq, Eq)]
+pub struct ReadyItem {
+    pub item: Item,
+    pub behind: u32,
+}
 
 // Whether the call is of an item that is ready.
 fn is_ready(call: Call) -> bool
@@ -46,4 +53,22 @@ pub fn ready_item(calls: &[Call], i: u32) -> Item
         rest -= one;
     }
     unreachable!()
+}
+
+/// The first ready item from a place of the list on, if there is one.
+#[inline(always)]
+pub fn next_ready(calls: &[Call], place: u32) -> Option<ReadyItem>
+    requires { length calls.now < 2 ^ 32 }
+    ensures some { IfSome result (IsNextReady calls.now place) }
+    ensures none { IfNone result (ready_before calls.now place ≡ length (filter stands_ready calls.now)) }
+{
+    for k in place as usize..calls.len() {
+        if is_ready(calls[k]) {
+            return Some(ReadyItem {
+                item: calls[k].item,
+                behind: k as u32 + 1,
+            });
+        }
+    }
+    None
 }

@@ -233,6 +233,15 @@ impl System {
         self.follower.task_of(object, i)
     }
 
+    /// The ready task of an object with a number, in the same order, if there are as many.
+    pub fn find_task_of(&self, object: ObjectId, i: u32) -> Option<Task>
+        ensures task { result ≡ slice_get (own_tasks object self.now.tasks) i }
+        ensures few { length (own_tasks object self.now.tasks) < 4294967296 }
+        ensures listed { AreReadyFor self.now.setting self.now.journal object (own_tasks object self.now.tasks) }
+    {
+        self.follower.find_task_of(object, i)
+    }
+
     /// The values of the object's variables, as they are now (UML 2.5.1, 9.5.3, properties).
     pub fn store(&self, object: ObjectId) -> &[i64]
         requires { object.0 < length self.now.setting.objects }

@@ -93,4 +93,18 @@ impl Situation {
         let object = &self.objects[usize::from(own.0)];
         object.task_at(class_of(setting, own), i)
     }
+
+    /// The ready task of an object with a number, if there are as many.
+    pub fn find_task_of(&self, setting: &Setting, own: ObjectId, i: u32) -> Option<Task>
+        requires well_formed { IsWellFormed setting.now }
+        requires stands { Stands setting.now self.now }
+        ensures task { result ≡ slice_get (own_tasks own (tasks_of setting.now self.now.objects.items)) i }
+        ensures few { length (own_tasks own (tasks_of setting.now self.now.objects.items)) < 4294967296 }
+    {
+        if !self.has(own) {
+            return None;
+        }
+        let object = &self.objects[usize::from(own.0)];
+        object.find_task(class_of(setting, own), i)
+    }
 }

@@ -1,7 +1,11 @@
 -- none of the places so far holds an opening or a pick
-use Rattle.pssm_plan.specs.Standings.{ready_calls}
+use Rattle.std.proofs.Common.{◌≡◌, ◌≤◌, ◌-◌, length}
+use Rattle.pssm_plan.specs.Standings.{ready_before, ready_calls}
 use Rattle.pssm_object.specs.inner.Choosing.{LacksChoices}
 use Rattle.pssm_object.proofs.choosing.first_choice.Given as goal
 
-abbrev pub invariant-loop-i : goal.invariant-loop-i
-invariant-loop-i l = LacksChoices (ready_calls l.plan) l.from l.i
+abbrev pub decreases-loop-next : goal.decreases-loop-next
+decreases-loop-next l = length l.plan.calls - l.place
+
+abbrev pub invariant-loop-next : goal.invariant-loop-next
+invariant-loop-next l = (ready_before l.plan.calls l.place ≡ l.i) × (l.i ≤ l.to) × LacksChoices (ready_calls l.plan) l.from l.i

@@ -1,8 +1,11 @@
 -- so many tasks are passed
-use Rattle.std.proofs.Common.{◌≡◌, ◌+◌, take, length}
-use Rattle.pssm_plan.specs.Standings.{ready_calls}
+use Rattle.std.proofs.Common.{◌≡◌, ◌+◌, ◌-◌, take, length}
+use Rattle.pssm_plan.specs.Standings.{ready_before, ready_calls}
 use Rattle.pssm_object.proofs.Counting.{tasks_in}
 use Rattle.pssm_object.proofs.tasks.nth_task.Given as goal
 
-abbrev pub invariant-loop-k : goal.invariant-loop-k
-invariant-loop-k l = length (tasks_in (take l.k (ready_calls l.plan))) + l.rest ≡ l.i
+abbrev pub decreases-loop-next : goal.decreases-loop-next
+decreases-loop-next l = length l.plan.calls - l.place
+
+abbrev pub invariant-loop-next : goal.invariant-loop-next
+invariant-loop-next l = length (tasks_in (take (ready_before l.plan.calls l.place) (ready_calls l.plan))) + l.rest ≡ l.i
