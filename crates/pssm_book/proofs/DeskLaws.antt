@@ -31,7 +31,7 @@ use Rattle.pssm_semantics_laws.proofs.Objects.{same_object}
 use Rattle.pssm_object.specs.Following.{IsMove}
 use Rattle.pssm_object.specs.Tasks.{entry_of}
 use Rattle.pssm_system.specs.History.{History}
-use Rattle.pssm_system.specs.Tasks.{IsReadyOf, AreReady, AreReadyFor, own_tasks}
+use Rattle.pssm_system.specs.Tasks.{IsReadyOf, AreReady, AreReadyFor, own_tasks, IsQuietOf}
 use Rattle.pssm_system.specs.Works.{HasMade}
 use Rattle.pssm_system.proofs.Choices.{move-no_post}
 use Rattle.pssm_system.proofs.Following.{object_there}
@@ -53,7 +53,7 @@ use Rattle.pssm_book.specs.inner.Coming.{IsQuietlyEnded, IsOpenEnded, Comes}
 use Rattle.pssm_book.proofs.ListLaws.{got_member, member_got, apart_more}
 use Rattle.pssm_book.proofs.PostLaws.{post_follows}
 use Rattle.pssm_book.proofs.RunLaws.{none_past, waiting_known, running_start, full_counted, counted_full, fits, running_more, limits_more}
-use Rattle.pssm_book.proofs.TaskLaws.{work_follows, work_makes, store_is, ready_unquiet, quiet_of_none}
+use Rattle.pssm_book.proofs.TaskLaws.{work_follows, work_makes, store_is, ready_unquiet, ready_unquiet_of, quiet_of_none}
 
 -- ---- a new desk
 
@@ -237,6 +237,13 @@ pub none_waits : (desk : Desk) → length desk.stimuli.items ≤ desk.posted →
 none_waits desk past = slice_get_past desk.stimuli.items desk.posted past
 
 -- a ready task of an object that is not among the claims
+-- an object of which nothing but a post may follow has nothing
+pub quiet_nothing : (desk : Desk) → IsInOrder desk → (o : ObjectId) → IsQuietOf desk.system.setting desk.system.journal o → HasNothingOf desk o
+quiet_nothing desk order o quiet = record {
+  no_move = λ e own move may. quiet e own (move-no_post e move) may;
+  all_out = λ task ready. absurd (ready_unquiet_of order.well_formed order.admissible o task ready quiet);
+}
+
 pub open_of_listed : (desk : Desk) (o : ObjectId) (i : ℕ) (task : Task)
     → AreReadyFor desk.system.setting desk.system.journal o (own_tasks o desk.system.tasks) → slice_get (own_tasks o desk.system.tasks) i ≡ Some task
     → (Contains desk.claims.items (o, task) → ⊥) → IsOpen desk.system desk.claims.items o task

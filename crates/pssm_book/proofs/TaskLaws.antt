@@ -48,7 +48,7 @@ use Rattle.pssm_object.specs.Coming.{HasCome, HasCourse}
 use Rattle.pssm_object.specs.Tasks.{entry_of}
 use Rattle.pssm_object.proofs.Rules.{no_step, has_started}
 use Rattle.pssm_object.proofs.UnderWay.{called_item, cleared_item, ready_item_is}
-use Rattle.pssm_system.specs.Tasks.{IsReadyOf, HasNoMove}
+use Rattle.pssm_system.specs.Tasks.{IsReadyOf, HasNoMove, IsQuietOf}
 use Rattle.pssm_system.proofs.Choices.{does-is}
 use Rattle.pssm_system.proofs.Coming.{has_come}
 use Rattle.pssm_system.proofs.Following.{object_there, holds, own_of}
@@ -280,6 +280,20 @@ ready_unquiet b admissible o task r quiet =
     let outs = (made_by b admissible o r.class_is act.0 task).outs in
     let may = work_follows b admissible o r.class_is task act.0 r.ready act.1 in
     quiet (entry_of o task outs) (does-is o task (entry_of o task outs) (outs, refl)).no_post may
+
+own_entry : (o : ObjectId) (task : Task) (outs : List Out) → object_of (entry_of o task outs) ≡ o
+own_entry o (tasks.Exit v) outs = refl
+own_entry o (tasks.Effect t) outs = refl
+own_entry o (tasks.Enter v) outs = refl
+own_entry o (tasks.DoStep v k) outs = refl
+
+pub ready_unquiet_of : {setting : Setting} → IsWellFormed setting → {J : List Entry} → IsAdmissibleIn setting J → (o : ObjectId) (task : Task)
+    → IsReadyOf setting J o task → IsQuietOf setting J o → ⊥
+ready_unquiet_of b admissible o task r quiet =
+    let act = has_behaviour b admissible o r.class_is task r.ready in
+    let outs = (made_by b admissible o r.class_is act.0 task).outs in
+    let may = work_follows b admissible o r.class_is task act.0 r.ready act.1 in
+    quiet (entry_of o task outs) (own_entry o task outs) (does-is o task (entry_of o task outs) (outs, refl)).no_post may
 
 -- Where there is no move and no ready task, it is quiet.
 pub quiet_of_none : {setting : Setting} → IsWellFormed setting → {J : List Entry} → IsAdmissibleIn setting J → HasNoMove setting J

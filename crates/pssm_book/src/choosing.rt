@@ -84,12 +84,16 @@ impl Desk {
     }
 
     // The same of one object. The word says whether a task or a move is looked for first.
+    #[tactic(auto, using(crate::proofs::DeskLaws::quiet_nothing))]
     fn next_of(&self, object: ObjectId, word: u64) -> Result<Option<Next>, NoMemory>
         requires order { IsInOrder self.now }
         requires there { object.0 < length self.now.system.setting.objects }
         ensures some { IfOk result (λ found. IfSome found (GoesOn self.now)) }
         ensures none { IfOk result (λ found. IfNone found (HasNothingOf self.now object)) }
     {
+        if self.system.quiet_of(object) {
+            return Ok(None);
+        }
         if word % 2 == 0 {
             self.work_or_move(object, word / 2)
         } else {

@@ -26,6 +26,7 @@ use Rattle.pssm_object.proofs.TaskLists.{lists_tasks}
 use Rattle.pssm_system.specs.declared.situation.Situation.{Situation}
 use Rattle.pssm_system.specs.declared.choosing.Wanted.{Wanted}
 use Rattle.pssm_system.specs.declared.choosing.Wanted.TheVariants.{AnyEntry, Move}
+use Rattle.pssm_system.specs.Tasks.{IsQuietOf}
 use Rattle.pssm_system.specs.inner.Deferring.{IsFirstFor}
 use Rattle.pssm_system.specs.inner.Keeping.{StandsSo}
 use Rattle.pssm_system.specs.inner.Choosing.{IsWanted, IsNext, HasNoNext, NoneMayCome}
@@ -142,6 +143,11 @@ module _ {setting : Setting} (b : IsWellFormed setting) {s : Situation} {J : Lis
   pub next-some : objects.HasNext class x first J → IsQuiet setting J → ⊥
   next-some (e, c, keeps) quiet =
       quiet e c.no_post
+      (next_follows part first_is e (candidate_as e c) (names_places class part.well_formed part.object.stands first e c keeps) keeps)
+
+  pub next-own : objects.HasNext class x first J → IsQuietOf setting J o → ⊥
+  next-own (e, c, keeps) quiet =
+      quiet e (candidate_as e c).own c.no_post
       (next_follows part first_is e (candidate_as e c) (names_places class part.well_formed part.object.stands first e c keeps) keeps)
 
 -- a signal is handed in where one waits

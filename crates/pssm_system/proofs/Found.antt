@@ -15,11 +15,12 @@ use Rattle.pssm_object.specs.Following as objects
 use Rattle.pssm_system.specs.declared.situation.Situation.{Situation}
 use Rattle.pssm_system.specs.declared.choosing.Wanted.{Wanted}
 use Rattle.pssm_system.specs.declared.choosing.Wanted.TheVariants.{AnyEntry}
+use Rattle.pssm_system.specs.Tasks.{IsQuietOf}
 use Rattle.pssm_system.specs.inner.Deferring.{IsFirstFor}
 use Rattle.pssm_system.specs.inner.Keeping.{StandsSo}
 use Rattle.pssm_system.specs.inner.Choosing.{Finds, NoneMayCome, FindsAmong}
 use Rattle.pssm_system.proofs.Members.{IsMember}
-use Rattle.pssm_system.proofs.Choices.{part, found-follows, none-follows, quiet-none, next-some, handed_in, none-both, none-of_all}
+use Rattle.pssm_system.proofs.Choices.{part, found-follows, none-follows, quiet-none, next-some, next-own, handed_in, none-both, none-of_all}
 
 -- objects with the same number are one
 same_number : (o p : ObjectId) → o.0 ≡ p.0 → o ≡ p
@@ -59,6 +60,20 @@ module _ {setting : Setting} (b : IsWellFormed setting) (s : Situation) {K : Lis
       let p = part b stands o class x m.class_is m.there first f in
       let next = says J first p.object.stands (handed_in first waiting is) in
       ((λ yes'. absurd (false≢true yes')), (λ quiet. absurd (next-some b stands o class x m.class_is m.there first f next quiet)))
+
+  -- an object is quiet exactly where it says so
+  pub quiet_own : (waiting : Bool) → waiting ≡ is_some first → (answer : Bool)
+      → ((J : List Entry) (signal : Option Waiting) → StandsAfter class J x → objects.IsHandedIn waiting signal
+      → MatchBool answer (objects.IsQuiet class x signal J) (objects.HasNext class x signal J)) → (J : List Entry) → StandsSo setting J s
+      → IsTrue answer ↔ IsQuietOf setting J o
+  quiet_own waiting is true says J stands =
+      let p = part b stands o class x m.class_is m.there first f in
+      let quiet = says J first p.object.stands (handed_in first waiting is) in
+      ((λ yes. λ e own no_post may. quiet-none b stands o class x m.class_is m.there first f quiet e own no_post may), (λ told. refl))
+  quiet_own waiting is false says J stands =
+      let p = part b stands o class x m.class_is m.there first f in
+      let next = says J first p.object.stands (handed_in first waiting is) in
+      ((λ yes. absurd (false≢true yes)), (λ quiet. absurd (next-own b stands o class x m.class_is m.there first f next quiet)))
 
 -- where no object has a next entry, the setting is quiet
 pub all_quiet : {setting : Setting} {s : Situation} → NoneMayCome setting s AnyEntry 0 (length s.objects.items) → (J : List Entry) → StandsSo setting J s

@@ -26,7 +26,7 @@ use Rattle.pssm_system.specs.declared.choosing.Wanted.TheVariants.{AnyEntry, Mov
 use Rattle.pssm_system.specs.History.{History}
 use Rattle.pssm_semantics.specs.Forms.{IsRunEntry}
 use Rattle.pssm_semantics.specs.Work.{Work, outcome_from}
-use Rattle.pssm_system.specs.Tasks.{IsReadyOf, AreReady, AreReadyFor, own_tasks, HasNoMove, HasNoMoveOf}
+use Rattle.pssm_system.specs.Tasks.{IsReadyOf, AreReady, AreReadyFor, own_tasks, HasNoMove, HasNoMoveOf, IsQuietOf}
 use Rattle.pssm_system.specs.Works.{HasMade}
 use Rattle.pssm_system.specs.inner.Keeping.{StandsSo, Stands, CanCome, IsUnchanged, KeepsRun, tasks_of}
 use Rattle.pssm_system.specs.inner.Judging.{IsKnown, IsVerdict}
@@ -118,6 +118,10 @@ module _ (h : History) (setting : Setting) (J : List Entry) (s : Situation) (k :
 
   pub quiet_seen : (b : Bool) → ((K : List Entry) → StandsSo setting K s → (IsTrue b ↔ IsQuiet setting K)) → IsTrue b ↔ IsQuiet h.setting h.journal
   quiet_seen b says = seen (λ x js. IsTrue b ↔ IsQuiet x js) (says J k.stands)
+
+  pub quiet_seen_of : (o : ObjectId) (b : Bool) → ((K : List Entry) → StandsSo setting K s → (IsTrue b ↔ IsQuietOf setting K o))
+      → IsTrue b ↔ IsQuietOf h.setting h.journal o
+  quiet_seen_of o b says = seen (λ x js. IsTrue b ↔ IsQuietOf x js o) (says J k.stands)
 
   -- what is chosen
   pub chosen_seen : {E : Type 0} (r : Result (Option Entry) E) → IfOk r (FindsAmong setting s AnyEntry 0 (length s.objects.items))

@@ -6,7 +6,7 @@ use Rattle.pssm_semantics.specs.declared.setting.Class.{Class}
 use Rattle.pssm_semantics.specs.declared.setting.Setting.{Setting}
 use Rattle.pssm_semantics.specs.declared.stimulus.Task.{Task}
 use Rattle.pssm_semantics.specs.Settings.{class_of}
-use Rattle.pssm_semantics.specs.Journal.{object_of}
+use Rattle.pssm_semantics.specs.Journal.{IsPost, object_of}
 use Rattle.pssm_semantics.specs.Tasks.{IsReadyTask}
 use Rattle.pssm_semantics.specs.Admissible.{MayFollow}
 use Rattle.pssm_object.specs.Following.{IsMove}
@@ -39,3 +39,7 @@ HasNoMove setting J = (e : Entry) → IsMove e → MayFollow setting J e → ⊥
 -- No start, take, done, opening or pick of this object may follow (this profile's choice).
 abbrev pub HasNoMoveOf : Setting → List Entry → ObjectId → Type 0
 HasNoMoveOf setting J o = (e : Entry) → object_of e ≡ o → IsMove e → MayFollow setting J e → ⊥
+
+-- No entry of this object but a post may follow (UML 2.5.1 14.2.3.9, run to completion).
+abbrev pub IsQuietOf : Setting → List Entry → ObjectId → Type 0
+IsQuietOf setting J o = (e : Entry) → object_of e ≡ o → (IsPost e → ⊥) → MayFollow setting J e → ⊥

@@ -7,6 +7,7 @@ ghost use Rattle.pssm_semantics.specs.Proper.{IsWellFormed};
 ghost use Rattle.pssm_semantics.specs.Admissible.{IsQuiet};
 ghost use Rattle.pssm_object.specs.Standing.{Stands as ObjectStands};
 ghost use Rattle.pssm_object.specs.Tasks.{ready_tasks};
+ghost use Rattle.pssm_system.specs.Tasks.{IsQuietOf};
 ghost use Rattle.pssm_system.specs.inner.Choosing.{IsNextAlways, Finds};
 
 use crate::entries::class_of;
@@ -43,6 +44,18 @@ impl Situation {
             }
         }
         true
+    }
+
+    /// Whether no entry of the object but a post may come next.
+    pub fn is_quiet_of(&self, setting: &Setting, own: ObjectId) -> bool
+        requires well_formed { IsWellFormed setting.now }
+        requires stands { Stands setting.now self.now }
+        requires there { own.0 < length self.now.objects.items }
+        ensures { (J : List AnEntry) → StandsSo setting.now J self.now → (IsTrue result ↔ IsQuietOf setting.now J own) }
+    {
+        let object = &self.objects[usize::from(own.0)];
+        let waiting = self.first_for(setting, own).is_some();
+        object.quiet(class_of(setting, own), waiting)
     }
 
     /// An entry of those that are looked for that may come next, if there is one.

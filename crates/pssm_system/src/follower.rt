@@ -66,7 +66,7 @@ impl Follower {
     ghost use Rattle.pssm_semantics.specs.declared.setting.Class.{Class};
     ghost use Rattle.pssm_object.specs.Following.{IsMove};
     ghost use Rattle.pssm_semantics.specs.Forms.{IsRunEntry};
-    ghost use Rattle.pssm_system.specs.Tasks.{IsReadyOf, AreReady, AreReadyFor, own_tasks, HasNoMove, HasNoMoveOf};
+    ghost use Rattle.pssm_system.specs.Tasks.{IsReadyOf, AreReady, AreReadyFor, own_tasks, HasNoMove, HasNoMoveOf, IsQuietOf};
     ghost use Rattle.pssm_system.specs.Works.{HasMade};
 
     /// A follower of a journal with no entry yet.
@@ -176,6 +176,15 @@ impl Follower {
         ensures { IsTrue result ↔ IsQuiet self.now.setting self.now.journal }
     {
         self.situation.is_quiet(&self.setting)
+    }
+
+    /// Whether no entry of the object but a post may follow (UML 2.5.1, 14.2.3.9, run to completion). It takes no
+    /// memory.
+    pub fn quiet_of(&self, object: ObjectId) -> bool
+        requires { object.0 < length self.now.setting.objects }
+        ensures { IsTrue result ↔ IsQuietOf self.now.setting self.now.journal object }
+    {
+        self.situation.is_quiet_of(&self.setting, object)
     }
 
     /// An entry other than a post that breaks no rule after the journal, or none where there is

@@ -50,7 +50,7 @@ impl System {
     ghost use Rattle.pssm_semantics.specs.declared.setting.Class.{Class};
     ghost use Rattle.pssm_object.specs.Following.{IsMove};
     ghost use Rattle.pssm_semantics.specs.Forms.{IsRunEntry};
-    ghost use Rattle.pssm_system.specs.Tasks.{IsReadyOf, AreReady, AreReadyFor, own_tasks, HasNoMove, HasNoMoveOf};
+    ghost use Rattle.pssm_system.specs.Tasks.{IsReadyOf, AreReady, AreReadyFor, own_tasks, HasNoMove, HasNoMoveOf, IsQuietOf};
     ghost use Rattle.pssm_system.specs.Works.{HasMade};
 
     /// A system with no entry yet.
@@ -148,6 +148,15 @@ impl System {
         ensures { IsTrue result ↔ IsQuiet self.now.setting self.now.journal }
     {
         self.follower.quiet()
+    }
+
+    /// Whether no entry of the object but a post may follow (UML 2.5.1, 14.2.3.9, run to completion). It takes no
+    /// memory.
+    pub fn quiet_of(&self, object: ObjectId) -> bool
+        requires { object.0 < length self.now.setting.objects }
+        ensures { IsTrue result ↔ IsQuietOf self.now.setting self.now.journal object }
+    {
+        self.follower.quiet_of(object)
     }
 
     /// An entry other than a post that breaks no rule after the journal, or none where there is

@@ -5,6 +5,7 @@ ghost use Rattle.pssm_book.specs.Claiming.{MayRun};
 use crate::seat::Seat;
 use pssm_book::{Book, Claimed};
 use pssm_semantics::{Entry, ObjectId, Task, Worked};
+use pssm_system::System;
 use std::alloc::AllocError as NoMemory;
 use std::hint::spin_loop;
 use std::sync::ledger::Ledger;
@@ -155,7 +156,7 @@ fn opens_more<L: Ledger>(book: &Book<L>) -> bool {
     match system.entries().last() {
         Some(Entry::Start { .. } | Entry::Opened { .. } | Entry::Pick { .. }) => true,
         Some(Entry::Take { object, .. } | Entry::Done { object, .. }) => {
-            system.task_count_of(*object) > 1
+            has_several(system, *object)
         }
         _ => false,
     }
@@ -164,5 +165,10 @@ fn opens_more<L: Ledger>(book: &Book<L>) -> bool {
 // Whether what was run for a task may have made more ready than one worker goes on with: several tasks of its object,
 // or something that another object may take.
 fn makes_more<L: Ledger>(book: &Book<L>, worked: &Worked) -> bool {
-    !worked.outcome().outs.as_slice().is_empty() || book.system().task_count_of(worked.own()) > 1
+    !worked.outcome().outs.as_slice().is_empty() || has_several(book.system(), worked.own())
+}
+
+// Whether more than one task of an object is ready.
+fn has_several(system: &System, object: ObjectId) -> bool {
+    system.find_task_of(object, 1).is_some()
 }
