@@ -84,7 +84,6 @@ impl Desk {
     }
 
     // The same of one object. The word says whether a task or a move is looked for first.
-    #[tactic(auto, using(crate::proofs::DeskLaws::quiet_nothing))]
     fn next_of(&self, object: ObjectId, word: u64) -> Result<Option<Next>, NoMemory>
         requires order { IsInOrder self.now }
         requires there { object.0 < length self.now.system.setting.objects }

@@ -44,7 +44,7 @@ module _ (calls : List Call) (place k : ℕ) (lt : k < length calls) (before : r
   next_there d ready from =
       let here = ready_split calls k d lt ready in
       let long = ap (λ (l : List Call). length l) here
-          ∙ length-append (filter stands_ready (take k calls)) (get_or calls k d ∷ filter stands_ready (drop (k + 1) calls)) in
+      ∙ length-append (filter stands_ready (take k calls)) (get_or calls k d ∷ filter stands_ready (drop (k + 1) calls)) in
       let more = length-filter_more stands_ready calls k d lt ∙ ap (λ (b : Bool). length (filter stands_ready (take k calls)) + cond b 1 0) ready in
       record {
         item = item_there calls k (ready_before calls place) d lt ready (sym before);

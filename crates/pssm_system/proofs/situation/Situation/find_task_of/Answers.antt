@@ -14,7 +14,7 @@ returns-then-not-has-clause-task c =
 pub returns-then-not-has-clause-few : goal.returns-then-not-has-clause-few
 returns-then-not-has-clause-few c =
     let none = ap (λ (ts : List Task). length ts)
-        (own_none c.requires.well_formed c.requires.stands.1.objects c.args.own (λ lt. false≢true (sym c.if-not-has.true ∙ c.has.ensures.1 lt))) in
+    (own_none c.requires.well_formed c.requires.stands.1.objects c.args.own (λ lt. false≢true (sym c.if-not-has.true ∙ c.has.ensures.1 lt))) in
     omega (arith, none)
 
 pub find_task-requires : goal.find_task-requires
