@@ -1,12 +1,14 @@
 -- What a leg orders, where it is asked once whether it calls the first of two items.
-use Rattle.std.proofs.Common.{◌⊎◌, ◌↔◌, ◌+◌, ℕ, Bool, inl, inr}
+use Rattle.std.proofs.Common.{◌⊎◌, ◌↔◌, ◌+◌, ℕ, Bool, inl, inr, ⊎_elim}
+use Rattle.pssm_model.specs.declared.ids.TransId.{TransId}
 use Rattle.pssm_model.specs.declared.elements.DraftMachine.{DraftMachine}
 use Rattle.pssm_model.specs.declared.steps.Item.{Item}
 use Rattle.pssm_model.specs.declared.steps.Item.TheVariants as items
 use Rattle.pssm_model.specs.declared.steps.Mode.TheVariants.{Plain, Shallow, Deep}
 use Rattle.pssm_legs.specs.declared.legs.Leg.{Leg}
 use Rattle.pssm_legs.specs.declared.legs.Legs.{Legs}
-use Rattle.pssm_legs.specs.inner.Told.{IsCalledAsTold, IsCalledLater, IsPathPair, ComesFirst, ComesBeforeLater, ComesBehind, IsOrderedWithin, IsOrderedOver, IsOrderedAsTold, HasFurther}
+use Rattle.pssm_legs.specs.inner.Told.{IsCalledAsTold, IsCalledLater, HasTransition, MayOrder, IsPathPair, ComesFirst, ComesBeforeLater, ComesBehind, IsOrderedWithin, IsOrderedOver, IsOrderedAsTold, HasFurther}
+use Rattle.pssm_legs.proofs.Places.{at_contains}
 
 module _ (m : DraftMachine) (legs : Legs) (i : ℕ) (a : Leg) (fires : Bool) (x y : Item) where
   -- a leg that calls the first item and has the second come behind it orders them so
@@ -52,3 +54,21 @@ module _ (m : DraftMachine) (legs : Legs) (fires : Bool) (x y : Item) where
 
   pub further_starts : HasFurther legs (λ i a. IsOrderedAsTold m legs i a fires x y) → ComesBeforeLater x
   further_starts h = told_starts (h.0 + 1) h.1 h.3
+
+-- a leg that orders an effect before something has its transition
+effect_in_pair : (a : Leg) (t : TransId) (y : Item) → IsPathPair a (items.Effect t) y → HasTransition a t
+effect_in_pair a t (items.Effect u) h =
+    ⊎_elim (λ first. inl first.0) (λ both. inr (at_contains a.further.items both.0 t both.3)) h.1
+effect_in_pair a t (items.Exit s) h = absurd h
+effect_in_pair a t (items.Enter s) h = absurd h
+effect_in_pair a t (items.Opened r mode) h = absurd h
+effect_in_pair a t (items.Pick c) h = absurd h
+
+pub effect_is_of_leg : (m : DraftMachine) (legs : Legs) (i : ℕ) (a : Leg) (fires : Bool) (x y : Item) → IsOrderedAsTold m legs i a fires x y → MayOrder a x
+effect_is_of_leg m legs i a fires (items.Effect t) y (inl (inl pair)) = effect_in_pair a t y pair
+effect_is_of_leg m legs i a fires (items.Effect t) y (inl (inr (order, calls, both))) = calls
+effect_is_of_leg m legs i a fires (items.Effect t) y (inr (before, calls, later)) = calls
+effect_is_of_leg m legs i a fires (items.Exit s) y h = tt
+effect_is_of_leg m legs i a fires (items.Enter s) y h = tt
+effect_is_of_leg m legs i a fires (items.Opened r mode) y h = tt
+effect_is_of_leg m legs i a fires (items.Pick c) y h = tt
