@@ -8,8 +8,8 @@ use Rattle.pssm_model.specs.declared.steps.Item.TheVariants as items
 use Rattle.pssm_legs.specs.declared.legs.Leg.{Leg}
 use Rattle.pssm_legs.specs.declared.legs.Legs.{Legs}
 use Rattle.pssm_legs.specs.LegsOf.{leg_list, IsAt, StandsLater, AreLegsIn}
-use Rattle.pssm_legs.specs.inner.Told.{HasBefore, IsCalledAsTold, IsCalledFrom, IsOrderedOver, IsOrderedAsTold, IsPathPair, ComesBeforeLater, StartsAhead, HasFurther}
-use Rattle.pssm_legs.proofs.LaterPlaces.{first_or_more, later_is_further}
+use Rattle.pssm_legs.specs.inner.Told.{HasBefore, IsCalledAsTold, IsCalledLater, IsCalledFrom, IsOrderedOver, IsOrderedAsTold, IsPathPair, ComesBeforeLater, StartsAhead, HasFurther}
+use Rattle.pssm_legs.proofs.LaterPlaces.{of_more, first_or_more, later_is_further, later_lower}
 use Rattle.pssm_legs.proofs.Places.{contains_at}
 
 -- a leg that has one transition before another has several
@@ -21,6 +21,13 @@ none_before a t u h =
     let lt = slice_get_within a.further.items at.0 u at.1 in omega (arith, lt))
     (λ both. let lt = slice_get_within a.further.items both.0 t both.3 in omega (arith, lt))
     h
+
+-- a leg that stands later than a place has a higher one
+pub room_behind : (m : DraftMachine) (legs : Legs) → AreLegsIn m legs → (i : ℕ) (fires : Bool) (x : Item) → IsCalledLater m legs i fires x
+    → i < length legs.more.items
+room_behind m legs inside i fires x h =
+    let less = later_lower legs inside.before i (h.0 + 1) h.3.0 in
+    let within = slice_get_within legs.more.items h.0 h.1 (of_more legs h.0 h.1 h.2) in omega (arith, less, within)
 
 -- an exit or entry comes before all that later legs call, and stands in no path
 starts_before : (x : Item) → StartsAhead x → ComesBeforeLater x

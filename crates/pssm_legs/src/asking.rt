@@ -1,7 +1,8 @@
 //! What the legs of a route call.
 ghost use Rattle.std.specs.Prelude.{◌≡◌, ◌⊎◌, ◌↔◌, ◌<◌, ℕ, IsTrue, Some, length};
 ghost use Rattle.pssm_model.specs.declared.steps.Route.{Route};
-ghost use Rattle.pssm_model.specs.Forest.{LiesInState};
+ghost use Rattle.pssm_model.specs.declared.elements.Owner.TheVariants.{Region, State};
+ghost use Rattle.pssm_model.specs.Forest.{owner_of, IsHome, LiesInState};
 ghost use Rattle.pssm_model.specs.Legs.{IsEnteredFor, IsEndState};
 ghost use Rattle.pssm_model.specs.WellFormed.{KeepsModelRules};
 ghost use Rattle.pssm_legs.specs.declared.legs.Leg.{Leg};
@@ -120,6 +121,38 @@ pub fn lies_in(machine: &Machine, v: VertexId, s: VertexId) -> bool
     !machine.regions_of(s).is_empty() && machine.lies_in_state(v, s)
 }
 
+// Whether the region owns the vertex.
+#[inline(always)]
+fn is_owned_by(machine: &Machine, v: VertexId, r: RegionId) -> bool
+    requires { v.0 < length machine.now.vertices }
+    ensures { IsTrue result ↔ (owner_of machine.now (State v) ≡ Some (Region r)) }
+{
+    machine.vertex(v).owner == Owner::Region(r)
+}
+
+// Whether a State owns the vertex, and the region this State.
+#[inline(always)]
+fn owns_owner(machine: &Machine, v: VertexId, r: RegionId) -> bool
+    requires { v.0 < length machine.now.vertices }
+    ensures { IsTrue result → IsHome machine.now v r }
+{
+    let _shaped = machine.regions();
+    match machine.vertex(v).owner {
+        Owner::State(s) => is_owned_by(machine, s, r),
+        Owner::Top | Owner::Region(_) => false,
+    }
+}
+
+// Whether the region is the innermost one in which the vertex lies: it owns the vertex, or the State that does.
+#[inline(always)]
+#[tactic(auto, using(pssm_model::proofs::Nesting::home_of_vertex))]
+fn is_home(machine: &Machine, v: VertexId, r: RegionId) -> bool
+    requires { v.0 < length machine.now.vertices }
+    ensures { IsTrue result → IsHome machine.now v r }
+{
+    is_owned_by(machine, v, r) || owns_owner(machine, v, r)
+}
+
 // Whether the area is the innermost region in which the vertex lies.
 #[inline(always)]
 fn is_home_area(machine: &Machine, area: Area, v: VertexId) -> bool
@@ -127,7 +160,7 @@ fn is_home_area(machine: &Machine, area: Area, v: VertexId) -> bool
     ensures { IsTrue result → IsHomeArea machine.now area v }
 {
     match area {
-        Area::Within(r) => machine.home(v) == r,
+        Area::Within(r) => is_home(machine, v, r),
         Area::Nowhere | Area::Inside(_) => false,
     }
 }

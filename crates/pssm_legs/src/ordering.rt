@@ -6,7 +6,7 @@ ghost use Rattle.pssm_model.specs.WellFormed.{KeepsModelRules};
 ghost use Rattle.pssm_legs.specs.Calls.{IsItemIn, IsOrderedBy};
 ghost use Rattle.pssm_legs.specs.LegsOf.{IsAt, IsLegIn, AreLegsIn, AreLegsOf};
 ghost use Rattle.pssm_legs.specs.inner.Told.{HasBefore, IsCalledAsTold, IsCalledLater, IsCalledBefore, ComesFirst, ComesBeforeLater, IsPathPair, HasLeg, HasFurther};
-ghost use Rattle.pssm_legs.specs.inner.Told.{ComesBehind, IsOrderedWithin, IsOrderedOver, IsOrderedAsTold, IsCoveredAhead, IsCalledAhead, IsCalledFrom, IsCoveredExit, IsInnerExit, MayOrder, StartsAhead};
+ghost use Rattle.pssm_legs.specs.inner.Told.{ComesBehind, IsOrderedWithin, IsOrderedOver, IsOrderedAsTold, IsCoveredAhead, IsCalledAhead, IsCalledFrom, IsCoveredExit, IsInnerExit, StartsAhead};
 
 use crate::areas::covers;
 use crate::asking::{has_transition, is_called, is_called_later, is_covered_before, lies_in};
@@ -123,6 +123,27 @@ fn is_covered_exit(machine: &Machine, leg: &Leg, item: Item) -> bool
     }
 }
 
+// Whether a leg that stands later than the place calls the item; where no leg has a higher place, none does.
+#[inline(always)]
+fn is_called_after(
+    machine: &Machine,
+    legs: &Legs,
+    place: usize,
+    fires: bool,
+    item: Item,
+) -> bool
+    requires legs { AreLegsIn machine.now legs.now }
+    requires item { IsItemIn machine.now item }
+    ensures { IsTrue result ↔ IsCalledLater machine.now legs.now place fires item }
+{
+    let last = legs.more.len() <= place;
+    if last {
+        false
+    } else {
+        is_called_later(machine, legs, place, fires, item)
+    }
+}
+
 // Whether a leg that stands later than that with the place calls the item.
 #[inline(always)]
 #[tactic(auto, using(crate::proofs::CoveringLegs::covered_exit_not_later))]
@@ -140,7 +161,7 @@ fn is_called_behind(
     requires item { IsItemIn machine.now item }
     ensures { IsTrue result ↔ IsCalledLater machine.now legs.now place fires item }
 {
-    !is_covered_exit(machine, leg, item) && is_called_later(machine, legs, place, fires, item)
+    !is_covered_exit(machine, leg, item) && is_called_after(machine, legs, place, fires, item)
 }
 
 // Whether the leg calls the first item, which comes before all that later legs call, and a later one the second.
@@ -211,9 +232,10 @@ fn comes_behind(
         || (comes_before_later(first) && is_called_behind(machine, legs, leg, place, fires, second))
 }
 
-// Whether the leg with the place calls the first item, and the second comes behind it.
+// Whether the second item comes behind the first where the leg with the place calls the first: as effects of the leg do,
+// or otherwise.
 #[inline(always)]
-fn calls_before(
+fn follows(
     machine: &Machine,
     legs: &Legs,
     leg: &Leg,
@@ -225,52 +247,17 @@ fn calls_before(
     requires legs { AreLegsIn machine.now legs.now }
     requires place { IsAt legs.now place leg.now }
     requires leg { IsLegIn machine.now leg.now }
-    requires first { IsItemIn machine.now first }
     requires second { IsItemIn machine.now second }
-    ensures { IsTrue result ↔ (IsCalledAsTold machine.now legs.now place leg.now fires first
-        × ComesBehind machine.now legs.now place leg.now fires first second) }
-{
-    is_called(machine, legs, leg, place, fires, first)
-        && comes_behind(machine, legs, leg, place, fires, first, second)
-}
-
-// Whether the leg with the place orders the items so, by what is told of it.
-#[inline(always)]
-#[tactic(auto, using(crate::proofs::OrdersTold::ordered_so))]
-fn are_ordered_at(
-    machine: &Machine,
-    legs: &Legs,
-    leg: &Leg,
-    place: usize,
-    fires: bool,
-    first: Item,
-    second: Item,
-) -> bool
-    requires legs { AreLegsIn machine.now legs.now }
-    requires place { IsAt legs.now place leg.now }
-    requires leg { IsLegIn machine.now leg.now }
-    requires first { IsItemIn machine.now first }
-    requires second { IsItemIn machine.now second }
-    ensures { IsTrue result ↔ IsOrderedAsTold machine.now legs.now place leg.now fires first second }
+    ensures { IsTrue result ↔ (IsPathPair leg.now first second
+        ⊎ ComesBehind machine.now legs.now place leg.now fires first second) }
 {
     are_path_pair(leg, first, second)
-        || calls_before(machine, legs, leg, place, fires, first, second)
+        || comes_behind(machine, legs, leg, place, fires, first, second)
 }
 
-// Whether the first item is no effect, or that of a transition of the leg.
+// Whether the leg with the place orders the items so, by what is told of it: it is asked first whether it calls the first.
 #[inline(always)]
-fn may_order(leg: &Leg, first: Item) -> bool
-    ensures { IsTrue result ↔ MayOrder leg.now first }
-{
-    match first {
-        Item::Effect(t) => has_transition(leg, t),
-        Item::Exit(_) | Item::Enter(_) | Item::Opened(_, _) | Item::Pick(_) => true,
-    }
-}
-
-// The same, where it is asked first whether the leg has the transition if the first item is an effect.
-#[inline(always)]
-#[tactic(auto, using(crate::proofs::OrdersTold::effect_is_of_leg))]
+#[tactic(auto, using(crate::proofs::OrdersTold::ordered_so))]
 fn are_ordered(
     machine: &Machine,
     legs: &Legs,
@@ -287,7 +274,8 @@ fn are_ordered(
     requires second { IsItemIn machine.now second }
     ensures { IsTrue result ↔ IsOrderedAsTold machine.now legs.now place leg.now fires first second }
 {
-    may_order(leg, first) && are_ordered_at(machine, legs, leg, place, fires, first, second)
+    is_called(machine, legs, leg, place, fires, first)
+        && follows(machine, legs, leg, place, fires, first, second)
 }
 
 // Whether some leg but the first orders the items so, by what is told of it.

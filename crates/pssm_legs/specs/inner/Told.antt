@@ -205,11 +205,6 @@ IsCoveredAhead m legs j b s y = (ComesFirst (Exit s) y × LiesInScope m s (scope
 abbrev pub IsCalledFrom : DraftMachine → Legs → ℕ → Leg → Bool → Item → Item → Type 0
 IsCalledFrom m legs j b fires x y = IsCalledAsTold m legs j b fires y × IsCalledAhead m legs j b fires x y
 
--- The item is no effect, or that of a transition of the leg.
-abbrev pub MayOrder : Leg → Item → Type 0
-MayOrder a (Effect t) = HasTransition a t
-MayOrder a _ = Unit {0}
-
 -- an exit or entry
 abbrev pub StartsAhead : Item → Type 0
 StartsAhead (Exit s) = Unit {0}
