@@ -18,3 +18,6 @@ pub mod NextLegs
 pub mod LoneRoutes
 pub mod RegionsAround
 pub mod SpanLaws
+pub mod CoveringLegs
+pub mod Backwards
+pub mod EnteredAt

@@ -1,17 +1,17 @@
-//! What the legs of a route call, and in which order.
+//! What the legs of a route call.
 ghost use Rattle.std.specs.Prelude.{◌≡◌, ◌⊎◌, ◌↔◌, ◌<◌, ℕ, IsTrue, Some, length};
 ghost use Rattle.pssm_model.specs.declared.steps.Route.{Route};
-ghost use Rattle.pssm_model.specs.Forest.{LiesInState};
+ghost use Rattle.pssm_model.specs.declared.elements.Owner.TheVariants.{Region, State};
+ghost use Rattle.pssm_model.specs.Forest.{owner_of, IsHome, LiesInState};
 ghost use Rattle.pssm_model.specs.Legs.{IsEnteredFor, IsEndState};
 ghost use Rattle.pssm_model.specs.WellFormed.{KeepsModelRules};
 ghost use Rattle.pssm_legs.specs.declared.legs.Leg.{Leg};
-ghost use Rattle.pssm_legs.specs.Calls.{IsItemIn, IsCalledBy, IsOpenedFor, IsOrderedBy};
+ghost use Rattle.pssm_legs.specs.Calls.{IsItemIn, IsCalledBy, IsOpenedFor};
 ghost use Rattle.pssm_legs.specs.LegsOf.{StandsLater, IsAt, IsLegIn, AreLegsIn, AreLegsOf, leg_list};
-ghost use Rattle.pssm_legs.specs.inner.Told.{IsCoveredBefore, IsExited, IsPassed, IsEnteredAt, IsEntered, EndsInside};
-ghost use Rattle.pssm_legs.specs.inner.Told.{HasTransition, HasBefore, Meets, IsAimIn, EndsWhere, HasFurtherTarget, HasLast};
+ghost use Rattle.pssm_legs.specs.inner.Told.{IsCoveredBefore, IsExited, IsHomeArea, IsPassed, IsEnteredAt, IsEntered, EndsInside};
+ghost use Rattle.pssm_legs.specs.inner.Told.{HasTransition, HasTarget, Meets, IsAimIn, EndsWhere, HasFurtherTarget, HasLast};
 ghost use Rattle.pssm_legs.specs.inner.Told.{IsAimedLater, IsAimedFrom, IsLeftToOpen, IsInOwner, IsBeside, IsHistoryEnd, IsChoiceEnd};
-ghost use Rattle.pssm_legs.specs.inner.Told.{IsCalledAsTold, IsCalledLater, ComesFirst, ComesBeforeLater, IsPathPair, HasLeg, HasFurther};
-ghost use Rattle.pssm_legs.specs.inner.Told.{ComesBehind, IsOrderedWithin, IsOrderedOver, IsOrderedAsTold};
+ghost use Rattle.pssm_legs.specs.inner.Told.{IsCalledAsTold, IsCalledLater, HasLeg, HasFurther};
 
 use crate::areas::{Area, covers};
 use crate::legs::{Leg, Legs, leg_at};
@@ -24,20 +24,12 @@ pub enum Aim {
     EndingIn(RegionId),
 }
 
-// Whether the leg has the transition.
+/// Whether the leg has the transition.
 #[inline(always)]
-fn has_transition(leg: &Leg, t: TransId) -> bool
+pub fn has_transition(leg: &Leg, t: TransId) -> bool
     ensures { IsTrue result ↔ HasTransition leg.now t }
 {
     leg.named == t || (leg.further.len() > 0 && leg.further.contains(t))
-}
-
-// Whether the leg has the first of two transitions before the second.
-#[inline(never)]
-fn has_before(leg: &Leg, t: TransId, u: TransId) -> bool
-    ensures { IsTrue result ↔ HasBefore leg.now t u }
-{
-    (leg.named == t && leg.further.contains(u)) || leg.further.puts_before(t, u)
 }
 
 // Whether the leg with the place stands later than that with the other place.
@@ -57,8 +49,14 @@ fn is_later(legs: &Legs, leg: &Leg, place: usize, other: usize) -> bool
     false
 }
 
-// Whether a leg behind which that with the place stands exits and enters around the vertex.
-fn is_covered_before(machine: &Machine, legs: &Legs, leg: &Leg, place: usize, s: VertexId) -> bool
+/// Whether a leg behind which that with the place stands exits and enters around the vertex.
+pub fn is_covered_before(
+    machine: &Machine,
+    legs: &Legs,
+    leg: &Leg,
+    place: usize,
+    s: VertexId,
+) -> bool
     requires legs { AreLegsIn machine.now legs.now }
     requires place { IsAt legs.now place leg.now }
     requires state { s.0 < length machine.now.vertices }
@@ -113,9 +111,9 @@ fn is_end_state(machine: &Machine, v: VertexId, s: VertexId) -> bool
     }
 }
 
-// Whether a vertex lies in a State; in one without regions none does.
+/// Whether a vertex lies in a State; in one without regions none does.
 #[inline(always)]
-fn lies_in(machine: &Machine, v: VertexId, s: VertexId) -> bool
+pub fn lies_in(machine: &Machine, v: VertexId, s: VertexId) -> bool
     requires vertex { v.0 < length machine.now.vertices }
     requires state { s.0 < length machine.now.vertices }
     ensures { IsTrue result ↔ LiesInState machine.now v s }
@@ -123,7 +121,63 @@ fn lies_in(machine: &Machine, v: VertexId, s: VertexId) -> bool
     !machine.regions_of(s).is_empty() && machine.lies_in_state(v, s)
 }
 
+// Whether the region owns the vertex.
+#[inline(always)]
+fn is_owned_by(machine: &Machine, v: VertexId, r: RegionId) -> bool
+    requires { v.0 < length machine.now.vertices }
+    ensures { IsTrue result ↔ (owner_of machine.now (State v) ≡ Some (Region r)) }
+{
+    machine.vertex(v).owner == Owner::Region(r)
+}
+
+// Whether a State owns the vertex, and the region this State.
+#[inline(always)]
+fn owns_owner(machine: &Machine, v: VertexId, r: RegionId) -> bool
+    requires { v.0 < length machine.now.vertices }
+    ensures { IsTrue result → IsHome machine.now v r }
+{
+    let _shaped = machine.regions();
+    match machine.vertex(v).owner {
+        Owner::State(s) => is_owned_by(machine, s, r),
+        Owner::Top | Owner::Region(_) => false,
+    }
+}
+
+// Whether the region is the innermost one in which the vertex lies: it owns the vertex, or the State that does.
+#[inline(always)]
+#[tactic(auto, using(pssm_model::proofs::Nesting::home_of_vertex))]
+fn is_home(machine: &Machine, v: VertexId, r: RegionId) -> bool
+    requires { v.0 < length machine.now.vertices }
+    ensures { IsTrue result → IsHome machine.now v r }
+{
+    is_owned_by(machine, v, r) || owns_owner(machine, v, r)
+}
+
+// Whether the area is the innermost region in which the vertex lies.
+#[inline(always)]
+fn is_home_area(machine: &Machine, area: Area, v: VertexId) -> bool
+    requires vertex { v.0 < length machine.now.vertices }
+    ensures { IsTrue result → IsHomeArea machine.now area v }
+{
+    match area {
+        Area::Within(r) => is_home(machine, v, r),
+        Area::Nowhere | Area::Inside(_) => false,
+    }
+}
+
 // Whether the State lies where the leg exits and enters, and the vertex in it.
+#[inline(always)]
+fn lies_around(machine: &Machine, leg: &Leg, v: VertexId, s: VertexId) -> bool
+    requires leg { IsLegIn machine.now leg.now }
+    requires last { v.0 < length machine.now.vertices }
+    requires state { s.0 < length machine.now.vertices }
+    ensures { IsTrue result ↔ IsPassed machine.now leg.now v s }
+{
+    lies_in(machine, v, s) && covers(machine, leg.area, s)
+}
+
+// The same, where it is asked first whether the leg exits and enters in the innermost region in which the vertex lies:
+// then no State is passed.
 #[inline(always)]
 fn is_passed(machine: &Machine, leg: &Leg, v: VertexId, s: VertexId) -> bool
     requires leg { IsLegIn machine.now leg.now }
@@ -131,7 +185,12 @@ fn is_passed(machine: &Machine, leg: &Leg, v: VertexId, s: VertexId) -> bool
     requires state { s.0 < length machine.now.vertices }
     ensures { IsTrue result ↔ IsPassed machine.now leg.now v s }
 {
-    lies_in(machine, v, s) && covers(machine, leg.area, s)
+    let _shaped = machine.regions();
+    if is_home_area(machine, leg.area, v) {
+        false
+    } else {
+        lies_around(machine, leg, v, s)
+    }
 }
 
 // Whether the State is passed, or stands at the end.
@@ -201,7 +260,42 @@ fn any_meets(machine: &Machine, leg: &Leg, aim: Aim) -> bool
     ensures { IsTrue result ↔ (EndsWhere machine.now (Meets machine.now leg.now aim) leg.now.named
         ⊎ HasFurtherTarget machine.now leg.now (Meets machine.now leg.now aim)) }
 {
-    first_meets(machine, leg, aim) || further_meets(machine, leg, aim)
+    meets_at_once(machine, leg, aim)
+        || first_meets(machine, leg, aim)
+        || further_meets(machine, leg, aim)
+}
+
+// Whether a transition of the leg ends on the vertex. It is asked of those that enter the vertex, where they are fewer.
+#[inline(never)]
+fn has_target(machine: &Machine, leg: &Leg, v: VertexId) -> bool
+    requires vertex { v.0 < length machine.now.vertices }
+    ensures { IsTrue result → HasTarget machine.now leg.now v }
+{
+    let incoming = machine.incoming(v);
+    if incoming.len() > leg.further.len() {
+        return false;
+    }
+    for t in incoming {
+        if has_transition(leg, *t) {
+            return true;
+        }
+    }
+    false
+}
+
+// Whether what is aimed at is entered as a last vertex of the leg itself.
+#[inline(always)]
+#[tactic(auto, using(crate::proofs::EnteredAt::target_meets))]
+fn meets_at_once(machine: &Machine, leg: &Leg, aim: Aim) -> bool
+    requires leg { IsLegIn machine.now leg.now }
+    requires aim { IsAimIn machine.now aim }
+    ensures { IsTrue result → (EndsWhere machine.now (Meets machine.now leg.now aim) leg.now.named
+        ⊎ HasFurtherTarget machine.now leg.now (Meets machine.now leg.now aim)) }
+{
+    match aim {
+        Aim::Entering(s) => has_target(machine, leg, s) && meets(machine, leg, s, aim),
+        Aim::EndingIn(_) => false,
+    }
 }
 
 // Whether a last vertex of the leg meets the aim.
@@ -340,9 +434,9 @@ fn is_choice_end(machine: &Machine, leg: &Leg, c: VertexId) -> bool
     leg.in_order && c == leg.last && machine.vertex(c).kind == VertexKind::Choice
 }
 
-// Whether the leg with the place calls the item, by what is told of it.
+/// Whether the leg with the place calls the item, by what is told of it.
 #[inline(always)]
-fn is_called(
+pub fn is_called(
     machine: &Machine,
     legs: &Legs,
     leg: &Leg,
@@ -423,9 +517,15 @@ fn is_later_calling(
     is_called(machine, legs, leg, other, fires, item) && is_later(legs, leg, other, place)
 }
 
-// Whether a leg that stands later than the place calls the item, by what is told of it. Such a leg has a higher place.
+/// Whether a leg that stands later than the place calls the item, by what is told of it. Such a leg has a higher place.
 #[inline(never)]
-fn is_called_later(machine: &Machine, legs: &Legs, place: usize, fires: bool, item: Item) -> bool
+pub fn is_called_later(
+    machine: &Machine,
+    legs: &Legs,
+    place: usize,
+    fires: bool,
+    item: Item,
+) -> bool
     requires legs { AreLegsIn machine.now legs.now }
     requires item { IsItemIn machine.now item }
     ensures { IsTrue result ↔ IsCalledLater machine.now legs.now place fires item }
@@ -437,277 +537,6 @@ fn is_called_later(machine: &Machine, legs: &Legs, place: usize, fires: bool, it
         }
     }
     false
-}
-
-// Whether items of these kinds come in this order where one leg calls both.
-#[inline(always)]
-fn comes_first(first: Item, second: Item) -> bool
-    ensures { IsTrue result ↔ ComesFirst first second }
-{
-    match (first, second) {
-        (Item::Exit(_), Item::Effect(_)) => true,
-        (Item::Effect(_), Item::Enter(_)) => true,
-        (Item::Effect(_), Item::Opened(_, _)) => true,
-        (Item::Effect(_), Item::Pick(_)) => true,
-        (Item::Enter(_), Item::Opened(_, Mode::Shallow)) => true,
-        (Item::Enter(_), Item::Opened(_, Mode::Deep)) => true,
-        (Item::Enter(_), Item::Pick(_)) => true,
-        _ => false,
-    }
-}
-
-// Whether the item is an exit, effect or entry, which comes before all that later legs call.
-fn comes_before_later(item: Item) -> bool
-    ensures { IsTrue result ↔ ComesBeforeLater item }
-{
-    matches!(item, Item::Exit(_) | Item::Effect(_) | Item::Enter(_))
-}
-
-// Whether the items are effects, the first of which stands in the leg before the second.
-#[inline(always)]
-fn are_path_pair(leg: &Leg, first: Item, second: Item) -> bool
-    ensures { IsTrue result ↔ IsPathPair leg.now first second }
-{
-    match (first, second) {
-        (Item::Effect(t), Item::Effect(u)) => leg.in_order && has_before(leg, t, u),
-        _ => false,
-    }
-}
-
-// Whether the leg calls both items, by what is told of it.
-#[inline(always)]
-fn are_both_called(
-    machine: &Machine,
-    legs: &Legs,
-    leg: &Leg,
-    place: usize,
-    fires: bool,
-    first: Item,
-    second: Item,
-) -> bool
-    requires legs { AreLegsIn machine.now legs.now }
-    requires place { IsAt legs.now place leg.now }
-    requires leg { IsLegIn machine.now leg.now }
-    requires first { IsItemIn machine.now first }
-    requires second { IsItemIn machine.now second }
-    ensures { IsTrue result ↔ (IsCalledAsTold machine.now legs.now place leg.now fires first
-        × IsCalledAsTold machine.now legs.now place leg.now fires second) }
-{
-    is_called(machine, legs, leg, place, fires, first)
-        && is_called(machine, legs, leg, place, fires, second)
-}
-
-// Whether the items come in this order by their kinds, and the leg calls both.
-#[inline(always)]
-fn are_called_in_order(
-    machine: &Machine,
-    legs: &Legs,
-    leg: &Leg,
-    place: usize,
-    fires: bool,
-    first: Item,
-    second: Item,
-) -> bool
-    requires legs { AreLegsIn machine.now legs.now }
-    requires place { IsAt legs.now place leg.now }
-    requires leg { IsLegIn machine.now leg.now }
-    requires first { IsItemIn machine.now first }
-    requires second { IsItemIn machine.now second }
-    ensures { IsTrue result ↔ (ComesFirst first second × IsCalledAsTold machine.now legs.now place leg.now fires first
-        × IsCalledAsTold machine.now legs.now place leg.now fires second) }
-{
-    comes_first(first, second) && are_both_called(machine, legs, leg, place, fires, first, second)
-}
-
-// Whether the leg calls the first item, which comes before all that later legs call, and a later one the second.
-#[inline(never)]
-fn are_called_over_legs(
-    machine: &Machine,
-    legs: &Legs,
-    leg: &Leg,
-    place: usize,
-    fires: bool,
-    first: Item,
-    second: Item,
-) -> bool
-    requires legs { AreLegsIn machine.now legs.now }
-    requires place { IsAt legs.now place leg.now }
-    requires leg { IsLegIn machine.now leg.now }
-    requires first { IsItemIn machine.now first }
-    requires second { IsItemIn machine.now second }
-    ensures { IsTrue result ↔ (ComesBeforeLater first × IsCalledAsTold machine.now legs.now place leg.now fires first
-        × IsCalledLater machine.now legs.now place fires second) }
-{
-    comes_before_later(first)
-        && is_called(machine, legs, leg, place, fires, first)
-        && is_called_later(machine, legs, place, fires, second)
-}
-
-// Whether the leg with the place orders the items so by itself, by what is told of it.
-#[inline(always)]
-fn are_ordered_within(
-    machine: &Machine,
-    legs: &Legs,
-    leg: &Leg,
-    place: usize,
-    fires: bool,
-    first: Item,
-    second: Item,
-) -> bool
-    requires legs { AreLegsIn machine.now legs.now }
-    requires place { IsAt legs.now place leg.now }
-    requires leg { IsLegIn machine.now leg.now }
-    requires first { IsItemIn machine.now first }
-    requires second { IsItemIn machine.now second }
-    ensures { IsTrue result ↔ IsOrderedWithin machine.now legs.now place leg.now fires first second }
-{
-    are_path_pair(leg, first, second)
-        || are_called_in_order(machine, legs, leg, place, fires, first, second)
-}
-
-// Whether the second item comes behind the first where the leg with the place calls the first: the leg calls the second
-// too, and they come in this order by their kinds, or a later leg calls it.
-#[inline(always)]
-fn comes_behind(
-    machine: &Machine,
-    legs: &Legs,
-    leg: &Leg,
-    place: usize,
-    fires: bool,
-    first: Item,
-    second: Item,
-) -> bool
-    requires legs { AreLegsIn machine.now legs.now }
-    requires place { IsAt legs.now place leg.now }
-    requires leg { IsLegIn machine.now leg.now }
-    requires second { IsItemIn machine.now second }
-    ensures { IsTrue result ↔ ComesBehind machine.now legs.now place leg.now fires first second }
-{
-    (comes_first(first, second) && is_called(machine, legs, leg, place, fires, second))
-        || (comes_before_later(first) && is_called_later(machine, legs, place, fires, second))
-}
-
-// Whether the leg with the place calls the first item, and the second comes behind it.
-#[inline(always)]
-fn calls_before(
-    machine: &Machine,
-    legs: &Legs,
-    leg: &Leg,
-    place: usize,
-    fires: bool,
-    first: Item,
-    second: Item,
-) -> bool
-    requires legs { AreLegsIn machine.now legs.now }
-    requires place { IsAt legs.now place leg.now }
-    requires leg { IsLegIn machine.now leg.now }
-    requires first { IsItemIn machine.now first }
-    requires second { IsItemIn machine.now second }
-    ensures { IsTrue result ↔ (IsCalledAsTold machine.now legs.now place leg.now fires first
-        × ComesBehind machine.now legs.now place leg.now fires first second) }
-{
-    is_called(machine, legs, leg, place, fires, first)
-        && comes_behind(machine, legs, leg, place, fires, first, second)
-}
-
-// Whether the leg with the place orders the items so, by what is told of it.
-#[tactic(auto, using(crate::proofs::OrdersTold::ordered_so))]
-fn are_ordered(
-    machine: &Machine,
-    legs: &Legs,
-    leg: &Leg,
-    place: usize,
-    fires: bool,
-    first: Item,
-    second: Item,
-) -> bool
-    requires legs { AreLegsIn machine.now legs.now }
-    requires place { IsAt legs.now place leg.now }
-    requires leg { IsLegIn machine.now leg.now }
-    requires first { IsItemIn machine.now first }
-    requires second { IsItemIn machine.now second }
-    ensures { IsTrue result ↔ IsOrderedAsTold machine.now legs.now place leg.now fires first second }
-{
-    are_path_pair(leg, first, second)
-        || calls_before(machine, legs, leg, place, fires, first, second)
-}
-
-// Whether some leg but the first orders the items so, by what is told of it.
-#[inline(never)]
-fn are_ordered_further(
-    machine: &Machine,
-    legs: &Legs,
-    fires: bool,
-    first: Item,
-    second: Item,
-) -> bool
-    requires legs { AreLegsIn machine.now legs.now }
-    requires first { IsItemIn machine.now first }
-    requires second { IsItemIn machine.now second }
-    ensures { IsTrue result ↔ HasFurther legs.now (λ i a. IsOrderedAsTold machine.now legs.now i a fires first second) }
-{
-    let more = legs.more.as_slice();
-    for k in 0..more.len() {
-        if are_ordered(machine, legs, &more[k], k + 1, fires, first, second) {
-            return true;
-        }
-    }
-    false
-}
-
-// Whether the first leg orders the items over another one, or one but the first orders them.
-#[inline(never)]
-fn are_ordered_over(machine: &Machine, legs: &Legs, fires: bool, first: Item, second: Item) -> bool
-    requires legs { AreLegsIn machine.now legs.now }
-    requires first { IsItemIn machine.now first }
-    requires second { IsItemIn machine.now second }
-    ensures { IsTrue result ↔ (IsOrderedOver machine.now legs.now 0 legs.now.first fires first second
-        ⊎ HasFurther legs.now (λ i a. IsOrderedAsTold machine.now legs.now i a fires first second)) }
-{
-    are_called_over_legs(machine, legs, &legs.first, 0, fires, first, second)
-        || are_ordered_further(machine, legs, fires, first, second)
-}
-
-// The same, where the kind of the first item is asked first: nothing comes behind an opening or a pick.
-#[inline(always)]
-#[tactic(auto, using(crate::proofs::OrdersTold::over_starts, crate::proofs::OrdersTold::further_starts))]
-fn may_be_ordered_over(
-    machine: &Machine,
-    legs: &Legs,
-    fires: bool,
-    first: Item,
-    second: Item,
-) -> bool
-    requires legs { AreLegsIn machine.now legs.now }
-    requires first { IsItemIn machine.now first }
-    requires second { IsItemIn machine.now second }
-    ensures { IsTrue result ↔ (IsOrderedOver machine.now legs.now 0 legs.now.first fires first second
-        ⊎ HasFurther legs.now (λ i a. IsOrderedAsTold machine.now legs.now i a fires first second)) }
-{
-    comes_before_later(first) && are_ordered_over(machine, legs, fires, first, second)
-}
-
-// Whether there are several legs, and the first orders the items over another one, or one but the first orders them.
-#[inline(always)]
-fn are_ordered_by_more(
-    machine: &Machine,
-    legs: &Legs,
-    fires: bool,
-    first: Item,
-    second: Item,
-) -> bool
-    requires legs { AreLegsIn machine.now legs.now }
-    requires first { IsItemIn machine.now first }
-    requires second { IsItemIn machine.now second }
-    ensures { IsTrue result ↔ (IsOrderedOver machine.now legs.now 0 legs.now.first fires first second
-        ⊎ HasFurther legs.now (λ i a. IsOrderedAsTold machine.now legs.now i a fires first second)) }
-{
-    let alone = legs.more.len() == 0;
-    if alone {
-        false
-    } else {
-        may_be_ordered_over(machine, legs, fires, first, second)
-    }
 }
 
 // Whether some leg but the first enters the State, and neither it nor a later one aims at the region.
@@ -747,24 +576,6 @@ fn is_left_by_some(machine: &Machine, legs: &Legs, s: VertexId, r: RegionId) -> 
     is_left_to_open(machine, legs, &legs.first, 0, s, r) || is_left_further(machine, legs, s, r)
 }
 
-// Whether some leg orders the items so, by what is told of it.
-#[inline(always)]
-fn are_ordered_by_some(
-    machine: &Machine,
-    legs: &Legs,
-    fires: bool,
-    first: Item,
-    second: Item,
-) -> bool
-    requires legs { AreLegsIn machine.now legs.now }
-    requires first { IsItemIn machine.now first }
-    requires second { IsItemIn machine.now second }
-    ensures { IsTrue result ↔ HasLeg legs.now (λ i a. IsOrderedAsTold machine.now legs.now i a fires first second) }
-{
-    are_ordered_within(machine, legs, &legs.first, 0, fires, first, second)
-        || are_ordered_by_more(machine, legs, fires, first, second)
-}
-
 /// Whether a leg of a route calls the item, itself or at its end. Exits are called only where the route fires, and here
 /// of all that lies where the leg exits, whether it is active or not (UML 2.5.1, 14.2.3.9).
 #[inline(always)]
@@ -789,19 +600,4 @@ pub fn opens_for(machine: &Machine, legs: &Legs, s: VertexId, r: RegionId) -> bo
 {
     let _shaped = machine.regions();
     is_left_by_some(machine, legs, s, r)
-}
-
-/// Whether a route puts the first of two items before the second, since one of its legs calls both, or a later leg the
-/// second (UML 2.5.1, 14.2.3.9, transition execution sequence).
-#[inline(always)]
-pub fn orders(machine: &Machine, legs: &Legs, fires: bool, first: Item, second: Item) -> bool
-    requires rules { KeepsModelRules machine.now }
-    requires legs { AreLegsIn machine.now legs.now }
-    requires first { IsItemIn machine.now first }
-    requires second { IsItemIn machine.now second }
-    ensures { (p : Route) → AreLegsOf machine.now p legs.now
-        → (IsTrue result ↔ IsOrderedBy machine.now fires p first second) }
-{
-    let _shaped = machine.regions();
-    are_ordered_by_some(machine, legs, fires, first, second)
 }

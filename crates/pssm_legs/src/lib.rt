@@ -9,9 +9,11 @@ mod areas;
 mod asking;
 mod further;
 mod legs;
+mod ordering;
 mod path;
 
 pub use areas::{Area, covers};
-pub use asking::{calls, opens_for, orders};
+pub use asking::{calls, opens_for};
 pub use further::Further;
 pub use legs::{Leg, Legs, legs_of, lone_legs, lone_start};
+pub use ordering::orders;

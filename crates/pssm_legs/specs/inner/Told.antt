@@ -10,9 +10,10 @@ use Rattle.pssm_model.specs.declared.elements.Owner.TheVariants.{Region, State}
 use Rattle.pssm_model.specs.declared.steps.Mode.TheVariants.{Plain, Shallow, Deep}
 use Rattle.pssm_model.specs.declared.steps.Item.{Item}
 use Rattle.pssm_model.specs.declared.steps.Item.TheVariants.{Exit, Effect, Enter, Opened, Pick}
-use Rattle.pssm_model.specs.Forest.{HasKind, owner_of, LiesInState, LiesInRegion}
+use Rattle.pssm_model.specs.Forest.{HasKind, owner_of, IsHome, LiesInState, LiesInRegion}
 use Rattle.pssm_model.specs.Legs.{Enters, IsEnteredFor, IsEndState, LiesInScope}
-use Rattle.pssm_legs.specs.declared.areas.Area.TheVariants.{Nowhere, Inside}
+use Rattle.pssm_legs.specs.declared.areas.Area.{Area}
+use Rattle.pssm_legs.specs.declared.areas.Area.TheVariants.{Nowhere, Inside, Within}
 use Rattle.pssm_legs.specs.declared.asking.Aim.{Aim}
 use Rattle.pssm_legs.specs.declared.asking.Aim.TheVariants.{Entering, EndingIn}
 use Rattle.pssm_legs.specs.declared.legs.Leg.{Leg}
@@ -27,6 +28,12 @@ IsCoveredBefore m legs j s = (i : ℕ) × (a : Leg) × StandsLater (leg_list leg
 -- The leg exits the State where its route fires: it lies where the leg exits, and no earlier leg exits there.
 abbrev pub IsExited : DraftMachine → Legs → ℕ → Leg → VertexId → Type 0
 IsExited m legs i a s = LiesInScope m s (scope_of a.area) × (IsCoveredBefore m legs i s → ⊥)
+
+-- The area is the innermost region in which the vertex lies.
+abbrev pub IsHomeArea : DraftMachine → Area → VertexId → Type 0
+IsHomeArea m (Within r) v = IsHome m v r
+IsHomeArea m (Inside s) v = ⊥
+IsHomeArea m Nowhere v = ⊥
 
 -- The State lies where the leg exits and enters, and the vertex in it.
 abbrev pub IsPassed : DraftMachine → Leg → VertexId → VertexId → Type 0
@@ -69,6 +76,10 @@ IsAimIn m (EndingIn r) = r.0 < length m.regions
 -- The leg has the transition.
 abbrev pub HasTransition : Leg → TransId → Type 0
 HasTransition a t = (a.named ≡ t) ⊎ Contains a.further.items t
+
+-- A transition of the leg ends on the vertex.
+abbrev pub HasTarget : DraftMachine → Leg → VertexId → Type 0
+HasTarget m a v = (t : TransId) × HasTransition a t × Enters m t v
 
 -- The leg has the first transition before the second.
 abbrev pub HasBefore : Leg → TransId → TransId → Type 0
@@ -165,3 +176,37 @@ ComesBehind m legs i a fires x y =
 -- Some leg is such.
 abbrev pub HasLeg : Legs → (ℕ → Leg → Type 0) → Type 0
 HasLeg legs P = P 0 legs.first ⊎ HasFurther legs P
+
+-- The item is the exit of a State that lies where the leg exits.
+abbrev pub IsCoveredExit : DraftMachine → Leg → Item → Type 0
+IsCoveredExit m a (Exit s) = LiesInScope m s (scope_of a.area)
+IsCoveredExit m a _ = ⊥
+
+-- The items are exits, the second of a State in that of the first.
+abbrev pub IsInnerExit : DraftMachine → Item → Item → Type 0
+IsInnerExit m (Exit q) (Exit s) = LiesInState m s q
+IsInnerExit m _ _ = ⊥
+
+-- A leg behind which that with the place stands calls the item.
+abbrev pub IsCalledBefore : DraftMachine → Legs → ℕ → Bool → Item → Type 0
+IsCalledBefore m legs j fires x =
+    (i : ℕ) × (a : Leg) × StandsLater (leg_list legs) i j × IsAt legs i a × IsCalledAsTold m legs i a fires x
+
+-- The first item is called ahead of the second, which the leg with the place calls: by this leg, where they come in this order by their
+-- kinds, or by one behind which it stands.
+abbrev pub IsCalledAhead : DraftMachine → Legs → ℕ → Leg → Bool → Item → Item → Type 0
+IsCalledAhead m legs j b fires x y = (ComesFirst x y × IsCalledAsTold m legs j b fires x) ⊎ IsCalledBefore m legs j fires x
+
+-- The State lies where the leg with the place exits, and the item is an effect, or where one behind which it stands exits.
+abbrev pub IsCoveredAhead : DraftMachine → Legs → ℕ → Leg → VertexId → Item → Type 0
+IsCoveredAhead m legs j b s y = (ComesFirst (Exit s) y × LiesInScope m s (scope_of b.area)) ⊎ IsCoveredBefore m legs j s
+
+-- The leg with the place calls the second item, and the first is called ahead of it.
+abbrev pub IsCalledFrom : DraftMachine → Legs → ℕ → Leg → Bool → Item → Item → Type 0
+IsCalledFrom m legs j b fires x y = IsCalledAsTold m legs j b fires y × IsCalledAhead m legs j b fires x y
+
+-- an exit or entry
+abbrev pub StartsAhead : Item → Type 0
+StartsAhead (Exit s) = Unit {0}
+StartsAhead (Enter s) = Unit {0}
+StartsAhead _ = ⊥

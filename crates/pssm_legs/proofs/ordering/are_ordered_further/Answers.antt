@@ -3,7 +3,7 @@ use Rattle.std.proofs.Common.{◌≡◌, true, false, length, refl, ap, arith}
 use Rattle.pssm_legs.specs.inner.Told.{IsOrderedAsTold}
 use Rattle.pssm_legs.proofs.NoneSoFar.{refuted}
 use Rattle.pssm_legs.proofs.LaterPlaces.{further_at, one_more_not, none_further}
-use Rattle.pssm_legs.proofs.asking.are_ordered_further.Goals as goal
+use Rattle.pssm_legs.proofs.ordering.are_ordered_further.Goals as goal
 
 pub are_ordered-requires-clause-place : goal.are_ordered-requires-clause-place
 are_ordered-requires-clause-place c =

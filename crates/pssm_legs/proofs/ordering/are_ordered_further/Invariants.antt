@@ -1,6 +1,6 @@
 use Rattle.pssm_legs.specs.inner.Told.{IsOrderedAsTold}
 use Rattle.pssm_legs.proofs.LaterPlaces.{NoneYet}
-use Rattle.pssm_legs.proofs.asking.are_ordered_further.Given as goal
+use Rattle.pssm_legs.proofs.ordering.are_ordered_further.Given as goal
 
 -- none so far is such
 abbrev pub invariant-loop-k : goal.invariant-loop-k

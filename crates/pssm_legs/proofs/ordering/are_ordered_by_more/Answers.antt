@@ -3,7 +3,7 @@ use Rattle.std.proofs.Common.{◌≡◌, ◌≤◌, true, false, length, ⊎_eli
 use Rattle.pssm_legs.specs.LegsOf.{leg_list, StandsLater}
 use Rattle.pssm_legs.specs.inner.Told.{IsCalledAsTold, IsOrderedAsTold}
 use Rattle.pssm_legs.proofs.LaterPlaces.{nothing_behind_alone}
-use Rattle.pssm_legs.proofs.asking.are_ordered_by_more.Goals as goal
+use Rattle.pssm_legs.proofs.ordering.are_ordered_by_more.Goals as goal
 
 pub returns-then-alone : goal.returns-then-alone
 returns-then-alone c =
