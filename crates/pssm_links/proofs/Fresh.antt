@@ -5,7 +5,7 @@ use Rattle.std.specs.Option.{option_map_or}
 use Rattle.std.proofs.lemmas.List.{map-append, get_or-set_other, get_or-set_same, length-set}
 use Rattle.pssm_links.specs.declared.links.Slot.{Slot}
 use Rattle.pssm_links.specs.Chained.{Linked, Chained, list_of, with_pushed}
-use Rattle.pssm_links.specs.inner.Rings.{count_of, count_in, row_of, more, prev_of, value_of, slots_of, lists_from, Joins, AreRings, StandThere, Hold}
+use Rattle.pssm_links.specs.inner.Rings.{count_of, count_in, row_of, more, prev_of, value_of, last_slot, slots_of, lists_from, Joins, AreRings, StandThere, Hold}
 use Rattle.pssm_links.proofs.Growing.{get-append_apart, read-end, more-length, rings-grown}
 use Rattle.pssm_links.proofs.Counting.{row-le}
 use Rattle.pssm_links.proofs.Turning.{ring-edge, more-rings}
@@ -128,21 +128,21 @@ module _ {T : Type 0} (items : List (Slot T)) (n spare total : ℕ) (value : Cha
       let both = opened items n spare total value is keeps in
       end-there items value.lists spare list both.0 (omega (arith, lt))
 
-  pub new-edge : (y : Slot T) → length items < 2 ^ 32 → prev_of (items ++ y ∷ []) list < length (items ++ y ∷ [])
-  new-edge y few =
+  pub new-edge : prev_of items list < length items
+  new-edge =
       let both = opened items n spare total value is keeps in
       let hold = both.0 in
       let count = hold.count in
-      let e = ring-edge (items ++ y ∷ []) hold.rows list (rings-grown items y hold.rows few hold.rings) (omega (arith, count, lt)) in
+      let e = ring-edge items hold.rows list hold.rings (omega (arith, count, lt)) in
       e.from
 
   pub new-done : (v : T) → (between new : List (Slot T)) → k ≡ length items → k < 2 ^ 32
-      → let y : Slot T = record { prev = k; next = k; value = Some v } in
+      → let y : Slot T = last_slot items list v in
       Joins (items ++ y ∷ []) between (prev_of (items ++ y ∷ []) list) k → Joins between new k list
       → (Hold new (lists_from new 0 n) spare × (n ≡ length (lists_from new 0 n)))
       × (lists_from new 0 n ≡ with_pushed value.lists list (record { 0 = k }) v)
   new-done v between new last few one two =
-      let y : Slot T = record { prev = k; next = k; value = Some v } in
+      let y : Slot T = last_slot items list v in
       let both = opened items n spare total value is keeps in
       let hold = hold-new items (items ++ y ∷ []) between new y value.lists spare list k v both.0 lt last few refl refl one two in
       let count : n ≡ length (with_pushed value.lists list (record { 0 = k }) v) =

@@ -6,7 +6,7 @@ use Rattle.std.proofs.lemmas.List.{length-set}
 use Rattle.std.proofs.lemmas.Option.{slice_get-get_or}
 use Rattle.std.specs.Option.{option_map_or}
 use Rattle.pssm_links.specs.declared.links.Slot.{Slot}
-use Rattle.pssm_links.specs.inner.Rings.{Joins, IsWritten}
+use Rattle.pssm_links.specs.inner.Rings.{next_of, prev_of, Joins, IsWritten}
 
 pub get-set_same : {X : Type 0} (xs : List X) (k : ℕ) (y : X) → k < length xs → slice_get (set xs k y) k ≡ Some y
 get-set_same [] k y lt = absurd (omega arith)
@@ -66,6 +66,40 @@ module _ {T : Type 0} where
         prevs = λ k apart. other (λ s. s.prev) 0 one b y lo k apart ∙ kept (λ s. s.prev) 0 slots a x la d refl k;
         values = λ k. kept (λ s. s.value) None one b y lo e refl k ∙ kept (λ s. s.value) None slots a x la d refl k;
       }
+
+  enclosed : (slots : List (Slot T)) (a k b : ℕ) (d e : Slot T) → a < length slots → b < length slots → a < k
+      → prev_of slots k ≡ a → next_of slots k ≡ b
+      → (between : List (Slot T)) × Joins slots between a k × Joins between (with_prev (with_next slots a k d) b k e) k b
+  enclosed slots a k b d e la lb apart prev next =
+      let x : Slot T = record { prev = (get_or slots a d).prev; next = k; value = (get_or slots a d).value } in
+      let one = with_next slots a k d in
+      let y : Slot T = record { prev = k; next = (get_or one b e).next; value = (get_or one b e).value } in
+      let lo : b < length one = omega (arith, length-set slots a x, lb) in (
+        one,
+        record {
+          size = length-set slots a x;
+          next = written (λ s. s.next) 0 slots a x la;
+          nexts = λ j far. other (λ s. s.next) 0 slots a x la j far;
+          prev = kept (λ s. s.prev) 0 slots a x la d refl k ∙ prev;
+          prevs = λ j far. kept (λ s. s.prev) 0 slots a x la d refl j;
+          values = λ j. kept (λ s. s.value) None slots a x la d refl j;
+        },
+        record {
+          size = length-set one b y;
+          next = kept (λ s. s.next) 0 one b y lo e refl k ∙ other (λ s. s.next) 0 slots a x la k (λ same. omega (arith, same, apart)) ∙ next;
+          nexts = λ j far. kept (λ s. s.next) 0 one b y lo e refl j;
+          prev = written (λ s. s.prev) 0 one b y lo;
+          prevs = λ j far. other (λ s. s.prev) 0 one b y lo j far;
+          values = λ j. kept (λ s. s.value) None one b y lo e refl j;
+        },
+      )
+
+  -- the slot has its own links, and the two that lead to it are written
+  pub enclosed-set : (slots : List (Slot T)) (a k b : ℕ) (d e : Slot T) → a < length slots → b < length slots → a < k
+      → prev_of slots b ≡ a → prev_of slots k ≡ a → next_of slots k ≡ b
+      → (between : List (Slot T)) × Joins slots between (prev_of slots b) k × Joins between (with_prev (with_next slots a k d) b k e) k b
+  enclosed-set slots a k b d e la lb apart last prev next =
+      subst (λ z. (between : List (Slot T)) × Joins slots between z k × Joins between (with_prev (with_next slots a k d) b k e) k b) (sym last) (enclosed slots a k b d e la lb apart prev next)
 
   pub written-set : (slots : List (Slot T)) (k : ℕ) (v : Option T) (d : Slot T) → k < length slots
       → IsWritten slots (with_value slots k v d) k v

@@ -3,7 +3,9 @@ ghost use Rattle.std.specs.Prelude.{◌≡◌, ◌≤◌, ◌<◌, ◌+◌, ℕ,
 ghost use Rattle.pssm_links.specs.Chained.{list_of, held_in, with_pushed, without, slot_at, value_at};
 ghost use Rattle.pssm_links.specs.Chained.{IsSlotAt, IsSlot, HaveOwnSlots};
 
-use crate::links::{LINKS, Slot, move_slot, new_ends, push_slot, put_value, take_value};
+use crate::links::{
+    LINKS, MOST, Slot, move_slot, new_ends, push_slot, put_value, room_of, take_value,
+};
 use crate::slot::SlotId;
 use crate::steps::Steps;
 use std::alloc::{AllocError as NoMemory, Global};
@@ -24,9 +26,6 @@ pub struct Chains<T> {
     unused: u32,
     fresh: u32,
 }
-
-// The most slots that there are numbers for.
-const MOST: usize = 4_294_967_296;
 
 impl<T> Model for Chains<T> {
     ghost use Rattle.std.specs.Prelude.{◌≡◌, ◌≤◌, ◌+◌, length, vec_capacity};
@@ -83,13 +82,14 @@ impl<T: Drop> Chains<T> {
             return Err(NoMemory);
         }
         self.slots.reserve(more as usize)?;
-        self.fresh = more;
+        self.fresh = room_of(&self.slots);
         Ok(())
     }
 
     /// A value comes as the last of the list; the slot that it stands in.
     ///
     /// One more can come without memory being taken.
+    #[inline(always)]
     pub fn push_back(&mut self, list: u32, value: T) -> SlotId
         requires list { list < length self.old.lists }
         requires spare { 1 ≤ self.old.spare }

@@ -1,7 +1,7 @@
 //! Slots, and how they are linked.
-ghost use Rattle.std.specs.Prelude.{◌≡◌, ◌<◌, ◌+◌, ◌++◌, ◌∷◌, [], ℕ, List, length, vec_capacity, IfOk, IsSome};
+ghost use Rattle.std.specs.Prelude.{◌≡◌, ◌≤◌, ◌<◌, ◌+◌, ◌++◌, ◌∷◌, [], ℕ, List, length, vec_capacity, IfOk, IsSome};
 ghost use Rattle.pssm_links.specs.declared.links.Slot.{Slot as ASlot};
-ghost use Rattle.pssm_links.specs.inner.Rings.{next_of, prev_of, value_of, moved};
+ghost use Rattle.pssm_links.specs.inner.Rings.{next_of, prev_of, value_of, last_slot, moved};
 ghost use Rattle.pssm_links.specs.inner.Rings.{Joins, IsWritten, AreEnds, AreRings, CanMove};
 
 use std::alloc::{AllocError as NoMemory, Global};
@@ -16,6 +16,22 @@ pub struct Slot<T> {
 
 /// How many links `detach` and `attach` write together.
 pub const LINKS: u64 = 6;
+
+/// The most slots that there are numbers for.
+pub const MOST: usize = 4_294_967_296;
+
+/// How many slots can be made without memory being taken: as many as the array has room for and there are
+/// numbers for.
+pub fn room_of<T>(slots: &Vec<Slot<T>>) -> u32
+    requires { length slots.now.items ≤ 4_294_967_296 }
+    ensures room { length slots.now.items + result ≤ vec_capacity slots.now }
+    ensures numbers { length slots.now.items + result ≤ 4_294_967_296 }
+    ensures all { (n : ℕ) → n < 4_294_967_296 → length slots.now.items + n ≤ vec_capacity slots.now
+        → length slots.now.items + n ≤ 4_294_967_296 → n ≤ result }
+{
+    let most = slots.capacity().min(MOST);
+    (most - slots.len()).min(u32::MAX as usize) as u32
+}
 
 /// The ends of so many lists, and after them that of the unused slots: each is linked to itself.
 pub fn new_ends<T: Drop>(alloc: Global, lists: u32) -> Result<Vec<Slot<T>>, NoMemory>
@@ -52,24 +68,40 @@ fn detach<T>(slots: &mut [Slot<T>], slot: u32)
     join(slots, before, after);
 }
 
-/// A new slot, in which the value stands, becomes the last of a ring. Four links are written.
+/// A new slot, in which the value stands, becomes the last of a ring. It comes with its own links, and two more
+/// are written.
 pub fn push_slot<T>(slots: &mut Vec<Slot<T>>, slot: u32, list: u32, value: T)
     requires last { slot ≡ length slots.old.items }
     requires room { slot < vec_capacity slots.old }
     requires after { list < length slots.old.items }
-    requires before { let new = slots.old.items ++ record { prev = slot; next = slot; value = Some value } ∷ [] in
-        prev_of new list < length new }
-    ensures items { let new = slots.old.items ++ record { prev = slot; next = slot; value = Some value } ∷ [] in
+    requires before { prev_of slots.old.items list < length slots.old.items }
+    ensures items { let new = slots.old.items ++ last_slot slots.old.items list value ∷ [] in
         (between : List (ASlot T)) × Joins new between (prev_of new list) slot × Joins between slots.new.items slot list }
     ensures size { length slots.new.items ≡ length slots.old.items + 1 }
     ensures capacity { vec_capacity slots.new ≡ vec_capacity slots.old }
 {
+    let (last, _) = neighbours(slots.as_slice(), list);
     slots.push_reserved(Slot {
-        prev: slot,
-        next: slot,
+        prev: last,
+        next: list,
         value: Some(value),
     });
-    attach(slots.as_mut_slice(), slot, list);
+    enclose(slots.as_mut_slice(), last, slot, list);
+}
+
+// The slot comes between two others, as its own links say: the other two links are written.
+fn enclose<T>(slots: &mut [Slot<T>], before: u32, slot: u32, after: u32)
+    requires before { before < length slots.old }
+    requires after { after < length slots.old }
+    requires apart { before < slot }
+    requires last { prev_of slots.old after ≡ before }
+    requires prev { prev_of slots.old slot ≡ before }
+    requires next { next_of slots.old slot ≡ after }
+    ensures { (between : List (ASlot T)) × Joins slots.old between (prev_of slots.old after) slot
+        × Joins between slots.new slot after }
+{
+    slots[before as usize].next = slot;
+    slots[after as usize].prev = slot;
 }
 
 // The slot is linked between another and the one before that. Four links are written.

@@ -40,6 +40,10 @@ module _ {T : Type 0} where
   abbrev pub value_of : List (Slot T) → ℕ → Option T
   value_of slots k = option_map_or (λ s. s.value) (slice_get slots k) None
 
+  -- a slot in which the value stands, with the links that it has as the last of a ring
+  abbrev pub last_slot : List (Slot T) → ℕ → T → Slot T
+  last_slot slots l v = record { prev = prev_of slots l; next = l; value = Some v }
+
   -- One slot has been linked before another, and nothing else has changed.
   pub record Joins (old new : List (Slot T)) (a b : ℕ) : Type 0 where
     pub size : length new ≡ length old

@@ -45,9 +45,8 @@ returns-clause-lists g c =
 
 pub push_slot-requires-clause-before : goal.push_slot-requires-clause-before
 push_slot-requires-clause-before g c =
-    let total = ap (λ (v : Chained g.row.T.Denot). v.spare) c.self.view_is in
     new-edge c.self.inside.slots.items c.self.inside.lists c.self.inside.unused (c.self.inside.unused + c.self.inside.fresh) c.args.self.now
-    c.self.view_is (c.self.invariant.0, c.self.invariant.1) c.len-slot.result c.args.list c.requires.list _ (omega (arith, total, c.self.invariant.3))
+    c.self.view_is (c.self.invariant.0, c.self.invariant.1) c.len-slot.result c.args.list c.requires.list
 
 pub invariant_of-self : goal.invariant_of-self
 invariant_of-self g c =
