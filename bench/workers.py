@@ -2,9 +2,11 @@
 """How fast `run` goes with one to four workers, and what an entry costs while the lock of their book is held.
 
 Run it at the top of the repository after the program is built: python3 bench/workers.py
-So many objects each go round on a signal that they send to themselves, until it has been sent often enough. Their effects
-have 64 statements, 63 with a sum and a product each and a send (`long`), or the send alone (`short`). For each number of
-objects and workers it prints a line: entries, then the median of several runs: seconds by the clock, entries per second,
+So many objects each go round on a signal that they send to themselves, until it has been sent often enough. What they run
+on a round is an exit, an effect and an entry, and the effect sends the signal again. Each of the three has 64 statements
+(`long`), or the effect alone has (`effects`), or there is the send alone (`short`). Each statement but the send has eight
+sums and products, so that 64 of them have some 3,500 of the 4,096 bytes of text that a behaviour may have. For each number
+of objects and workers it prints a line: entries, then the median of several runs: seconds by the clock, entries per second,
 seconds of processors (user and system, of all workers), and how the speed by the clock compares with that of one worker.
 The runs of all numbers of workers take turns, so that what else the machine does meets all of them alike. More workers
 than the processors that it may use gain nothing: `taskset -c 0,1 python3 bench/workers.py` shows two.
@@ -26,18 +28,23 @@ from talk import LIMIT, block, entries_of, hits_in, object_name
 
 OBJECTS = (2, 4, 8, 16, 32, 64)
 WORKERS = (1, 2, 3, 4)
-STATEMENTS = {'long': 64, 'short': 1}
-SIZE = {'long': 20_000, 'short': 50_000}
+STATEMENT = 'x := (((x + $1) * 3) - ((y - x) * ($1 + 7))) + (y * x);'
+STATEMENTS = {'long': (64, 64), 'effects': (64, 0), 'short': (1, 0)}  # of the effect, and of the exit and the entry
+SIZE = {'long': 100_000, 'effects': 100_000, 'short': 100_000}
 RUNS = 5
 HELD = ('pssm_book::book::Book::claim*', 'pssm_book::book::Book::commit*')  # what a worker does while it has the lock
 COUNTED_SIZES = (2_000, 6_000)
 
 
-def alike(count, statements):
-    """So many objects of one class, with so many statements in its effect, the last of which sends the signal again."""
+def alike(count, statements, around):
+    """So many objects of one class, with so many statements in its effect, the last of which sends the signal again, and
+    with so many in the exit and in the entry of its State."""
     lines = ['pssm-flat 1', 'signal B 1', 'class M'] + ['object %s M' % object_name(i) for i in range(count)]
-    sums = ['x := (x + $1) * 3;'] * (statements - 1)
-    text = block('M', 'B', '$1 != 0', ' '.join(sums + ['send self.B($1 - 1);']), 'var x 1\n')
+    sums = [STATEMENT] * (statements - 1)
+    text = block('M', 'B', '$1 != 0', ' '.join(sums + ['send self.B($1 - 1);']), 'var x 1\nvar y 2\n')
+    if around > 0:
+        sums = ' '.join([STATEMENT] * around)
+        text = text.replace('vertex v1 r0 state\n', 'vertex v1 r0 state\nentry %s\nexit %s\n' % (sums, sums))
     return '\n'.join(lines) + '\n' + text + 'end\n'
 
 
@@ -45,7 +52,7 @@ def words_for(kind, count, size, folder):
     """The words of a run of so many objects behind its options, and the entries of its journal."""
     path = os.path.join(folder, '%s-%d.flat' % (kind, count))
     with open(path, 'w') as file:
-        file.write(alike(count, STATEMENTS[kind]))
+        file.write(alike(count, *STATEMENTS[kind]))
     hits = hits_in(size, count, count)
     return [path] + ['%s.B(%d)' % (object_name(i), hits) for i in range(count)], entries_of(count, count, hits)
 
@@ -84,7 +91,7 @@ def time_workers(kind, count, folder):
     alone = statistics.median(seconds for seconds, _ in spent[1])
     for workers in WORKERS:
         clock, work = (statistics.median(part) for part in zip(*spent[workers]))
-        print('%-5s %2d objects %d workers  %6d entries  %7.3f s  %8.0f entries/s  %7.3f s of processors  %5.2f of one'
+        print('%-7s %2d objects %d workers  %6d entries  %7.3f s  %8.0f entries/s  %7.3f s of processors  %5.2f of one'
               % (kind, count, workers, entries, clock, entries / clock, work, alone / clock), flush=True)
 
 
@@ -104,7 +111,7 @@ def count_locked(kind, count, folder):
     (few, entries), (many, most) = (words_for(kind, count, size, folder) for size in COUNTED_SIZES)
     whole, held = ((instructions(options(1) + many, of) - instructions(options(1) + few, of)) / (most - entries)
                    for of in ((), HELD))
-    print('%-5s %2d objects  %8.0f instructions an entry, %8.0f of them under the lock' % (kind, count, whole, held),
+    print('%-7s %2d objects  %8.0f instructions an entry, %8.0f of them under the lock' % (kind, count, whole, held),
           flush=True)
 
 

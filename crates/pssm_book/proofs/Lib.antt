@@ -8,3 +8,4 @@ pub mod CompareLaws
 pub mod CommitLaws
 pub mod AnswerLaws
 pub mod SeenLaws
+pub mod OwnClaims

@@ -25,6 +25,10 @@ pub record IsOpen (run : History) (claims : List (ObjectId × Task)) (o : Object
 abbrev pub AreAllOut : History → List (ObjectId × Task) → Type 0
 AreAllOut run claims = (o : ObjectId) (task : Task) → IsReadyOf run.setting run.journal o task → Contains claims (o, task)
 
+-- Every task of the object that is ready is handed out (this profile's choice).
+abbrev pub AreAllOutOf : History → List (ObjectId × Task) → ObjectId → Type 0
+AreAllOutOf run claims o = (task : Task) → IsReadyOf run.setting run.journal o task → Contains claims (o, task)
+
 -- The journal has room and has not ended, but all that may come next are entries of tasks that are handed out, of which there are so many
 -- (this profile's choice).
 pub record IsBusy (c : Contents) (out : ℕ) : Type 0 where
@@ -58,9 +62,13 @@ pub record CarriesWork (run : History) (job : Job) : Type 0 where
   pub store : job.store ≡ store_in run.setting run.journal job.object
   pub params : job.params ≡ params_in run.journal job.object job.task
 
+-- A job may be run: it is one that a behaviour can be run by (UML 2.5.1 13.2.3, executions of behaviours).
+abbrev pub CanRun : Job → Type 0
+CanRun job = ActArgsFit job.act
+
 -- A job that is handed out may be run (UML 2.5.1 13.2.3, executions of behaviours).
 abbrev pub MayRun : Claimed → Type 0
-MayRun (answers.Job job) = ActArgsFit job.act
+MayRun (answers.Job job) = CanRun job
 MayRun _ = Unit {0}
 
 -- The answer hands out no task and appends nothing (this profile's choice).

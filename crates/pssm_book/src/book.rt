@@ -1,9 +1,10 @@
 //! `Book`: a run that several workers share.
-ghost use Rattle.std.specs.Prelude.{◌≡◌, ◌≤◌, ◌<◌, ◌+◌, ◌↔◌, [], length, IfOk, OnErr, Contains, ℕ, ℤ};
+ghost use Rattle.std.specs.Prelude.{◌≡◌, ◌≤◌, ◌<◌, ◌+◌, ◌↔◌, ◌⊎◌, [], length, IfOk, OnErr, Contains, ℕ, ℤ};
+ghost use Rattle.std.specs.Prelude.{None, IfSome, IfNone};
 ghost use Rattle.std.specs.List.{AllByRecursion};
 ghost use Rattle.pssm_book.specs.inner.Coming.{entries_by_claim, entries_by_commit};
 
-use crate::answers::{Claimed, Committed};
+use crate::answers::{Claimed, Committed, Job};
 use crate::desk::Desk;
 use pssm_semantics::{ObjectId, Setting, Stimulus, Task, Worked};
 use pssm_system::System;
@@ -52,7 +53,8 @@ impl<L: Ledger> Book<L> {
     ghost use Rattle.pssm_book.specs.declared.answers.Job.{Job as AJob};
     ghost use Rattle.pssm_semantics.specs.Known.{IsStimulusOf};
     ghost use Rattle.pssm_book.specs.Contents.{IsKept, KeepsTerms};
-    ghost use Rattle.pssm_book.specs.Claiming.{IsBusy, HasMoved, HasClaimed, CarriesWork, MayRun, IsRefusal};
+    ghost use Rattle.pssm_book.specs.Claiming.{IsBusy, HasMoved, HasClaimed, CarriesWork, CanRun, MayRun, IsRefusal};
+    ghost use Rattle.pssm_book.specs.Claiming.{AreAllOutOf};
     ghost use Rattle.pssm_book.specs.Committing.{IsItsWork, IsStale, IsUpToDate, HasDone, IsWithout};
 
     /// A book with no entry and no task handed out, and the share that has all parts of its ledger.
@@ -118,6 +120,27 @@ impl<L: Ledger> Book<L> {
         let answer = self.desk.claim(self.alloc, word)?;
         count_claim(&mut self.tally, share, &answer);
         Ok(answer)
+    }
+
+    /// Hands out a ready task of an object that is not handed out, and appends nothing. So who has
+    /// appended an entry of the object goes on with it, under the lock that is held already.
+    ///
+    /// Any object may be handed in, also one that is not the setting's. None: the journal is full, or
+    /// all ready tasks of the object are handed out. `NoMemory`: memory ran out; nothing has changed.
+    pub fn claim_of(&mut self, object: ObjectId) -> Result<Option<Job>, NoMemory>
+        ensures some { IfOk result (λ found. IfSome found
+            (λ job. (job.object ≡ object) × HasClaimed self.old object job.task self.new)) }
+        ensures none { IfOk result (λ found. (found ≡ None)
+            ↔ (IsFull self.old.limit self.old.run.journal ⊎ AreAllOutOf self.old.run self.old.claims object)) }
+        ensures carries { IfOk result (λ found. IfSome found (CarriesWork self.old.run)) }
+        ensures runs { IfOk result (λ found. IfSome found CanRun) }
+        ensures refused { IfOk result (λ found. IfNone found (self.new ≡ self.old)) }
+        ensures terms { KeepsTerms self.old self.new }
+        ensures total { self.new.total ≡ self.old.total }
+        ensures err { OnErr result (self.new ≡ self.old) }
+    {
+        let found = self.desk.claim_of(self.alloc, object)?;
+        Ok(found)
     }
 
     /// Takes back a task that was handed out, with what its behaviour made (UML 2.5.1, 14.2.3.9,

@@ -157,7 +157,7 @@ impl Desk {
 
     // The first ready task of an object that is not handed out, if there is one.
     #[tactic(auto, using(crate::proofs::DeskLaws::open_of_listed, crate::proofs::DeskLaws::out_first_more))]
-    fn open_of(&self, object: ObjectId) -> Option<Task>
+    pub(crate) fn open_of(&self, object: ObjectId) -> Option<Task>
         ensures some { IfSome result (λ task. IsOpen self.now.system self.now.claims.items object task) }
         ensures none { IfNone result (AreOutOf self.now object) }
     {

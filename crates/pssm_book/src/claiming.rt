@@ -1,11 +1,11 @@
 //! How a desk goes on by a claim.
 ghost use Rattle.std.specs.Prelude.{◌≡◌, IfOk, OnErr};
-ghost use Rattle.pssm_book.specs.inner.Coming.{Comes};
+ghost use Rattle.pssm_book.specs.inner.Coming.{Comes, ComesOf};
 
-use crate::answers::Claimed;
+use crate::answers::{Claimed, Job};
 use crate::choosing::Next;
 use crate::desk::Desk;
-use pssm_semantics::Entry;
+use pssm_semantics::{Entry, ObjectId};
 use std::alloc::{AllocError as NoMemory, Global};
 
 impl Desk {
@@ -27,6 +27,24 @@ impl Desk {
         }
         let next = self.next(alloc, word)?;
         self.take(alloc, next)
+    }
+
+    /// Hands out the first ready task of an object that is not handed out, where the journal has
+    /// room for its entry.
+    pub fn claim_of(&mut self, alloc: Global, object: ObjectId) -> Result<Option<Job>, NoMemory>
+        requires { IsInOrder self.old }
+        ensures order { IsInOrder self.new }
+        ensures comes { IfOk result (λ found. ComesOf (bare self.old) object found (bare self.new)) }
+        ensures terms { KeepsTerms (bare self.old) (bare self.new) }
+        ensures err { OnErr result (IsUnchanged self.old self.new) }
+    {
+        if self.is_full() {
+            return Ok(None);
+        }
+        match self.open_of(object) {
+            Some(task) => Ok(Some(self.hand_out(alloc, object, task)?)),
+            None => Ok(None),
+        }
     }
 
     // Does what may be done next.

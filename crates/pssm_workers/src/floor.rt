@@ -1,9 +1,9 @@
 //! `Floor`: what all workers share.
 ghost use Rattle.std.specs.Prelude.{IfOk, IfSome};
-ghost use Rattle.pssm_book.specs.Claiming.{MayRun};
+ghost use Rattle.pssm_book.specs.Claiming.{CanRun, MayRun};
 
 use crate::seat::Seat;
-use pssm_book::{Book, Claimed};
+use pssm_book::{Book, Claimed, Job};
 use pssm_semantics::{Entry, ObjectId, Task, Worked};
 use pssm_system::System;
 use std::alloc::AllocError as NoMemory;
@@ -24,28 +24,35 @@ const STEP_BACK: u64 = 1;
 /// A call holds the lock once, and once more, changing nothing, where it has slept; the book takes
 /// one entry at most in it. A worker for which there is nothing to do sleeps until another makes
 /// more ready than it goes on with itself, gives a task back or ends. A hasty worker, which has run
-/// some behaviours, steps back for a while where it meets another at the lock: workers that meet
-/// there again and again are done sooner by one of them alone.
+/// some short behaviours and no long one, steps back for a while where it meets another at the lock:
+/// workers that meet there again and again are done sooner by one of them alone. Where several
+/// share it, a worker goes on with the object at which it is, so that the lock is taken once an
+/// entry, and what lies under it moves seldom from one processor to another.
 pub struct Floor<L: Ledger> {
     book: Mutex<Book<L>>,
     // where those sleep that find everything handed out
     more: Condvar,
     // where those sleep that have stepped back
     back: Condvar,
+    // whether several workers share it
+    shared: bool,
 }
 
 impl<L: Ledger> Floor<L> {
-    /// The floor on which this book lies.
-    pub fn new(book: Book<L>) -> Floor<L> {
+    /// The floor on which this book lies, for one worker or for several that share it.
+    pub fn new(book: Book<L>, shared: bool) -> Floor<L> {
         Floor {
             book: Mutex::new(book),
             more: Condvar::new(),
             back: Condvar::new(),
+            shared,
         }
     }
 
     /// Claims what may be done next. Where all is handed out it sleeps until there is more, before it
-    /// answers so. A hasty worker that meets another at the lock steps back in place of claiming.
+    /// answers so. Where the book has gone on by an entry instead, a task of its object that is ready
+    /// is claimed in the same holding, if several workers share the floor. A hasty worker that meets
+    /// another at the lock steps back in place of claiming.
     pub fn claim<R: Wait>(
         &self,
         rt: &R,
@@ -69,15 +76,21 @@ impl<L: Ledger> Floor<L> {
             Claimed::Busy { .. } => drop(self.more.wait(rt, book)),
             Claimed::Moved => {
                 let more = opens_more(&*book);
+                let moved = last_moved(&*book);
+                let job = self.claim_more(&mut *book, moved, seat)?;
                 self.leave(book, more);
+                if let Some(job) = job {
+                    return Ok(Some(Claimed::Job(job)));
+                }
             }
             _ => drop(book),
         }
         Ok(Some(claimed))
     }
 
-    /// Commits what was run for a task. A hasty worker that has met another at the lock steps back
-    /// afterwards.
+    /// Commits what was run for a task. Where several workers share the floor, a further task of its
+    /// object that is ready is claimed in the same holding; but a hasty worker that has met another
+    /// at the lock steps back instead.
     pub fn commit<R: Wait>(
         &self,
         rt: &R,
@@ -85,7 +98,9 @@ impl<L: Ledger> Floor<L> {
         worked: &Worked,
         hasty: bool,
         seat: &mut Seat<L>,
-    ) -> Result<(), NoMemory> {
+    ) -> Result<Option<Job>, NoMemory>
+        ensures { IfOk result (λ job. IfSome job CanRun) }
+    {
         let free = self.book.try_lock();
         let met = free.is_none();
         let mut book = match free {
@@ -95,11 +110,14 @@ impl<L: Ledger> Floor<L> {
         seat.commit(&mut *book, task, worked)?;
         let steps_back = met && hasty;
         let more = makes_more(&*book, worked);
-        self.leave(book, more || steps_back);
         if steps_back {
+            self.leave(book, true);
             self.step_back(rt);
+            return Ok(None);
         }
-        Ok(())
+        let job = self.claim_more(&mut *book, Some(worked.own()), seat);
+        self.leave(book, more);
+        job
     }
 
     /// Gives a task back with nothing done, and wakes all.
@@ -118,10 +136,25 @@ impl<L: Ledger> Floor<L> {
 
     /// The book.
     pub fn into_book(self) -> Book<L> {
-        let Floor { book, more, back } = self;
+        let Floor { book, more, back, shared: _ } = self;
         drop(more);
         drop(back);
         book.into_inner()
+    }
+
+    // A ready task of this object that is not handed out, where several workers share the floor.
+    fn claim_more(
+        &self,
+        book: &mut Book<L>,
+        object: Option<ObjectId>,
+        seat: &mut Seat<L>,
+    ) -> Result<Option<Job>, NoMemory>
+        ensures { IfOk result (λ job. IfSome job CanRun) }
+    {
+        match object {
+            Some(object) if self.shared => seat.claim_of(book, object),
+            _ => Ok(None),
+        }
     }
 
     // The book under its lock.
@@ -147,6 +180,20 @@ impl<L: Ledger> Floor<L> {
     fn step_back<R: Wait>(&self, rt: &R) {
         let seen = self.back.notifications();
         self.back.sleep(rt, seen, Duration::from_millis(STEP_BACK));
+    }
+}
+
+// The object of the move that was appended last; none where it was a post.
+fn last_moved<L: Ledger>(book: &Book<L>) -> Option<ObjectId> {
+    match book.system().entries().last() {
+        Some(
+            Entry::Start { object }
+            | Entry::Take { object, .. }
+            | Entry::Done { object, .. }
+            | Entry::Opened { object, .. }
+            | Entry::Pick { object, .. },
+        ) => Some(*object),
+        _ => None,
     }
 }
 

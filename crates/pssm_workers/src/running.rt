@@ -57,7 +57,7 @@ pub fn run_workers<L: Ledger + Send + Sync, R: Threads + Wait + Sync, G: Gate + 
     let seats = new_seats(alloc, &mut share, workers)?;
     let shift = Shift {
         alloc,
-        floor: Floor::new(book),
+        floor: Floor::new(book, workers > 1),
         seats,
         seed,
     };

@@ -1,6 +1,7 @@
 //! What a worker does.
-ghost use Rattle.std.specs.Prelude.{IfOk};
+ghost use Rattle.std.specs.Prelude.{IfOk, IfSome};
 ghost use Rattle.pssm_semantics.specs.Arguments.{ActArgsFit};
+ghost use Rattle.pssm_book.specs.Claiming.{CanRun};
 
 use crate::floor::Floor;
 use crate::seat::Seat;
@@ -33,8 +34,11 @@ pub fn sit<L: Ledger, R: Wait, G: Gate>(
     floor.wake();
 }
 
-// After so many behaviours a worker is hasty.
+// After so many short behaviours a worker is hasty.
 const PATIENCE: u32 = 8;
+
+// A behaviour of so many statements is long: to run it takes longer than to hand the lock on.
+const LONG: usize = 32;
 
 // Claims, runs and commits, again and again. Words settle what comes where several things may.
 fn work<L: Ledger, R: Wait, G: Gate>(
@@ -48,22 +52,36 @@ fn work<L: Ledger, R: Wait, G: Gate>(
     let mut words = words;
     let mut turn: u64 = 0;
     let mut patience: u32 = PATIENCE;
+    let mut next: Option<Job> = None;
     for _ in rt.forever() {
-        match floor.claim(rt, words.next_u64(), patience == 0, seat)? {
-            Some(Claimed::Job(job)) => {
+        match next.take() {
+            Some(job) => {
                 gate.before(job.object.0, turn);
                 turn = turn.saturating_add(1);
-                patience = patience.saturating_sub(1);
-                do_job(rt, alloc, floor, patience == 0, seat, job)?;
+                patience = patience_after(&job, patience);
+                next = do_job(rt, alloc, floor, patience == 0, seat, job)?;
             }
-            Some(Claimed::Moved | Claimed::Busy { .. }) | None => {}
-            Some(Claimed::Quiet | Claimed::Full) => return Ok(()),
+            None => match floor.claim(rt, words.next_u64(), patience == 0, seat)? {
+                Some(Claimed::Job(job)) => next = Some(job),
+                Some(Claimed::Moved | Claimed::Busy { .. }) | None => {}
+                Some(Claimed::Quiet | Claimed::Full) => return Ok(()),
+            },
         }
     }
     unreachable!()
 }
 
-// Runs the behaviour of a task, and commits it. Where memory runs out the task is given back.
+// The patience that is left after a behaviour: all of it after a long one.
+fn patience_after(job: &Job, patience: u32) -> u32 {
+    if job.act.stmts.as_slice().len() >= LONG {
+        PATIENCE
+    } else {
+        patience.saturating_sub(1)
+    }
+}
+
+// Runs the behaviour of a task, and commits it; the answer is the task to go on with, if one was
+// claimed. Where memory runs out the task is given back.
 fn do_job<L: Ledger, R: Wait>(
     rt: &R,
     alloc: Global,
@@ -71,8 +89,9 @@ fn do_job<L: Ledger, R: Wait>(
     hasty: bool,
     seat: &mut Seat<L>,
     job: Job,
-) -> Result<(), NoMemory>
+) -> Result<Option<Job>, NoMemory>
     requires { ActArgsFit job.act }
+    ensures { IfOk result (λ job. IfSome job CanRun) }
 {
     let object = job.object;
     let task = job.task;
@@ -83,7 +102,8 @@ fn do_job<L: Ledger, R: Wait>(
     done
 }
 
-// Runs the behaviour of a task outside the lock, and commits it.
+// Runs the behaviour of a task outside the lock, and commits it; the answer is the task to go on
+// with, if one was claimed.
 fn run_and_commit<L: Ledger, R: Wait>(
     rt: &R,
     alloc: Global,
@@ -91,8 +111,9 @@ fn run_and_commit<L: Ledger, R: Wait>(
     hasty: bool,
     seat: &mut Seat<L>,
     job: Job,
-) -> Result<(), NoMemory>
+) -> Result<Option<Job>, NoMemory>
     requires { ActArgsFit job.act }
+    ensures { IfOk result (λ job. IfSome job CanRun) }
 {
     let worked = run(
         alloc,

@@ -1,15 +1,17 @@
 -- What each answer says, and what has come of the call.
-use Rattle.std.specs.Prelude.{◌≡◌, ℕ}
+use Rattle.std.specs.Prelude.{◌≡◌, ◌⊎◌, ℕ, Option, None, Some}
+use Rattle.pssm_semantics.specs.declared.entry.ObjectId.{ObjectId}
 use Rattle.pssm_semantics.specs.declared.stimulus.Task.{Task}
 use Rattle.pssm_semantics.specs.Work.{Work}
 use Rattle.pssm_semantics.specs.Arguments.{ActArgsFit}
 use Rattle.pssm_semantics.specs.Admissible.{IsFull, HasEndedQuietly}
+use Rattle.pssm_book.specs.declared.answers.Job.{Job}
 use Rattle.pssm_book.specs.declared.answers.Claimed.{Claimed}
 use Rattle.pssm_book.specs.declared.answers.Claimed.TheVariants as claimed
 use Rattle.pssm_book.specs.declared.answers.Committed.{Committed}
 use Rattle.pssm_book.specs.declared.answers.Committed.TheVariants as committed
 use Rattle.pssm_book.specs.Contents.{Contents}
-use Rattle.pssm_book.specs.Claiming.{IsBusy, HasMoved, HasClaimed, CarriesWork}
+use Rattle.pssm_book.specs.Claiming.{IsBusy, HasMoved, HasClaimed, CarriesWork, AreAllOutOf}
 use Rattle.pssm_book.specs.Committing.{IsItsWork, IsStale, IsUpToDate, HasDone}
 
 -- The journal has ended quietly.
@@ -28,6 +30,12 @@ Comes old claimed.Quiet new = IsQuietlyEnded old × (new ≡ old)
 Comes old (claimed.Busy out) new = IsBusy old out × (new ≡ old)
 Comes old claimed.Moved new = IsOpenEnded old × HasMoved old new × ((out : ℕ) → IsBusy old out → ⊥)
 Comes old (claimed.Job job) new = IsOpenEnded old × HasClaimed old job.object job.task new × CarriesWork old.run job × ActArgsFit job.act
+
+-- what an answer of `claim_of` says, and what has come of the call
+abbrev pub ComesOf : Contents → ObjectId → Option Job → Contents → Type 0
+ComesOf old o None new = (IsFull old.limit old.run.journal ⊎ AreAllOutOf old.run old.claims o) × (new ≡ old)
+ComesOf old o (Some job) new =
+    (IsFull old.limit old.run.journal → ⊥) × (job.object ≡ o) × HasClaimed old o job.task new × CarriesWork old.run job × ActArgsFit job.act
 
 -- how many entries it has appended
 abbrev pub entries_by_claim : Claimed → ℕ
