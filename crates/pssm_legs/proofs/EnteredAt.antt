@@ -13,7 +13,7 @@ use Rattle.pssm_model.proofs.Nesting.{shallower}
 use Rattle.pssm_model_laws.proofs.RegionChains.{counted}
 use Rattle.pssm_legs.specs.declared.areas.Area.{Area}
 use Rattle.pssm_legs.specs.declared.areas.Area.TheVariants.{Nowhere, Inside, Within}
-use Rattle.pssm_legs.specs.declared.asking.Aim.{Aim}
+use Rattle.pssm_legs.specs.declared.entering.Aim.{Aim}
 use Rattle.pssm_legs.specs.declared.legs.Leg.{Leg}
 use Rattle.pssm_legs.specs.Areas.{scope_of}
 use Rattle.pssm_legs.specs.inner.Told.{IsHomeArea, IsPassed, HasTarget, Meets, EndsWhere, HasFurtherTarget}

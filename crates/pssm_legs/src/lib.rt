@@ -5,8 +5,10 @@
 //! behaviours.
 #![tactic(auto)]
 
+mod ahead;
 mod areas;
 mod asking;
+mod entering;
 mod further;
 mod legs;
 mod ordering;

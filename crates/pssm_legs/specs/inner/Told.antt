@@ -14,8 +14,8 @@ use Rattle.pssm_model.specs.Forest.{HasKind, owner_of, IsHome, LiesInState, Lies
 use Rattle.pssm_model.specs.Legs.{Enters, IsEnteredFor, IsEndState, LiesInScope}
 use Rattle.pssm_legs.specs.declared.areas.Area.{Area}
 use Rattle.pssm_legs.specs.declared.areas.Area.TheVariants.{Nowhere, Inside, Within}
-use Rattle.pssm_legs.specs.declared.asking.Aim.{Aim}
-use Rattle.pssm_legs.specs.declared.asking.Aim.TheVariants.{Entering, EndingIn}
+use Rattle.pssm_legs.specs.declared.entering.Aim.{Aim}
+use Rattle.pssm_legs.specs.declared.entering.Aim.TheVariants.{Entering, EndingIn}
 use Rattle.pssm_legs.specs.declared.legs.Leg.{Leg}
 use Rattle.pssm_legs.specs.declared.legs.Legs.{Legs}
 use Rattle.pssm_legs.specs.Areas.{scope_of}

@@ -3,7 +3,7 @@ use Rattle.std.proofs.Common.{◌≡◌, ◌<◌, true, false, refl, sym, subst}
 use Rattle.pssm_legs.specs.inner.Told.{IsCalledAsTold}
 use Rattle.pssm_legs.proofs.NoneSoFar.{refuted}
 use Rattle.pssm_legs.proofs.LaterPlaces.{climb_begins, climb_goes_on, climb_ends, later_there, places_left, fewer_places}
-use Rattle.pssm_legs.proofs.ordering.is_called_before.Goals as goal
+use Rattle.pssm_legs.proofs.ahead.is_called_before.Goals as goal
 
 pub up-init : goal.up-init
 up-init c = climb_begins c.args.legs.now (λ j b. IsCalledAsTold c.args.machine.now c.args.legs.now j b c.args.fires c.args.item) c.args.place c.args.leg.now c.requires.place

@@ -3,7 +3,7 @@ use Rattle.std.proofs.Common.{subst}
 use Rattle.pssm_model.proofs.ElementLaws.{enters_one}
 use Rattle.pssm_legs.specs.inner.Told.{Meets}
 use Rattle.pssm_legs.proofs.PathRegions.{in_head}
-use Rattle.pssm_legs.proofs.asking.first_meets.Goals as goal
+use Rattle.pssm_legs.proofs.entering.first_meets.Goals as goal
 
 pub target-requires : goal.target-requires
 target-requires c = c.requires.leg.path c.args.leg.now.named (in_head c.args.leg.now.named c.args.leg.now.further.items)

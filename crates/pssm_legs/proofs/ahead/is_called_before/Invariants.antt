@@ -1,6 +1,6 @@
 use Rattle.pssm_legs.specs.inner.Told.{IsCalledAsTold}
 use Rattle.pssm_legs.proofs.LaterPlaces.{IsClimbing, places_left}
-use Rattle.pssm_legs.proofs.ordering.is_called_before.Given as goal
+use Rattle.pssm_legs.proofs.ahead.is_called_before.Given as goal
 
 -- the walk has passed none that calls the item
 abbrev pub invariant-up : goal.invariant-up

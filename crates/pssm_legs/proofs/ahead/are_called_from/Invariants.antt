@@ -1,6 +1,6 @@
 use Rattle.pssm_legs.specs.inner.Told.{IsCalledFrom}
 use Rattle.pssm_legs.proofs.LaterPlaces.{NoneYet}
-use Rattle.pssm_legs.proofs.ordering.are_called_from.Given as goal
+use Rattle.pssm_legs.proofs.ahead.are_called_from.Given as goal
 
 -- none so far is such
 abbrev pub invariant-loop-k : goal.invariant-loop-k

@@ -1,6 +1,6 @@
 -- one last vertex where the transitions are taken in order, and else one for each
 use Rattle.std.proofs.Common.{inl, inr, ⊎_elim}
-use Rattle.pssm_legs.proofs.asking.last_meets.Goals as goal
+use Rattle.pssm_legs.proofs.entering.last_meets.Goals as goal
 
 pub returns-then-leg : goal.returns-then-leg
 returns-then-leg c = (

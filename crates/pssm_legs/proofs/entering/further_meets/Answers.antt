@@ -6,7 +6,7 @@ use Rattle.pssm_model.proofs.ElementLaws.{enters_one}
 use Rattle.pssm_legs.specs.inner.Told.{EndsWhere, Meets}
 use Rattle.pssm_legs.proofs.PathRegions.{in_tail}
 use Rattle.pssm_legs.proofs.NoneSoFar.{refuted, none_more, none_at_all}
-use Rattle.pssm_legs.proofs.asking.further_meets.Goals as goal
+use Rattle.pssm_legs.proofs.entering.further_meets.Goals as goal
 
 -- of a list that is another one, at a place
 here_in : (ts xs : List TransId) (i : ℕ) (d : TransId) → ts ≡ xs → i < length ts → Contains xs (get_or ts i d)

@@ -6,7 +6,7 @@ use Rattle.pssm_model.specs.Shapes.{OwnsVertex}
 use Rattle.pssm_model.proofs.ElementLaws.{mapped_at}
 use Rattle.pssm_model.proofs.Nesting.{home_of_point}
 use Rattle.pssm_legs.proofs.PathRegions.{kind_there}
-use Rattle.pssm_legs.proofs.asking.owns_owner.Goals as goal
+use Rattle.pssm_legs.proofs.entering.owns_owner.Goals as goal
 
 pub is_owned_by-requires : goal.is_owned_by-requires
 is_owned_by-requires c =
@@ -17,5 +17,5 @@ is_owned_by-requires c =
 pub returns-in-State : goal.returns-in-State
 returns-in-State c =
     λ owned. home_of_point c.args.machine.now c.args.v c.in-State.s c.args.r
-        (mapped_at (λ (x : Vertex). x.owner) _ _ c.vertex.ensures ∙ ap Some c.in-State.is)
-        (c.is_owned_by.ensures.0 owned)
+    (mapped_at (λ (x : Vertex). x.owner) _ _ c.vertex.ensures ∙ ap Some c.in-State.is)
+    (c.is_owned_by.ensures.0 owned)

@@ -1,7 +1,7 @@
 -- no State lies between a vertex and the innermost region in which it lies
 use Rattle.std.proofs.Common.{◌≡◌, true, false}
 use Rattle.pssm_legs.proofs.EnteredAt.{home_passes_none}
-use Rattle.pssm_legs.proofs.asking.is_passed.Goals as goal
+use Rattle.pssm_legs.proofs.entering.is_passed.Goals as goal
 
 pub returns-then-is_home_area : goal.returns-then-is_home_area
 returns-then-is_home_area c = (

@@ -1,6 +1,6 @@
 -- the first leg that exits around the State exits it
 use Rattle.pssm_legs.proofs.CoveringLegs.{exit_ahead}
-use Rattle.pssm_legs.proofs.ordering.is_exit_ahead.Goals as goal
+use Rattle.pssm_legs.proofs.ahead.is_exit_ahead.Goals as goal
 
 pub returns-then-fires : goal.returns-then-fires
 returns-then-fires c =

@@ -1,7 +1,7 @@
 use Rattle.std.proofs.Common.{take, Contains}
 use Rattle.pssm_model.specs.declared.ids.TransId.{TransId}
 use Rattle.pssm_legs.specs.inner.Told.{EndsWhere, Meets}
-use Rattle.pssm_legs.proofs.asking.further_meets.Given as goal
+use Rattle.pssm_legs.proofs.entering.further_meets.Given as goal
 
 -- none so far ends on such a vertex
 abbrev pub invariant-loop-t : goal.invariant-loop-t

@@ -3,7 +3,7 @@ use Rattle.std.proofs.Common.{◌≡◌, true, false, length, refl, ap, arith}
 use Rattle.pssm_legs.specs.inner.Told.{IsCalledFrom}
 use Rattle.pssm_legs.proofs.NoneSoFar.{refuted}
 use Rattle.pssm_legs.proofs.LaterPlaces.{further_at, one_more_not, none_further}
-use Rattle.pssm_legs.proofs.ordering.are_called_from.Goals as goal
+use Rattle.pssm_legs.proofs.ahead.are_called_from.Goals as goal
 
 pub is_called_from-requires-clause-place : goal.is_called_from-requires-clause-place
 is_called_from-requires-clause-place c =
