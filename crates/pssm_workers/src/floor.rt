@@ -136,7 +136,12 @@ impl<L: Ledger> Floor<L> {
 
     /// The book.
     pub fn into_book(self) -> Book<L> {
-        let Floor { book, more, back, shared: _ } = self;
+        let Floor {
+            book,
+            more,
+            back,
+            shared: _,
+        } = self;
         drop(more);
         drop(back);
         book.into_inner()

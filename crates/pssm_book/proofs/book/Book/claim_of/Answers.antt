@@ -39,9 +39,11 @@ returns-clause-terms g c =
 
 -- The desk is in order, and the total counts the entries.
 pub invariant_of-self-2 : goal.invariant_of-self-2
-invariant_of-self-2 g c =
-    (c.claim_of.ensures.order, own_count c.self.inside.desk c.claim_of.new.self c.args.object c.in_ok-found.found c.self.inside.tally.total
-    c.in_ok-found.ensures.comes c.self.invariant.1)
+invariant_of-self-2 g c = (
+  c.claim_of.ensures.order,
+  own_count c.self.inside.desk c.claim_of.new.self c.args.object c.in_ok-found.found c.self.inside.tally.total
+      c.in_ok-found.ensures.comes c.self.invariant.1,
+)
 
 -- So it is where memory ran out.
 pub invariant_of-self : goal.invariant_of-self
