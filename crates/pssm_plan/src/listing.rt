@@ -18,7 +18,7 @@ ghost use Rattle.pssm_plan.specs.inner.Calling.{IsOtherBy, IsReopened, IsLate, I
 ghost use Rattle.pssm_plan.specs.inner.Direct.{IsDirect, IsReopenedIn};
 ghost use Rattle.pssm_plan.specs.inner.Calling.{IsDefaultOf, IsRestoredOf, IsOpenedByEntry, IsEntered};
 
-use crate::direct::{direct_region, may_call_directly};
+use crate::direct::{direct_region, may_call, may_call_directly};
 use crate::near::comes_near;
 use crate::progress::Restored;
 use crate::roster::{Call, Roster, has_run};
@@ -43,6 +43,36 @@ fn meets_directly(machine: &Machine, calls: &[Call], way: &Way, r: RegionId) -> 
         }
     }
     false
+}
+
+// Whether a listed item may be one that the way calls. It is asked of each.
+#[inline(always)]
+fn meets_each(machine: &Machine, calls: &[Call], way: &Way) -> bool
+    requires rules { KeepsModelRules machine.now }
+    requires way { IsWayIn machine.now way.now }
+    requires items { (x : Called) → IsListed calls.now x → IsItemIn machine.now x }
+    ensures { ((x : Called) × IsListed calls.now x × calls_by machine.now way.now x) → IsTrue result }
+{
+    for call in calls {
+        if may_call(machine, way, call.item) {
+            return true;
+        }
+    }
+    false
+}
+
+/// Whether a listed item may be one that the way calls which fires at a place. It is true at the first place.
+#[inline(always)]
+pub fn meets_fired(machine: &Machine, calls: &[Call], way: &Way, place: usize) -> bool
+    requires rules { KeepsModelRules machine.now }
+    requires way { IsWayIn machine.now way.now }
+    requires items { (x : Called) → IsListed calls.now x → IsItemIn machine.now x }
+    ensures { ((x : Called) × IsListed calls.now x × calls_by machine.now way.now x) → IsTrue result }
+{
+    if place == 0 {
+        return true;
+    }
+    meets_each(machine, calls, way)
 }
 
 /// Whether a listed item may be one that the way calls.
