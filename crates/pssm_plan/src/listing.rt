@@ -45,9 +45,9 @@ fn meets_directly(machine: &Machine, calls: &[Call], way: &Way, r: RegionId) -> 
     false
 }
 
-// Whether a listed item may be one that the way calls. It is asked of each.
+/// Whether a listed item may be one that the way calls. It is asked of each.
 #[inline(always)]
-fn meets_each(machine: &Machine, calls: &[Call], way: &Way) -> bool
+pub fn meets_each(machine: &Machine, calls: &[Call], way: &Way) -> bool
     requires rules { KeepsModelRules machine.now }
     requires way { IsWayIn machine.now way.now }
     requires items { (x : Called) → IsListed calls.now x → IsItemIn machine.now x }
@@ -59,20 +59,6 @@ fn meets_each(machine: &Machine, calls: &[Call], way: &Way) -> bool
         }
     }
     false
-}
-
-/// Whether a listed item may be one that the way calls which fires at a place. It is true at the first place.
-#[inline(always)]
-pub fn meets_fired(machine: &Machine, calls: &[Call], way: &Way, place: usize) -> bool
-    requires rules { KeepsModelRules machine.now }
-    requires way { IsWayIn machine.now way.now }
-    requires items { (x : Called) → IsListed calls.now x → IsItemIn machine.now x }
-    ensures { ((x : Called) × IsListed calls.now x × calls_by machine.now way.now x) → IsTrue result }
-{
-    if place == 0 {
-        return true;
-    }
-    meets_each(machine, calls, way)
 }
 
 /// Whether a listed item may be one that the way calls.

@@ -18,7 +18,7 @@ ghost use Rattle.pssm_plan.specs.inner.Going.{IsFollowedBy, IsFollowedRestoring}
 ghost use Rattle.pssm_plan.specs.inner.Going.{IsFollowedPlainly, IsFollowedSo};
 ghost use Rattle.pssm_plan.specs.inner.Going.{IsLongerProgress, IsFinished, IsRunSo, IsUnchanged};
 
-use crate::listing::{meets, meets_fired};
+use crate::listing::{meets, meets_each};
 use crate::roster::Roster;
 use crate::waiting::Since;
 use crate::ways::{Way, way_of};
@@ -104,15 +104,22 @@ fn fire_way(
         roster.new.calls.items) }
 {
     let way = &ways[place];
-    let anew = meets_fired(machine, roster.calls.as_slice(), way, place);
-    let since = Since {
-        calls: roster.calls.len(),
-        ways: place,
-    };
+    let anew = meets_each(machine, roster.calls.as_slice(), way);
+    let listed = roster.calls.len();
     roster.list_fired(machine, config, way)?;
     if roster.calls.as_slice().len() > MOST_CALLS {
         return Err(NoMemory);
     }
+    let before = Since {
+        calls: listed,
+        ways: place,
+    };
+    let count = roster.calls.len();
+    let now = Since {
+        calls: count,
+        ways: place + 1,
+    };
+    let since = new_since(place == 0, before, now);
     settle_fired(roster, machine, &ways[..place + 1], since, anew);
     Ok(())
 }
