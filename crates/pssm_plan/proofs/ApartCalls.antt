@@ -25,13 +25,17 @@ use Rattle.pssm_plan.specs.inner.Marks.{IsListed, IsLonger, IsNoted, IsSettled, 
 use Rattle.pssm_plan.specs.declared.waiting.Since.{Since}
 use Rattle.pssm_plan.specs.declared.waiting.Wait.{Wait}
 use Rattle.pssm_plan.specs.Waiting.{IsExact}
-use Rattle.pssm_plan.specs.inner.Sequence.{IsSequence, IsNestedPair, IsOrderedBySome, IsNoStay, AreLooseUpTo, ArePassedNested, AreApartFrom, AreNewSince, IsNewCall, IsApart, IsRoster}
+use Rattle.pssm_plan.specs.inner.Sequence.{IsSequence, IsNestedPair, IsOrderedBySome, IsResting, AreLooseUpTo, ArePassedNested, AreApartFrom, AreNewSince, IsNewCall, IsApart, IsRoster}
 use Rattle.pssm_plan.specs.inner.Calling.{IsNoExit, IsLate, IsOfRestored, IsEntered}
-use Rattle.pssm_plan.specs.inner.Going.{KeepsOrder, AreCovered, IsFollowedSo}
+use Rattle.pssm_plan.specs.inner.Going.{KeepsOrder, IsFollowedSo}
 use Rattle.pssm_plan.proofs.Growing.{lower_or_same}
 use Rattle.pssm_plan.proofs.Looking.{waiting}
 use Rattle.pssm_plan.proofs.NearWays.{way_calls_first, way_calls_second}
 use Rattle.pssm_plan.proofs.Rewriting.{AreAlike}
+
+-- the call, as one that has seen them all
+abbrev pub through_all : List Call → Call → Call
+through_all calls call = record { item = call.item; ran = call.ran; blocked = call.blocked; seen = length calls }
 
 -- of what such a call has not seen, only that comes before it which does so by where the States lie
 module _ (m : DraftMachine) (ways : List Way) (calls : List Call) (call : Call) (h : IsApart m ways calls call)
@@ -75,6 +79,36 @@ apart_now m ways old now first i d alike apart lt below come free = record {
       (subst (λ (x : Item). IsOrderedBySome m ways x (get_or now i d).item) (alike.1 k e low).0 ordered))));
 }
 
+-- a call that waits for none of the new ones
+pub rests_settled : (m : DraftMachine) (ways : List Way) (calls : List Call) (since : Since) (place nests : ℕ) (loose : Bool) (d : Call)
+    → AreNewSince m ways calls since → place < length calls → IsResting m since place loose (get_or calls place d)
+    → (IsTrue loose → length calls ≤ nests) → AreLooseUpTo m calls since.calls nests → HasSeen (IsSequence m ways) calls (get_or calls place d)
+    → IsSettled (IsSequence m ways) calls (get_or calls place d) (through_all calls (get_or calls place d))
+rests_settled m ways calls since place nests loose d new inside rests all are seen = record {
+  item_is = refl;
+  ran = refl;
+  exact = record {
+    passed = λ k e lt low up. ⊎_elim
+        (λ before. seen.passed k e before low up)
+        (λ behind. ⊎_elim
+        (λ nested. not_nested k e behind low nested)
+        (λ ordered. apart.apart k e behind low ordered)
+        up.0)
+        (cases_lt k (get_or calls place d).seen);
+    waits = λ blocked. absurd (rests.free blocked);
+    through = λ unblocked. refl;
+  };
+}
+  where
+    apart : IsApart m ways calls (get_or calls place d)
+    apart = apart_now m ways calls calls since.calls place d (refl, λ k e lt. (refl, refl)) new.apart inside rests.old rests.come rests.free
+
+    not_nested : (k : ℕ) (e : Call) → (get_or calls place d).seen ≤ k → k < length calls → IsNestedPair m (get_or calls k e).item (get_or calls place d).item → ⊥
+    not_nested k e behind low nested = ⊎_elim
+        (λ sure. let far = all sure in are k e (get_or calls place d).item (omega (arith, rests.come, behind)) (omega (arith, far, low)) low nested)
+        (λ none. none (get_or calls k e).item nested)
+        rests.none
+
 -- a new call
 pub new_now : (m : DraftMachine) (ways : List Way) (old now : List Call) (since : Since) (i : ℕ) (d : Call) → AreAlike old now
     → AreNewSince m ways old since → i < length old → since.calls ≤ i → IsNewCall m ways now (get_or now i d) since
@@ -90,24 +124,6 @@ new_now m ways old now since i d alike h lt le = record {
       (subst (λ (x : Item). IsOrderedBySome m ways x (get_or now i d).item) (alike.1 j e low).0 ordered))));
   by = λ way inside calls. h.by i d le lt way inside (subst (calls_by m way) (alike.1 i d lt).0 calls);
 }
-
-no_stay_nested : (m : DraftMachine) (x y : Item) → IsNoStay y → IsNestedPair m x y → ⊥
-no_stay_nested m (items.Exit s) (items.Exit q) none h = none
-no_stay_nested m (items.Exit s) (items.Effect t) none h = h
-no_stay_nested m (items.Exit s) (items.Enter q) none h = none
-no_stay_nested m (items.Exit s) (items.Opened r mode) none h = h
-no_stay_nested m (items.Exit s) (items.Pick c) none h = h
-no_stay_nested m (items.Enter s) (items.Exit q) none h = none
-no_stay_nested m (items.Enter s) (items.Effect t) none h = h
-no_stay_nested m (items.Enter s) (items.Enter q) none h = none
-no_stay_nested m (items.Enter s) (items.Opened r mode) none h = h
-no_stay_nested m (items.Enter s) (items.Pick c) none h = h
-no_stay_nested m (items.Effect t) y none h = h
-no_stay_nested m (items.Opened r mode) y none h = h
-no_stay_nested m (items.Pick c) y none h = h
-
-pub no_stay_passed : (m : DraftMachine) (calls : List Call) (item : Item) (place : ℕ) → IsNoStay item → ArePassedNested m calls item place
-no_stay_passed m calls item place none k d lt inside up = no_stay_nested m (get_or calls k d).item item none up.0
 
 -- a new call has as good as seen all before the new ones of which none holds it up by where their States lie
 pub begun_seen : (m : DraftMachine) (ways : List Way) (calls : List Call) (call begun : Call) (since : Since) → IsNewCall m ways calls call since
@@ -199,14 +215,14 @@ settled_begun Comes calls begun call wait item ran s = record {
       s.exact;
 }
 
--- once an item is noted as run
-pub noted_new : (m : DraftMachine) (ways : List Way) (item : Item) (old now : List Call) (since : Since) → ArePairwise (IsNoted item) old now
-    → AreNewSince m ways old since → AreNewSince m ways now since
-noted_new m ways item old now since noted h = record {
-  within = omega (arith, noted.0, h.within);
+-- the same calls are new in a list of the same items
+new_same : (m : DraftMachine) (ways : List Way) (old now : List Call) (since : Since) → length now ≡ length old
+    → ((k : ℕ) (d : Call) → k < length old → (get_or now k d).item ≡ (get_or old k d).item) → AreNewSince m ways old since → AreNewSince m ways now since
+new_same m ways old now since long items h = record {
+  within = omega (arith, long, h.within);
   ways_within = h.ways_within;
   apart = λ j k d before behind inside ordered.
-      (let high : k < length old = omega (arith, noted.0, inside) in
+      (let high : k < length old = omega (arith, long, inside) in
       let low : j < length old = omega (arith, high, before, behind) in
       h.apart j k d before behind high
       (⊎_elim
@@ -214,15 +230,24 @@ noted_new m ways item old now since noted h = record {
       (λ first. inr (along j k d low high first))
       ordered));
   by = λ k d le inside way there calls.
-      (let high : k < length old = omega (arith, noted.0, inside) in
-      h.by k d le high way there (subst (calls_by m way) (noted.1 k d high).item_is calls));
+      (let high : k < length old = omega (arith, long, inside) in
+      h.by k d le high way there (subst (calls_by m way) (items k d high) calls));
 }
   where
     along : (i k : ℕ) (d : Call) → i < length old → k < length old → IsOrderedBySome m ways (get_or now i d).item (get_or now k d).item
         → IsOrderedBySome m ways (get_or old i d).item (get_or old k d).item
     along i k d x y ordered =
-        subst (λ (z : Item). IsOrderedBySome m ways (get_or old i d).item z) (noted.1 k d y).item_is
-        (subst (λ (z : Item). IsOrderedBySome m ways z (get_or now k d).item) (noted.1 i d x).item_is ordered)
+        subst (λ (z : Item). IsOrderedBySome m ways (get_or old i d).item z) (items k d y)
+        (subst (λ (z : Item). IsOrderedBySome m ways z (get_or now k d).item) (items i d x) ordered)
+
+pub new_along : (m : DraftMachine) (ways : List Way) (old now : List Call) (since : Since) → AreAlike old now → AreNewSince m ways old since
+    → AreNewSince m ways now since
+new_along m ways old now since alike = new_same m ways old now since alike.0 (λ k d lt. (alike.1 k d lt).0)
+
+-- once an item is noted as run
+pub noted_new : (m : DraftMachine) (ways : List Way) (item : Item) (old now : List Call) (since : Since) → ArePairwise (IsNoted item) old now
+    → AreNewSince m ways old since → AreNewSince m ways now since
+noted_new m ways item old now since noted = new_same m ways old now since noted.0 (λ k d lt. (noted.1 k d lt).item_is)
 
 pub none_new : (m : DraftMachine) (ways : List Way) (calls : List Call) (since : Since) → since.calls ≡ length calls → since.ways ≡ length ways
     → AreNewSince m ways calls since
@@ -265,9 +290,10 @@ followed_no_exit m old item Nothing new h x listed =
     ⊎_elim (λ was. inl was) (λ added. inr (entered_no_exit m old.ways.items old.restored.items item x added)) ((h.extended.listed x).0 listed)
 
 -- no way orders what has been added before what was there
-module _ (m : DraftMachine) (old grown : List Call) (ways more : List Way) (longer : IsLonger old grown) (roster : IsRoster m grown)
-    (kept : KeepsOrder m old ways more) (covered : AreCovered m ways old)
-    (added : (x : Item) → IsListed grown x → IsListed old x ⊎ IsNoExit x) where
+module _ (m : DraftMachine) (May : Item → Type 0) (old grown : List Call) (ways more : List Way) (longer : IsLonger old grown) (roster : IsRoster m grown)
+    (kept : KeepsOrder m old ways more)
+    (covered : (way : Way) (x : Item) → Contains ways way → May x → calls_by m way x → IsListed old x)
+    (added : (x : Item) → IsListed grown x → IsListed old x ⊎ May x) where
   same : (k : ℕ) (d : Call) → k < length old → get_or grown k d ≡ get_or old k d
   same k d low = ap (λ (l : List Call). get_or l k d) longer.1 ∙ get_or_append_left old longer.0 d k low
 
@@ -284,7 +310,7 @@ module _ (m : DraftMachine) (old grown : List Call) (ways more : List Way) (long
   not_called k d way le lt inside calls =
       ⊎_elim
       (λ was. not_listed k d le lt was)
-      (λ no_exit. not_listed k d le lt (covered way (get_or grown k d).item inside no_exit calls))
+      (λ may. not_listed k d le lt (covered way (get_or grown k d).item inside may calls))
       (added (get_or grown k d).item (get_or grown k d, Contains-get_or grown k d lt, refl))
 
   listed_before : (j : ℕ) (d : Call) → j < length old → IsListed old (get_or grown j d).item

@@ -7,7 +7,6 @@ use Rattle.pssm_model.specs.declared.elements.DraftMachine.{DraftMachine}
 use Rattle.pssm_model.specs.declared.steps.How.{How}
 use Rattle.pssm_model.specs.declared.steps.How.TheVariants.{By, Restore, Nothing}
 use Rattle.pssm_model.specs.declared.steps.Item.{Item}
-use Rattle.pssm_model.specs.Configuration.{Configuration}
 use Rattle.pssm_plan.specs.declared.ways.Way.{Way}
 use Rattle.pssm_plan.specs.declared.roster.Call.{Call}
 use Rattle.pssm_plan.specs.declared.progress.Progress.{Progress}
@@ -15,10 +14,10 @@ use Rattle.pssm_plan.specs.declared.progress.Restored.{Restored}
 use Rattle.pssm_plan.specs.Waiting.{IsExact}
 use Rattle.pssm_plan.specs.Ways.{AreWaysIn}
 use Rattle.pssm_plan.specs.inner.ByWays.{calls_by, orders_by}
-use Rattle.pssm_plan.specs.inner.Marks.{IsListed, IsLonger, IsFresh, IsTold, IsForgotten, IsNoted, IsSettled, HasSeen, AreThrough, ArePairwise}
+use Rattle.pssm_plan.specs.inner.Marks.{IsListed, IsLonger, IsFresh, IsTold, IsForgotten, IsNoted, HasSeen, AreThrough, ArePairwise}
 use Rattle.pssm_plan.specs.inner.Sequence.{IsSequence, IsOrderedBySome, AreItemsOf, IsRoster, IsExtended}
-use Rattle.pssm_plan.specs.inner.Calling.{IsTopOpening, IsOfWays, IsEntered}
-use Rattle.pssm_plan.specs.inner.Going.{IsMadeOf, KeepsOrder, IsLongerProgress, IsFollowedPlainly, IsFollowedSo, IsFinished, IsRunSo, IsUnchanged}
+use Rattle.pssm_plan.specs.inner.Calling.{IsEntered}
+use Rattle.pssm_plan.specs.inner.Going.{KeepsOrder, IsLongerProgress, IsFollowedPlainly, IsFollowedSo, IsFinished, IsRunSo, IsUnchanged}
 use Rattle.pssm_plan.proofs.Growing.{longer_same}
 use Rattle.pssm_plan.proofs.Firing.{nothing_among, one_more_way}
 use Rattle.pssm_plan.proofs.NearWays.{way_calls_first, way_calls_second}
@@ -166,28 +165,6 @@ from_nothing m old new Added none h call inside =
     (λ was. absurd (nothing_among old call none was))
     (λ fresh. fresh)
     (h.fresh call inside)
-
--- a list that is made where nothing was, of what the ways call
-pub made_by_ways : (m : DraftMachine) (now : Configuration) (said ways : List Way) (old first calls : List Call) → old ≡ [] → said ≡ ways
-    → IsExtended m old (IsOfWays m now said) first → ArePairwise (IsSettled (IsSequence m said) first) first calls
-    → IsMadeOf m ways (IsOfWays m now ways) calls
-made_by_ways m now said ways old first calls none same extended settled =
-    subst (λ (l : List Way). IsMadeOf m l (IsOfWays m now l) calls) same (record {
-      first = first;
-      extended = subst (λ (l : List Call). IsExtended m l (IsOfWays m now said) first) none extended;
-      settled = settled;
-    })
-
--- the same of the openings of a start
-pub made_by_tops : (m : DraftMachine) (said : List Way) (old first calls : List Call) → old ≡ [] → said ≡ []
-    → IsExtended m old (IsTopOpening m) first → ArePairwise (IsSettled (IsSequence m said) first) first calls
-    → IsMadeOf m [] (IsTopOpening m) calls
-made_by_tops m said old first calls none same extended settled =
-    subst (λ (l : List Way). IsMadeOf m l (IsTopOpening m) calls) same (record {
-      first = first;
-      extended = subst (λ (l : List Call). IsExtended m l (IsTopOpening m) first) none extended;
-      settled = settled;
-    })
 
 -- progress that is cut back to what it was before it grew
 pub back_again : (old grown new : Progress) (calls ways restored : ℕ) → IsLongerProgress old grown → calls ≡ length old.roster.calls.items

@@ -4,6 +4,7 @@ pub mod Growing
 pub mod Rewriting
 pub mod Forgetting
 pub mod Settling
+pub mod FiredWays
 pub mod Firing
 pub mod Following
 pub mod Looking

@@ -1,9 +1,11 @@
 -- A list of calls that is gone through, each call in its place becoming another.
 use Rattle.std.proofs.Common.{◌≡◌, ◌≢◌, ◌+◌, ◌<◌, ◌≤◌, ℕ, List, length, get_or, set, IsTrue, Bool, arith, sym, subst, ap, refl, ◌∙◌, ⊎_elim}
 use Rattle.std.proofs.lemmas.List.{get_or-set_same, get_or-set_other, length-set, get_or_default}
+use Rattle.pssm_model.specs.declared.elements.DraftMachine.{DraftMachine}
 use Rattle.pssm_model.specs.declared.steps.Item.{Item}
 use Rattle.pssm_plan.specs.declared.roster.Call.{Call}
 use Rattle.pssm_plan.specs.inner.Marks.{IsListed, IsMarked, ArePairwise}
+use Rattle.pssm_plan.specs.inner.Sequence.{IsRoster}
 use Rattle.pssm_plan.proofs.Growing.{lower_or_same}
 
 -- the calls below a number are rewritten, and the others are as they were
@@ -65,3 +67,17 @@ listed_along a b x long same listed =
     let lt : k < length b = omega (arith, long, listed.1.1) in
     let at = get_or b k listed.0 in
     (at, (k, lt, get_or_default b k at listed.0 lt), same k listed.0 listed.1.1 ∙ ap (λ (c : Call). c.item) listed.1.2 ∙ listed.2)
+
+-- a roster of the same items in the same places
+pub roster_along : (m : DraftMachine) (a b : List Call) → length b ≡ length a
+    → ((k : ℕ) (d : Call) → k < length a → (get_or b k d).item ≡ (get_or a k d).item) → IsRoster m a → IsRoster m b
+roster_along m a b long same r = record {
+  items = λ x h. r.items x (back x h);
+  once = λ i j d lt inside e.
+      (let low : i < length a = omega (arith, long) in
+      let high : j < length a = omega (arith, long) in
+      r.once i j d lt high (sym (same i d low) ∙ e ∙ same j d high));
+}
+  where
+    back : (x : Item) → IsListed b x → IsListed a x
+    back x h = listed_along b a x (sym long) (λ k d lt. sym (same k d (omega (arith, long)))) h

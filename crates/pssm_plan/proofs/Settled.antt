@@ -47,23 +47,9 @@ use Rattle.pssm_plan.proofs.MoreRan.{gone_on, nothing_ran, run_more}
 use Rattle.pssm_plan.proofs.WayLaws.{called_is, called_of, before_both, called_there}
 use Rattle.pssm_plan.proofs.RouteSteps.{late_is_step}
 use Rattle.pssm_plan.proofs.CalledNext.{restored_one, called_kept, called_by, called_restoring, called_plainly, ways_by, ways_restoring, ways_plainly}
-use Rattle.pssm_plan.proofs.Rewriting.{marked_along, listed_along, alike_back}
+use Rattle.pssm_plan.proofs.Rewriting.{marked_along, listed_along, alike_back, roster_along}
 use Rattle.pssm_plan.proofs.Settling.{set_or_not, exact_along, exact_same}
 use Rattle.pssm_plan.proofs.StandingItems.{one_call}
-
--- a roster of the same items in the same places
-roster_along : (m : DraftMachine) (a b : List Call) → length b ≡ length a
-    → ((k : ℕ) (d : Call) → k < length a → (get_or b k d).item ≡ (get_or a k d).item) → IsRoster m a → IsRoster m b
-roster_along m a b long same r = record {
-  items = λ x h. r.items x (back x h);
-  once = λ i j d lt inside e.
-      (let low : i < length a = omega (arith, long) in
-      let high : j < length a = omega (arith, long) in
-      r.once i j d lt high (sym (same i d low) ∙ e ∙ same j d high));
-}
-  where
-    back : (x : Item) → IsListed b x → IsListed a x
-    back x h = listed_along b a x (sym long) (λ k d lt. sym (same k d (omega (arith, long)))) h
 
 -- a settled roster of what the step calls is its plan
 module _ {m : DraftMachine} (head : Head) (tables : Tables) (ran : List (Item × How)) (gone : HasGone m head (configuration_of tables) ran)
@@ -149,28 +135,16 @@ module _ {m : DraftMachine} (head : Head) (tables : Tables) (ran : List (Item ×
           ))
           (set_or_not call.blocked)
 
-none_listed : (x : Item) → IsListed [] x → ⊥
-none_listed x h = nothing_in_nil h.0 h.1
-
-none_marked : (x : Item) → IsMarked [] x → ⊥
-none_marked x h = nothing_in_nil h.0 h.1
-
 -- a roster of what the head calls is its plan
 made_plan : {m : DraftMachine} (head : Head) (tables : Tables) (ways : List Way) (Added : Item → Type 0) (calls : List Call)
     → ((route : Route) → FiresBy head route → IsStateRoute m route) → AreWaysOf m (course_by head (configuration_of tables) []) ways []
     → ((x : Item) → Added x ↔ Called m (course_by head (configuration_of tables) []) x) → IsMadeOf m ways Added calls
     → IsPlanOf m (record { head = head; at_head = tables; ran = []; calls = calls; ways = ways; restored = [] })
 made_plan {m} head tables ways Added calls fires are same made =
-    settled_plan head tables [] (begun fires) ways [] are made.first calls made.extended.roster
-    (λ x. (
-      λ h. ⊎_elim (λ none. absurd (none_listed x none)) (λ added. (same x).0 added) ((made.extended.listed x).0 h),
-      λ h. (made.extended.listed x).1 (inr ((same x).1 h)),
-    ))
-    (λ x. (
-      λ h. absurd (none_marked x ((made.extended.marked x).0 h)),
-      λ h. absurd (nothing_ran head (configuration_of tables) x h),
-    ))
-    made.settled
+    settled_plan head tables [] (begun fires) ways [] are calls calls made.roster
+    (λ x. (λ h. (same x).0 ((made.listed x).0 h), λ h. (made.listed x).1 ((same x).1 h)))
+    (λ x. (λ h. absurd (made.marked x h), λ h. absurd (nothing_ran head (configuration_of tables) x h)))
+    (refl, λ k d lt. record { item_is = refl; ran = refl; exact = made.exact (get_or calls k d) (Contains-get_or calls k d lt) })
 
 -- the roster of a plan
 module _ (m : DraftMachine) (shape : HasShape m) (plan : Agenda) (h : IsPlanOf m plan) where

@@ -18,7 +18,7 @@ ghost use Rattle.pssm_plan.specs.inner.Calling.{IsOtherBy, IsReopened, IsLate, I
 ghost use Rattle.pssm_plan.specs.inner.Direct.{IsDirect, IsReopenedIn};
 ghost use Rattle.pssm_plan.specs.inner.Calling.{IsDefaultOf, IsRestoredOf, IsOpenedByEntry, IsEntered};
 
-use crate::direct::{direct_region, may_call_directly};
+use crate::direct::{direct_region, may_call, may_call_directly};
 use crate::near::comes_near;
 use crate::progress::Restored;
 use crate::roster::{Call, Roster, has_run};
@@ -39,6 +39,22 @@ fn meets_directly(machine: &Machine, calls: &[Call], way: &Way, r: RegionId) -> 
     let _shaped = machine.regions();
     for call in calls {
         if may_call_directly(way, r, call.item) {
+            return true;
+        }
+    }
+    false
+}
+
+/// Whether a listed item may be one that the way calls. It is asked of each.
+#[inline(always)]
+pub fn meets_each(machine: &Machine, calls: &[Call], way: &Way) -> bool
+    requires rules { KeepsModelRules machine.now }
+    requires way { IsWayIn machine.now way.now }
+    requires items { (x : Called) → IsListed calls.now x → IsItemIn machine.now x }
+    ensures { ((x : Called) × IsListed calls.now x × calls_by machine.now way.now x) → IsTrue result }
+{
+    for call in calls {
+        if may_call(machine, way, call.item) {
             return true;
         }
     }

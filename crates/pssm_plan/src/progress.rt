@@ -1,5 +1,5 @@
 //! How far a step has come: what it calls, the routes by which it goes, and what it has restored.
-ghost use Rattle.std.specs.Prelude.{◌^◌, ◌≡◌, ◌≢◌, ◌<◌, ◌≤◌, [], length, take, AllPairs, Contains};
+ghost use Rattle.std.specs.Prelude.{◌^◌, ◌≡◌, ◌≢◌, ◌<◌, ◌≤◌, ◌+◌, [], length, take, AllPairs, Contains};
 ghost use Rattle.std.specs.Prelude.{OnOk, OnErr, IfOk, IsTrue};
 ghost use Rattle.pssm_model.specs.declared.steps.Route.{Route as TheRoute};
 ghost use Rattle.pssm_model.specs.declared.steps.How.TheVariants.{Restore};
@@ -10,7 +10,7 @@ ghost use Rattle.pssm_legs.specs.Calls.{IsItemIn};
 ghost use Rattle.pssm_plan.specs.declared.roster.Call.{Call};
 ghost use Rattle.pssm_plan.specs.Waiting.{IsExact};
 ghost use Rattle.pssm_plan.specs.Ways.{AreWaysIn};
-ghost use Rattle.pssm_plan.specs.inner.Marks.{IsFresh, HasSeen, IsTold, IsNoted, AreThrough, IsSettled, ArePairwise};
+ghost use Rattle.pssm_plan.specs.inner.Marks.{IsFresh, HasSeen, IsTold, IsNoted, IsAlike, AreThrough, IsSettled, ArePairwise};
 ghost use Rattle.pssm_plan.specs.inner.Sequence.{IsSequence, AreItemsOf, AreNewSince, IsRoster, IsExtended};
 ghost use Rattle.pssm_plan.specs.inner.Calling.{IsTopOpening, IsOfWays};
 ghost use Rattle.pssm_plan.specs.inner.Going.{IsMadeOf, AreFired, CanRunSo, KeepsOrder, AreCovered};
@@ -18,7 +18,7 @@ ghost use Rattle.pssm_plan.specs.inner.Going.{IsFollowedBy, IsFollowedRestoring}
 ghost use Rattle.pssm_plan.specs.inner.Going.{IsFollowedPlainly, IsFollowedSo};
 ghost use Rattle.pssm_plan.specs.inner.Going.{IsLongerProgress, IsFinished, IsRunSo, IsUnchanged};
 
-use crate::listing::meets;
+use crate::listing::{meets, meets_each};
 use crate::roster::Roster;
 use crate::waiting::Since;
 use crate::ways::{Way, way_of};
@@ -44,22 +44,103 @@ pub struct Progress {
 /// The most items that a plan lists; for more there is no memory.
 const MOST_CALLS: usize = 4_294_967_295;
 
-// Lists what each of the ways calls that fire.
-fn list_all_fired(
+// Says of each call once more for which one it waits; none relies on what it has seen.
+#[inline(never)]
+fn settle_anew(roster: &mut Roster, machine: &Machine, ways: &[Way])
+    requires rules { KeepsModelRules machine.now }
+    requires ways { AreWaysIn machine.now ways.now }
+    requires items { AreItemsOf machine.now roster.old.calls.items }
+    requires few { length roster.old.calls.items < 2 ^ 32 }
+    ensures alike { ArePairwise IsAlike roster.old.calls.items roster.new.calls.items }
+    ensures exact { (call : Call) → Contains roster.new.calls.items call
+        → IsExact (IsSequence machine.now ways.now) roster.new.calls.items call }
+{
+    roster.forget();
+    let since = Since {
+        calls: roster.calls.len(),
+        ways: ways.len(),
+    };
+    roster.settle(machine, ways, since, true);
+}
+
+// Says of each call for which one it waits; `anew` where none may rely on what it has seen.
+#[inline(always)]
+fn settle_fired(roster: &mut Roster, machine: &Machine, ways: &[Way], since: Since, anew: bool)
+    requires rules { KeepsModelRules machine.now }
+    requires ways { AreWaysIn machine.now ways.now }
+    requires items { AreItemsOf machine.now roster.old.calls.items }
+    requires few { length roster.old.calls.items < 2 ^ 32 }
+    requires seen { (IsTrue anew → ⊥) → (call : Call) → Contains roster.old.calls.items call
+        → HasSeen (IsSequence machine.now ways.now) roster.old.calls.items call }
+    requires new { (IsTrue anew → ⊥) → AreNewSince machine.now ways.now roster.old.calls.items since }
+    ensures alike { ArePairwise IsAlike roster.old.calls.items roster.new.calls.items }
+    ensures exact { (call : Call) → Contains roster.new.calls.items call
+        → IsExact (IsSequence machine.now ways.now) roster.new.calls.items call }
+{
+    if anew {
+        settle_anew(roster, machine, ways);
+    } else {
+        roster.settle(machine, ways, since, true);
+    }
+}
+
+// Lists what the way at a place calls, where what the ways before it call is listed and settled, and settles it.
+fn fire_way(
+    roster: &mut Roster,
+    machine: &Machine,
+    config: &Config,
+    ways: &[Way],
+    place: usize,
+) -> Result<(), NoMemory>
+    requires rules { KeepsModelRules machine.now }
+    requires fits { Fits machine.now config.now }
+    requires ways { AreWaysIn machine.now ways.now }
+    requires there { place < length ways.now }
+    requires made { IsMadeOf machine.now (take place ways.now)
+        (IsOfWays machine.now (configuration_of config.now) (take place ways.now)) roster.old.calls.items }
+    ensures few { OnOk result (length roster.new.calls.items < 2 ^ 32) }
+    ensures made { OnOk result (IsMadeOf machine.now (take (place + 1) ways.now)
+        (IsOfWays machine.now (configuration_of config.now) (take (place + 1) ways.now))
+        roster.new.calls.items) }
+{
+    let way = &ways[place];
+    let anew = meets_each(machine, roster.calls.as_slice(), way);
+    let listed = roster.calls.len();
+    roster.list_fired(machine, config, way)?;
+    if roster.calls.as_slice().len() > MOST_CALLS {
+        return Err(NoMemory);
+    }
+    let before = Since {
+        calls: listed,
+        ways: place,
+    };
+    let count = roster.calls.len();
+    let now = Since {
+        calls: count,
+        ways: place + 1,
+    };
+    let since = new_since(place == 0, before, now);
+    settle_fired(roster, machine, &ways[..place + 1], since, anew);
+    Ok(())
+}
+
+// Lists what each of the ways calls that fire, one after another, and settles it.
+fn fire_all(
     roster: &mut Roster,
     machine: &Machine,
     config: &Config,
     ways: &[Way],
 ) -> Result<(), NoMemory>
     requires rules { KeepsModelRules machine.now }
-    requires roster { IsRoster machine.now roster.old.calls.items }
     requires fits { Fits machine.now config.now }
     requires ways { AreWaysIn machine.now ways.now }
-    ensures added { OnOk result (IsExtended machine.now roster.old.calls.items
+    requires none { roster.old.calls.items ≡ [] }
+    ensures few { OnOk result (length roster.new.calls.items < 2 ^ 32) }
+    ensures made { OnOk result (IsMadeOf machine.now ways.now
         (IsOfWays machine.now (configuration_of config.now) ways.now) roster.new.calls.items) }
 {
-    for way in ways {
-        roster.list_fired(machine, config, way)?;
+    for place in 0..ways.len() {
+        fire_way(roster, machine, config, ways, place)?;
     }
     Ok(())
 }
@@ -182,9 +263,7 @@ impl Progress {
         self.restored.clear();
         add_ways(alloc, &mut self.ways, machine, routes)?;
         let ways = self.ways.as_slice();
-        list_all_fired(&mut self.roster, machine, config, ways)?;
-        settle_first(&mut self.roster, machine, ways)?;
-        Ok(())
+        fire_all(&mut self.roster, machine, config, ways)
     }
 
     // The places behind its calls and its ways.

@@ -1,13 +1,13 @@
 //! Which of the listed items wait for others.
-ghost use Rattle.std.specs.Prelude.{◌≡◌, ◌↔◌, ◌<◌, ◌≤◌, ◌^◌, IsTrue, Contains, length};
+ghost use Rattle.std.specs.Prelude.{◌≡◌, ◌↔◌, ◌<◌, ◌≤◌, ◌^◌, IsTrue, Contains, length, slice_index_or};
 ghost use Rattle.pssm_model.specs.WellFormed.{KeepsModelRules};
 ghost use Rattle.pssm_legs.specs.Calls.{IsItemIn};
 ghost use Rattle.pssm_plan.specs.declared.roster.Call.{Call};
 ghost use Rattle.pssm_plan.specs.Waiting.{HoldsUp};
 ghost use Rattle.pssm_plan.specs.Ways.{AreWaysIn};
-ghost use Rattle.pssm_plan.specs.inner.Marks.{HasSeen, IsHeldAt, IsUpToDate, AreThrough, IsSettled, IsSettledSo, ArePairwise};
+ghost use Rattle.pssm_plan.specs.inner.Marks.{HasSeen, IsHeldAt, IsUpToDate, AreThrough, IsSettled, IsSettledSo, IsSettledAt, ArePairwise};
 ghost use Rattle.pssm_plan.specs.inner.Sequence.{IsSomeLong, IsSequence, IsNestedPair, AreItemsOf};
-ghost use Rattle.pssm_plan.specs.inner.Sequence.{AreNewSince, IsNewCall, IsApart, IsNoStay, AreLooseUpTo, ArePassedNested};
+ghost use Rattle.pssm_plan.specs.inner.Sequence.{AreNewSince, IsNewCall, IsApart, IsNestedInNone, IsResting, AreLooseUpTo, ArePassedNested};
 ghost use Rattle.pssm_model.specs.declared.steps.Item.{Item as Waiting};
 
 use crate::roster::{Call, Roster};
@@ -200,12 +200,18 @@ fn look_on(machine: &Machine, ways: &[Way], calls: &[Call], call: &Call) -> Wait
     }
 }
 
-// Whether an item is an exit or an entry, which another may come before by where their States lie.
+// Whether another item may come before an item by where their States lie: before exits of States with regions, and
+// entries.
 #[inline(always)]
-fn may_nest(item: Item) -> bool
-    ensures { (IsTrue result → ⊥) → IsNoStay item }
+fn may_wait(machine: &Machine, item: Item) -> bool
+    requires item { IsItemIn machine.now item }
+    ensures { (IsTrue result → ⊥) → IsNestedInNone machine.now item }
 {
-    matches!(item, Item::Exit(_) | Item::Enter(_))
+    match item {
+        Item::Exit(s) => !machine.regions_of(s).is_empty(),
+        Item::Enter(_) => true,
+        Item::Effect(_) | Item::Opened(_, _) | Item::Pick(_) => false,
+    }
 }
 
 // The place of the first of the calls before a place that holds up a call by where their States lie, or that place.
@@ -224,7 +230,7 @@ fn first_nested(machine: &Machine, calls: &[Call], call: &Call, first: usize) ->
     first
 }
 
-// The same; for what is neither exit nor entry it is the place itself.
+// The same; where none comes before it so, it is the place itself.
 #[inline(always)]
 fn first_before(machine: &Machine, calls: &[Call], call: &Call, first: usize) -> usize
     requires items { AreItemsOf machine.now calls.now }
@@ -233,7 +239,7 @@ fn first_before(machine: &Machine, calls: &[Call], call: &Call, first: usize) ->
     ensures within { result ≤ first }
     ensures none { ArePassedNested machine.now calls.now call.now.item result }
 {
-    if may_nest(call.item) {
+    if may_wait(machine, call.item) {
         first_nested(machine, calls, call, first)
     } else {
         first
@@ -260,7 +266,7 @@ fn begun(machine: &Machine, ways: &[Way], calls: &[Call], call: &Call, since: Si
 }
 
 // Whether a new call waits, once it has looked further. Only new ways say something of it.
-#[inline(never)]
+#[inline(always)]
 fn look_new(machine: &Machine, ways: &[Way], calls: &[Call], call: &Call, since: Since) -> Wait
     requires rules { KeepsModelRules machine.now }
     requires ways { AreWaysIn machine.now ways.now }
@@ -398,6 +404,149 @@ fn look(
     }
 }
 
+// Whether a call is neither new nor blocked, and has seen all before the new ones.
+#[inline(always)]
+fn has_come(call: Call, place: usize, since: Since) -> bool
+    ensures { IsTrue result → ((place < since.calls) × (since.calls ≤ call.seen) × (IsTrue call.blocked → ⊥)) }
+{
+    !call.blocked && place < since.calls && since.calls <= call.seen as usize
+}
+
+// Whether such a call waits for none of the new ones: none of them comes before others by where their States lie, or
+// none comes before this one so.
+#[inline(always)]
+fn rests(machine: &Machine, calls: &[Call], place: usize, since: Since, loose: bool) -> bool
+    requires items { AreItemsOf machine.now calls.now }
+    requires there { place < length calls.now }
+    ensures { IsTrue result → (d : Call) → IsResting machine.now since place loose (slice_index_or calls.now place d) }
+{
+    has_come(calls[place], place, since) && (loose || !may_wait(machine, calls[place].item))
+}
+
+// Whether none of the new calls may come before others by where their States lie.
+#[inline(always)]
+fn is_loose(calls: &[Call], nests: usize) -> bool
+    ensures { IsTrue result → length calls.now ≤ nests }
+{
+    calls.len() <= nests
+}
+
+// Says of the call at a place whether it waits, and for which one.
+#[inline(never)]
+fn look_at(
+    machine: &Machine,
+    ways: &[Way],
+    calls: &mut [Call],
+    place: usize,
+    since: Since,
+    nests: usize,
+)
+    requires rules { KeepsModelRules machine.now }
+    requires ways { AreWaysIn machine.now ways.now }
+    requires items { AreItemsOf machine.now calls.old }
+    requires few { length calls.old < 2 ^ 32 }
+    requires there { place < length calls.old }
+    requires seen { (d : Call) → HasSeen (IsSequence machine.now ways.now) calls.old (slice_index_or calls.old place d) }
+    requires new { AreNewSince machine.now ways.now calls.old since }
+    requires within { nests ≤ length calls.old }
+    requires loose { AreLooseUpTo machine.now calls.old since.calls nests }
+    ensures { IsSettledAt (IsSequence machine.now ways.now) calls.old place calls.new }
+{
+    let all = &calls[..];
+    let wait = look(machine, ways, all, &all[place], place, since, nests);
+    calls[place] = Call {
+        blocked: wait.blocked,
+        seen: wait.seen,
+        ..calls[place]
+    };
+}
+
+// The same; a call that rests is not looked at.
+#[inline(always)]
+fn settle_at(
+    machine: &Machine,
+    ways: &[Way],
+    calls: &mut [Call],
+    place: usize,
+    since: Since,
+    nests: usize,
+)
+    requires rules { KeepsModelRules machine.now }
+    requires ways { AreWaysIn machine.now ways.now }
+    requires items { AreItemsOf machine.now calls.old }
+    requires few { length calls.old < 2 ^ 32 }
+    requires there { place < length calls.old }
+    requires seen { (d : Call) → HasSeen (IsSequence machine.now ways.now) calls.old (slice_index_or calls.old place d) }
+    requires new { AreNewSince machine.now ways.now calls.old since }
+    requires within { nests ≤ length calls.old }
+    requires loose { AreLooseUpTo machine.now calls.old since.calls nests }
+    ensures { IsSettledAt (IsSequence machine.now ways.now) calls.old place calls.new }
+{
+    let loose = is_loose(calls, nests);
+    if rests(machine, calls, place, since, loose) {
+        calls[place].seen = calls.len() as u32;
+    } else {
+        look_at(machine, ways, calls, place, since, nests);
+    }
+}
+
+// Says of the call at a place whether it waits, and for which one, where no call is new.
+#[inline(never)]
+fn look_once_more(machine: &Machine, ways: &[Way], calls: &mut [Call], place: usize)
+    requires rules { KeepsModelRules machine.now }
+    requires ways { AreWaysIn machine.now ways.now }
+    requires items { AreItemsOf machine.now calls.old }
+    requires few { length calls.old < 2 ^ 32 }
+    requires there { place < length calls.old }
+    requires seen { (d : Call) → HasSeen (IsSequence machine.now ways.now) calls.old (slice_index_or calls.old place d) }
+    ensures { IsSettledAt (IsSequence machine.now ways.now) calls.old place calls.new }
+{
+    let all = &calls[..];
+    let wait = look_on(machine, ways, all, &all[place]);
+    calls[place] = Call {
+        blocked: wait.blocked,
+        seen: wait.seen,
+        ..calls[place]
+    };
+}
+
+// Says of each call whether it waits, and for which one, where no call is new.
+#[inline(always)]
+fn settle_old(machine: &Machine, ways: &[Way], calls: &mut [Call])
+    requires rules { KeepsModelRules machine.now }
+    requires ways { AreWaysIn machine.now ways.now }
+    requires items { AreItemsOf machine.now calls.old }
+    requires few { length calls.old < 2 ^ 32 }
+    requires seen { (call : Call) → Contains calls.old call → HasSeen (IsSequence machine.now ways.now) calls.old call }
+    requires through { AreThrough calls.old }
+    ensures { ArePairwise (IsSettled (IsSequence machine.now ways.now) calls.old) calls.old calls.new }
+{
+    for k in 0..calls.len() {
+        if !is_up_to_date(calls, calls[k], false) {
+            look_once_more(machine, ways, calls, k);
+        }
+    }
+}
+
+// Says of each call whether it waits, and for which one, where calls may be new.
+#[inline(always)]
+fn settle_grown(machine: &Machine, ways: &[Way], calls: &mut [Call], since: Since)
+    requires rules { KeepsModelRules machine.now }
+    requires ways { AreWaysIn machine.now ways.now }
+    requires items { AreItemsOf machine.now calls.old }
+    requires few { length calls.old < 2 ^ 32 }
+    requires seen { (call : Call) → Contains calls.old call → HasSeen (IsSequence machine.now ways.now) calls.old call }
+    requires new { AreNewSince machine.now ways.now calls.old since }
+    ensures { ArePairwise (IsSettled (IsSequence machine.now ways.now) calls.old) calls.old calls.new }
+{
+    let nests = first_nesting(machine, calls, since.calls);
+    for k in 0..calls.len() {
+        if !is_up_to_date(calls, calls[k], true) {
+            settle_at(machine, ways, calls, k, since, nests);
+        }
+    }
+}
+
 // Says of each call whether it waits, and for which one.
 fn settle_all(machine: &Machine, ways: &[Way], calls: &mut [Call], since: Since, grown: bool)
     requires rules { KeepsModelRules machine.now }
@@ -409,17 +558,10 @@ fn settle_all(machine: &Machine, ways: &[Way], calls: &mut [Call], since: Since,
     requires through { (IsTrue grown → ⊥) → AreThrough calls.old }
     ensures { ArePairwise (IsSettled (IsSequence machine.now ways.now) calls.old) calls.old calls.new }
 {
-    let nests = first_nesting(machine, calls, since.calls);
-    for k in 0..calls.len() {
-        if !is_up_to_date(calls, calls[k], grown) {
-            let all = &calls[..];
-            let wait = look(machine, ways, all, &all[k], k, since, nests);
-            calls[k] = Call {
-                blocked: wait.blocked,
-                seen: wait.seen,
-                ..calls[k]
-            };
-        }
+    if grown {
+        settle_grown(machine, ways, calls, since);
+    } else {
+        settle_old(machine, ways, calls);
     }
 }
 

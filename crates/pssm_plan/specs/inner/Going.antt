@@ -13,17 +13,19 @@ use Rattle.pssm_model.specs.RouteWords.{IsStepRoute}
 use Rattle.pssm_plan.specs.declared.ways.Way.{Way}
 use Rattle.pssm_plan.specs.declared.roster.Call.{Call}
 use Rattle.pssm_plan.specs.declared.progress.Progress.{Progress}
+use Rattle.pssm_plan.specs.Waiting.{IsExact}
 use Rattle.pssm_plan.specs.Ways.{IsWayIn, AreWaysIn, IsWayTaken, IsWayFired}
-use Rattle.pssm_plan.specs.inner.Marks.{IsListed, IsLonger, IsNoted, IsSettled, ArePairwise}
+use Rattle.pssm_plan.specs.inner.Marks.{IsListed, IsMarked, IsLonger, IsNoted, IsSettled, ArePairwise}
 use Rattle.pssm_plan.specs.inner.ByWays.{calls_by}
-use Rattle.pssm_plan.specs.inner.Sequence.{IsSequence, IsOrderedBySome, IsExtended}
+use Rattle.pssm_plan.specs.inner.Sequence.{IsSequence, IsOrderedBySome, IsRoster, IsExtended}
 use Rattle.pssm_plan.specs.inner.Calling.{IsNoExit, IsLate, IsOfRestored, IsEntered}
 
--- the list of a roster that has these items, none of which has run
+-- the list of a roster that has these items, none of which has run, and each of which says exactly for which one it waits
 pub record IsMadeOf (m : DraftMachine) (ways : List Way) (Added : Item → Type 0) (calls : List Call) : Type 0 where
-  pub first : List Call
-  pub extended : IsExtended m [] Added first
-  pub settled : ArePairwise (IsSettled (IsSequence m ways) first) first calls
+  pub roster : IsRoster m calls
+  pub listed : (x : Item) → IsListed calls x ↔ Added x
+  pub marked : (x : Item) → IsMarked calls x → ⊥
+  pub exact : (call : Call) → Contains calls call → IsExact (IsSequence m ways) calls call
 
 -- the ways of routes that fire, and no others
 pub record AreFired (m : DraftMachine) (routes : List Route) (ways : List Way) : Type 0 where

@@ -1,5 +1,5 @@
 -- Which items are listed as called, as run and as waiting for others.
-use Rattle.std.specs.Prelude.{◌≡◌, ◌⊎◌, ◌↔◌, ◌<◌, ◌≤◌, ◌++◌, ℕ, List, IsTrue, Contains, length, slice_index_or}
+use Rattle.std.specs.Prelude.{◌≡◌, ◌⊎◌, ◌↔◌, ◌<◌, ◌≤◌, ◌++◌, ℕ, List, IsTrue, Contains, length, slice_index_or, slice_set}
 use Rattle.pssm_model.specs.declared.steps.Item.{Item}
 use Rattle.pssm_plan.specs.declared.roster.Call.{Call}
 use Rattle.pssm_plan.specs.declared.waiting.Wait.{Wait}
@@ -64,10 +64,21 @@ pub record IsSettled (Comes : Item → Item → Type 0) (calls : List Call) (old
   pub ran : new.ran ≡ old.ran
   pub exact : IsExact Comes calls new
 
+-- The second call is of the same item and has run where the first has.
+pub record IsAlike (old new : Call) : Type 0 where
+  pub item_is : new.item ≡ old.item
+  pub ran : new.ran ≡ old.ran
+
 -- Such a call is the one that waits so.
 abbrev pub IsSettledSo : (Item → Item → Type 0) → List Call → Call → Wait → Type 0
 IsSettledSo Comes calls call wait =
     IsSettled Comes calls call (record { item = call.item; ran = call.ran; blocked = wait.blocked; seen = wait.seen })
+
+-- The second list is the first with another call at the place, which says exactly for which of the calls it waits.
+pub record IsSettledAt (Comes : Item → Item → Type 0) (calls : List Call) (place : ℕ) (new : List Call) : Type 0 where
+  pub call : Call
+  pub put : new ≡ slice_set calls place call
+  pub settled : (d : Call) → IsSettled Comes calls (slice_index_or calls place d) call
 
 -- The lists are equally long, and each call of the second is so to that of the first.
 abbrev pub ArePairwise : (Call → Call → Type 0) → List Call → List Call → Type 0

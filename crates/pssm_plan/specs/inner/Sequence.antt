@@ -1,5 +1,5 @@
 -- Which of the items that a step calls come before which, in a step that goes by these ways; and the lists of its items.
-use Rattle.std.specs.Prelude.{◌⊎◌, ◌↔◌, ◌<◌, ◌≤◌, ◌≢◌, ℕ, List, IsTrue, Contains, AllPairs, drop, length, slice_index_or}
+use Rattle.std.specs.Prelude.{Bool, ◌⊎◌, ◌↔◌, ◌<◌, ◌≤◌, ◌≢◌, ℕ, List, IsTrue, Contains, AllPairs, drop, length, slice_index_or}
 use Rattle.pssm_model.specs.declared.ids.VertexId.{VertexId}
 use Rattle.pssm_model.specs.declared.ids.RegionId.{RegionId}
 use Rattle.pssm_model.specs.declared.elements.DraftMachine.{DraftMachine}
@@ -102,11 +102,17 @@ IsNoEnd (Opened r mode) = ⊥
 IsNoEnd (Pick c) = ⊥
 IsNoEnd _ = Unit {0}
 
--- The item is neither an exit nor an entry.
-abbrev pub IsNoStay : Item → Type 0
-IsNoStay (Exit s) = ⊥
-IsNoStay (Enter s) = ⊥
-IsNoStay _ = Unit {0}
+-- No item comes before this one by where their States lie.
+abbrev pub IsNestedInNone : DraftMachine → Item → Type 0
+IsNestedInNone m item = (x : Item) → IsNestedPair m x item → ⊥
+
+-- The call at the place is neither new nor blocked, has seen all before the new ones, and where these are not loose, none comes before it
+-- by where their States lie.
+pub record IsResting (m : DraftMachine) (since : Since) (place : ℕ) (loose : Bool) (call : Call) : Type 0 where
+  pub old : place < since.calls
+  pub come : since.calls ≤ call.seen
+  pub free : IsTrue call.blocked → ⊥
+  pub none : IsTrue loose ⊎ IsNestedInNone m call.item
 
 -- What each listed item names is there.
 abbrev pub AreItemsOf : DraftMachine → List Call → Type 0

@@ -1,6 +1,6 @@
-use Rattle.std.proofs.Common.{refl}
 use Rattle.pssm_plan.specs.inner.Calling.{IsTopOpening}
-use Rattle.pssm_plan.proofs.Following.{from_nothing, made_by_tops}
+use Rattle.pssm_plan.proofs.FiredWays.{made_settled}
+use Rattle.pssm_plan.proofs.Following.{from_nothing}
 use Rattle.pssm_plan.proofs.progress.Progress.of_start.Goals as goal
 
 pub settle_first-requires-clause-fresh : goal.settle_first-requires-clause-fresh
@@ -9,4 +9,5 @@ settle_first-requires-clause-fresh c =
 
 pub returns-clause-made : goal.returns-clause-made
 returns-clause-made c =
-    made_by_tops c.args.machine.now _ _ _ _ c.new-progress.ensures.calls refl c.in_ok-list_tops.ensures.added c.in_ok-settle_first.ensures.settled
+    made_settled c.args.machine.now _ (IsTopOpening c.args.machine.now) _ _ _ c.new-progress.ensures.calls c.in_ok-list_tops.ensures.added
+    c.in_ok-settle_first.ensures.settled

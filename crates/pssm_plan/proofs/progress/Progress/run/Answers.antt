@@ -4,6 +4,7 @@ use Rattle.pssm_plan.specs.declared.ways.Way.{Way}
 use Rattle.pssm_plan.specs.Ways.{AreWaysIn}
 use Rattle.pssm_plan.specs.inner.Marks.{HasSeen}
 use Rattle.pssm_plan.specs.inner.Sequence.{IsSequence, AreNewSince}
+use Rattle.pssm_plan.specs.inner.Calling.{IsNoExit}
 use Rattle.pssm_plan.specs.declared.waiting.Since.{Since}
 use Rattle.pssm_plan.proofs.Settling.{set_or_not, not_longer}
 use Rattle.pssm_plan.proofs.ApartCalls.{none_new, new_from, followed_no_exit}
@@ -52,7 +53,7 @@ finish-requires-clause-new c =
     (λ anew. subst (Is grown.ways.items) (sym (c.new_since-since.ensures.anew anew))
     (none_new m grown.ways.items grown.roster.calls.items _ c.places.ensures.calls c.places.ensures.ways))
     (λ free. subst (Is grown.ways.items) (sym (c.new_since-since.ensures.new free))
-    (new_from m old.roster.calls.items grown.roster.calls.items old.ways.items grown.ways.items c.in_ok-anew.ensures.longer.calls
+    (new_from m IsNoExit old.roster.calls.items grown.roster.calls.items old.ways.items grown.ways.items c.in_ok-anew.ensures.longer.calls
     (followed_roster m old c.args.item c.args.how.now grown c.in_ok-anew.ensures.followed) (c.in_ok-anew.ensures.kept free) c.requires.covered
     (followed_no_exit m old c.args.item c.args.how.now grown c.in_ok-anew.ensures.followed) c.in_ok-anew.ensures.longer.ways
     _ c.places-before.ensures.calls c.places-before.ensures.ways))

@@ -1,7 +1,7 @@
 use Rattle.pssm_plan.specs.inner.Marks.{IsSettled}
 use Rattle.pssm_plan.specs.inner.Sequence.{IsSequence}
 use Rattle.pssm_plan.proofs.Rewriting.{IsRewritten}
-use Rattle.pssm_plan.proofs.waiting.settle_all.Given as goal
+use Rattle.pssm_plan.proofs.waiting.settle_old.Given as goal
 
 -- the calls so far are settled
 abbrev pub invariant-loop-k : goal.invariant-loop-k
