@@ -1,5 +1,5 @@
 -- Only the State reacts to its completion, where none of its transitions ends on a join.
-use Rattle.std.proofs.Common.{◌≡◌, ◌∙◌, ◌↔◌, [], ◌∷◌, List, Option, Some, None, IfSome, Contains, All, sym, ap, subst, ⊎_elim}
+use Rattle.std.proofs.Common.{◌≡◌, ◌↔◌, [], ◌∷◌, List, Option, Some, None, IfSome, Contains, All, sym, ap, subst, ⊎_elim}
 use Rattle.std.proofs.lemmas.List.Elements.{Contains-push, Contains-push_cases, All-contains_itself, All-weaker}
 use Rattle.pssm_model.specs.declared.ids.VertexId.{VertexId}
 use Rattle.pssm_model.specs.declared.elements.DraftMachine.{DraftMachine}

@@ -1,5 +1,5 @@
 -- the list of the one that reacts, if one does
-use Rattle.std.proofs.Common.{◌↔◌, ◌<◌, Option, Vec, Global, All, IfSome, Contains, length, subst}
+use Rattle.std.proofs.Common.{◌<◌, Option, IfSome, length, subst}
 use Rattle.pssm_model.specs.declared.ids.VertexId.{VertexId}
 use Rattle.pssm_config.specs.Tables.{configuration_of}
 use Rattle.pssm_routes.specs.inner.Starts.{IsOneReacting}
