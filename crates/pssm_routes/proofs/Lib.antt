@@ -1,3 +1,4 @@
+pub mod Completions
 pub mod Enabled
 pub mod LeadingOn
 pub mod Routed
@@ -54,4 +55,5 @@ pub mod Bounds
 pub mod Spans
 pub mod Spreading
 pub mod Expanding
+pub mod GoingDown
 pub mod LoneReacting

@@ -10,6 +10,7 @@ pub mod Spread
 pub mod Rooms
 pub mod Trails
 pub mod Behind
+pub mod Down
 pub mod Fitting
 pub mod Passing
 pub mod Picks

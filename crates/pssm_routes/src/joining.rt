@@ -15,11 +15,12 @@ ghost use Rattle.pssm_routes.specs.inner.Starts.{GoesOnBy};
 ghost use Rattle.pssm_routes.specs.inner.Ways.{EndsInside};
 ghost use Rattle.pssm_routes.specs.inner.Steps.{KnowsDeadEnds, IsJoiningStep, steps_of};
 ghost use Rattle.pssm_routes.specs.inner.Sets.{HasFreeRoute, IsTouched, HoldsSource, IsCeiling};
-ghost use Rattle.pssm_routes.specs.inner.Rooms.{Touches, IsAnchorAmong, IsNextOut, IsRoomFor, IsRoomIn};
+ghost use Rattle.pssm_routes.specs.inner.Rooms.{Touches, IsAnchorAmong, IsNextOut, IsShut, IsRoomFor, IsRoomIn};
 
 use crate::areas::{Footprint, anchor_of, are_on_one_chain};
 use crate::leading::onward;
 use crate::looking::look;
+use crate::route::is_join;
 use crate::seeking::{Search, Step, find_way};
 use pssm_legs::covers;
 use pssm_model::{GuardId, Machine, Owner, RegionId, TransId, TransKind, VertexId};
@@ -50,6 +51,18 @@ fn is_anchor(footprints: &[Footprint], s: VertexId) -> bool
         }
     }
     false
+}
+
+/// Whether the transition ends on a join, and one of the footprints has the anchor of the routes with that start: they
+/// clash with it. It tells so at less cost than their starts do.
+pub fn is_kept_out(machine: &Machine, footprints: &[Footprint], t: TransId) -> bool
+    requires rules { KeepsModelRules machine.now }
+    requires there { t.0 < length machine.now.transitions }
+    requires footprints { All (IsFootprintIn machine.now) footprints.now }
+    ensures { IsTrue result → IsShut machine.now footprints.now t }
+{
+    let _shaped = machine.regions();
+    is_join(machine, machine.target(t)) && is_anchor(footprints, anchor_of(machine, t))
 }
 
 // Whether an anchor is the State, lies in it or has it inside, or an area covers the State.

@@ -5,6 +5,8 @@
 #![tactic(auto)]
 
 mod areas;
+mod completing;
+mod descending;
 mod few;
 mod guards;
 mod joining;

@@ -16,7 +16,7 @@ ghost use Rattle.pssm_routes.specs.inner.Picks.{first_number, StartApart, IsFree
 ghost use Rattle.pssm_routes.specs.inner.Picks.{IsSpent, IsChosen, IsAdded, IsGrown};
 
 use crate::areas::{Footprint, footprint_of};
-use crate::joining::find_joiner;
+use crate::joining::{find_joiner, is_kept_out};
 use crate::leading::{is_started_with, onward, start_all_among};
 use crate::reacting::candidates;
 use crate::route::check_route;
@@ -73,6 +73,9 @@ fn free_route<T: Fn(GuardId) -> bool>(
         (HasJoiner machine.now (configuration_of config.now) values event states.now footprints.now t → ⊥)) }
 {
     let _shaped = machine.regions();
+    if is_kept_out(machine, footprints, t) {
+        return Ok(None);
+    }
     if !starts_here(machine, config, event, states, t) {
         return Ok(None);
     }

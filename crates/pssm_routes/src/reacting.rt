@@ -15,11 +15,12 @@ ghost use Rattle.pssm_config.specs.Tables.{Fits, configuration_of};
 ghost use Rattle.pssm_routes.specs.Telling.{CanBeAsked, Tells};
 ghost use Rattle.pssm_model.specs.WellFormed.{KeepsModelRules};
 ghost use Rattle.pssm_routes.specs.inner.Starts.{IsStartedWith, GoesOnBy, Reacts, IsCandidate, HasSearch};
-ghost use Rattle.pssm_routes.specs.inner.Starts.{StartsWay, IsReactingIn, ReactsAlone};
+ghost use Rattle.pssm_routes.specs.inner.Starts.{StartsWay, IsReactingIn, ReactsAlone, AreListed};
 ghost use Rattle.pssm_routes.specs.inner.Ways.{EndsInside, LeadsOut};
 ghost use Rattle.pssm_routes.specs.inner.Steps.{KnowsDeadEnds};
 
 use crate::areas::state_around;
+use crate::completing::one_reacting;
 use crate::leading::{is_started_with, onward};
 use crate::looking::look;
 use crate::seeking::{Search, find_way, search_if};
@@ -305,8 +306,8 @@ fn leads_at_sight<T: Fn(GuardId) -> bool>(
     look(machine, truth, None, onward(machine, t))
 }
 
-// Whether a route that the event enables starts at the vertex. It is left open where a look does not tell.
-fn reacts_at_sight<T: Fn(GuardId) -> bool>(
+/// Whether a route that the event enables starts at the vertex. It is left open where a look does not tell.
+pub fn reacts_at_sight<T: Fn(GuardId) -> bool>(
     machine: &Machine,
     config: &Config,
     truth: &T,
@@ -414,8 +415,8 @@ pub fn overrides<T: Fn(GuardId) -> bool>(
     }
 }
 
-/// The vertex that reacts to the event, where it is the only one and looks tell so. It takes no memory.
-pub fn lone_reacting<T: Fn(GuardId) -> bool>(
+// The vertex that reacts to the event, where it is the only one and looks at all that are active tell so.
+fn lone_among_active<T: Fn(GuardId) -> bool>(
     machine: &Machine,
     config: &Config,
     truth: &T,
@@ -439,6 +440,26 @@ pub fn lone_reacting<T: Fn(GuardId) -> bool>(
         }
     }
     alone
+}
+
+/// The vertex that reacts to the event, where it is the only one and looks tell so. It takes no memory.
+pub fn lone_reacting<T: Fn(GuardId) -> bool>(
+    machine: &Machine,
+    config: &Config,
+    truth: &T,
+    event: Event,
+) -> Option<VertexId>
+    requires rules { KeepsModelRules machine.now }
+    requires fits { Fits machine.now config.now }
+    requires askable { CanBeAsked machine.now (T.pre truth.now) }
+    ensures there { IfSome result (λ s. s.0 < length machine.now.vertices) }
+    ensures alone { (values : Truth) → Tells machine.now (T.post truth.now) values
+        → IfSome result (ReactsAlone machine.now (configuration_of config.now) values event) }
+{
+    match one_reacting(machine, config, truth, event) {
+        Some(found) => found,
+        None => lone_among_active(machine, config, truth, event),
+    }
 }
 
 // The States that react to the event, by one search.
@@ -469,8 +490,8 @@ fn reacting_by_search<T: Fn(GuardId) -> bool>(
     Ok(found)
 }
 
-// The States that react to the event. They are left open where a look does not tell.
-fn reacting_at_sight<T: Fn(GuardId) -> bool>(
+// The States that react to the event, by looks at all that are active. They are left open where a look does not tell.
+fn reacting_among_active<T: Fn(GuardId) -> bool>(
     alloc: Global,
     machine: &Machine,
     config: &Config,
@@ -496,6 +517,38 @@ fn reacting_at_sight<T: Fn(GuardId) -> bool>(
         }
     }
     Ok(Some(states))
+}
+
+// A list of what was found.
+fn listed(alloc: Global, found: Option<VertexId>) -> Result<Vec<VertexId>, NoMemory>
+    ensures { IfOk result (λ states. AreListed found states.items) }
+{
+    match found {
+        Some(s) => Ok(vec![in alloc; s]?),
+        None => Ok(Vec::new(alloc)),
+    }
+}
+
+// The States that react to the event. They are left open where a look does not tell.
+fn reacting_at_sight<T: Fn(GuardId) -> bool>(
+    alloc: Global,
+    machine: &Machine,
+    config: &Config,
+    truth: &T,
+    event: Event,
+) -> Result<Option<Vec<VertexId>>, NoMemory>
+    requires rules { KeepsModelRules machine.now }
+    requires fits { Fits machine.now config.now }
+    requires askable { CanBeAsked machine.now (T.pre truth.now) }
+    ensures states { (values : Truth) → Tells machine.now (T.post truth.now) values
+        → IfOk result (λ found. IfSome found (λ states. (s : VertexId) → Contains states.items s
+        ↔ Reacts machine.now (configuration_of config.now) values event s)) }
+    ensures there { IfOk result (λ found. IfSome found (λ states. All (λ s. s.0 < length machine.now.vertices) states.items)) }
+{
+    match one_reacting(machine, config, truth, event) {
+        Some(found) => Ok(Some(listed(alloc, found)?)),
+        None => reacting_among_active(alloc, machine, config, truth, event),
+    }
 }
 
 // The States that react to the event.

@@ -312,8 +312,8 @@ fn fit_over(machine: &Machine, starts: &[TransId], rest: &[TransId]) -> bool
     fit_rest(machine, &mut on, starts, rest)
 }
 
-// Whether a route ends with the transition.
-fn ends_alone(machine: &Machine, t: TransId) -> bool
+/// Whether a route ends with the transition.
+pub fn ends_alone(machine: &Machine, t: TransId) -> bool
     requires there { t.0 < length machine.now.transitions }
     ensures { IsTrue result ↔ EndsAlone machine.now t }
 {
@@ -365,8 +365,8 @@ fn are_same(ts: &[TransId], us: &[TransId]) -> bool
     ts == us
 }
 
-// Whether a route can have the transition as its one start: it ends on no join.
-fn starts_alone(machine: &Machine, t: TransId) -> bool
+/// Whether a route can have the transition as its one start: it ends on no join.
+pub fn starts_alone(machine: &Machine, t: TransId) -> bool
     requires there { t.0 < length machine.now.transitions }
     ensures { IsTrue result ↔ ((v : VertexId) → Enters machine.now t v → HasKind machine.now v kinds.Join → ⊥) }
 {

@@ -14,7 +14,7 @@ ghost use Rattle.pssm_routes.specs.inner.Footprints.{AreFootprints, IsFootprintI
 ghost use Rattle.pssm_routes.specs.inner.Sets.{AreApart, HasJoiner, HasJoinerFrom, AreComplete};
 
 use crate::areas::{Footprint, clash, footprint_of};
-use crate::joining::has_joiner;
+use crate::joining::{has_joiner, is_kept_out};
 use crate::leading::{is_started_with, leave_among, start_all_among};
 use crate::reacting::{candidates, lone_reacting};
 use crate::route::check_route;
@@ -158,6 +158,9 @@ fn joins_by<T: Fn(GuardId) -> bool>(
         → (IsTrue result
         ↔ HasJoiner machine.now (configuration_of config.now) values event states.now footprints.now t) }
 {
+    if is_kept_out(machine, footprints, t) {
+        return false;
+    }
     if !is_started_with(machine, config, event, t) {
         return false;
     }

@@ -16,6 +16,7 @@ ghost use Rattle.pssm_routes.specs.inner.Trails.{step_before};
 ghost use Rattle.pssm_routes.specs.inner.Behind.{CanGoOn, GoesOnFrom, GoesOnAtOnce, LeadsFurther, IsGoingOn};
 ghost use Rattle.pssm_routes.specs.inner.Behind.{IsFurtherBy, IsRouteBehind};
 
+use crate::descending::transitions_down;
 use crate::guards::is_true_at;
 use crate::leading::{alone, copied, starts_with};
 use crate::passing::Points;
@@ -250,7 +251,10 @@ fn transitions_behind<T: Fn(GuardId) -> bool>(
     if ends_at(machine, v) {
         return Ok(Vec::new(alloc));
     }
-    transitions_from(alloc, machine, truth, v)
+    match transitions_down(alloc, machine, v)? {
+        Some(found) => Ok(found),
+        None => transitions_from(alloc, machine, truth, v),
+    }
 }
 
 /// The route of the starts with this one that takes the other transitions of the trail and goes on

@@ -105,6 +105,18 @@ IsReactingIn m now truth event r found = (s : VertexId) → (found ≡ Some s) �
 abbrev pub ReactsAlone : DraftMachine → Configuration → Truth → Event → VertexId → Type 0
 ReactsAlone m now truth event s = (q : VertexId) → Contains (s ∷ []) q ↔ Reacts m now truth event q
 
+-- It is the vertex that reacts, if one does.
+abbrev pub IsOneReacting : DraftMachine → Configuration → Truth → Event → Option VertexId → Type 0
+IsOneReacting m now truth event found = (s : VertexId) → (found ≡ Some s) ↔ Reacts m now truth event s
+
+-- The list has the vertex that was found, if one was, and no other.
+abbrev pub AreListed : Option VertexId → List VertexId → Type 0
+AreListed found states = (s : VertexId) → Contains states s ↔ (found ≡ Some s)
+
+-- None of the transitions out of the vertex ends on a join.
+abbrev pub StartAlone : DraftMachine → VertexId → Type 0
+StartAlone m s = (t : TransId) → Leaves m t s → (v : VertexId) → Enters m t v → HasKind m v kinds.Join → ⊥
+
 -- There is a search, where the event starts a transition and the route goes on to a junction or an exit point.
 abbrev pub HasSearch : DraftMachine → Configuration → Event → List Search → Type 0
 HasSearch m now event search = (t u : TransId) → IsStartedWith m now event t → GoesOnBy m t u → EndsInside m u → 0 < length search

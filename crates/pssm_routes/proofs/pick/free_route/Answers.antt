@@ -73,3 +73,7 @@ returns-clause-some g c values tells =
           c.in_ok-route.route is.0 start here.1;
       free = is.2;
     }
+
+pub returns-then-is_kept_out-clause-none : goal.returns-then-is_kept_out-clause-none
+returns-then-is_kept_out-clause-none g c values tells (q, b, enabled, start, among, footprint, free) =
+    c.is_kept_out.ensures c.if-is_kept_out.true q b enabled.route_of_states start footprint free

@@ -37,3 +37,9 @@ returns-else-start_all_among g c values tells = (
       (joiner_among c.requires.rules c.requires.fits.shape values c.args.footprints.now c.args.t (configuration_of c.args.config.now) c.args.event
       c.args.states.now h),
 )
+
+pub returns-then-is_kept_out : goal.returns-then-is_kept_out
+returns-then-is_kept_out g c values tells = (
+  λ wrong. absurd (cc),
+  λ (q, b, enabled, start, among, footprint, free). absurd (c.is_kept_out.ensures c.if-is_kept_out.true q b enabled.route_of_states start footprint free),
+)

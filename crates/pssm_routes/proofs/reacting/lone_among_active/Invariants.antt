@@ -5,7 +5,7 @@ use Rattle.pssm_model.specs.declared.ids.VertexId.{VertexId}
 use Rattle.pssm_config.specs.Tables.{configuration_of}
 use Rattle.pssm_routes.specs.Telling.{Tells}
 use Rattle.pssm_routes.proofs.Sights.{IsLone}
-use Rattle.pssm_routes.proofs.reacting.lone_reacting.Given as goal
+use Rattle.pssm_routes.proofs.reacting.lone_among_active.Given as goal
 
 abbrev pub invariant-loop-number : goal.invariant-loop-number
 invariant-loop-number g l =
