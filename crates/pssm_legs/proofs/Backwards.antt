@@ -1,26 +1,14 @@
 -- What the legs order, where it is asked first which leg calls the second of two items.
-use Rattle.std.proofs.Common.{◌≡◌, ◌⊎◌, ◌↔◌, ◌<◌, ◌+◌, ℕ, Bool, length, Contains, refl, inl, inr, ⊎_elim, arith}
+use Rattle.std.proofs.Common.{◌≡◌, ◌⊎◌, ◌↔◌, ◌<◌, ◌+◌, ℕ, Bool, length, refl, inl, inr, ⊎_elim, arith}
 use Rattle.std.proofs.lemmas.Option.{slice_get_within}
-use Rattle.pssm_model.specs.declared.ids.TransId.{TransId}
 use Rattle.pssm_model.specs.declared.elements.DraftMachine.{DraftMachine}
 use Rattle.pssm_model.specs.declared.steps.Item.{Item}
 use Rattle.pssm_model.specs.declared.steps.Item.TheVariants as items
 use Rattle.pssm_legs.specs.declared.legs.Leg.{Leg}
 use Rattle.pssm_legs.specs.declared.legs.Legs.{Legs}
 use Rattle.pssm_legs.specs.LegsOf.{leg_list, IsAt, StandsLater, AreLegsIn}
-use Rattle.pssm_legs.specs.inner.Told.{HasBefore, IsCalledAsTold, IsCalledLater, IsCalledFrom, IsOrderedOver, IsOrderedAsTold, IsPathPair, ComesBeforeLater, StartsAhead, HasFurther}
+use Rattle.pssm_legs.specs.inner.Told.{IsCalledAsTold, IsCalledLater, IsCalledFrom, IsOrderedOver, IsOrderedAsTold, IsPathPair, ComesBeforeLater, StartsAhead, HasFurther}
 use Rattle.pssm_legs.proofs.LaterPlaces.{of_more, first_or_more, later_is_further, later_lower}
-use Rattle.pssm_legs.proofs.Places.{contains_at}
-
--- a leg that has one transition before another has several
-pub none_before : (a : Leg) (t u : TransId) → HasBefore a t u → 0 < length a.further.items
-none_before a t u h =
-    ⊎_elim
-    (λ first.
-    let at = contains_at a.further.items u first.1 in
-    let lt = slice_get_within a.further.items at.0 u at.1 in omega (arith, lt))
-    (λ both. let lt = slice_get_within a.further.items both.0 t both.3 in omega (arith, lt))
-    h
 
 -- a leg that stands later than a place has a higher one
 pub room_behind : (m : DraftMachine) (legs : Legs) → AreLegsIn m legs → (i : ℕ) (fires : Bool) (x : Item) → IsCalledLater m legs i fires x

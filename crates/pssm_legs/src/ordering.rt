@@ -14,21 +14,12 @@ use crate::entering::lies_in;
 use crate::legs::{Leg, Legs};
 use pssm_model::{Item, Machine, TransId};
 
-// Whether a leg of several transitions has the first of two before the second.
+// Whether the leg has the first of two transitions before the second.
 #[inline(never)]
-fn has_before_further(leg: &Leg, t: TransId, u: TransId) -> bool
-    ensures { IsTrue result ↔ HasBefore leg.now t u }
-{
-    (leg.named == t && leg.further.contains(u)) || leg.further.puts_before(t, u)
-}
-
-// Whether the leg has the first of two transitions before the second: one of a single transition does not.
-#[inline(always)]
-#[tactic(auto, using(crate::proofs::Backwards::none_before))]
 fn has_before(leg: &Leg, t: TransId, u: TransId) -> bool
     ensures { IsTrue result ↔ HasBefore leg.now t u }
 {
-    leg.further.len() > 0 && has_before_further(leg, t, u)
+    (leg.named == t && leg.further.contains(u)) || leg.further.puts_before(t, u)
 }
 
 // Whether the item is an exit, effect or entry, which comes before all that later legs call.
