@@ -1,5 +1,5 @@
 -- Calls before which no way orders those that they have not seen yet.
-use Rattle.std.proofs.Common.{◌≡◌, ◌⊎◌, ◌<◌, ◌≤◌, ℕ, Bool, List, length, get_or, take, drop, ◌+◌, ◌-◌}
+use Rattle.std.proofs.Common.{◌≡◌, ◌⊎◌, ◌<◌, ◌≤◌, ℕ, Bool, true, false, not, List, length, get_or, take, drop, ◌+◌, ◌-◌}
 use Rattle.std.proofs.Common.{Contains, IsTrue, arith, length-append, refl, sym, subst, ap, inl, inr, ⊎_elim, ◌∙◌, ◌↔◌, Some}
 use Rattle.std.proofs.lemmas.Bool.{cases_lt}
 use Rattle.std.proofs.lemmas.List.{get_or_default, get_or_append_left, get_or-drop, length-drop, take_all}
@@ -8,8 +8,10 @@ use Rattle.std.proofs.lemmas.List.Elements.{Contains-get_or, Contains-append_cas
 use Rattle.pssm_model.specs.declared.ids.VertexId.{VertexId}
 use Rattle.pssm_model.specs.declared.ids.RegionId.{RegionId}
 use Rattle.pssm_model.specs.declared.ids.TransId.{TransId}
-use Rattle.pssm_model.specs.declared.elements.Owner.TheVariants.{Region, State}
-use Rattle.pssm_model.specs.Forest.{owner_of}
+use Rattle.pssm_model.specs.declared.elements.Owner.TheVariants.{Top, Region, State}
+use Rattle.pssm_model.specs.Forest.{owner_of, LiesInState}
+use Rattle.pssm_model.proofs.ElementLaws.{top_lies_nowhere}
+use Rattle.pssm_model.proofs.Nesting.{under_cases}
 use Rattle.pssm_model.specs.declared.elements.DraftMachine.{DraftMachine}
 use Rattle.pssm_model.specs.declared.steps.How.{How}
 use Rattle.pssm_model.specs.declared.steps.How.TheVariants.{By, Restore, Nothing}
@@ -124,6 +126,30 @@ new_now m ways old now since i d alike h lt le = record {
       (subst (λ (x : Item). IsOrderedBySome m ways x (get_or now i d).item) (alike.1 j e low).0 ordered))));
   by = λ way inside calls. h.by i d le lt way inside (subst (calls_by m way) (alike.1 i d lt).0 calls);
 }
+
+-- what a region owns that no State owns lies in no State
+pub outermost_in_none : (m : DraftMachine) (v : VertexId) (r : RegionId) → owner_of m (State v) ≡ Some (Region r) → owner_of m (Region r) ≡ Some Top
+    → (s : VertexId) → LiesInState m v s → ⊥
+outermost_in_none m v r owned top s h =
+    ⊎_elim
+    (λ same. absurd (let e = h.1 in cc (same, e, top)))
+    (λ under. ⊎_elim
+    (λ is. absurd (cc is))
+    (λ beyond. top_lies_nowhere (Region h.0) beyond)
+    (under_cases m (Region r) Top (Region h.0) top under))
+    (under_cases m (State v) (Region r) (Region h.0) owned h.2)
+
+-- so the entry of no State comes before its entry
+pub entry_nested : (m : DraftMachine) (v : VertexId) → ((s : VertexId) → LiesInState m v s → ⊥) → (x : Item) → IsNestedPair m x (items.Enter v) → ⊥
+entry_nested m v none (items.Enter s) h = none s h
+entry_nested m v none (items.Exit s) h = h
+entry_nested m v none (items.Effect t) h = h
+entry_nested m v none (items.Opened r mode) h = h
+entry_nested m v none (items.Pick c) h = h
+
+pub not_unset : (b : Bool) → (IsTrue (not b) → ⊥) → IsTrue b
+not_unset true h = refl
+not_unset false h = absurd (h refl)
 
 -- a new call has as good as seen all before the new ones of which none holds it up by where their States lie
 pub begun_seen : (m : DraftMachine) (ways : List Way) (calls : List Call) (call begun : Call) (since : Since) → IsNewCall m ways calls call since

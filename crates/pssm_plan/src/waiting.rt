@@ -9,10 +9,13 @@ ghost use Rattle.pssm_plan.specs.inner.Marks.{HasSeen, IsHeldAt, IsUpToDate, Are
 ghost use Rattle.pssm_plan.specs.inner.Sequence.{IsSomeLong, IsSequence, IsNestedPair, AreItemsOf};
 ghost use Rattle.pssm_plan.specs.inner.Sequence.{AreNewSince, IsNewCall, IsApart, IsNestedInNone, IsResting, AreLooseUpTo, ArePassedNested};
 ghost use Rattle.pssm_model.specs.declared.steps.Item.{Item as Waiting};
+ghost use Rattle.pssm_model.specs.declared.ids.VertexId.{VertexId as Place};
+ghost use Rattle.pssm_model.specs.declared.elements.Owner.TheVariants.{Top};
+ghost use Rattle.pssm_model.specs.Forest.{LiesInState};
 
 use crate::roster::{Call, Roster};
 use crate::ways::{Way, comes_before, nests, some_is_long, ways_of};
-use pssm_model::{Item, Machine};
+use pssm_model::{Item, Machine, Owner, VertexId};
 
 /// Whether an item waits, and how far it has looked.
 #[derive(Clone, Copy)]
@@ -200,16 +203,39 @@ fn look_on(machine: &Machine, ways: &[Way], calls: &[Call], call: &Call) -> Wait
     }
 }
 
+// Whether this is the machine itself.
+#[inline(always)]
+fn is_top(owner: Owner) -> bool
+    ensures { IsTrue result → owner ≡ Top }
+{
+    owner == Owner::Top
+}
+
+// Whether a vertex lies in no State: a region owns it that no State owns.
+#[inline(always)]
+fn is_outermost(machine: &Machine, v: VertexId) -> bool
+    requires rules { KeepsModelRules machine.now }
+    requires vertex { v.0 < length machine.now.vertices }
+    ensures { IsTrue result → (s : Place) → LiesInState machine.now v s → ⊥ }
+{
+    let _shaped = machine.regions();
+    match machine.vertex(v).owner {
+        Owner::Region(r) => is_top(machine.region_owner(r)),
+        Owner::State(_) | Owner::Top => false,
+    }
+}
+
 // Whether another item may come before an item by where their States lie: before exits of States with regions, and
-// entries.
+// entries of what lies in States.
 #[inline(always)]
 fn may_wait(machine: &Machine, item: Item) -> bool
+    requires rules { KeepsModelRules machine.now }
     requires item { IsItemIn machine.now item }
     ensures { (IsTrue result → ⊥) → IsNestedInNone machine.now item }
 {
     match item {
         Item::Exit(s) => !machine.regions_of(s).is_empty(),
-        Item::Enter(_) => true,
+        Item::Enter(s) => !is_outermost(machine, s),
         Item::Effect(_) | Item::Opened(_, _) | Item::Pick(_) => false,
     }
 }
@@ -233,6 +259,7 @@ fn first_nested(machine: &Machine, calls: &[Call], call: &Call, first: usize) ->
 // The same; where none comes before it so, it is the place itself.
 #[inline(always)]
 fn first_before(machine: &Machine, calls: &[Call], call: &Call, first: usize) -> usize
+    requires rules { KeepsModelRules machine.now }
     requires items { AreItemsOf machine.now calls.now }
     requires item { IsItemIn machine.now call.now.item }
     requires first { first ≤ length calls.now }
@@ -249,6 +276,7 @@ fn first_before(machine: &Machine, calls: &[Call], call: &Call, first: usize) ->
 // A new call as it looks at the others: before the new ones only such holds it up in whose State its own lies.
 #[inline(always)]
 fn begun(machine: &Machine, ways: &[Way], calls: &[Call], call: &Call, since: Since) -> Call
+    requires rules { KeepsModelRules machine.now }
     requires items { AreItemsOf machine.now calls.now }
     requires item { IsItemIn machine.now call.now.item }
     requires few { length calls.now < 2 ^ 32 }
@@ -416,6 +444,7 @@ fn has_come(call: Call, place: usize, since: Since) -> bool
 // none comes before this one so.
 #[inline(always)]
 fn rests(machine: &Machine, calls: &[Call], place: usize, since: Since, loose: bool) -> bool
+    requires rules { KeepsModelRules machine.now }
     requires items { AreItemsOf machine.now calls.now }
     requires there { place < length calls.now }
     ensures { IsTrue result → (d : Call) → IsResting machine.now since place loose (slice_index_or calls.now place d) }
