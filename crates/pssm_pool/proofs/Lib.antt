@@ -1,3 +1,2 @@
 pub mod Looking
-pub mod Sparing
-pub mod Slots
+pub mod Linking

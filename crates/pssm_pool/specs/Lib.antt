@@ -1,3 +1,2 @@
 pub mod Waits
 pub mod Telling
-pub mod inner

@@ -12,3 +12,11 @@ CanBeAsked waiting MayAsk = (shown : Bor Waiting) → Contains waiting shown.now
 pub record IsFirstNot (Answers : Waiting → Bool → Type 0) (waiting : List Waiting) (k : ℕ) : Type 0 where
   pub before : (j : ℕ) (w : Waiting) → j < k → slice_get waiting j ≡ Some w → Answers w true
   pub here : (w : Waiting) × (slice_get waiting k ≡ Some w) × Answers w false
+
+-- Two signals that wait are alike: the same signal with the same arguments (this profile's choice).
+abbrev pub AreAlike : Waiting → Waiting → Type 0
+AreAlike v w = (v.signal ≡ w.signal) × (v.args ≡ w.args)
+
+-- The answer may be the one for a signal that is alike (this profile's choice).
+abbrev pub AnswersAlike : (Waiting → Bool → Type 0) → Waiting → Bool → Type 0
+AnswersAlike Answers w answer = (v : Waiting) × AreAlike v w × Answers v answer

@@ -4,9 +4,8 @@
 //! pool, and any that waits may be taken. This crate knows nothing of machines, of what is deferred, or of journals.
 #![tactic(auto)]
 
-mod laws;
-mod pool;
+mod alike;
 mod pools;
 
-pub use laws::own_slots;
-pub use pools::{Pools, SlotId, Waiting};
+pub use pools::{Pools, Waiting};
+pub use pssm_links::SlotId;

@@ -8,9 +8,8 @@ use Rattle.pssm_semantics.specs.declared.entry.Entry.{Entry}
 use Rattle.pssm_semantics.specs.declared.entry.Entry.TheVariants.{Post, Start, Take, Done, Exit, Effect, Enter, Opened, Pick, DoStep}
 use Rattle.pssm_semantics.specs.declared.stimulus.Stimulus.{Stimulus}
 use Rattle.pssm_pool.specs.declared.pools.Waiting.{Waiting}
-use Rattle.pssm_pool.specs.declared.pools.SlotId.{SlotId}
-use Rattle.pssm_pool.specs.Waits.{Waits, waiting_for, held_in, with_arrived, without, IsSlotOf, StandsAt}
-use Rattle.pssm_system.specs.inner.Pooling.{without_number, HasNoNumber, IsSlotWith, signal_taken, waiting_as, delivered, left_by, HavePools}
+use Rattle.pssm_pool.specs.Waits.{Waits, waiting_for, held_in, with_arrived, without}
+use Rattle.pssm_system.specs.inner.Pooling.{without_number, HasNoNumber, signal_taken, waiting_as, delivered, left_by, HavePools}
 use Rattle.pssm_system.proofs.Numbers.{with-none, without-none}
 
 -- the signals that are left are still to come
@@ -58,15 +57,6 @@ module _ (pools : List (List Waiting)) (e : Entry) (o : ObjectId) (number : ℕ)
       (ap (λ f. left_by f pools) is
       ∙ ap (λ ws. set pools o.0 ws) (without-none number (waiting_for pools o) none)
       ∙ set-alike pools o.0 [])
-
-  -- where it does, it is the one of its slot
-  module _ (slot : SlotId) (at : IsSlotWith number pools o slot) where
-    pub taken-some : (w : Waiting) → ((p : ObjectId) (k : ℕ) → IsSlotOf pools slot p k → StandsAt pools p k w) → Some w ≡ signal_taken pools e
-    taken-some w stands = sym (ap (signal_taken pools) is ∙ at.2.signal ∙ stands o at.0 at.1)
-
-    pub left-some : (new : List (List Waiting)) → ((p : ObjectId) (k : ℕ) → IsSlotOf pools slot p k → new ≡ without pools p k) → new ≡ left_by e pools
-    left-some new takes =
-        takes o at.0 at.1 ∙ ap (λ ws. set pools o.0 ws) (sym at.2.others) ∙ sym (ap (λ f. left_by f pools) is)
 
 -- how many signals wait once one pool has been written
 held-set : (more : ℕ) (pools : List (List Waiting)) (k : ℕ) (ws : List Waiting) → length ws ≤ length (get_or pools k []) + more

@@ -7,32 +7,32 @@ use Rattle.pssm_semantics.specs.declared.entry.ObjectId.{ObjectId}
 use Rattle.pssm_semantics.specs.declared.entry.Entry.{Entry}
 use Rattle.pssm_semantics.specs.declared.entry.Entry.TheVariants.{Take}
 use Rattle.pssm_pool.specs.declared.pools.Waiting.{Waiting}
-use Rattle.pssm_pool.specs.declared.pools.SlotId.{SlotId}
-use Rattle.pssm_pool.specs.Waits.{waiting_for, without, IsSlot, IsSlotOf, StandsAt}
+use Rattle.pssm_links.specs.declared.slot.SlotId.{SlotId}
+use Rattle.pssm_pool.specs.Waits.{Waits, waiting_for, without, IsSlot, IsSlotOf, StandsAt}
 use Rattle.pssm_system.specs.inner.Pooling.{HasNoNumber, IsSlotWith, IsTakenAt, IsSlotTaken, signal_taken, left_by}
 use Rattle.pssm_system.proofs.Pools.{taken-none, left-none}
 
 -- the one that was found for a take
-pub slot_taken : (pools : List (List Waiting)) (e : Entry) (o : ObjectId) (number : ℕ) (firing : Firing) → e ≡ Take o number firing → (slot : Option SlotId)
-    → IfSome slot (IsSlotWith number pools o) → IfNone slot (HasNoNumber number (waiting_for pools o)) → IsSlotTaken pools e slot
-slot_taken pools e o number firing is None there none = (sym (taken-none pools e o number firing is none), sym (left-none pools e o number firing is none))
+pub slot_taken : (pools : Waits) (e : Entry) (o : ObjectId) (number : ℕ) (firing : Firing) → e ≡ Take o number firing → (slot : Option SlotId)
+    → IfSome slot (IsSlotWith number pools o) → IfNone slot (HasNoNumber number (waiting_for pools.waiting o)) → IsSlotTaken pools e slot
+slot_taken pools e o number firing is None there none = (sym (taken-none pools.waiting e o number firing is none), sym (left-none pools.waiting e o number firing is none))
 slot_taken pools e o number firing is (Some slot) there none = record {
   object = o;
   place = there.0;
   is = there.1;
-  signal = ap (signal_taken pools) is ∙ there.2.signal;
-  others = ap (λ f. left_by f pools) is ∙ ap (λ ws. set pools o.0 ws) there.2.others;
+  signal = ap (signal_taken pools.waiting) is ∙ there.2.signal;
+  others = ap (λ f. left_by f pools.waiting) is ∙ ap (λ ws. set pools.waiting o.0 ws) there.2.others;
 }
 
 -- it is one of a signal that waits
-pub slot_there : (pools : List (List Waiting)) (e : Entry) (slot : Option SlotId) → IsSlotTaken pools e slot → IfSome slot (IsSlot pools)
+pub slot_there : (pools : Waits) (e : Entry) (slot : Option SlotId) → IsSlotTaken pools e slot → IfSome slot (IsSlot pools)
 slot_there pools e None t = tt
 slot_there pools e (Some slot) t = (t.object, t.place, t.is)
 
 -- the signal there is the one that the entry takes
-pub signal_there : (pools : List (List Waiting)) (e : Entry) (slot : SlotId) (w : Waiting) → IsTakenAt pools e slot → ((o : ObjectId) (k : ℕ) → IsSlotOf pools slot o k → StandsAt pools o k w) → Some w ≡ signal_taken pools e
+pub signal_there : (pools : Waits) (e : Entry) (slot : SlotId) (w : Waiting) → IsTakenAt pools e slot → ((o : ObjectId) (k : ℕ) → IsSlotOf pools slot o k → StandsAt pools.waiting o k w) → Some w ≡ signal_taken pools.waiting e
 signal_there pools e slot w t stands = sym (t.signal ∙ stands t.object t.place t.is)
 
 -- and the others are those that are left
-pub others_left : (pools new : List (List Waiting)) (e : Entry) (slot : SlotId) → IsTakenAt pools e slot → ((o : ObjectId) (k : ℕ) → IsSlotOf pools slot o k → new ≡ without pools o k) → new ≡ left_by e pools
+pub others_left : (pools : Waits) (new : List (List Waiting)) (e : Entry) (slot : SlotId) → IsTakenAt pools e slot → ((o : ObjectId) (k : ℕ) → IsSlotOf pools slot o k → new ≡ without pools.waiting o k) → new ≡ left_by e pools.waiting
 others_left pools new e slot t takes = takes t.object t.place t.is ∙ sym t.others

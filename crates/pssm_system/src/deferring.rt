@@ -29,7 +29,8 @@ impl Situation {
     }
 }
 
-// The first signal of the pool with this number that the object does not defer, if there is one.
+// The first signal of the pool with this number that the object does not defer, if there is one. Whether it defers one
+// depends on the signal and its arguments alone, so it is asked once for signals that are alike and stand together.
 fn first_free<'a>(
     object: &Object,
     class: &Class,
@@ -40,6 +41,6 @@ fn first_free<'a>(
     requires stands { ObjectStands class.now object.now }
     ensures { IsFirstFree class.now object.now (waiting_for pools.now.waiting own) (option_copied result) }
 {
-    let slot = pools.first_not(own, &|waiting: &Waiting| object.defers(class, waiting))?;
+    let slot = pools.first_not_alike(own, &|waiting: &Waiting| object.defers(class, waiting))?;
     Some(pools.at(slot))
 }

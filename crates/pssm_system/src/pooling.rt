@@ -38,7 +38,7 @@ pub fn leave(pools: &mut Pools, entry: &Entry)
 /// The slot of the signal that a take takes, where it waits.
 #[inline(always)]
 pub fn taken_slot(pools: &Pools, entry: &Entry) -> Option<SlotId>
-    ensures { IsSlotTaken pools.now.waiting entry.now result }
+    ensures { IsSlotTaken pools.now entry.now result }
 {
     match entry {
         Entry::Take { object, number, .. } => numbered(pools, *object, *number),
@@ -49,8 +49,8 @@ pub fn taken_slot(pools: &Pools, entry: &Entry) -> Option<SlotId>
 /// The signal at the slot, where there is one.
 #[inline(always)]
 pub fn signal_at(pools: &Pools, slot: Option<SlotId>) -> Option<&Waiting>
-    requires { IfSome slot (IsSlot pools.now.waiting) }
-    ensures { (e : AnEntry) → IsSlotTaken pools.now.waiting e slot
+    requires { IfSome slot (IsSlot pools.now) }
+    ensures { (e : AnEntry) → IsSlotTaken pools.now e slot
         → option_copied result ≡ signal_taken pools.now.waiting e }
 {
     match slot {
@@ -62,8 +62,8 @@ pub fn signal_at(pools: &Pools, slot: Option<SlotId>) -> Option<&Waiting>
 /// The signal at the slot leaves its pool, where there is one.
 #[inline(always)]
 pub fn leave_slot(pools: &mut Pools, slot: Option<SlotId>)
-    requires { IfSome slot (IsSlot pools.old.waiting) }
-    ensures waiting { (e : AnEntry) → IsSlotTaken pools.old.waiting e slot
+    requires { IfSome slot (IsSlot pools.old) }
+    ensures waiting { (e : AnEntry) → IsSlotTaken pools.old e slot
         → pools.new.waiting ≡ left_by e pools.old.waiting }
     ensures spare { pools.old.spare ≤ pools.new.spare }
 {
@@ -94,7 +94,7 @@ pub fn deliver(pools: &mut Pools, told: u32, signals: Vec<Stimulus>)
 // The slot of the signal of the object with the number, if it waits.
 #[inline(always)]
 fn numbered(pools: &Pools, object: ObjectId, number: u32) -> Option<SlotId>
-    ensures there { IfSome result (IsSlotWith number pools.now.waiting object) }
+    ensures there { IfSome result (IsSlotWith number pools.now object) }
     ensures none { IfNone result (HasNoNumber number (waiting_for pools.now.waiting object)) }
 {
     pools.first_not(object, &|waiting: &Waiting| waiting.number != number)

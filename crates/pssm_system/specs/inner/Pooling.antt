@@ -6,8 +6,8 @@ use Rattle.pssm_semantics.specs.declared.entry.Entry.{Entry}
 use Rattle.pssm_semantics.specs.declared.entry.Entry.TheVariants.{Take}
 use Rattle.pssm_semantics.specs.declared.stimulus.Stimulus.{Stimulus}
 use Rattle.pssm_pool.specs.declared.pools.Waiting.{Waiting}
-use Rattle.pssm_pool.specs.declared.pools.SlotId.{SlotId}
-use Rattle.pssm_pool.specs.Waits.{waiting_for, with_arrived, without, IsSlotOf}
+use Rattle.pssm_links.specs.declared.slot.SlotId.{SlotId}
+use Rattle.pssm_pool.specs.Waits.{Waits, waiting_for, with_arrived, without, IsSlotOf}
 use Rattle.pssm_object.specs.Following.{stimulus_of}
 
 -- the first of the signals that has this number
@@ -31,8 +31,8 @@ pub record IsPlaceOf (n : ℕ) (waiting : List Waiting) (k : ℕ) : Type 0 where
   pub others : without_number n waiting ≡ remove waiting k
 
 -- The slot is that of the first signal of the object that has this number.
-abbrev pub IsSlotWith : ℕ → List (List Waiting) → ObjectId → SlotId → Type 0
-IsSlotWith n pools o slot = (k : ℕ) × IsSlotOf pools slot o k × IsPlaceOf n (waiting_for pools o) k
+abbrev pub IsSlotWith : ℕ → Waits → ObjectId → SlotId → Type 0
+IsSlotWith n pools o slot = (k : ℕ) × IsSlotOf pools slot o k × IsPlaceOf n (waiting_for pools.waiting o) k
 
 -- the signal that a take takes: the one in its object's pool with the number that the take names
 abbrev pub signal_taken : List (List Waiting) → Entry → Option Waiting
@@ -59,16 +59,16 @@ left_by (Take o number firing) pools = slice_set pools o.0 (without_number numbe
 left_by _ pools = pools
 
 -- The slot is that of the signal that the entry takes.
-pub record IsTakenAt (pools : List (List Waiting)) (e : Entry) (slot : SlotId) : Type 0 where
+pub record IsTakenAt (pools : Waits) (e : Entry) (slot : SlotId) : Type 0 where
   pub object : ObjectId
   pub place : ℕ
   pub is : IsSlotOf pools slot object place
-  pub signal : signal_taken pools e ≡ slice_get (waiting_for pools object) place
-  pub others : left_by e pools ≡ without pools object place
+  pub signal : signal_taken pools.waiting e ≡ slice_get (waiting_for pools.waiting object) place
+  pub others : left_by e pools.waiting ≡ without pools.waiting object place
 
 -- The entry takes the signal at the slot, or none.
-abbrev pub IsSlotTaken : List (List Waiting) → Entry → Option SlotId → Type 0
-IsSlotTaken pools e slot = MatchOption slot ((signal_taken pools e ≡ None) × (left_by e pools ≡ pools)) (IsTakenAt pools e)
+abbrev pub IsSlotTaken : Waits → Entry → Option SlotId → Type 0
+IsSlotTaken pools e slot = MatchOption slot ((signal_taken pools.waiting e ≡ None) × (left_by e pools.waiting ≡ pools.waiting)) (IsTakenAt pools e)
 
 -- Each of the signals is sent to an object that has a pool.
 abbrev pub HavePools : List Stimulus → ℕ → Type 0

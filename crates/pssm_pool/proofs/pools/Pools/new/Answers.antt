@@ -1,11 +1,11 @@
--- one pool more, in which nothing waits
-use Rattle.std.proofs.Common.{◌≡◌, ◌+◌, List, [], sym, subst, replicate}
-use Rattle.pssm_pool.specs.inner.Rooms.{Queue, waiting_in}
-use Rattle.pssm_pool.proofs.Sparing.{empty-more}
+-- empty lists
+use Rattle.std.proofs.Common.{List, [], replicate, ap, ◌∙◌}
+use Rattle.pssm_pool.specs.declared.pools.Waiting.{Waiting}
+use Rattle.pssm_pool.proofs.Linking.{each, each-none}
 use Rattle.pssm_pool.proofs.pools.Pools.new.Goals as goal
 
-pub loop-preserved : goal.loop-preserved
-loop-preserved c =
-    let push = c.in_ok-push.ensures in
-    subst (λ pools. waiting_in pools ≡ replicate (c.loop.counter + 1) []) (sym {A = List Queue} push.items)
-    (empty-more c.loop.counter c.loop.pools.items c.new.result c.new.ensures c.loop.invariant)
+pub returns : goal.returns
+returns c =
+    ap (each (λ e. e.value)) c.in_ok-new.ensures
+    ∙ each-none (λ e. e.value) c.from.result
+    ∙ ap (λ n. let empty : List (List Waiting) = replicate n [] in empty) c.from.ensures

@@ -11,10 +11,10 @@ use Rattle.pssm_system.proofs.Slots.{slot_there}
 use Rattle.pssm_system.proofs.situation.Situation.go_on.Goals as goal
 
 pub signal_at-taken-requires : goal.signal_at-taken-requires
-signal_at-taken-requires c = slot_there c.args.self.now.pools.waiting c.args.entry.now c.taken_slot-slot.result c.taken_slot-slot.ensures
+signal_at-taken-requires c = slot_there c.args.self.now.pools c.args.entry.now c.taken_slot-slot.result c.taken_slot-slot.ensures
 
 pub leave_slot-requires : goal.leave_slot-requires
-leave_slot-requires c = slot_there c.args.self.now.pools.waiting c.args.entry.now c.taken_slot-slot.result c.taken_slot-slot.ensures
+leave_slot-requires c = slot_there c.args.self.now.pools c.args.entry.now c.taken_slot-slot.result c.taken_slot-slot.ensures
 
 pub step-requires-clause-can : goal.step-requires-clause-can
 step-requires-clause-can c =
