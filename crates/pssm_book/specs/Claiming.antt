@@ -62,7 +62,7 @@ pub record CarriesWork (run : History) (job : Job) : Type 0 where
   pub store : job.store ≡ store_in run.setting run.journal job.object
   pub params : job.params ≡ params_in run.journal job.object job.task
 
--- A job may be run: it is one that a behaviour can be run by (UML 2.5.1 13.2.3, executions of behaviours).
+-- A job can be run: no send or mark of its behaviour has more arguments than there may be (UML 2.5.1 13.2.3, executions of behaviours).
 abbrev pub CanRun : Job → Type 0
 CanRun job = ActArgsFit job.act
 

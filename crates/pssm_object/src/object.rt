@@ -199,7 +199,7 @@ impl Object {
         self.situation.nth_task(&class.machine, i)
     }
 
-    /// The ready task with a number, in the same order, if there are as many.
+    /// The ready task with a number, in the same order; none where there are no more than that.
     pub fn find_task(&self, class: &Class, i: u32) -> Option<Task>
         requires class { IsWellFormedClass class.now }
         requires stands { Stands class.now self.now }

@@ -11,7 +11,8 @@ use Rattle.pssm_links.specs.declared.slot.SlotId.{SlotId}
 use Rattle.pssm_links.specs.Chained.{Linked, Chained, list_of, slot_at, value_at, IsSlotAt}
 use Rattle.pssm_links.specs.Chained as linked
 use Rattle.pssm_pool.specs.declared.pools.Waiting.{Waiting}
-use Rattle.pssm_pool.specs.Waits.{Waits, waits_of, values_of, waiting_for, slots_for, held_in, with_arrived, without, IsSlotOf, IsSlot, HaveSlots, HaveOwnSlots, StandsAt}
+use Rattle.pssm_pool.specs.Waits.{Waits, waiting_for, slots_for, held_in, with_arrived, without, IsSlotOf, IsSlot, HaveSlots, HaveOwnSlots, StandsAt}
+use Rattle.pssm_pool.specs.inner.Chaining.{waits_of, values_of}
 
 some-at : {X : Type 0} (xs : List X) (k : ℕ) → k < length xs → (x : X) × (slice_get xs k ≡ Some x)
 some-at [] k lt = absurd (omega arith)

@@ -1,9 +1,8 @@
 -- The pools of all objects: the signals that wait in each, how one more comes, and how one is taken (UML 2.5.1 14.2.3.9, event pool).
-use Rattle.std.specs.Prelude.{◌≡◌, ◌<◌, ◌++◌, ℕ, List, [], ◌∷◌, length, map, Some, slice_get, slice_set}
+use Rattle.std.specs.Prelude.{◌≡◌, ◌<◌, ◌++◌, ℕ, List, [], ◌∷◌, length, Some, slice_get, slice_set}
 use Rattle.std.specs.List.{remove, slice_index_or, sum_by}
 use Rattle.pssm_semantics.specs.declared.entry.ObjectId.{ObjectId}
 use Rattle.pssm_links.specs.declared.slot.SlotId.{SlotId}
-use Rattle.pssm_links.specs.Chained.{Linked, Chained, list_of}
 use Rattle.pssm_pool.specs.declared.pools.Waiting.{Waiting}
 
 -- what waits, the slots that it stands in, and how many more signals can come without memory being taken
@@ -13,18 +12,6 @@ pub record Waits : Type 0 where
   -- for each object, the slots of these signals
   pub slots : List (List SlotId)
   pub spare : ℕ
-
--- the pools whose signals are linked so: a list for each object
-abbrev pub waits_of : Chained Waiting → Waits
-waits_of chains = record {
-  waiting = map (λ row. map (λ e. e.value) row) chains.lists;
-  slots = map (λ row. map (λ e. e.slot) row) chains.lists;
-  spare = chains.spare;
-}
-
--- the signals of one list
-abbrev pub values_of : List (List (Linked Waiting)) → ℕ → List Waiting
-values_of lists l = map (λ e. e.value) (list_of lists l)
 
 -- the signals that wait for an object; none for an object that has no pool
 abbrev pub waiting_for : List (List Waiting) → ObjectId → List Waiting

@@ -3,7 +3,7 @@ ghost use Rattle.std.specs.Prelude.{◌≡◌, ◌<◌, ◌∷◌, [], ℕ, leng
 ghost use Rattle.std.specs.Fn.{FnReturnsAt};
 ghost use Rattle.std.specs.List.{AllByRecursion};
 ghost use Rattle.pssm_links.specs.Chained.{IsSlotAt};
-ghost use Rattle.pssm_pool.specs.Waits.{values_of};
+ghost use Rattle.pssm_pool.specs.inner.Chaining.{values_of};
 ghost use Rattle.pssm_pool.specs.Telling.{CanBeAsked, AreAlike, AnswersAlike, IsFirstNot};
 
 use crate::pools::Waiting;

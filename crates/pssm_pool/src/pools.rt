@@ -5,9 +5,10 @@ ghost use Rattle.std.specs.Fn.{FnReturnsAt};
 ghost use Rattle.std.specs.List.{AllByRecursion};
 ghost use Rattle.pssm_semantics.specs.declared.entry.ObjectId.{ObjectId as Object};
 ghost use Rattle.pssm_links.specs.Chained.{IsSlot as IsLinked, IsSlotAt, value_at, without as unlinked};
-ghost use Rattle.pssm_pool.specs.Waits.{waiting_for, held_in, with_arrived, without, values_of};
+ghost use Rattle.pssm_pool.specs.Waits.{waiting_for, held_in, with_arrived, without};
 ghost use Rattle.pssm_pool.specs.Waits.{IsSlotOf, IsSlot, StandsAt, HaveSlots, HaveOwnSlots};
 ghost use Rattle.pssm_pool.specs.Telling.{CanBeAsked, AnswersAlike, IsFirstNot};
+ghost use Rattle.pssm_pool.specs.inner.Chaining.{values_of};
 
 use crate::alike::first_in_alike;
 use pssm_links::{Chains, SlotId, Steps};
@@ -37,7 +38,8 @@ pub struct Pools {
 
 impl Model for Pools {
     ghost use Rattle.std.specs.Prelude.{◌≡◌, length};
-    ghost use Rattle.pssm_pool.specs.Waits.{Waits, waits_of};
+    ghost use Rattle.pssm_pool.specs.Waits.{Waits};
+    ghost use Rattle.pssm_pool.specs.inner.Chaining.{waits_of};
 
     ghost Value = { Waits };
 
@@ -61,10 +63,12 @@ impl Pools {
 
     /// Makes room for so many more signals, whichever objects they come to.
     ///
-    /// Those and the signals that wait are fewer than 4,294,967,295. `NoMemory`: memory ran out; the same signals wait.
+    /// Those and the signals that wait are fewer than 4,294,967,295. `NoMemory`: memory ran out. With both
+    /// answers the same signals wait in the same slots.
     pub fn reserve(&mut self, n: u32) -> Result<(), NoMemory>
         requires few { held_in self.old.waiting + n < 4_294_967_295 }
         ensures waiting { self.new.waiting ≡ self.old.waiting }
+        ensures slots { self.new.slots ≡ self.old.slots }
         ensures ok { OnOk result (n ≤ self.new.spare) }
     {
         self.chains.reserve(n)

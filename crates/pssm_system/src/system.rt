@@ -242,7 +242,7 @@ impl System {
         self.follower.task_of(object, i)
     }
 
-    /// The ready task of an object with a number, in the same order, if there are as many.
+    /// The ready task of an object with a number, in the same order; none where there are no more than that.
     pub fn find_task_of(&self, object: ObjectId, i: u32) -> Option<Task>
         ensures task { result ≡ slice_get (own_tasks object self.now.tasks) i }
         ensures few { length (own_tasks object self.now.tasks) < 4294967296 }

@@ -23,8 +23,8 @@ const STEP_BACK: u64 = 1;
 ///
 /// A call holds the lock once, and once more, changing nothing, where it has slept; the book takes
 /// one entry at most in it. A worker for which there is nothing to do sleeps until another makes
-/// more ready than it goes on with itself, gives a task back or ends. A hasty worker, which has run
-/// some short behaviours and no long one, steps back for a while where it meets another at the lock:
+/// more ready than it goes on with itself, gives a task back or ends. A hasty worker, whose last
+/// behaviours were all short, steps back for a while where it meets another at the lock:
 /// workers that meet there again and again are done sooner by one of them alone. Where several
 /// share it, a worker goes on with the object at which it is, so that the lock is taken once an
 /// entry, and what lies under it moves seldom from one processor to another.
@@ -50,7 +50,7 @@ impl<L: Ledger> Floor<L> {
     }
 
     /// Claims what may be done next. Where all is handed out it sleeps until there is more, before it
-    /// answers so. Where the book has gone on by an entry instead, a task of its object that is ready
+    /// answers so. Where the book has gone on by a move of an object instead, a task of it that is ready
     /// is claimed in the same holding, if several workers share the floor. A hasty worker that meets
     /// another at the lock steps back in place of claiming.
     pub fn claim<R: Wait>(
@@ -77,7 +77,7 @@ impl<L: Ledger> Floor<L> {
             Claimed::Moved => {
                 let more = opens_more(&*book);
                 let moved = last_moved(&*book);
-                let job = self.claim_more(&mut *book, moved, seat)?;
+                let job = self.claim_more(&mut *book, moved)?;
                 self.leave(book, more);
                 if let Some(job) = job {
                     return Ok(Some(Claimed::Job(job)));
@@ -115,9 +115,13 @@ impl<L: Ledger> Floor<L> {
             self.step_back(rt);
             return Ok(None);
         }
-        let job = self.claim_more(&mut *book, Some(worked.own()), seat);
+        // (the task is given back by now: who has no memory for a further one claims anew)
+        let job = match self.claim_more(&mut *book, Some(worked.own())) {
+            Ok(job) => job,
+            Err(_) => None,
+        };
         self.leave(book, more);
-        job
+        Ok(job)
     }
 
     /// Gives a task back with nothing done, and wakes all.
@@ -152,12 +156,11 @@ impl<L: Ledger> Floor<L> {
         &self,
         book: &mut Book<L>,
         object: Option<ObjectId>,
-        seat: &mut Seat<L>,
     ) -> Result<Option<Job>, NoMemory>
         ensures { IfOk result (λ job. IfSome job CanRun) }
     {
         match object {
-            Some(object) if self.shared => seat.claim_of(book, object),
+            Some(object) if self.shared => book.claim_of(object),
             _ => Ok(None),
         }
     }

@@ -1,9 +1,9 @@
 //! `Seat`: what a worker has of its own.
-ghost use Rattle.std.specs.Prelude.{◌≡◌, IfOk, IfSome};
-ghost use Rattle.pssm_book.specs.Claiming.{CanRun, MayRun};
+ghost use Rattle.std.specs.Prelude.{◌≡◌, IfOk};
+ghost use Rattle.pssm_book.specs.Claiming.{MayRun};
 
-use pssm_book::{Book, Claimed, Committed, Job};
-use pssm_semantics::{ObjectId, Task, Worked};
+use pssm_book::{Book, Claimed, Committed};
+use pssm_semantics::{Task, Worked};
 use std::alloc::AllocError as NoMemory;
 use std::sync::ledger::{Ledger, Share};
 
@@ -34,13 +34,6 @@ impl<L: Ledger> Seat<L> {
         ensures { IfOk result MayRun }
     {
         book.claim(word, &mut self.share)
-    }
-
-    /// Claims a ready task of an object that is not handed out, if there is one.
-    pub fn claim_of(&self, book: &mut Book<L>, object: ObjectId) -> Result<Option<Job>, NoMemory>
-        ensures { IfOk result (λ job. IfSome job CanRun) }
-    {
-        book.claim_of(object)
     }
 
     /// Commits what was run for a task.

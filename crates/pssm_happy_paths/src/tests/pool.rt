@@ -70,21 +70,23 @@ fn the_first_that_is_not_held_is_found_behind_many_that_are_alike(
 ) -> Result<(), Fail> {
     let object = ObjectId(0);
     let mut pools = Pools::new(rt.alloc(), 1)?;
-    pools.reserve(3)?;
+    pools.reserve(4)?;
     for number in 1..4 {
         pools.arrive(object, signal(rt.alloc(), number));
     }
-    assert!(rt;
-        pools
-            .first_not_alike(object, &|waiting: &Waiting| waiting.signal == SignalId(0))
-            .is_none()
-    );
-    let Some(slot) = pools.first_not_alike(
+    let is_held = |waiting: &Waiting| waiting.signal == SignalId(0);
+    assert!(rt; pools.first_not_alike(object, &is_held).is_none());
+    pools.arrive(
         object,
-        &|waiting: &Waiting| waiting.signal != SignalId(0),
-    ) else {
+        Waiting {
+            number: 4,
+            signal: SignalId(1),
+            args: Args::from_vec(Vec::new(rt.alloc())),
+        },
+    );
+    let Some(slot) = pools.first_not_alike(object, &is_held) else {
         return Err(Fail::new("each is held"));
     };
-    assert!(rt; pools.at(slot).number == 1);
+    assert!(rt; pools.at(slot).number == 4);
     Ok(())
 }

@@ -2,7 +2,7 @@
 use Rattle.std.proofs.Common.{sym, ◌∙◌, arith}
 use Rattle.std.specs.Fn.{FnReturnsAt}
 use Rattle.pssm_pool.specs.Telling.{AnswersAlike}
-use Rattle.pssm_pool.specs.Waits.{values_of}
+use Rattle.pssm_pool.specs.inner.Chaining.{values_of}
 use Rattle.pssm_pool.proofs.Looking.{before-more, first-found, all-held}
 use Rattle.pssm_pool.proofs.Linking.{value-here, place-within, past-end}
 use Rattle.pssm_pool.proofs.alike.first_in_alike.Goals as goal

@@ -2,7 +2,7 @@
 use Rattle.std.proofs.Common.{◌≡◌, ◌-◌, length, true, IfSome}
 use Rattle.std.specs.Fn.{FnReturnsAt}
 use Rattle.pssm_links.specs.Chained.{list_of, slot_at}
-use Rattle.pssm_pool.specs.Waits.{values_of}
+use Rattle.pssm_pool.specs.inner.Chaining.{values_of}
 use Rattle.pssm_pool.specs.Telling.{AnswersAlike}
 use Rattle.pssm_pool.proofs.Looking.{AllBefore}
 use Rattle.pssm_pool.proofs.alike.first_in_alike.Given as goal

@@ -7,7 +7,7 @@ use Rattle.std.proofs.lemmas.Option.{IfSome_then}
 use Rattle.pssm_links.specs.Chained.{IsSlotAt}
 use Rattle.pssm_pool.specs.declared.pools.Waiting.{Waiting}
 use Rattle.pssm_pool.specs.Telling.{AnswersAlike, IsFirstNot}
-use Rattle.pssm_pool.specs.Waits.{values_of}
+use Rattle.pssm_pool.specs.inner.Chaining.{values_of}
 use Rattle.pssm_pool.proofs.Linking.{linked-slot, values-are}
 use Rattle.pssm_pool.proofs.pools.Pools.first_not_alike.Goals as goal
 
