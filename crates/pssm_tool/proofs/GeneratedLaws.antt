@@ -49,6 +49,16 @@ pub never_refused : ((bytes : List ℕ) (setting : Setting) (fault : LoadFault) 
     → ReadsSetting (generated_text n) (generated_setting n) [] → IsRefusedFor (generated_text n) a → ⊥
 never_refused apart n a reads (fault, wrong, e) = apart (generated_text n) (generated_setting n) fault reads wrong
 
+-- ---- the answer
+
+-- What is counted and digested of the same journal and its text makes the same answer.
+pub same_answer : (n : ℕ) (J one other : List Entry) (takes : ℕ) (bytes shown digest : List ℕ) → one ≡ J → takes ≡ take_count other → other ≡ J
+    → digest ≡ sha256 shown → shown ≡ bytes → Generated n (length one) takes digest ≡ Generated n (length J) (take_count J) (sha256 bytes)
+same_answer n J one other takes bytes shown digest is count same made text =
+    ap (λ (xs : List Entry). Generated n (length xs) takes digest) is
+    ∙ ap (λ (k : ℕ). Generated n (length J) k digest) (count ∙ ap (λ (xs : List Entry). take_count xs) same)
+    ∙ ap (λ (d : List ℕ). Generated n (length J) (take_count J) d) (made ∙ ap (λ (b : List ℕ). sha256 b) text)
+
 -- ---- the run
 
 module _ (s own : Setting) (n : ℕ) (given : List Stimulus) (J : List Entry) (bytes : List ℕ) (same : own ≡ s) (are : given ≡ generated_stimuli n) (text : IsTextOf own J bytes) where
