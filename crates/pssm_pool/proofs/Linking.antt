@@ -118,6 +118,17 @@ module _ (chains : Chained Waiting) (value : Waits) (is : waits_of chains ≡ va
   pub values-are : (o : ObjectId) → values_of chains.lists o.0 ≡ waiting_for value.waiting o
   values-are o = sym (each-at (λ e. e.value) chains.lists o.0) ∙ ap (λ (v : Waits). waiting_for v.waiting o) is
 
+  pub lists-count : length value.waiting ≡ length chains.lists
+  lists-count = sym (ap (λ (ws : List (List Waiting)). length ws) waiting-is) ∙ length-map chains.lists (λ row. map (λ (e : Linked Waiting). e.value) row)
+
+  pub object-there : (slot : SlotId) (o : ObjectId) (k : ℕ) → IsSlotOf value slot o k → o.0 < length chains.lists
+  object-there slot o k at = listed chains.lists o.0 (slot-linked slot o k at)
+    where
+      listed : (lists : List (List (Linked Waiting))) (l : ℕ) → IsSlotAt lists slot l k → l < length lists
+      listed [] l none = let clash : None ≡ Some slot = none in absurd (cc)
+      listed (row ∷ rows) zero there = omega arith
+      listed (row ∷ rows) (suc l) there = let lt = listed rows l there in omega (arith, lt)
+
   pub held-is : sum_by length chains.lists ≡ held_in value.waiting
   held-is = sym (each-held (λ e. e.value) chains.lists) ∙ ap (λ (v : Waits). held_in v.waiting) is
 

@@ -1,1 +1,3 @@
 pub mod Chaining
+pub mod Fronts
+pub mod Looks

@@ -5,6 +5,8 @@
 #![tactic(auto)]
 
 mod alike;
+mod front;
+mod numbers;
 mod pools;
 
 pub use pools::{Pools, Waiting};

@@ -7,10 +7,12 @@ ghost use Rattle.pssm_semantics.specs.declared.entry.ObjectId.{ObjectId as Objec
 ghost use Rattle.pssm_links.specs.Chained.{IsSlot as IsLinked, IsSlotAt, value_at, without as unlinked};
 ghost use Rattle.pssm_pool.specs.Waits.{waiting_for, held_in, with_arrived, without};
 ghost use Rattle.pssm_pool.specs.Waits.{IsSlotOf, IsSlot, StandsAt, HaveSlots, HaveOwnSlots};
-ghost use Rattle.pssm_pool.specs.Telling.{CanBeAsked, AnswersAlike, IsFirstNot};
+ghost use Rattle.pssm_pool.specs.Telling.{CanBeAsked, AnswersAlike, IsFirstNot, HasNumberAt, HasNoNumber};
 ghost use Rattle.pssm_pool.specs.inner.Chaining.{values_of};
 
 use crate::alike::first_in_alike;
+use crate::front::{Front, clear_all, new_fronts};
+use crate::numbers::{first_numbered, first_of_all};
 use pssm_links::{Chains, SlotId, Steps};
 use pssm_model::SignalId;
 use pssm_semantics::{Args, ObjectId};
@@ -34,18 +36,21 @@ pub struct Waiting {
 pub struct Pools {
     chains: Chains<Waiting>,
     objects: u8,
+    // Of each pool the first signals, known by the first of each kind.
+    fronts: Vec<Front>,
 }
 
 impl Model for Pools {
     ghost use Rattle.std.specs.Prelude.{◌≡◌, length};
     ghost use Rattle.pssm_pool.specs.Waits.{Waits};
     ghost use Rattle.pssm_pool.specs.inner.Chaining.{waits_of};
+    ghost use Rattle.pssm_pool.specs.inner.Fronts.{AreFronts};
 
     ghost Value = { Waits };
 
     ghost view = { λ p. waits_of p.chains };
 
-    ghost invariant = { λ p. p.objects ≡ length p.chains.lists };
+    ghost invariant = { λ p. (p.objects ≡ length p.chains.lists) × AreFronts p.chains.lists p.fronts.items };
 }
 
 impl Pools {
@@ -58,6 +63,7 @@ impl Pools {
         Ok(Pools {
             chains: Chains::new(alloc, u32::from(objects))?,
             objects,
+            fronts: new_fronts(alloc, objects)?,
         })
     }
 
@@ -107,8 +113,9 @@ impl Pools {
 
     /// The same for a question whose answers are alike for alike signals: the same signal with the same arguments.
     ///
-    /// `held` is asked once for signals that are alike and stand one after the other. The answers are ones that it may
-    /// give for a signal that is alike.
+    /// `held` is asked once for each kind of signals at the front of the pool, those that `take_from` has passed by, and
+    /// behind it once for signals that are alike and stand one after the other. The answers are ones that it may give
+    /// for a signal that is alike.
     pub fn first_not_alike<T: Fn(&Waiting) -> bool>(
         &self,
         object: ObjectId,
@@ -124,7 +131,42 @@ impl Pools {
         if object.0 >= self.objects {
             return None;
         }
-        first_in_alike(&self.chains, u32::from(object.0), held)
+        let front = &self.fronts[usize::from(object.0)];
+        first_in_alike(&self.chains, front, u32::from(object.0), held)
+    }
+
+    /// The slot of a signal of the object with this number, if one waits.
+    ///
+    /// It is looked for among the first of each kind at the front of the pool, those that `take_from` has passed by, and
+    /// behind it, before all signals are looked through.
+    #[inline(always)]
+    pub fn numbered(&self, object: ObjectId, number: u32) -> Option<SlotId>
+        ensures there { IfSome result (λ slot. (k : ℕ) × IsSlotOf self.now slot object k
+            × HasNumberAt (waiting_for self.now.waiting object) k number) }
+        ensures none { IfNone result (HasNoNumber (waiting_for self.now.waiting object) number) }
+    {
+        if object.0 >= self.objects {
+            return None;
+        }
+        match first_of_all(&self.chains, u32::from(object.0), number) {
+            Some(slot) => Some(slot),
+            None => self.numbered_behind(object, number),
+        }
+    }
+
+    // The same without a look at the first of all.
+    #[inline(never)]
+    fn numbered_behind(&self, object: ObjectId, number: u32) -> Option<SlotId>
+        requires { object.0 < length self.now.waiting }
+        ensures there { IfSome result (λ slot. (k : ℕ) × IsSlotOf self.now slot object k
+            × HasNumberAt (waiting_for self.now.waiting object) k number) }
+        ensures none { IfNone result (HasNoNumber (waiting_for self.now.waiting object) number) }
+    {
+        let front = &self.fronts[usize::from(object.0)];
+        match first_numbered(&self.chains, front, u32::from(object.0), number) {
+            Some(slot) => Some(slot),
+            None => self.first_not(object, &|waiting: &Waiting| waiting.number != number),
+        }
     }
 
     /// The signal that waits at the slot. One waits there.
@@ -143,6 +185,38 @@ impl Pools {
             → self.new.waiting ≡ without self.old.waiting o k }
         ensures spare { self.old.spare ≤ self.new.spare }
     {
+        clear_all(&mut self.fronts);
+        unlink(&mut self.chains, slot)
+    }
+
+    /// The same of a signal of this object. It takes as long as there are signals before it that no take from this pool
+    /// has passed by yet, so that looks need not ask for each of them again.
+    #[inline(always)]
+    pub fn take_from(&mut self, object: ObjectId, slot: SlotId) -> Waiting
+        requires { (k : ℕ) × IsSlotOf self.old slot object k }
+        ensures taken { (k : ℕ) → IsSlotOf self.old slot object k → StandsAt self.old.waiting object k result }
+        ensures waiting { (k : ℕ) → IsSlotOf self.old slot object k
+            → self.new.waiting ≡ without self.old.waiting object k }
+        ensures spare { self.old.spare ≤ self.new.spare }
+    {
+        let list = u32::from(object.0);
+        if self.fronts[usize::from(object.0)].is_before(&self.chains, list, slot) {
+            return unlink(&mut self.chains, slot);
+        }
+        self.take_behind(object, slot)
+    }
+
+    // The same where the front may have to go on.
+    #[inline(never)]
+    fn take_behind(&mut self, object: ObjectId, slot: SlotId) -> Waiting
+        requires { (k : ℕ) × IsSlotOf self.old slot object k }
+        ensures taken { (k : ℕ) → IsSlotOf self.old slot object k → StandsAt self.old.waiting object k result }
+        ensures waiting { (k : ℕ) → IsSlotOf self.old slot object k
+            → self.new.waiting ≡ without self.old.waiting object k }
+        ensures spare { self.old.spare ≤ self.new.spare }
+    {
+        let list = u32::from(object.0);
+        self.fronts[usize::from(object.0)].let_go(&self.chains, list, slot);
         unlink(&mut self.chains, slot)
     }
 

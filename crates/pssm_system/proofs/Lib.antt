@@ -22,6 +22,7 @@ pub mod Views
 pub mod Found
 pub mod Fresh
 pub mod Histories
+pub mod Own
 pub mod Slots
 pub mod Outputs
 pub mod Takes

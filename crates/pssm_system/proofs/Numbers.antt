@@ -1,12 +1,12 @@
 -- The signal with a number among those that wait.
-use Rattle.std.proofs.Common.{◌≡◌, ◌≢◌, ◌==◌, ℕ, zero, suc, List, [], ◌∷◌, take, Bool, true, false, Some, None, slice_get, refl, sym, ap, ◌∙◌, ⊎_elim, eq-eqb}
+use Rattle.std.proofs.Common.{◌≡◌, ◌≢◌, ◌==◌, ℕ, zero, suc, List, [], ◌∷◌, take, Bool, true, false, Some, None, slice_get, refl, sym, ap, ◌∙◌, ⊎_elim, arith, eq-eqb}
 use Rattle.std.proofs.lemmas.Bool.Decides.{eqb_tells}
 use Rattle.std.proofs.lemmas.Option.{slice_get_within}
 use Rattle.std.specs.List.{remove}
 use Rattle.pssm_pool.specs.declared.pools.Waiting.{Waiting}
 use Rattle.pssm_pool.specs.Telling.{IsFirstNot}
 use Rattle.pssm_system.proofs.Places.{all-before}
-use Rattle.pssm_system.specs.inner.Pooling.{with_number, without_number, HasNoNumber, IsPlaceOf}
+use Rattle.pssm_system.specs.inner.Pooling.{with_number, without_number, HasNoNumber, HaveOwnNumbers, IsPlaceOf}
 
 -- two numbers that differ
 pub differ : (n k : ℕ) → n ≢ k → (n == k) ≡ false
@@ -63,3 +63,10 @@ module _ (n : ℕ) where
   first-numbered waiting k Answers first others one =
       place-found waiting k first.here.0 first.here.1 (one first.here.0 first.here.2)
       (all-before (λ (v : Waiting). v.number ≢ n) waiting k (λ j w lt at. others w (first.before j w lt at)))
+
+  -- one that has it, where no two have the same
+  pub own-numbered : (waiting : List Waiting) (k : ℕ) (w : Waiting) → slice_get waiting k ≡ Some w → w.number ≡ n → HaveOwnNumbers waiting → IsPlaceOf n waiting k
+  own-numbered waiting k w at same own =
+      place-found waiting k w at same
+      (all-before (λ (v : Waiting). v.number ≢ n) waiting k
+      (λ j v lt there. λ also. let one = own j k v w there at (also ∙ sym same) in absurd (omega (arith, one, lt))))

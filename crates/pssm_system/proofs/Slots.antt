@@ -6,6 +6,7 @@ use Rattle.pssm_model.specs.declared.steps.Firing.{Firing}
 use Rattle.pssm_semantics.specs.declared.entry.ObjectId.{ObjectId}
 use Rattle.pssm_semantics.specs.declared.entry.Entry.{Entry}
 use Rattle.pssm_semantics.specs.declared.entry.Entry.TheVariants.{Take}
+use Rattle.pssm_semantics.specs.Journal.{object_of}
 use Rattle.pssm_pool.specs.declared.pools.Waiting.{Waiting}
 use Rattle.pssm_links.specs.declared.slot.SlotId.{SlotId}
 use Rattle.pssm_pool.specs.Waits.{Waits, waiting_for, without, IsSlot, IsSlotOf, StandsAt}
@@ -18,6 +19,7 @@ pub slot_taken : (pools : Waits) (e : Entry) (o : ObjectId) (number : ℕ) (firi
 slot_taken pools e o number firing is None there none = (sym (taken-none pools.waiting e o number firing is none), sym (left-none pools.waiting e o number firing is none))
 slot_taken pools e o number firing is (Some slot) there none = record {
   object = o;
+  own = sym (ap object_of is);
   place = there.0;
   is = there.1;
   signal = ap (signal_taken pools.waiting) is ∙ there.2.signal;

@@ -21,8 +21,9 @@ struct Told {
 /// A clause sees these two, and the ready tasks in the order in which they are listed. What is kept
 /// is where each object stands and which signals wait for it. So judging an entry and going on by
 /// one take the same time however long the journal is and however many other objects there are, but
-/// for a take, which asks each deferred signal in front of the one that it takes. Who wants the
-/// entries themselves takes a [`System`].
+/// for a take, which asks once for each kind of the deferred signals in front of the one that it
+/// takes: those with the same arguments are of one kind, and at most 32 kinds are known again. Who
+/// wants the entries themselves takes a [`System`].
 ///
 /// [`System`]: crate::System
 #[derive(Drop)]

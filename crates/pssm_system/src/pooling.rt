@@ -2,9 +2,11 @@
 ghost use Rattle.std.specs.Prelude.{◌≡◌, ◌≤◌, ◌<◌, ◌+◌, ◌^◌, length, IfSome, IfNone};
 ghost use Rattle.std.specs.Option.{option_copied};
 ghost use Rattle.pssm_semantics.specs.declared.entry.Entry.{Entry as AnEntry};
+ghost use Rattle.pssm_semantics.specs.declared.entry.ObjectId.{ObjectId as AnObject};
 ghost use Rattle.pssm_pool.specs.Waits.{waiting_for, IsSlot};
-ghost use Rattle.pssm_system.specs.inner.Pooling.{HasNoNumber, IsSlotWith, IsSlotTaken, HavePools, delivered, left_by, signal_taken};
+ghost use Rattle.pssm_system.specs.inner.Pooling.{HasNoNumber, HaveOwnNumbers, IsSlotWith, IsSlotTaken, HavePools, delivered, left_by, signal_taken};
 
+use crate::entries::object_of;
 use pssm_pool::{Pools, SlotId, Waiting};
 use pssm_semantics::{Entry, ObjectId, Stimulus};
 
@@ -38,10 +40,11 @@ pub fn leave(pools: &mut Pools, entry: &Entry)
 /// The slot of the signal that a take takes, where it waits.
 #[inline(always)]
 pub fn taken_slot(pools: &Pools, entry: &Entry) -> Option<SlotId>
+    requires { (o : AnObject) → HaveOwnNumbers (waiting_for pools.now.waiting o) }
     ensures { IsSlotTaken pools.now entry.now result }
 {
     match entry {
-        Entry::Take { object, number, .. } => numbered(pools, *object, *number),
+        Entry::Take { object, number, .. } => pools.numbered(*object, *number),
         _ => None,
     }
 }
@@ -59,16 +62,15 @@ pub fn signal_at(pools: &Pools, slot: Option<SlotId>) -> Option<&Waiting>
     }
 }
 
-/// The signal at the slot leaves its pool, where there is one.
+/// The signal at the slot, the one that the entry takes, leaves its pool, where there is one.
 #[inline(always)]
-pub fn leave_slot(pools: &mut Pools, slot: Option<SlotId>)
-    requires { IfSome slot (IsSlot pools.old) }
-    ensures waiting { (e : AnEntry) → IsSlotTaken pools.old e slot
-        → pools.new.waiting ≡ left_by e pools.old.waiting }
+pub fn leave_slot(pools: &mut Pools, entry: &Entry, slot: Option<SlotId>)
+    requires { IsSlotTaken pools.old entry.now slot }
+    ensures waiting { pools.new.waiting ≡ left_by entry.now pools.old.waiting }
     ensures spare { pools.old.spare ≤ pools.new.spare }
 {
     if let Some(slot) = slot {
-        drop(pools.take(slot));
+        drop(pools.take_from(object_of(entry), slot));
     }
 }
 

@@ -105,7 +105,7 @@ impl Situation {
         let slot = taken_slot(&self.pools, entry);
         let taken = signal_at(&self.pools, slot);
         step(self.objects.as_mut_slice(), setting, entry, taken)?;
-        leave_slot(&mut self.pools, slot);
+        leave_slot(&mut self.pools, entry, slot);
         Ok(())
     }
 

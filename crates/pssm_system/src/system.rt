@@ -12,7 +12,8 @@ use std::marker::Model;
 /// A clause sees these two, and the ready tasks in the order in which they are listed. Beside them
 /// it keeps where each object stands and which signals wait for it. So judging an entry and
 /// appending one take the same time however long the journal is and however many other objects
-/// there are, but for a take, which asks each deferred signal in front of the one that it takes.
+/// there are, but for a take, which asks once for each kind of the deferred signals in front
+/// of the one that it takes.
 #[derive(Drop)]
 pub struct System {
     follower: Follower,

@@ -5,6 +5,7 @@ use Rattle.pssm_semantics.specs.declared.entry.ObjectId.{ObjectId}
 use Rattle.pssm_semantics.specs.declared.entry.Entry.{Entry}
 use Rattle.pssm_semantics.specs.declared.entry.Entry.TheVariants.{Take}
 use Rattle.pssm_semantics.specs.declared.stimulus.Stimulus.{Stimulus}
+use Rattle.pssm_semantics.specs.Journal.{object_of}
 use Rattle.pssm_pool.specs.declared.pools.Waiting.{Waiting}
 use Rattle.pssm_links.specs.declared.slot.SlotId.{SlotId}
 use Rattle.pssm_pool.specs.Waits.{Waits, waiting_for, with_arrived, without, IsSlotOf}
@@ -23,6 +24,11 @@ without_number n (w ∷ rest) = if w.number == n then rest else w ∷ without_nu
 -- None of the signals has this number.
 abbrev pub HasNoNumber : ℕ → List Waiting → Type 0
 HasNoNumber n waiting = AllByRecursion (λ w. w.number ≢ n) waiting
+
+-- No two of the signals have the same number.
+abbrev pub HaveOwnNumbers : List Waiting → Type 0
+HaveOwnNumbers waiting =
+    (j k : ℕ) (v w : Waiting) → slice_get waiting j ≡ Some v → slice_get waiting k ≡ Some w → v.number ≡ w.number → j ≡ k
 
 -- the place of the first signal that has this number
 pub record IsPlaceOf (n : ℕ) (waiting : List Waiting) (k : ℕ) : Type 0 where
@@ -61,6 +67,7 @@ left_by _ pools = pools
 -- The slot is that of the signal that the entry takes.
 pub record IsTakenAt (pools : Waits) (e : Entry) (slot : SlotId) : Type 0 where
   pub object : ObjectId
+  pub own : object ≡ object_of e
   pub place : ℕ
   pub is : IsSlotOf pools slot object place
   pub signal : signal_taken pools.waiting e ≡ slice_get (waiting_for pools.waiting object) place

@@ -3,7 +3,7 @@ use Rattle.std.proofs.Common.{◌≡◌, ◌-◌, length}
 use Rattle.std.specs.Fn.{FnReturnsAt}
 use Rattle.pssm_links.specs.Chained.{list_of, slot_at}
 use Rattle.pssm_pool.specs.inner.Chaining.{values_of}
-use Rattle.pssm_pool.proofs.Looking.{AllBefore}
+use Rattle.pssm_pool.specs.inner.Looks.{AllBefore}
 use Rattle.pssm_pool.proofs.pools.first_in.Given as goal
 
 abbrev pub invariant-loop-next : goal.invariant-loop-next

@@ -18,22 +18,22 @@ returns-clause-slot g c =
     (λ slot first. (
       c.args.object,
       first.0,
-      linked-slot c.self.inside.chains c.args.self.now c.self.view_is slot c.args.object first.0 (subst (λ l. IsSlotAt lists slot l first.0) c.from.ensures first.1),
+      linked-slot c.self.inside.chains c.args.self.now c.self.view_is slot c.args.object first.0 (subst (λ l. IsSlotAt lists slot l first.0) c.from-2.ensures first.1),
     ))
 
 pub returns-clause-first : goal.returns-clause-first
 returns-clause-first g c =
     let lists = c.self.inside.chains.lists in
-    let same = ap (λ l. values_of lists l) c.from.ensures ∙ values-are c.self.inside.chains c.args.self.now c.self.view_is c.args.object in
+    let same = ap (λ l. values_of lists l) c.from-2.ensures ∙ values-are c.self.inside.chains c.args.self.now c.self.view_is c.args.object in
     IfSome_then c.first_in_alike.result c.first_in_alike.ensures.first
     (λ slot first. (
       first.0,
-      linked-slot c.self.inside.chains c.args.self.now c.self.view_is slot c.args.object first.0 (subst (λ l. IsSlotAt lists slot l first.0) c.from.ensures first.1),
+      linked-slot c.self.inside.chains c.args.self.now c.self.view_is slot c.args.object first.0 (subst (λ l. IsSlotAt lists slot l first.0) c.from-2.ensures first.1),
       subst (λ ws. IsFirstNot (AnswersAlike (FnReturnsAt g.T.Fn c.args.held.now)) ws first.0) same first.2,
     ))
 
 pub returns-clause-none : goal.returns-clause-none
 returns-clause-none g c =
     let lists = c.self.inside.chains.lists in
-    let same = ap (λ l. values_of lists l) c.from.ensures ∙ values-are c.self.inside.chains c.args.self.now c.self.view_is c.args.object in
+    let same = ap (λ l. values_of lists l) c.from-2.ensures ∙ values-are c.self.inside.chains c.args.self.now c.self.view_is c.args.object in
     subst (λ (ws : List Waiting). IfNone c.first_in_alike.result (AllByRecursion (λ w. AnswersAlike (FnReturnsAt g.T.Fn c.args.held.now) w true) ws)) same c.first_in_alike.ensures.none

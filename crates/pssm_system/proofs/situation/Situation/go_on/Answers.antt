@@ -7,14 +7,18 @@ use Rattle.pssm_semantics.specs.Pool.{signals_of_entry}
 use Rattle.pssm_system.specs.inner.Pooling.{delivered, left_by, signal_taken}
 use Rattle.pssm_system.specs.inner.Stepping.{CanStep, HaveStepped}
 use Rattle.pssm_system.proofs.Stepped.{can_step_now, stands_after}
+use Rattle.pssm_system.proofs.Own.{own-numbers}
 use Rattle.pssm_system.proofs.Slots.{slot_there}
 use Rattle.pssm_system.proofs.situation.Situation.go_on.Goals as goal
 
 pub signal_at-taken-requires : goal.signal_at-taken-requires
 signal_at-taken-requires c = slot_there c.args.self.now.pools c.args.entry.now c.taken_slot-slot.result c.taken_slot-slot.ensures
 
+pub taken_slot-slot-requires : goal.taken_slot-slot-requires
+taken_slot-slot-requires c = own-numbers c.requires.can.stands
+
 pub leave_slot-requires : goal.leave_slot-requires
-leave_slot-requires c = slot_there c.args.self.now.pools c.args.entry.now c.taken_slot-slot.result c.taken_slot-slot.ensures
+leave_slot-requires c = c.taken_slot-slot.ensures
 
 pub step-requires-clause-can : goal.step-requires-clause-can
 step-requires-clause-can c =
@@ -35,5 +39,5 @@ returns-clause-ok c = λ J stands may.
     let none : length (signals_of_entry e) ≡ 0 = ap (λ (xs : List Stimulus). length xs) c.requires.silent in
     stands_after c.requires.well_formed stands e may _
     (subst (HaveStepped c.args.setting.now c.args.self.now.objects.items (signal_taken pools e) e) (sym objects) stepped)
-    (c.leave_slot.ensures.waiting c.args.entry.now c.taken_slot-slot.ensures ∙ sym (ap (λ xs. delivered (told + 1) xs (left_by e pools)) c.requires.silent))
+    (c.leave_slot.ensures.waiting ∙ sym (ap (λ xs. delivered (told + 1) xs (left_by e pools)) c.requires.silent))
     (omega arith)

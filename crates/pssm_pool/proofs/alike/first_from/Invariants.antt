@@ -4,8 +4,8 @@ use Rattle.std.specs.Fn.{FnReturnsAt}
 use Rattle.pssm_links.specs.Chained.{list_of, slot_at}
 use Rattle.pssm_pool.specs.inner.Chaining.{values_of}
 use Rattle.pssm_pool.specs.Telling.{AnswersAlike}
-use Rattle.pssm_pool.proofs.Looking.{AllBefore}
-use Rattle.pssm_pool.proofs.alike.first_in_alike.Given as goal
+use Rattle.pssm_pool.specs.inner.Looks.{AllBefore}
+use Rattle.pssm_pool.proofs.alike.first_from.Given as goal
 
 abbrev pub invariant-loop-next : goal.invariant-loop-next
 invariant-loop-next g l = record {
