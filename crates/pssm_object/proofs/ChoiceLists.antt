@@ -7,7 +7,7 @@ use Rattle.pssm_plan.specs.Agenda.{Agenda}
 use Rattle.pssm_plan.specs.Plans.{IsPlanOf}
 use Rattle.pssm_plan.specs.Standings.{ready_calls}
 use Rattle.pssm_plan.proofs.ReadyCalls.{lists_ready}
-use Rattle.pssm_routes.proofs.ListPlaces.{contains_at}
+use Rattle.pssm_enabled.proofs.ListPlaces.{contains_at}
 use Rattle.pssm_semantics.specs.declared.entry.Entry.{Entry}
 use Rattle.pssm_semantics.specs.declared.setting.Class.{Class}
 use Rattle.pssm_pool.specs.declared.pools.Waiting.{Waiting}

@@ -28,9 +28,9 @@ use Rattle.pssm_model_laws.proofs.StateRoutes.{leaves_some}
 use Rattle.pssm_model_laws.proofs.Through.{kinds_clash, target_there}
 use Rattle.pssm_routes.specs.declared.areas.Footprint.{Footprint}
 use Rattle.pssm_legs.specs.Areas.{scope_of}
-use Rattle.pssm_routes.specs.inner.Behind.{IsRouteBehind}
+use Rattle.pssm_enabled.specs.Behind.{IsRouteBehind}
 use Rattle.pssm_routes.specs.inner.Footprints.{IsAnchorBy}
-use Rattle.pssm_routes.specs.inner.Ways.{IsWayOut}
+use Rattle.pssm_enabled.specs.Ways.{IsWayOut}
 use Rattle.pssm_routes.specs.inner.Rooms.{EndsWithin, IsOpenRoom}
 use Rattle.pssm_routes.specs.inner.Starts.{GoesOnBy, IsStartedWith}
 use Rattle.pssm_routes.specs.inner.Sets.{HasJoiner, HasFreeRoute, IsTouched, HoldsSource, IsCeiling}
@@ -41,8 +41,9 @@ use Rattle.pssm_routes.proofs.JoiningSteps.{state_outside, none_joins_shut, none
 use Rattle.pssm_routes.proofs.Rooms.{goes_at, touched_is_shut, open_unless_external, shut_without_ceiling, open_below_ceiling}
 use Rattle.pssm_routes.proofs.RoutesOver.{some_route_behind, joiner_is_free, joiner_started, joiner_among, free_joins}
 use Rattle.pssm_routes.proofs.Spans.{some_beside}
-use Rattle.pssm_routes.proofs.StartLaws.{is_among_starts, some_starts, some_onward, starts_alone}
-use Rattle.pssm_routes.proofs.Trees.{target_some}
+use Rattle.pssm_enabled.proofs.StartLaws.{is_among_starts, some_starts, starts_alone}
+use Rattle.pssm_routes.proofs.Onward.{some_onward}
+use Rattle.pssm_enabled.proofs.Trees.{target_some}
 use Rattle.pssm_routes.proofs.WayEnds.{out_leads_further, out_no_join}
 use Rattle.pssm_model_laws.proofs.Known.{Known, known_as, known_both, known_either, known_among, known_vertex}
 use Rattle.pssm_model_laws.proofs.KnownPlaces.{known_vertex_kind, known_in_region, known_in_state}

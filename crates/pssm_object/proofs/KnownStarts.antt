@@ -18,14 +18,16 @@ use Rattle.pssm_model.specs.inner.Listed.{vertex_number}
 use Rattle.pssm_model.proofs.ElementLaws.{some_at, mapped_at, lists_at, leaves_one}
 use Rattle.pssm_model.proofs.RouteLaws.{in_one, is_one}
 use Rattle.pssm_model_laws.proofs.StateRoutes.{leaves_some}
-use Rattle.pssm_routes.specs.inner.Ways.{LeadsOut}
-use Rattle.pssm_routes.specs.inner.Starts.{IsLeftBy, AreCausedBy, AreStarted, AreStartsWith, IsStartedWith, StartsAmong, Reacts, IsOutranked}
-use Rattle.pssm_routes.proofs.Deciding.{some_transition}
+use Rattle.pssm_enabled.specs.Ways.{LeadsOut}
+use Rattle.pssm_enabled.specs.Starts.{IsLeftBy, AreCausedBy, AreStarted, AreStartsWith}
+use Rattle.pssm_routes.specs.inner.Starts.{IsStartedWith, StartsAmong, Reacts, IsOutranked}
+use Rattle.pssm_enabled.proofs.Deciding.{some_transition}
 use Rattle.pssm_routes.proofs.Fruitless.{reacts_there}
 use Rattle.pssm_routes.proofs.Reaction.{IsReaction, reacts_leads, way_reacts, route_by_reacts}
-use Rattle.pssm_routes.proofs.StartLaws.{entering_is_there, some_starts, among_joined, one_onward, some_onward}
+use Rattle.pssm_enabled.proofs.StartLaws.{entering_is_there, some_starts}
+use Rattle.pssm_routes.proofs.Onward.{among_joined, one_onward, some_onward}
 use Rattle.pssm_routes.proofs.StartedWith.{started_with}
-use Rattle.pssm_routes.proofs.Trees.{target_some}
+use Rattle.pssm_enabled.proofs.Trees.{target_some}
 use Rattle.pssm_model_laws.proofs.Known.{Known, known_as, known_both, known_not, known_below, known_among, known_all, known_inside, known_number, known_vertex}
 use Rattle.pssm_model_laws.proofs.KnownPlaces.{known_vertex_kind, known_in_state}
 use Rattle.pssm_object.proofs.MachineLaws.{leaving_there, known_leaves}

@@ -14,15 +14,14 @@ use Rattle.pssm_model.proofs.ElementLaws.{enters_one}
 use Rattle.pssm_model_laws.proofs.Through.{no_cycle, known_through, target_there}
 use Rattle.pssm_model_laws.proofs.StateRoutes.{leaves_some}
 use Rattle.pssm_routes.specs.inner.Starts.{GoesOnBy}
-use Rattle.pssm_routes.specs.inner.Passing.{IsPassedOver}
-use Rattle.pssm_routes.specs.inner.Ways.{IsAllowed, IsOpen, LeadsOut, IsWay, IsWayOut}
-use Rattle.pssm_routes.specs.inner.Ways.LeadsOut.{ends, on}
-use Rattle.pssm_routes.specs.inner.Ways.IsWay.{begins, goes_on}
-use Rattle.pssm_routes.proofs.Deciding.{some_transition, true_decided}
-use Rattle.pssm_routes.proofs.Descent.{by_descent}
-use Rattle.pssm_routes.proofs.LeadingOn.{passed_through, known_passed, opens}
-use Rattle.pssm_routes.proofs.StartLaws.{entering_is_there}
-use Rattle.pssm_routes.proofs.Trees.{target_some, known_way}
+use Rattle.pssm_enabled.specs.Ways.{IsPassedOver, IsAllowed, IsOpen, LeadsOut, IsWay, IsWayOut}
+use Rattle.pssm_enabled.specs.Ways.LeadsOut.{ends, on}
+use Rattle.pssm_enabled.specs.Ways.IsWay.{begins, goes_on}
+use Rattle.pssm_enabled.proofs.Deciding.{some_transition, true_decided}
+use Rattle.pssm_enabled.proofs.Descent.{by_descent}
+use Rattle.pssm_enabled.proofs.LeadingOn.{passed_through, known_passed, opens}
+use Rattle.pssm_enabled.proofs.StartLaws.{entering_is_there}
+use Rattle.pssm_enabled.proofs.Trees.{target_some, known_way}
 use Rattle.pssm_routes.proofs.WayPaths.{way_led}
 use Rattle.pssm_model_laws.proofs.Known.{Known, known_as, known_both}
 use Rattle.pssm_model_laws.proofs.KnownPlaces.{known_in_region, known_vertex_kind}

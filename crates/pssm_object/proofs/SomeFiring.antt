@@ -27,10 +27,10 @@ use Rattle.pssm_routes.specs.inner.Picks.{first_number, IsFreeRoute, IsChosen, I
 use Rattle.pssm_routes.proofs.Conflicts.{one_footprint}
 use Rattle.pssm_routes.proofs.Fruitless.{reacts_there}
 use Rattle.pssm_routes.proofs.Joiners.{joins_with}
-use Rattle.pssm_routes.proofs.Members.{in_front, in_rest, front_or_rest}
+use Rattle.pssm_enabled.proofs.Members.{in_front, in_rest, front_or_rest}
 use Rattle.pssm_routes.proofs.Picking.{chosen_none, grown_by}
 use Rattle.pssm_routes.proofs.Settling.{fires_settled}
-use Rattle.pssm_routes.proofs.StartLaws.{start_there}
+use Rattle.pssm_enabled.proofs.StartLaws.{start_there}
 use Rattle.pssm_model_laws.proofs.Known.{Known, known_both, known_not}
 use Rattle.pssm_object.proofs.KnownStarts.{known_reacts, known_outranked}
 use Rattle.pssm_object.proofs.KnownJoiners.{known_joiner}

@@ -14,7 +14,8 @@ use Rattle.pssm_model.specs.Shapes.{HasShape}
 use Rattle.pssm_model.proofs.ElementLaws.{same_vertex, nothing_in_nil, mapped_some}
 use Rattle.pssm_model.proofs.OwnerChains.{one_owner, under_further, top_lies_nowhere, state_down}
 use Rattle.pssm_model.proofs.Nesting.{under_cases, shallower}
-use Rattle.pssm_routes.proofs.Choosing.{IsMarked, seen_more, seen_last, seen_cases}
+use Rattle.pssm_routes.proofs.ChosenStates.{IsMarked}
+use Rattle.pssm_enabled.proofs.Choosing.{seen_more, seen_last, seen_cases}
 
 same_state : (s q : VertexId) → State s ≡ State q → s ≡ q
 same_state s q e = cc

@@ -22,10 +22,9 @@ use Rattle.pssm_model_laws.proofs.Branches.Along.{itself, goes as along_on}
 use Rattle.pssm_model_laws.proofs.UpAndDown.{GoesUp, GoesDown, up_or_down_kind}
 use Rattle.pssm_model_laws.proofs.DownLegs.{down_target}
 use Rattle.pssm_routes.specs.inner.Starts.{GoesOnBy}
-use Rattle.pssm_routes.specs.inner.Passing.{IsPassedOver}
-use Rattle.pssm_routes.specs.inner.Ways.{IsWay}
-use Rattle.pssm_routes.specs.inner.Behind.{GoesOnFrom, IsRouteOver}
-use Rattle.pssm_routes.proofs.Trees.{no_join_after}
+use Rattle.pssm_enabled.specs.Ways.{IsPassedOver, IsWay}
+use Rattle.pssm_enabled.specs.Behind.{GoesOnFrom, IsRouteOver}
+use Rattle.pssm_enabled.proofs.Trees.{no_join_after}
 use Rattle.pssm_routes.proofs.WayPaths.{way_is_open, way_goes_on}
 use Rattle.pssm_routes.proofs.Routed.{over_cases, passed_apart, behind_leaves, alone_in_path}
 

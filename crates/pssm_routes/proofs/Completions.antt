@@ -12,7 +12,7 @@ use Rattle.pssm_model.proofs.ElementLaws.{leaves_one, nothing_in_nil}
 use Rattle.pssm_model.proofs.RouteLaws.{is_one}
 use Rattle.pssm_routes.specs.inner.Starts.{Reacts, ReactsAlone, StartAlone, IsOneReacting, AreListed}
 use Rattle.pssm_routes.proofs.Enabled.{enabled_starts}
-use Rattle.pssm_routes.proofs.StartLaws.{starts_of}
+use Rattle.pssm_enabled.proofs.StartLaws.{starts_of}
 
 -- where it does not react to its completion, nothing does
 pub completes_none : (m : DraftMachine) (now : Configuration) (truth : Truth) (state : VertexId)

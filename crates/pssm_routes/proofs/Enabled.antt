@@ -11,10 +11,11 @@ use Rattle.pssm_model.specs.Configuration.{Configuration}
 use Rattle.pssm_model.specs.Legs.{Leaves, On}
 use Rattle.pssm_model.specs.Routes.{Truth, IsRoute, IsSource, IsStateRoute, IsTrueAt, IsEnabled}
 use Rattle.pssm_model.proofs.RouteLaws.{same_route}
-use Rattle.pssm_routes.specs.inner.Fitting.{route_with}
-use Rattle.pssm_routes.specs.inner.Starts.{AreStarted, IsStartedWith}
-use Rattle.pssm_routes.proofs.Started.{enabled_is}
-use Rattle.pssm_routes.proofs.StartLaws.{starts_of, is_among_starts, one_starts}
+use Rattle.pssm_enabled.specs.Fitting.{route_with}
+use Rattle.pssm_enabled.specs.Starts.{AreStarted}
+use Rattle.pssm_routes.specs.inner.Starts.{IsStartedWith}
+use Rattle.pssm_enabled.proofs.Started.{enabled_is}
+use Rattle.pssm_enabled.proofs.StartLaws.{starts_of, is_among_starts, one_starts}
 
 as_route : (p : Route) → route_with p.starts p.rest ≡ p
 as_route p = same_route (route_with p.starts p.rest) p refl refl

@@ -17,11 +17,11 @@ use Rattle.pssm_model.specs.Routes.{Truth}
 use Rattle.pssm_model.specs.FiringSets.{Overrides}
 use Rattle.pssm_model.proofs.ElementLaws.{mapped_some, nothing_in_nil, same_vertex}
 use Rattle.pssm_model.specs.WellFormed.{KeepsModelRules}
-use Rattle.pssm_routes.specs.declared.seeking.Search.{Search}
+use Rattle.pssm_enabled.specs.declared.seeking.Search.{Search}
 use Rattle.pssm_routes.specs.inner.Starts.{IsStartedWith, GoesOnBy, Reacts}
-use Rattle.pssm_routes.specs.inner.Ways.{LeadsOut}
-use Rattle.pssm_routes.specs.inner.Steps.{KnowsDeadEnds}
-use Rattle.pssm_routes.proofs.Choosing.{seen_cases}
+use Rattle.pssm_enabled.specs.Ways.{LeadsOut}
+use Rattle.pssm_enabled.specs.Steps.{KnowsDeadEnds}
+use Rattle.pssm_enabled.proofs.Choosing.{seen_cases}
 use Rattle.pssm_routes.proofs.Reaction.{reacts_leads}
 
 -- what an option that holds something, or nothing, says

@@ -15,7 +15,7 @@ use Rattle.pssm_model.specs.WellFormed.{KeepsModelRules}
 use Rattle.pssm_routes.specs.inner.Footprints.{IsFootprintOf, AreFootprints, Clash, ClashesWithSome}
 use Rattle.pssm_routes.specs.inner.Starts.{IsOutranked, IsCandidate}
 use Rattle.pssm_routes.specs.inner.Sets.{CanJoin, IsSettled, HasJoiner}
-use Rattle.pssm_routes.proofs.Members.{in_front, in_rest, front_or_rest}
+use Rattle.pssm_enabled.proofs.Members.{in_front, in_rest, front_or_rest}
 use Rattle.pssm_routes.proofs.Enabled.{enabled_active}
 use Rattle.pssm_routes.proofs.Conflicts.{some_footprint, one_footprint, conflict_clashes}
 use Rattle.pssm_routes.proofs.Settling.{conflict_turns}

@@ -16,15 +16,16 @@ use Rattle.pssm_model.proofs.ElementLaws.{leaves_one}
 use Rattle.pssm_model_laws.proofs.Through.{not_through}
 use Rattle.pssm_model_laws.proofs.StateRoutes.{leaves_some}
 use Rattle.pssm_routes.specs.declared.areas.Footprint.{Footprint}
-use Rattle.pssm_routes.specs.declared.seeking.Step.{Step}
+use Rattle.pssm_enabled.specs.declared.seeking.Step.{Step}
 use Rattle.pssm_routes.specs.inner.Starts.{GoesOnBy}
-use Rattle.pssm_routes.specs.inner.Steps.{IsFound, IsJoiningStep}
-use Rattle.pssm_routes.specs.inner.Ways.{LeadsOut, IsWayOut}
+use Rattle.pssm_enabled.specs.Steps.{IsFound}
+use Rattle.pssm_routes.specs.inner.Rooms.{IsJoiningStep, IsShut, IsOpenRoom, EndsWithin}
+use Rattle.pssm_enabled.specs.Ways.{LeadsOut, IsWayOut}
 use Rattle.pssm_routes.specs.inner.Sets.{HasFreeRoute}
-use Rattle.pssm_routes.specs.inner.Rooms.{IsShut, IsOpenRoom, EndsWithin}
-use Rattle.pssm_routes.specs.inner.Behind.{IsRouteBehind}
-use Rattle.pssm_routes.proofs.LeadingOn.{route_leads}
-use Rattle.pssm_routes.proofs.StartLaws.{is_among_starts, onward_on}
+use Rattle.pssm_enabled.specs.Behind.{IsRouteBehind}
+use Rattle.pssm_enabled.proofs.LeadingOn.{route_leads}
+use Rattle.pssm_enabled.proofs.StartLaws.{is_among_starts}
+use Rattle.pssm_routes.proofs.Onward.{onward_on}
 use Rattle.pssm_routes.proofs.WayEnds.{out_leads_further, out_no_join}
 use Rattle.pssm_routes.proofs.Routed.{over_true, over_routed, states_over}
 use Rattle.pssm_routes.proofs.Bounds.{all_within}

@@ -16,7 +16,7 @@ use Rattle.pssm_model.specs.WellFormed.{KeepsModelRules}
 use Rattle.pssm_routes.specs.inner.Footprints.{IsFootprintOf, AreFootprints, Clash}
 use Rattle.pssm_routes.specs.inner.Starts.{IsCandidate}
 use Rattle.pssm_routes.specs.inner.Sets.{IsSettled, IsFull, HasJoinerFrom, AreApart, AreComplete}
-use Rattle.pssm_routes.proofs.Members.{in_front, in_rest, front_or_rest}
+use Rattle.pssm_enabled.proofs.Members.{in_front, in_rest, front_or_rest}
 use Rattle.pssm_routes.proofs.Settling.{fires_settled}
 use Rattle.pssm_model_laws.proofs.RouteOrder.{of_start}
 use Rattle.pssm_model_laws.proofs.RouteKinds.{some_start}

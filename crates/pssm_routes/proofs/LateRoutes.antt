@@ -4,11 +4,10 @@ use Rattle.std.proofs.lemmas.Option.{slice_get_within}
 use Rattle.pssm_model.specs.declared.ids.VertexId.{VertexId}
 use Rattle.pssm_model.specs.declared.ids.TransId.{TransId}
 use Rattle.pssm_model.specs.declared.elements.DraftMachine.{DraftMachine}
-use Rattle.pssm_model.specs.declared.elements.Transition.{Transition}
 use Rattle.pssm_model.specs.declared.elements.Vertex.{Vertex}
 use Rattle.pssm_model.specs.declared.elements.VertexKind.{VertexKind}
 use Rattle.pssm_model.specs.declared.elements.VertexKind.TheVariants as kinds
-use Rattle.pssm_model.specs.Forest.{vertex_at, transition_at, HasKind}
+use Rattle.pssm_model.specs.Forest.{vertex_at, HasKind}
 use Rattle.pssm_model.specs.Legs.{Leaves, On}
 use Rattle.pssm_model.specs.Routes.{Truth, IsTrueAt, IsRoute}
 use Rattle.pssm_model.specs.FiringSets.{IsLateOrigin, IsLateRoute}
@@ -16,12 +15,9 @@ use Rattle.pssm_model_laws.specs.inner.RouteWords.{IsThrough}
 use Rattle.pssm_model.proofs.ElementLaws.{mapped_some, leaves_one}
 use Rattle.pssm_model_laws.proofs.Through.{not_through}
 use Rattle.pssm_model.proofs.RouteLaws.{is_one, one_in_order, all_of_one}
-use Rattle.pssm_routes.specs.inner.Fitting.{route_with, AreInOrder, StartsOutside, StartsLate}
-
--- a transition that leaves a vertex is there
-pub leaving_is_there : (m : DraftMachine) (t : TransId) (v : VertexId) → Leaves m t v → t.0 < length m.transitions
-leaving_is_there m t v leaves =
-    let at = mapped_some (λ (x : Transition). x.source) (transition_at m t) v leaves in slice_get_within m.transitions t.0 at.0 at.1
+use Rattle.pssm_enabled.specs.Fitting.{route_with, AreInOrder, StartsOutside}
+use Rattle.pssm_routes.specs.inner.Late.{StartsLate}
+use Rattle.pssm_enabled.proofs.Leaving.{leaving_is_there}
 
 -- a late origin is there
 pub late_is_there : (m : DraftMachine) (v : VertexId) → IsLateOrigin m v → v.0 < length m.vertices

@@ -15,9 +15,8 @@ use Rattle.pssm_model.specs.Forest.{transition_at}
 use Rattle.pssm_model.proofs.ElementLaws.{enters_one, mapped_at, nothing_in_nil}
 use Rattle.pssm_routes.proofs.WayPaths.{true_is_there}
 use Rattle.pssm_routes.specs.declared.looking.Reached.{Reached}
-use Rattle.pssm_routes.specs.inner.Passing.{IsPassedOver}
-use Rattle.pssm_routes.specs.inner.Ways.{EndsInside, IsOpen, LeadsOut}
-use Rattle.pssm_routes.specs.inner.Ways.LeadsOut.{ends, on}
+use Rattle.pssm_enabled.specs.Ways.{IsPassedOver, EndsInside, IsOpen, LeadsOut}
+use Rattle.pssm_enabled.specs.Ways.LeadsOut.{ends, on}
 use Rattle.pssm_routes.specs.inner.Looking.{come_to, AreThere, HasCome, IsLookedAt, HasLooked, IsLooking, IsLookingOn}
 
 -- what is at a place of a list with more at its end

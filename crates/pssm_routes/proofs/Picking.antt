@@ -31,7 +31,7 @@ use Rattle.pssm_model.specs.WellFormed.{KeepsModelRules}
 use Rattle.pssm_routes.specs.inner.Footprints.{IsFootprintOf, Clash}
 use Rattle.pssm_routes.specs.inner.Starts.{IsOutranked, IsCandidate}
 use Rattle.pssm_routes.specs.inner.Picks.{first_number, StartApart, IsFreeRoute, IsFreeFrom, IsSpent, IsChosen, IsAdded, IsGrown}
-use Rattle.pssm_routes.proofs.Members.{all_of_members, in_front}
+use Rattle.pssm_enabled.proofs.Members.{all_of_members, in_front}
 use Rattle.pssm_routes.proofs.Settling.{fires_settled}
 use Rattle.pssm_routes.proofs.Joiners.{footprint_in, footprints_more, joiner_can_join, settled_none, settled_more}
 use Rattle.pssm_routes.proofs.Judging.{starts_somewhere, closed_full}

@@ -10,16 +10,17 @@ use Rattle.pssm_model.specs.Legs.{Leaves}
 use Rattle.pssm_model.specs.Routes.{Truth}
 use Rattle.pssm_model.specs.WellFormed.{KeepsModelRules}
 use Rattle.pssm_model_laws.proofs.RouteOrder.{of_start, target_of}
-use Rattle.pssm_routes.specs.declared.seeking.Step.{Step}
+use Rattle.pssm_enabled.specs.declared.seeking.Step.{Step}
 use Rattle.pssm_routes.specs.inner.Starts.{IsStartedWith, GoesOnBy, HasRouteBy, Reacts}
-use Rattle.pssm_routes.specs.inner.Ways.{LeadsOut, IsWayOut}
-use Rattle.pssm_routes.specs.inner.Steps.{IsFound}
+use Rattle.pssm_enabled.specs.Ways.{LeadsOut, IsWayOut}
+use Rattle.pssm_enabled.specs.Steps.{IsFound}
 use Rattle.pssm_routes.proofs.Enabled.{started_state, enabled_started, enabled_with}
 use Rattle.pssm_routes.proofs.JoiningSteps.{state_outside}
-use Rattle.pssm_routes.proofs.LeadingOn.{route_leads}
+use Rattle.pssm_enabled.proofs.LeadingOn.{route_leads}
 use Rattle.pssm_routes.proofs.Routed.{over_routed, over_true}
 use Rattle.pssm_routes.proofs.RoutesOver.{some_route_behind}
-use Rattle.pssm_routes.proofs.StartLaws.{is_among_starts, some_onward, onward_on}
+use Rattle.pssm_enabled.proofs.StartLaws.{is_among_starts}
+use Rattle.pssm_routes.proofs.Onward.{some_onward, onward_on}
 use Rattle.pssm_routes.proofs.WayEnds.{out_leads_further}
 
 -- The event starts the transition out of the State, alone or with others, and that by which a route with it goes on leads out.

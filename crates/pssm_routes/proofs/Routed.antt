@@ -21,15 +21,16 @@ use Rattle.pssm_model_laws.proofs.Known.{known_transition}
 use Rattle.pssm_model_laws.proofs.Through.{kinds_clash, not_through, no_cycle, join_from_state, join_one_out, exit_one_out}
 use Rattle.pssm_model_laws.proofs.LegShapes.{cut_no_junction}
 use Rattle.pssm_model_laws.proofs.RouteOrder.{of_start, of_rest, start_or_rest}
-use Rattle.pssm_routes.specs.inner.Fitting.{PassesBy, FitsTogether, StartsOutside}
-use Rattle.pssm_routes.specs.inner.Starts.{AreStartsWith, GoesOnBy}
-use Rattle.pssm_routes.specs.inner.Passing.{IsPassedOver}
-use Rattle.pssm_routes.specs.inner.Ways.{IsWay}
-use Rattle.pssm_routes.specs.inner.Behind.{GoesOnFrom, IsRouteOver}
-use Rattle.pssm_routes.proofs.Fitting.{fits_is_route}
-use Rattle.pssm_routes.proofs.LeadingOn.{passed_through}
-use Rattle.pssm_routes.proofs.StartLaws.{is_among_starts}
-use Rattle.pssm_routes.proofs.Unguarded.{join_true}
+use Rattle.pssm_enabled.specs.Fitting.{PassesBy, StartsOutside}
+use Rattle.pssm_enabled.specs.inner.Fitting.{FitsTogether}
+use Rattle.pssm_enabled.specs.Starts.{AreStartsWith}
+use Rattle.pssm_routes.specs.inner.Starts.{GoesOnBy}
+use Rattle.pssm_enabled.specs.Ways.{IsPassedOver, IsWay}
+use Rattle.pssm_enabled.specs.Behind.{GoesOnFrom, IsRouteOver}
+use Rattle.pssm_enabled.proofs.Fitting.{fits_is_route}
+use Rattle.pssm_enabled.proofs.LeadingOn.{passed_through}
+use Rattle.pssm_enabled.proofs.StartLaws.{is_among_starts}
+use Rattle.pssm_enabled.proofs.Unguarded.{join_true}
 use Rattle.pssm_routes.proofs.WayPaths.{true_is_there, GoesOver, way_has_start, way_has_last, way_is_open, way_leaves, way_goes_on, way_entered, way_led, way_leaves_once}
 
 module _ {m : DraftMachine} (shape : HasShape m) (rules : KeepsModelRules m) (truth : Truth) (within : Option RegionId) (t first last : TransId)

@@ -13,17 +13,18 @@ use Rattle.pssm_model.specs.Routes.{Truth, IsSource, IsStateRoute}
 use Rattle.pssm_model.specs.WellFormed.{KeepsModelRules}
 use Rattle.pssm_model.proofs.ElementLaws.{some_at, mapped_at}
 use Rattle.pssm_model_laws.proofs.Through.{target_there}
-use Rattle.pssm_routes.specs.declared.seeking.Step.{Step}
+use Rattle.pssm_enabled.specs.declared.seeking.Step.{Step}
 use Rattle.pssm_routes.specs.declared.areas.Footprint.{Footprint}
-use Rattle.pssm_routes.specs.inner.Starts.{AreStartsWith, IsStartedWith, StartsAmong}
-use Rattle.pssm_routes.specs.inner.Steps.{IsJoiningStep}
-use Rattle.pssm_routes.specs.inner.Behind.{LeadsFurther, IsRouteBehind}
+use Rattle.pssm_enabled.specs.Starts.{AreStartsWith}
+use Rattle.pssm_routes.specs.inner.Starts.{IsStartedWith, StartsAmong}
+use Rattle.pssm_routes.specs.inner.Rooms.{IsJoiningStep}
+use Rattle.pssm_enabled.specs.Behind.{LeadsFurther, IsRouteBehind}
 use Rattle.pssm_routes.specs.inner.Sets.{HasJoiner, HasFreeRoute}
-use Rattle.pssm_routes.proofs.Ascending.{some_route_over}
+use Rattle.pssm_enabled.proofs.Ascending.{some_route_over}
 use Rattle.pssm_routes.proofs.Enabled.{enabled_with, enabled_started}
 use Rattle.pssm_routes.proofs.Conflicts.{some_footprint}
-use Rattle.pssm_routes.proofs.StartLaws.{starts_of, is_among_starts, one_starts, some_starts}
-use Rattle.pssm_routes.proofs.Trees.{some_behind}
+use Rattle.pssm_enabled.proofs.StartLaws.{starts_of, is_among_starts, one_starts, some_starts}
+use Rattle.pssm_enabled.proofs.Trees.{some_behind}
 
 module _ {m : DraftMachine} (rules : KeepsModelRules m) (shape : HasShape m) (truth : Truth) where
   -- where a route can go on from the end of a path there is one that does

@@ -25,7 +25,7 @@ use Rattle.pssm_model.specs.WellFormed.{KeepsModelRules}
 use Rattle.pssm_model.specs.WellFormed.Breaks.{E07}
 use Rattle.pssm_routes.specs.inner.Starts.{IsOutranked}
 use Rattle.pssm_routes.specs.inner.Sets.{CanJoin, IsSettled, IsFull}
-use Rattle.pssm_routes.proofs.Members.{all_of_members, in_front, in_rest, front_or_rest, is_there_or_not}
+use Rattle.pssm_enabled.proofs.Members.{all_of_members, in_front, in_rest, front_or_rest, is_there_or_not}
 
 -- a conflict is one of both
 pub conflict_turns : (m : DraftMachine) (Active : VertexId → Type 0) (p q : Route) → Conflict m Active p q → Conflict m Active q p

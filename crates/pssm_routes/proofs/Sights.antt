@@ -24,11 +24,12 @@ use Rattle.pssm_model.proofs.ElementLaws.{mapped_some, mapped_at, nothing_in_nil
 use Rattle.pssm_model_laws.proofs.Through.{kinds_clash}
 use Rattle.pssm_config.specs.Tables.{Tables, Fits, configuration_of, held_in}
 use Rattle.pssm_routes.specs.inner.Starts.{IsStartedWith, GoesOnBy, Reacts, StartsWay, IsReactingIn, ReactsAlone}
-use Rattle.pssm_routes.specs.inner.Ways.{LeadsOut}
-use Rattle.pssm_routes.proofs.Choosing.{seen_cases}
+use Rattle.pssm_enabled.specs.Ways.{LeadsOut}
+use Rattle.pssm_enabled.proofs.Choosing.{seen_cases}
 use Rattle.pssm_routes.proofs.Enabled.{enabled_started, started_state}
 use Rattle.pssm_routes.proofs.Reaction.{reacts_leads, way_reacts, route_by_reacts}
-use Rattle.pssm_routes.proofs.StartLaws.{one_onward, is_among_starts}
+use Rattle.pssm_routes.proofs.Onward.{one_onward}
+use Rattle.pssm_enabled.proofs.StartLaws.{is_among_starts}
 use Rattle.pssm_routes.proofs.WaysOut.{leads_way}
 
 -- what holds of what an option holds

@@ -26,21 +26,21 @@ use Rattle.pssm_model_laws.proofs.KnownPlaces.{known_vertex_kind}
 use Rattle.pssm_model_laws.proofs.Through.{known_through, target_there, join_from_state}
 use Rattle.pssm_model_laws.proofs.InnerPaths.{late_is_kind, after_no_exit}
 use Rattle.pssm_routes.specs.inner.Starts.{GoesOnBy}
-use Rattle.pssm_routes.specs.inner.Passing.{HasWay}
-use Rattle.pssm_routes.specs.inner.Passing.HasWay.{ends as way_ends, over as way_over, all as way_all}
-use Rattle.pssm_routes.specs.inner.Ways.{LeadsOut, IsWay}
-use Rattle.pssm_routes.specs.inner.Ways.IsWay.{begins}
-use Rattle.pssm_routes.specs.inner.Behind.{CanGoOn, IsRouteBehind}
+use Rattle.pssm_enabled.specs.Ways.{HasWay, LeadsOut, IsWay}
+use Rattle.pssm_enabled.specs.Ways.HasWay.{ends as way_ends, over as way_over, all as way_all}
+use Rattle.pssm_enabled.specs.Ways.IsWay.{begins}
+use Rattle.pssm_enabled.specs.Behind.{CanGoOn, IsRouteBehind}
 use Rattle.pssm_routes.specs.LateStarts.{IsSettledStart}
-use Rattle.pssm_routes.proofs.Ascents.{ascends_pairs}
-use Rattle.pssm_routes.proofs.Ascending.{some_route_over}
-use Rattle.pssm_routes.proofs.LateRoutes.{leaving_is_there, late_not_outside}
-use Rattle.pssm_routes.proofs.Deciding.{both_decided, either_decided, some_transition, leaves_decided, always_decided, else_decided, true_out_decided, true_from_decided, those, ascends_length}
-use Rattle.pssm_routes.proofs.Descent.{by_descent}
-use Rattle.pssm_routes.proofs.LeadingOn.{entry_through, known_passed, way_at_end, way_leads, opens}
-use Rattle.pssm_routes.proofs.Trees.{target_some, some_behind}
+use Rattle.pssm_enabled.proofs.Ascents.{ascends_pairs}
+use Rattle.pssm_enabled.proofs.Ascending.{some_route_over}
+use Rattle.pssm_enabled.proofs.Leaving.{leaving_is_there}
+use Rattle.pssm_routes.proofs.LateRoutes.{late_not_outside}
+use Rattle.pssm_enabled.proofs.Deciding.{both_decided, either_decided, some_transition, leaves_decided, always_decided, else_decided, true_out_decided, true_from_decided, those, ascends_length}
+use Rattle.pssm_enabled.proofs.Descent.{by_descent}
+use Rattle.pssm_enabled.proofs.LeadingOn.{entry_through, known_passed, way_at_end, way_leads, opens}
+use Rattle.pssm_enabled.proofs.Trees.{target_some, some_behind}
 use Rattle.pssm_routes.proofs.Routed.{over_true, over_routed}
-use Rattle.pssm_routes.proofs.Unguarded.{always_true}
+use Rattle.pssm_enabled.proofs.Unguarded.{always_true}
 
 -- a vertex that lacks no sure branch has one
 pub sure_branch : (m : DraftMachine) (v : VertexId) → ((HasSureBranch m v → ⊥) → ⊥) → HasSureBranch m v

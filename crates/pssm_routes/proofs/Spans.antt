@@ -34,7 +34,7 @@ use Rattle.pssm_model_laws.proofs.RouteSpans.{some_span}
 use Rattle.pssm_model_laws.proofs.CommonRegions.{HasOneMore, IsOneOf, scope_same, scope_stays, scope_grows}
 use Rattle.pssm_routes.specs.inner.Spans.{IsMetBy, AreAllNear, IsWiderFor, IsBeside}
 use Rattle.pssm_routes.proofs.Around.{lies_deeper, fewer_above}
-use Rattle.pssm_routes.proofs.Choosing.{seen_more, seen_last, seen_cases}
+use Rattle.pssm_enabled.proofs.Choosing.{seen_more, seen_last, seen_cases}
 
 -- the kind of a transition that is there
 pub goes_by : (m : DraftMachine) (t : TransId) (x : Transition) (kind : TransKind) → transition_at m t ≡ Some x → x.kind ≡ kind → Goes m t kind

@@ -18,9 +18,10 @@ use Rattle.pssm_model.specs.WellFormed.{KeepsModelRules}
 use Rattle.pssm_model.specs.WellFormed.Breaks.{E07}
 use Rattle.pssm_model.proofs.ElementLaws.{some_and, and_some, leaves_one, nothing_in_nil}
 use Rattle.pssm_model.proofs.RouteLaws.{is_one}
-use Rattle.pssm_routes.specs.inner.Starts.{IsCausedBy, IsLeftBy, AreStarted, AreStartsWith, IsStartedWith}
-use Rattle.pssm_routes.proofs.Started.{one_started, started_one}
-use Rattle.pssm_routes.proofs.StartLaws.{is_among_starts, one_starts}
+use Rattle.pssm_enabled.specs.Starts.{IsCausedBy, IsLeftBy, AreStarted, AreStartsWith}
+use Rattle.pssm_routes.specs.inner.Starts.{IsStartedWith}
+use Rattle.pssm_enabled.proofs.Started.{one_started, started_one}
+use Rattle.pssm_enabled.proofs.StartLaws.{is_among_starts, one_starts}
 
 module _ (m : DraftMachine) (now : Configuration) (event : Event) (t : TransId) where
   -- by its starts

@@ -6,7 +6,7 @@ use Rattle.std.proofs.lemmas.List.Quantifiers.{all_pairs_push}
 use Rattle.pssm_model.specs.declared.ids.TransId.{TransId}
 use Rattle.pssm_model.specs.Routes.{IsAscending}
 use Rattle.pssm_model.proofs.RouteLaws.{none_in_order}
-use Rattle.pssm_routes.proofs.Choosing.{AreChosen, chosen_none, chosen_more, chosen_same, chosen_all}
+use Rattle.pssm_enabled.proofs.Choosing.{AreChosen, chosen_none, chosen_more, chosen_same, chosen_all}
 
 -- a transition among the first few has a lower number than the next
 first_below : (ts : List TransId) (n : ℕ) (d u : TransId) → IsAscending ts → n < length ts → Contains (take n ts) u → u.0 < (get_or ts n d).0

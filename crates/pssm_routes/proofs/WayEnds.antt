@@ -13,12 +13,11 @@ use Rattle.pssm_model.specs.WellFormed.{KeepsModelRules}
 use Rattle.pssm_model.proofs.ElementLaws.{mapped_at}
 use Rattle.pssm_model_laws.proofs.KnownPlaces.{known_vertex_kind}
 use Rattle.pssm_routes.specs.inner.Starts.{GoesOnBy}
-use Rattle.pssm_routes.specs.inner.Passing.{HasWay}
-use Rattle.pssm_routes.specs.inner.Passing.HasWay.{ends as way_ends}
-use Rattle.pssm_routes.specs.inner.Ways.{IsWayOut}
-use Rattle.pssm_routes.specs.inner.Behind.{LeadsFurther}
-use Rattle.pssm_routes.proofs.LeadingOn.{passed_through}
-use Rattle.pssm_routes.proofs.Trees.{no_join_after}
+use Rattle.pssm_enabled.specs.Ways.{HasWay, IsWayOut}
+use Rattle.pssm_enabled.specs.Ways.HasWay.{ends as way_ends}
+use Rattle.pssm_enabled.specs.Behind.{LeadsFurther}
+use Rattle.pssm_enabled.proofs.LeadingOn.{passed_through}
+use Rattle.pssm_enabled.proofs.Trees.{no_join_after}
 use Rattle.pssm_routes.proofs.WayPaths.{true_is_there, way_has_last, way_is_open, way_leaves}
 
 module _ {m : DraftMachine} (rules : KeepsModelRules m) (truth : Truth) (within : Option RegionId) (t first last : TransId) (path : List TransId)

@@ -17,11 +17,10 @@ use Rattle.pssm_model_laws.specs.inner.RouteWords.{IsThrough}
 use Rattle.pssm_model.proofs.ElementLaws.{mapped_some, leaves_one, enters_one, nothing_in_nil}
 use Rattle.pssm_model.proofs.RouteLaws.{in_one, is_one}
 use Rattle.pssm_model_laws.proofs.Through.{step_leads}
-use Rattle.pssm_routes.specs.inner.Passing.{IsPassedOver}
-use Rattle.pssm_routes.specs.inner.Ways.{IsOpen, IsWay}
-use Rattle.pssm_routes.specs.inner.Ways.IsWay.{begins, goes_on}
-use Rattle.pssm_routes.proofs.Members.{front_or_rest}
-use Rattle.pssm_routes.proofs.LeadingOn.{passed_through}
+use Rattle.pssm_enabled.specs.Ways.{IsPassedOver, IsOpen, IsWay}
+use Rattle.pssm_enabled.specs.Ways.IsWay.{begins, goes_on}
+use Rattle.pssm_enabled.proofs.Members.{front_or_rest}
+use Rattle.pssm_enabled.proofs.LeadingOn.{passed_through}
 
 -- a transition that is true is there
 true_has_guard : (m : DraftMachine) (truth : Truth) (t : TransId) → IsTrueAt m truth t → (g : Guard) × (guard_of m t ≡ Some g)

@@ -15,19 +15,18 @@ use Rattle.pssm_model.proofs.ElementLaws.{enters_one}
 use Rattle.pssm_model_laws.proofs.StateRoutes.{leaves_some}
 use Rattle.pssm_model_laws.proofs.Through.{no_cycle}
 use Rattle.pssm_routes.specs.declared.areas.Footprint.{Footprint}
-use Rattle.pssm_routes.specs.inner.Passing.{IsPassedOver}
+use Rattle.pssm_enabled.specs.Ways.{IsPassedOver, LeadsOut, IsWay, IsWayOut}
 use Rattle.pssm_routes.specs.inner.Rooms.{IsOpenRoom}
 use Rattle.pssm_routes.specs.inner.Sets.{HasFreeRoute}
 use Rattle.pssm_routes.specs.inner.Starts.{GoesOnBy}
-use Rattle.pssm_routes.specs.inner.Ways.{LeadsOut, IsWay, IsWayOut}
-use Rattle.pssm_routes.specs.inner.Ways.IsWay.{begins, goes_on}
-use Rattle.pssm_routes.specs.inner.Ways.LeadsOut.{ends, on}
+use Rattle.pssm_enabled.specs.Ways.IsWay.{begins, goes_on}
+use Rattle.pssm_enabled.specs.Ways.LeadsOut.{ends, on}
 use Rattle.pssm_routes.proofs.Conflicts.{some_footprint}
 use Rattle.pssm_routes.proofs.JoiningSteps.{step_route, step_true, ends_within, none_joins}
-use Rattle.pssm_routes.proofs.LeadingOn.{passed_through}
+use Rattle.pssm_enabled.proofs.LeadingOn.{passed_through}
 use Rattle.pssm_routes.proofs.Looks.{open_leads}
 use Rattle.pssm_routes.proofs.RoutesOver.{some_route_behind, starts_here}
-use Rattle.pssm_routes.proofs.StartLaws.{is_among_starts}
+use Rattle.pssm_enabled.proofs.StartLaws.{is_among_starts}
 use Rattle.pssm_routes.proofs.WayEnds.{out_leads_further}
 use Rattle.pssm_routes.proofs.WayPaths.{way_led}
 

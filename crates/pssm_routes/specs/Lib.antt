@@ -1,3 +1,2 @@
-pub mod Telling
 pub mod LateStarts
 pub mod inner

@@ -1,16 +1,9 @@
 pub mod Footprints
 pub mod Spans
 pub mod Starts
-pub mod Ways
+pub mod Late
 pub mod Looking
-pub mod Steps
-pub mod Seeking
 pub mod Sets
 pub mod Spread
 pub mod Rooms
-pub mod Trails
-pub mod Behind
-pub mod Down
-pub mod Fitting
-pub mod Passing
 pub mod Picks

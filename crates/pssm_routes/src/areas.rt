@@ -11,7 +11,7 @@ ghost use Rattle.pssm_legs.specs.Areas.{scope_of, IsAreaIn};
 ghost use Rattle.pssm_routes.specs.inner.Footprints.{IsFootprintOf, IsFootprintIn, IsAnchorBy, Clash};
 ghost use Rattle.pssm_routes.specs.inner.Spans.{IsMetBy, AreAllNear, IsWiderFor, IsBeside};
 
-use crate::route::is_join;
+use pssm_enabled::is_join;
 use pssm_legs::{Area, covers};
 use pssm_model::{Machine, Owner, RegionId, Route, TransId, TransKind, VertexId};
 

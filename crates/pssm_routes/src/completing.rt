@@ -1,17 +1,17 @@
 //! What reacts to the completion of a State: that State alone, where none of its transitions ends on a join (UML 2.5.1,
 //! 14.2.3.8, completion transitions).
-ghost use Rattle.std.specs.Prelude.{◌≡◌, ◌↔◌, ◌<◌, length, Option, None, Some, IsTrue, IfSome};
+ghost use Rattle.std.specs.Prelude.{◌<◌, length, Option, None, Some, IsTrue, IfSome};
 ghost use Rattle.pssm_model.specs.declared.ids.VertexId.{VertexId};
 ghost use Rattle.pssm_model.specs.declared.steps.Event.TheVariants as events;
 ghost use Rattle.pssm_model.specs.Routes.{Truth};
 ghost use Rattle.pssm_model.specs.WellFormed.{KeepsModelRules};
 ghost use Rattle.pssm_config.specs.Tables.{Fits, configuration_of};
-ghost use Rattle.pssm_routes.specs.Telling.{CanBeAsked, Tells};
+ghost use Rattle.pssm_enabled.specs.Telling.{CanBeAsked, Tells};
 ghost use Rattle.pssm_routes.specs.inner.Starts.{StartAlone, IsOneReacting};
 
 use crate::reacting::reacts_at_sight;
-use crate::route::starts_alone;
 use pssm_config::Config;
+use pssm_enabled::starts_alone;
 use pssm_model::{Event, GuardId, Machine, VertexId};
 
 // Whether none of the transitions out of the State ends on a join.

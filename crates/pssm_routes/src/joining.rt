@@ -8,20 +8,20 @@ ghost use Rattle.pssm_model.specs.declared.elements.VertexKind.TheVariants as ki
 ghost use Rattle.pssm_model.specs.Forest.{HasKind, LiesUnder, LiesInRegion};
 ghost use Rattle.pssm_model.specs.Legs.{Leaves};
 ghost use Rattle.pssm_model.specs.Routes.{Truth};
-ghost use Rattle.pssm_routes.specs.Telling.{CanBeAsked, Tells};
 ghost use Rattle.pssm_model.specs.WellFormed.{KeepsModelRules};
+ghost use Rattle.pssm_enabled.specs.Telling.{CanBeAsked, Tells};
+ghost use Rattle.pssm_enabled.specs.Ways.{EndsInside};
+ghost use Rattle.pssm_enabled.specs.Steps.{KnowsDeadEnds, steps_of};
 ghost use Rattle.pssm_routes.specs.inner.Footprints.{IsFootprintIn};
 ghost use Rattle.pssm_routes.specs.inner.Starts.{GoesOnBy};
-ghost use Rattle.pssm_routes.specs.inner.Ways.{EndsInside};
-ghost use Rattle.pssm_routes.specs.inner.Steps.{KnowsDeadEnds, IsJoiningStep, steps_of};
+ghost use Rattle.pssm_routes.specs.inner.Rooms.{IsJoiningStep, Touches, IsAnchorAmong, IsNextOut, IsShut, IsRoomFor};
+ghost use Rattle.pssm_routes.specs.inner.Rooms.{IsRoomIn};
 ghost use Rattle.pssm_routes.specs.inner.Sets.{HasFreeRoute, IsTouched, HoldsSource, IsCeiling};
-ghost use Rattle.pssm_routes.specs.inner.Rooms.{Touches, IsAnchorAmong, IsNextOut, IsShut, IsRoomFor, IsRoomIn};
 
 use crate::areas::{Footprint, anchor_of, are_on_one_chain};
 use crate::leading::onward;
 use crate::looking::look;
-use crate::route::is_join;
-use crate::seeking::{Search, Step, find_way};
+use pssm_enabled::{Search, Step, find_way, is_join};
 use pssm_legs::covers;
 use pssm_model::{GuardId, Machine, Owner, RegionId, TransId, TransKind, VertexId};
 

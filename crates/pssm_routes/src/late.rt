@@ -7,15 +7,16 @@ ghost use Rattle.pssm_model.specs.Paths.{HasOut};
 ghost use Rattle.pssm_model.specs.Routes.{Truth, IsTrueAt, IsRoute};
 ghost use Rattle.pssm_model.specs.FiringSets.{IsLateOrigin, IsLateRoute};
 ghost use Rattle.pssm_model.specs.WellFormed.{KeepsModelRules};
-ghost use Rattle.pssm_routes.specs.Telling.{CanBeAsked, Tells};
-ghost use Rattle.pssm_routes.specs.inner.Fitting.{route_with, StartsLate};
+ghost use Rattle.pssm_enabled.specs.Telling.{CanBeAsked, Tells};
+ghost use Rattle.pssm_enabled.specs.Fitting.{route_with};
+ghost use Rattle.pssm_routes.specs.inner.Late.{StartsLate};
 ghost use Rattle.pssm_routes.specs.LateStarts.{AreTrueFrom, IsSettledStart};
 
-use crate::guards::is_true_at;
 use crate::pick::place_of;
-use crate::route::{are_all_true, is_route_over};
-use crate::seeking::{ends_inside, find_way, search_if, steps_of};
-use crate::tracing::route_of_trail;
+use pssm_enabled::{
+    are_all_true, ends_inside, find_way, is_route_over, is_true_at, route_of_trail, search_if,
+    steps_of,
+};
 use pssm_model::{GuardId, Machine, Route, Row, TransId, VertexId, VertexKind};
 use std::alloc::{AllocError as NoMemory, Global};
 

@@ -1,6 +1,6 @@
 //! The starts of a route among which is a transition: it alone, or all into one join (UML 2.5.1,
 //! 14.2.3.7, join).
-ghost use Rattle.std.specs.Prelude.{◌≡◌, ◌↔◌, ◌<◌, [], ◌∷◌, length, All, Contains, IsTrue, IfOk};
+ghost use Rattle.std.specs.Prelude.{◌↔◌, ◌<◌, length, All, Contains, IsTrue};
 ghost use Rattle.pssm_model.specs.declared.ids.VertexId.{VertexId};
 ghost use Rattle.pssm_model.specs.declared.ids.TransId.{TransId};
 ghost use Rattle.pssm_model.specs.declared.elements.VertexKind.TheVariants as kinds;
@@ -9,13 +9,11 @@ ghost use Rattle.pssm_model.specs.Forest.{HasKind};
 ghost use Rattle.pssm_model.specs.Legs.{Leaves};
 ghost use Rattle.pssm_model.specs.WellFormed.{KeepsModelRules};
 ghost use Rattle.pssm_config.specs.Tables.{Fits, configuration_of};
-ghost use Rattle.pssm_routes.specs.inner.Starts.{AreStartsWith, IsStartedWith, GoesOnBy, StartsAmong};
+ghost use Rattle.pssm_routes.specs.inner.Starts.{IsStartedWith, GoesOnBy, StartsAmong};
 
-use crate::route::is_join;
-use crate::starting::{are_completed_by, is_caused_by};
 use pssm_config::Config;
+use pssm_enabled::{are_completed_by, is_caused_by, is_join};
 use pssm_model::{Event, Machine, TransId, VertexId, VertexKind};
-use std::alloc::{AllocError as NoMemory, Global};
 
 // Whether the completion of the State starts the transition out of an active State, alone or with
 // the others into its join.
@@ -159,38 +157,4 @@ pub fn start_all_among(machine: &Machine, states: &[VertexId], t: TransId) -> bo
         return true;
     }
     leave_among(machine, states, machine.incoming(v))
-}
-
-/// A second list of the transitions.
-///
-/// `NoMemory`: memory ran out.
-pub fn copied(alloc: Global, transitions: &[TransId]) -> Result<Vec<TransId>, NoMemory>
-    ensures { IfOk result (λ copy. copy.items ≡ transitions.now) }
-{
-    let mut copy = Vec::new(alloc);
-    copy.extend_from_slice(transitions)?;
-    Ok(copy)
-}
-
-/// The transition alone.
-///
-/// `NoMemory`: memory ran out.
-pub fn alone(alloc: Global, t: TransId) -> Result<Vec<TransId>, NoMemory>
-    ensures { IfOk result (λ list. list.items ≡ t ∷ []) }
-{
-    Ok(vec![in alloc; t]?)
-}
-
-/// The starts of a route among which is the transition, in ascending number.
-///
-/// `NoMemory`: memory ran out.
-pub fn starts_with(alloc: Global, machine: &Machine, t: TransId) -> Result<Vec<TransId>, NoMemory>
-    requires there { t.0 < length machine.now.transitions }
-    ensures { IfOk result (λ starts. AreStartsWith machine.now t starts.items) }
-{
-    let v = machine.target(t);
-    if !is_join(machine, v) {
-        return alone(alloc, t);
-    }
-    copied(alloc, machine.incoming(v))
 }

@@ -3,11 +3,11 @@
 ghost use Rattle.std.specs.Prelude.{◌≡◌, ◌↔◌, ◌<◌, ◌≤◌, ◌+◌, length, Contains, IsTrue, IsFalse, IfSome};
 ghost use Rattle.pssm_model.specs.declared.ids.TransId.{TransId};
 ghost use Rattle.pssm_model.specs.Routes.{Truth};
-ghost use Rattle.pssm_routes.specs.Telling.{CanBeAsked, Tells};
-ghost use Rattle.pssm_routes.specs.inner.Ways.{EndsInside, LeadsOut};
+ghost use Rattle.pssm_enabled.specs.Telling.{CanBeAsked, Tells};
+ghost use Rattle.pssm_enabled.specs.Ways.{LeadsOut};
 ghost use Rattle.pssm_routes.specs.inner.Looking.{come_to, AreThere, HasCome, IsSight, IsLooking, LooksOn};
 
-use crate::seeking::{ends_inside, is_open, is_passed_over};
+use pssm_enabled::{ends_inside, is_open, is_passed_over};
 use pssm_model::{GuardId, Machine, RegionId, TransId, VertexId};
 
 /// The junctions and exit points to which a look has come, in that order.

@@ -1,28 +1,27 @@
 //! What fires, as a word settles it (UML 2.5.1, 14.2.3.9, transition selection).
-ghost use Rattle.std.specs.Prelude.{◌≡◌, ◌↔◌, ◌<◌, ◌≤◌, ◌%◌, length, All, Contains, IsTrue, IfOk, OnOk, IfSome, IfNone};
+ghost use Rattle.std.specs.Prelude.{◌≡◌, ◌↔◌, ◌<◌, ◌≤◌, ◌%◌, length, All, Contains, IsTrue, IfOk, OnOk, IfSome};
+ghost use Rattle.std.specs.Prelude.{IfNone};
 ghost use Rattle.std.specs.List.Sorted.{IsPermutation};
 ghost use Rattle.pssm_model.specs.declared.ids.TransId.{TransId};
 ghost use Rattle.pssm_model.specs.declared.ids.VertexId.{VertexId};
 ghost use Rattle.pssm_model.specs.Legs.{Leaves};
 ghost use Rattle.pssm_model.specs.Routes.{Truth, IsStateRoute};
 ghost use Rattle.pssm_model.specs.FiringSets.{IsFiringSet, IsListed, IsFiring};
-ghost use Rattle.pssm_config.specs.Tables.{Fits, configuration_of};
-ghost use Rattle.pssm_routes.specs.Telling.{CanBeAsked, Tells};
 ghost use Rattle.pssm_model.specs.WellFormed.{KeepsModelRules};
+ghost use Rattle.pssm_config.specs.Tables.{Fits, configuration_of};
+ghost use Rattle.pssm_enabled.specs.Telling.{CanBeAsked, Tells};
 ghost use Rattle.pssm_routes.specs.inner.Footprints.{IsFootprintIn};
 ghost use Rattle.pssm_routes.specs.inner.Starts.{IsStartedWith, StartsAmong, IsOutranked, IsCandidate};
 ghost use Rattle.pssm_routes.specs.inner.Sets.{HasJoiner};
-ghost use Rattle.pssm_routes.specs.inner.Picks.{first_number, StartApart, IsFreeRoute, IsFreeFrom};
-ghost use Rattle.pssm_routes.specs.inner.Picks.{IsSpent, IsChosen, IsAdded, IsGrown};
+ghost use Rattle.pssm_routes.specs.inner.Picks.{first_number, StartApart, IsFreeRoute, IsFreeFrom, IsSpent, IsChosen};
+ghost use Rattle.pssm_routes.specs.inner.Picks.{IsAdded, IsGrown};
 
 use crate::areas::{Footprint, footprint_of};
+use crate::candidates::candidates;
 use crate::joining::{find_joiner, is_kept_out};
 use crate::leading::{is_started_with, onward, start_all_among};
-use crate::reacting::candidates;
-use crate::route::check_route;
-use crate::seeking::{ends_inside, search_if, steps_of};
-use crate::tracing::route_of_trail;
 use pssm_config::Config;
+use pssm_enabled::{check_route, ends_inside, route_of_trail, search_if, steps_of};
 use pssm_model::{Event, Firing, GuardId, Machine, Route, Row, TransId, VertexId};
 use std::alloc::{AllocError as NoMemory, Global};
 

@@ -7,19 +7,19 @@ ghost use Rattle.pssm_model.specs.declared.steps.Route.{Route as DraftRoute};
 ghost use Rattle.pssm_model.specs.Legs.{Leaves};
 ghost use Rattle.pssm_model.specs.Routes.{Truth, IsSource, IsEnabled, IsStateRoute};
 ghost use Rattle.pssm_model.specs.FiringSets.{StartsBefore, IsListed, IsFiring};
-ghost use Rattle.pssm_config.specs.Tables.{Fits, configuration_of};
-ghost use Rattle.pssm_routes.specs.Telling.{CanBeAsked, Tells};
 ghost use Rattle.pssm_model.specs.WellFormed.{KeepsModelRules};
+ghost use Rattle.pssm_config.specs.Tables.{Fits, configuration_of};
+ghost use Rattle.pssm_enabled.specs.Telling.{CanBeAsked, Tells};
 ghost use Rattle.pssm_routes.specs.inner.Footprints.{AreFootprints, IsFootprintIn, ClashesWithSome};
 ghost use Rattle.pssm_routes.specs.inner.Sets.{AreApart, HasJoiner, HasJoinerFrom, AreComplete};
 
 use crate::areas::{Footprint, clash, footprint_of};
+use crate::candidates::{candidates, lone_reacting};
 use crate::joining::{has_joiner, is_kept_out};
 use crate::leading::{is_started_with, leave_among, start_all_among};
-use crate::reacting::{candidates, lone_reacting};
-use crate::route::check_route;
 use crate::spread::are_spread;
 use pssm_config::Config;
+use pssm_enabled::check_route;
 use pssm_model::{Event, Firing, GuardId, Machine, Route, TransId, VertexId};
 use std::alloc::{AllocError as NoMemory, Global};
 

@@ -1,5 +1,5 @@
 //! Whether many footprints are apart, told at once: each has a region to itself. No two of them are compared.
-ghost use Rattle.std.specs.Prelude.{◌≡◌, ◌↔◌, ◌<◌, [], ◌∷◌, ◌++◌, List, length, All, IsTrue, IfOk, IfSome};
+ghost use Rattle.std.specs.Prelude.{◌≡◌, ◌<◌, [], ◌∷◌, ◌++◌, List, length, All, IsTrue, IfOk, IfSome};
 ghost use Rattle.pssm_routes.specs.declared.areas.Footprint.{Footprint as Trace};
 ghost use Rattle.pssm_routes.specs.inner.Footprints.{IsFootprintIn};
 ghost use Rattle.pssm_routes.specs.inner.Sets.{AreApart};

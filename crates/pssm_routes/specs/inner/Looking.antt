@@ -9,8 +9,7 @@ use Rattle.pssm_model.specs.Routes.{Truth}
 use Rattle.pssm_routes.specs.declared.looking.Reached.{Reached}
 use Rattle.pssm_routes.specs.declared.looking.Sight.{Sight}
 use Rattle.pssm_routes.specs.declared.looking.Sight.TheVariants.{Out, On, Lost}
-use Rattle.pssm_routes.specs.inner.Passing.{IsPassedOver}
-use Rattle.pssm_routes.specs.inner.Ways.{IsOpen, LeadsOut}
+use Rattle.pssm_enabled.specs.Ways.{IsPassedOver, IsOpen, LeadsOut}
 
 -- the vertices to which the look has come, in that order
 abbrev pub come_to : Reached → List VertexId

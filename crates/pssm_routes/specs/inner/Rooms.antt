@@ -1,21 +1,24 @@
 -- Where a route may go that clashes with none of the routes that fire.
-use Rattle.std.specs.Prelude.{◌≡◌, ◌⊎◌, ◌<◌, List, length, Option, IfSome, Contains}
+use Rattle.std.specs.Prelude.{◌≡◌, List, Option, ◌⊎◌, ◌<◌, length, IfSome, Contains}
 use Rattle.pssm_model.specs.declared.ids.VertexId.{VertexId}
 use Rattle.pssm_model.specs.declared.ids.RegionId.{RegionId}
 use Rattle.pssm_model.specs.declared.ids.TransId.{TransId}
 use Rattle.pssm_model.specs.declared.elements.DraftMachine.{DraftMachine}
+use Rattle.pssm_model.specs.Legs.{On, Enters, LiesInScope}
+use Rattle.pssm_model.specs.declared.steps.Route.{Route}
+use Rattle.pssm_model.specs.Routes.{Truth, IsStateRoute, IsTrueAt}
 use Rattle.pssm_model.specs.declared.elements.VertexKind.TheVariants as kinds
 use Rattle.pssm_model.specs.declared.elements.Owner.TheVariants.{Region}
-use Rattle.pssm_model.specs.declared.steps.Route.{Route}
 use Rattle.pssm_model.specs.Forest.{HasKind, LiesUnder, IsOrLiesIn, IsWithin}
-use Rattle.pssm_model.specs.Legs.{Enters, On, LiesInScope}
-use Rattle.pssm_model.specs.Routes.{IsStateRoute}
+use Rattle.pssm_legs.specs.Areas.{scope_of}
+use Rattle.pssm_enabled.specs.Steps.{IsTrail}
+use Rattle.pssm_enabled.specs.declared.seeking.Step.{Step}
+use Rattle.pssm_enabled.specs.Ways.{IsAllowed}
+use Rattle.pssm_enabled.specs.Behind.{IsRouteBehind, LeadsFurther}
 use Rattle.pssm_routes.specs.declared.areas.Footprint.{Footprint}
+use Rattle.pssm_routes.specs.inner.Footprints.{IsFootprintOf, ClashesWithSome}
 use Rattle.pssm_routes.specs.declared.joining.Room.{Room}
 use Rattle.pssm_routes.specs.declared.joining.Room.TheVariants.{Shut, Open}
-use Rattle.pssm_legs.specs.Areas.{scope_of}
-use Rattle.pssm_routes.specs.inner.Footprints.{IsFootprintOf, ClashesWithSome}
-use Rattle.pssm_routes.specs.inner.Ways.{IsAllowed}
 
 -- The State, or one that it lies in or that lies in it, is the source of the footprint, or its area covers the State.
 abbrev pub Touches : DraftMachine → VertexId → Footprint → Type 0
@@ -56,3 +59,11 @@ IsRoomFor m footprints t (Open within) = IsOpenRoom m footprints t within
 abbrev pub IsRoomIn : DraftMachine → Room → Type 0
 IsRoomIn m Shut = Unit {0}
 IsRoomIn m (Open within) = IfSome within (λ r. r.0 < length m.regions)
+
+-- A way leads on from the end of the path that the steps tell, and each route over the path and what goes on behind it is one of States with true
+-- guards and clashes with none of the footprints.
+abbrev pub IsJoiningStep : DraftMachine → Truth → List Footprint → List Step → TransId → Step → Type 0
+IsJoiningStep m truth footprints steps t last =
+    (path : List TransId) × IsTrail steps last path × LeadsFurther m truth last.by
+    × ((q : Route) → IsRouteBehind m truth t last.by path q
+    → IsStateRoute m q × ((u : TransId) → On q u → IsTrueAt m truth u) × ((b : Footprint) → IsFootprintOf m q b → ClashesWithSome m footprints b → ⊥))

@@ -1,5 +1,5 @@
--- Which transitions an event starts, and the States that react to it.
-use Rattle.std.specs.Prelude.{◌≡◌, ◌≢◌, ◌⊎◌, ◌↔◌, ◌<◌, List, [], ◌∷◌, length, Option, Some, None, Contains}
+-- By what a route goes on from its starts, and the States that react to an event.
+use Rattle.std.specs.Prelude.{◌≡◌, ◌⊎◌, ◌↔◌, ◌<◌, List, [], ◌∷◌, length, Option, Some, None, Contains}
 use Rattle.pssm_model.specs.declared.ids.VertexId.{VertexId}
 use Rattle.pssm_model.specs.declared.ids.RegionId.{RegionId}
 use Rattle.pssm_model.specs.declared.ids.TransId.{TransId}
@@ -7,61 +7,13 @@ use Rattle.pssm_model.specs.declared.elements.DraftMachine.{DraftMachine}
 use Rattle.pssm_model.specs.declared.elements.VertexKind.TheVariants as kinds
 use Rattle.pssm_model.specs.declared.steps.Route.{Route}
 use Rattle.pssm_model.specs.declared.steps.Event.{Event}
-use Rattle.pssm_model.specs.declared.steps.Event.TheVariants.{Signal, Completion}
 use Rattle.pssm_model.specs.Forest.{HasKind, LiesInState}
-use Rattle.pssm_model.specs.Configuration.{Configuration, IsComplete, IsDirect}
+use Rattle.pssm_model.specs.Configuration.{Configuration, IsDirect}
 use Rattle.pssm_model.specs.Legs.{Leaves, Enters}
-use Rattle.pssm_model.specs.Routes.{Truth, IsSource, IsEnabled, Lists, HasNoTrigger, IsAscending}
-use Rattle.pssm_routes.specs.declared.seeking.Search.{Search}
-use Rattle.pssm_routes.specs.inner.Ways.{EndsInside, LeadsOut}
-
--- The signal triggers the transition, or it is the completion of the transition's source, which has no trigger.
-abbrev pub IsCausedBy : DraftMachine → Event → TransId → VertexId → Type 0
-IsCausedBy m (Signal signal) t s = Lists m t signal
-IsCausedBy m (Completion q) t s = (q ≡ s) × HasNoTrigger m t
-
--- The event starts the transition: it leaves an active State and is caused by the event.
-pub record IsStarted (m : DraftMachine) (now : Configuration) (event : Event) (t : TransId) (s : VertexId) : Type 0 where
-  pub leaves : Leaves m t s
-  pub state : HasKind m s kinds.State
-  pub active : now.Active s
-  pub caused : IsCausedBy m event t s
-
--- One of the transitions leaves the vertex.
-abbrev pub IsLeftBy : DraftMachine → List TransId → VertexId → Type 0
-IsLeftBy m starts s = (t : TransId) × Contains starts t × Leaves m t s
-
--- The signal triggers the one transition, or it is the completion of one of the sources of transitions without triggers whose other sources are
--- complete.
-abbrev pub AreCausedBy : DraftMachine → Configuration → Event → List TransId → Type 0
-AreCausedBy m now (Signal signal) starts = (t : TransId) × (starts ≡ t ∷ []) × Lists m t signal
-AreCausedBy m now (Completion s) starts =
-    IsLeftBy m starts s
-    × ((t : TransId) → Contains starts t → HasNoTrigger m t)
-    × ((q : VertexId) → IsLeftBy m starts q → q ≢ s → IsComplete m now q)
-
--- The event starts the transitions together: they leave active States and are caused by it.
-pub record AreStarted (m : DraftMachine) (now : Configuration) (event : Event) (starts : List TransId) : Type 0 where
-  pub states : (s : VertexId) → IsLeftBy m starts s → HasKind m s kinds.State
-  pub active : (s : VertexId) → IsLeftBy m starts s → now.Active s
-  pub caused : AreCausedBy m now event starts
-
--- an active State that is this one or complete
-abbrev pub IsReady : DraftMachine → Configuration → VertexId → VertexId → Type 0
-IsReady m now s q = HasKind m q kinds.State × now.Active q × ((q ≡ s) ⊎ IsComplete m now q)
-
--- The transition leaves an active State and has no trigger, and that State is this one or complete.
-pub record JoinsIn (m : DraftMachine) (now : Configuration) (s : VertexId) (t : TransId) : Type 0 where
-  pub state : (q : VertexId) → Leaves m t q → HasKind m q kinds.State
-  pub active : (q : VertexId) → Leaves m t q → now.Active q
-  pub untriggered : HasNoTrigger m t
-  pub complete : (q : VertexId) → Leaves m t q → q ≢ s → IsComplete m now q
-
--- the starts of a route among which is the transition: it alone, where it ends on no join, and else all transitions into its join
-abbrev pub AreStartsWith : DraftMachine → TransId → List TransId → Type 0
-AreStartsWith m t starts =
-    ((starts ≡ t ∷ []) × ((v : VertexId) → Enters m t v → HasKind m v kinds.Join → ⊥))
-    ⊎ ((v : VertexId) × Enters m t v × HasKind m v kinds.Join × ((u : TransId) → Contains starts u ↔ Enters m u v) × IsAscending starts)
+use Rattle.pssm_model.specs.Routes.{Truth, IsSource, IsEnabled}
+use Rattle.pssm_enabled.specs.Starts.{IsLeftBy, AreStarted, AreStartsWith}
+use Rattle.pssm_enabled.specs.declared.seeking.Search.{Search}
+use Rattle.pssm_enabled.specs.Ways.{EndsInside, LeadsOut}
 
 -- The event starts the transition, alone or with the others into its join.
 abbrev pub IsStartedWith : DraftMachine → Configuration → Event → TransId → Type 0

@@ -2,8 +2,8 @@
 use Rattle.std.proofs.Common.{◌∙◌, sym, subst, inl, inr}
 use Rattle.pssm_model.specs.Forest.{LiesInState}
 use Rattle.pssm_model.proofs.ElementLaws.{leaves_one}
-use Rattle.pssm_routes.proofs.ListPlaces.{refuted}
-use Rattle.pssm_routes.proofs.StartLaws.{starts_alone}
+use Rattle.pssm_enabled.proofs.ListPlaces.{refuted}
+use Rattle.pssm_enabled.proofs.StartLaws.{starts_alone}
 use Rattle.pssm_routes.proofs.Spans.{join_home, some_beside}
 use Rattle.pssm_routes.proofs.areas.anchor_of.Goals as goal
 

@@ -1,7 +1,7 @@
 -- by the kind of the start
 use Rattle.pssm_model.specs.declared.elements.TransKind.TheVariants.{External, Local, Internal}
 use Rattle.pssm_routes.proofs.Spans.{goes_by}
-use Rattle.pssm_routes.proofs.StartLaws.{start_there}
+use Rattle.pssm_enabled.proofs.StartLaws.{start_there}
 use Rattle.pssm_routes.proofs.areas.area_of.Goals as goal
 
 pub transition-requires : goal.transition-requires

@@ -1,6 +1,6 @@
 -- each start tells the anchor
 use Rattle.pssm_routes.proofs.AnchorLaws.{anchor_made}
-use Rattle.pssm_routes.proofs.StartLaws.{start_there}
+use Rattle.pssm_enabled.proofs.StartLaws.{start_there}
 use Rattle.pssm_routes.proofs.areas.footprint_from.Goals as goal
 
 pub anchor_of-source-requires-clause-there : goal.anchor_of-source-requires-clause-there

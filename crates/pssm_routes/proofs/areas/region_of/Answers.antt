@@ -3,9 +3,9 @@ use Rattle.std.proofs.Common.{◌<◌, [], length, Contains, sym, subst, inl, in
 use Rattle.pssm_model.specs.Forest.{IsScope}
 use Rattle.pssm_model.proofs.ElementLaws.{nothing_in_nil}
 use Rattle.pssm_routes.specs.inner.Spans.{IsMetBy, AreAllNear}
-use Rattle.pssm_routes.proofs.Members.{all_of_members}
+use Rattle.pssm_enabled.proofs.Members.{all_of_members}
 use Rattle.pssm_routes.proofs.Spans.{met_is_end, all_near, one_start_alone}
-use Rattle.pssm_routes.proofs.StartLaws.{start_there, further_there}
+use Rattle.pssm_enabled.proofs.StartLaws.{start_there, further_there}
 use Rattle.pssm_routes.proofs.areas.region_of.Goals as goal
 
 pub region_of_all-requires-clause-first : goal.region_of_all-requires-clause-first

@@ -1,5 +1,5 @@
 -- each turn climbs to the next State around
-use Rattle.pssm_routes.proofs.ListPlaces.{refuted}
+use Rattle.pssm_enabled.proofs.ListPlaces.{refuted}
 use Rattle.pssm_routes.proofs.Spans.{nearing_begins, nearing_home, nearing_further, nearing_more, nearing_end}
 use Rattle.pssm_routes.proofs.areas.state_beside.Goals as goal
 

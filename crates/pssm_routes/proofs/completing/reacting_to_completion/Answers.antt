@@ -1,6 +1,6 @@
 -- where it reacts it does so alone, and where it does not nothing does
 use Rattle.pssm_config.specs.Tables.{configuration_of}
-use Rattle.pssm_routes.proofs.ListPlaces.{refuted}
+use Rattle.pssm_enabled.proofs.ListPlaces.{refuted}
 use Rattle.pssm_routes.proofs.Completions.{completes_it, completes_none}
 use Rattle.pssm_routes.proofs.completing.reacting_to_completion.Goals as goal
 

@@ -5,7 +5,7 @@ use Rattle.pssm_model.specs.declared.ids.TransId.{TransId}
 use Rattle.pssm_model.specs.declared.elements.VertexKind.TheVariants as kinds
 use Rattle.pssm_model.specs.Forest.{HasKind}
 use Rattle.pssm_model.specs.Legs.{Enters}
-use Rattle.pssm_routes.proofs.ListPlaces.{below_next, below_all}
+use Rattle.pssm_enabled.proofs.ListPlaces.{below_next, below_all}
 use Rattle.pssm_routes.proofs.completing.start_alone.Goals as goal
 
 pub returns-then-not-starts_alone : goal.returns-then-not-starts_alone

@@ -4,7 +4,7 @@ use Rattle.pssm_model.specs.declared.ids.TransId.{TransId}
 use Rattle.pssm_model.specs.declared.elements.VertexKind.TheVariants as kinds
 use Rattle.pssm_model.specs.Forest.{HasKind}
 use Rattle.pssm_model.specs.Legs.{Enters}
-use Rattle.pssm_routes.proofs.ListPlaces.{Below}
+use Rattle.pssm_enabled.proofs.ListPlaces.{Below}
 use Rattle.pssm_routes.proofs.completing.start_alone.Given as goal
 
 abbrev pub invariant-loop-t : goal.invariant-loop-t

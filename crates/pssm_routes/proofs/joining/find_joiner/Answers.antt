@@ -1,4 +1,4 @@
-use Rattle.pssm_routes.specs.inner.Steps.{steps_of}
+use Rattle.pssm_enabled.specs.Steps.{steps_of}
 use Rattle.pssm_routes.proofs.JoiningSteps.{none_joins_shut, some_joins, none_joins}
 use Rattle.pssm_routes.proofs.joining.find_joiner.Goals as goal
 

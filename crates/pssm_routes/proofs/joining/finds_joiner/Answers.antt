@@ -1,5 +1,6 @@
 -- a free route is there where the search finds one
-use Rattle.pssm_routes.specs.inner.Steps.{IsJoiningStep, steps_of}
+use Rattle.pssm_routes.specs.inner.Rooms.{IsJoiningStep}
+use Rattle.pssm_enabled.specs.Steps.{steps_of}
 use Rattle.pssm_routes.specs.inner.Sets.{HasFreeRoute}
 use Rattle.pssm_routes.proofs.FootprintLists.{found_decides}
 use Rattle.pssm_routes.proofs.RoutesOver.{found_free}

@@ -2,7 +2,7 @@
 use Rattle.std.proofs.Common.{sym, subst}
 use Rattle.pssm_model.specs.FiringSets.{IsLateRoute}
 use Rattle.pssm_model.proofs.RouteLaws.{same_route}
-use Rattle.pssm_routes.specs.inner.Fitting.{route_with}
+use Rattle.pssm_enabled.specs.Fitting.{route_with}
 use Rattle.pssm_routes.proofs.late.check_late.Goals as goal
 
 pub returns : goal.returns

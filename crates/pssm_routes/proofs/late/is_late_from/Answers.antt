@@ -1,5 +1,5 @@
 -- It is a route from there whose transitions are true.
-use Rattle.pssm_routes.proofs.Fitting.{starts_order, rest_order}
+use Rattle.pssm_enabled.proofs.Fitting.{starts_order, rest_order}
 use Rattle.pssm_routes.proofs.LateRoutes.{late_is}
 use Rattle.pssm_routes.proofs.late.is_late_from.Goals as goal
 

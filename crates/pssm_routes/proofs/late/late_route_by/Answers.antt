@@ -3,9 +3,10 @@ use Rattle.std.proofs.Common.{◌≡◌, [], ◌∷◌, None, sym, subst}
 use Rattle.std.proofs.lemmas.Result.{IfOk-weaker}
 use Rattle.pssm_model.specs.declared.steps.Route.{Route}
 use Rattle.pssm_model.specs.FiringSets.{IsLateRoute}
-use Rattle.pssm_routes.specs.inner.Steps.{KnowsDeadEnds, IsTrail}
-use Rattle.pssm_routes.specs.inner.Behind.{IsRouteBehind}
-use Rattle.pssm_routes.proofs.LateRoutes.{leaving_is_there, late_not_outside}
+use Rattle.pssm_enabled.specs.Steps.{KnowsDeadEnds, IsTrail}
+use Rattle.pssm_enabled.specs.Behind.{IsRouteBehind}
+use Rattle.pssm_enabled.proofs.Leaving.{leaving_is_there}
+use Rattle.pssm_routes.proofs.LateRoutes.{late_not_outside}
 use Rattle.pssm_routes.proofs.SomeLate.{late_on, true_leads, late_over}
 use Rattle.pssm_routes.proofs.WayEnds.{out_leads_further}
 use Rattle.pssm_routes.proofs.late.late_route_by.Goals as goal

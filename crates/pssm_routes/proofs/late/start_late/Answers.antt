@@ -2,7 +2,7 @@
 use Rattle.std.proofs.Common.{◌≡◌, length, get_or, subst, arith}
 use Rattle.pssm_model.specs.declared.ids.TransId.{TransId}
 use Rattle.pssm_model.specs.Legs.{Leaves}
-use Rattle.pssm_routes.proofs.Started.{one_of_length, length_of_one, the_one}
+use Rattle.pssm_enabled.proofs.Started.{one_of_length, length_of_one, the_one}
 use Rattle.pssm_routes.proofs.late.start_late.Goals as goal
 
 pub returns-then-starts-eq1 : goal.returns-then-starts-eq1

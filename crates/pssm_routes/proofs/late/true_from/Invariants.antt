@@ -2,7 +2,7 @@
 use Rattle.std.proofs.Common.{All}
 use Rattle.pssm_model.specs.Legs.{Leaves}
 use Rattle.pssm_model.specs.Routes.{Truth, IsTrueAt}
-use Rattle.pssm_routes.specs.Telling.{Tells}
+use Rattle.pssm_enabled.specs.Telling.{Tells}
 use Rattle.pssm_routes.proofs.TrueOnes.{AreChosenUp}
 use Rattle.pssm_routes.proofs.late.true_from.Given as goal
 

@@ -1,8 +1,8 @@
 -- with the others into its join, or alone
 use Rattle.pssm_model.specs.declared.steps.Event.TheVariants.{Completion}
 use Rattle.pssm_config.specs.Tables.{configuration_of}
-use Rattle.pssm_routes.proofs.ListPlaces.{refuted}
-use Rattle.pssm_routes.proofs.StartLaws.{starts_joined, starts_alone}
+use Rattle.pssm_enabled.proofs.ListPlaces.{refuted}
+use Rattle.pssm_enabled.proofs.StartLaws.{starts_joined, starts_alone}
 use Rattle.pssm_routes.proofs.StartedWith.{started_with, alone_with}
 use Rattle.pssm_routes.proofs.leading.is_completed_with.Goals as goal
 

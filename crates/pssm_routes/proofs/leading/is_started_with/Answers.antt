@@ -1,6 +1,6 @@
 -- what is started leaves an active State
 use Rattle.pssm_config.specs.Tables.{configuration_of}
-use Rattle.pssm_routes.proofs.ListPlaces.{refuted}
+use Rattle.pssm_enabled.proofs.ListPlaces.{refuted}
 use Rattle.pssm_routes.proofs.StartedWith.{with_state}
 use Rattle.pssm_routes.proofs.leading.is_started_with.Goals as goal
 

@@ -4,7 +4,7 @@ use Rattle.std.proofs.lemmas.List.Elements.{Contains-get_or}
 use Rattle.pssm_model.specs.declared.ids.TransId.{TransId}
 use Rattle.pssm_model.specs.declared.ids.VertexId.{VertexId}
 use Rattle.pssm_model.specs.Legs.{Leaves}
-use Rattle.pssm_routes.proofs.ListPlaces.{below_next, below_all, refuted}
+use Rattle.pssm_enabled.proofs.ListPlaces.{below_next, below_all, refuted}
 use Rattle.pssm_routes.proofs.leading.leave_among.Goals as goal
 
 pub returns-then-not-leaves_among : goal.returns-then-not-leaves_among

@@ -1,7 +1,7 @@
 -- the one out of the join, or the transition itself
 use Rattle.std.proofs.Common.{refl, inl, inr}
-use Rattle.pssm_routes.proofs.ListPlaces.{refuted}
-use Rattle.pssm_routes.proofs.StartLaws.{starts_alone}
+use Rattle.pssm_enabled.proofs.ListPlaces.{refuted}
+use Rattle.pssm_enabled.proofs.StartLaws.{starts_alone}
 use Rattle.pssm_routes.proofs.leading.onward.Goals as goal
 
 pub out_of_join-requires-clause-join : goal.out_of_join-requires-clause-join

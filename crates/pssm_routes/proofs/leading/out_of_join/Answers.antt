@@ -1,6 +1,6 @@
 -- a join has a transition out
 use Rattle.std.proofs.Common.{◌<◌, length, sym, arith}
-use Rattle.pssm_routes.proofs.LeadingOn.{join_out}
+use Rattle.pssm_enabled.proofs.LeadingOn.{join_out}
 use Rattle.pssm_routes.proofs.leading.out_of_join.Goals as goal
 
 pub unreachable-requires : goal.unreachable-requires

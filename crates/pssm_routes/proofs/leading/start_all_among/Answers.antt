@@ -1,7 +1,8 @@
 -- it alone, or all into its join
 use Rattle.std.proofs.Common.{refl}
-use Rattle.pssm_routes.proofs.ListPlaces.{refuted}
-use Rattle.pssm_routes.proofs.StartLaws.{among_alone, among_joined, starts_joined, starts_alone}
+use Rattle.pssm_enabled.proofs.ListPlaces.{refuted}
+use Rattle.pssm_routes.proofs.Onward.{among_alone, among_joined}
+use Rattle.pssm_enabled.proofs.StartLaws.{starts_joined, starts_alone}
 use Rattle.pssm_routes.proofs.leading.start_all_among.Goals as goal
 
 pub returns-then-not-is_join : goal.returns-then-not-is_join

@@ -1,5 +1,5 @@
 -- a transition that ends on no junction or exit point leads out where it is open
-use Rattle.pssm_routes.proofs.ListPlaces.{refuted}
+use Rattle.pssm_enabled.proofs.ListPlaces.{refuted}
 use Rattle.pssm_routes.proofs.Looks.{open_leads, open_alone}
 use Rattle.pssm_routes.proofs.looking.look.Goals as goal
 

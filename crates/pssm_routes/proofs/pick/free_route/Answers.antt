@@ -1,13 +1,14 @@
 -- what the search finds is enabled
 use Rattle.std.proofs.Common.{◌<◌, length, sym, subst}
 use Rattle.pssm_config.specs.Tables.{configuration_of}
-use Rattle.pssm_routes.specs.inner.Steps.{KnowsDeadEnds, IsTrail}
-use Rattle.pssm_routes.specs.inner.Ways.{EndsInside}
+use Rattle.pssm_enabled.specs.Steps.{KnowsDeadEnds, IsTrail}
+use Rattle.pssm_enabled.specs.Ways.{EndsInside}
 use Rattle.pssm_routes.proofs.Enabled.{started_state, enabled_with}
 use Rattle.pssm_routes.proofs.JoiningSteps.{state_outside}
 use Rattle.pssm_routes.proofs.RoutesOver.{joiner_is_free, joiner_started, joiner_among, sources_among}
-use Rattle.pssm_routes.proofs.Scanning.{refuted}
-use Rattle.pssm_routes.proofs.StartLaws.{is_among_starts, one_onward}
+use Rattle.pssm_enabled.proofs.Scanning.{refuted}
+use Rattle.pssm_enabled.proofs.StartLaws.{is_among_starts}
+use Rattle.pssm_routes.proofs.Onward.{one_onward}
 use Rattle.pssm_routes.proofs.pick.free_route.Goals as goal
 
 pub returns-then-not-starts_here-clause-none : goal.returns-then-not-starts_here-clause-none

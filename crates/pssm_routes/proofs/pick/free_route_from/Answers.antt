@@ -6,7 +6,7 @@ use Rattle.pssm_model.proofs.ElementLaws.{leaves_one}
 use Rattle.pssm_config.specs.Tables.{configuration_of}
 use Rattle.pssm_routes.specs.inner.Sets.{HasJoiner}
 use Rattle.pssm_routes.specs.inner.Picks.{IsFreeRoute}
-use Rattle.pssm_routes.proofs.Scanning.{holds_of_more, holds_of_all}
+use Rattle.pssm_enabled.proofs.Scanning.{holds_of_more, holds_of_all}
 use Rattle.pssm_routes.proofs.pick.free_route_from.Goals as goal
 
 pub free_route-requires-clause-source : goal.free_route-requires-clause-source

@@ -1,9 +1,9 @@
 use Rattle.pssm_model.specs.declared.ids.TransId.{TransId}
 use Rattle.pssm_model.specs.Routes.{Truth}
 use Rattle.pssm_config.specs.Tables.{configuration_of}
-use Rattle.pssm_routes.specs.Telling.{Tells}
+use Rattle.pssm_enabled.specs.Telling.{Tells}
 use Rattle.pssm_routes.specs.inner.Sets.{HasJoiner}
-use Rattle.pssm_routes.proofs.Scanning.{HoldsOfFirst}
+use Rattle.pssm_enabled.proofs.Scanning.{HoldsOfFirst}
 use Rattle.pssm_routes.proofs.pick.free_route_from.Given as goal
 
 -- no route with one of the starts so far could join

@@ -1,5 +1,5 @@
 -- a new search has seen nothing
-use Rattle.pssm_routes.proofs.OneSearch.{new_knows}
+use Rattle.pssm_enabled.proofs.OneSearch.{new_knows}
 use Rattle.pssm_routes.proofs.reacting.forget.Goals as goal
 
 pub returns-then-not-is_empty-clause-nothing : goal.returns-then-not-is_empty-clause-nothing

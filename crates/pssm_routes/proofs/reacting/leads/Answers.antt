@@ -1,9 +1,9 @@
 -- A way that is found is a route, and where none is found none leads out.
 use Rattle.std.proofs.Common.{◌∙◌, None, sym, subst}
-use Rattle.pssm_routes.specs.inner.Ways.{LeadsOut}
-use Rattle.pssm_routes.specs.inner.Steps.{steps_of}
+use Rattle.pssm_enabled.specs.Ways.{LeadsOut}
+use Rattle.pssm_enabled.specs.Steps.{steps_of}
 use Rattle.pssm_config.specs.Tables.{configuration_of}
-use Rattle.pssm_routes.proofs.StartLaws.{one_onward}
+use Rattle.pssm_routes.proofs.Onward.{one_onward}
 use Rattle.pssm_routes.proofs.Reaction.{found_reacts}
 use Rattle.pssm_routes.proofs.Fruitless.{holds_some, holds_none}
 use Rattle.pssm_routes.proofs.reacting.leads.Goals as goal

@@ -2,7 +2,7 @@
 use Rattle.std.proofs.Common.{sym}
 use Rattle.std.proofs.lemmas.Bool.{true≢false}
 use Rattle.pssm_config.specs.Tables.{configuration_of}
-use Rattle.pssm_routes.proofs.ListPlaces.{refuted}
+use Rattle.pssm_enabled.proofs.ListPlaces.{refuted}
 use Rattle.pssm_routes.proofs.Sights.{if_some_map, looked_starts}
 use Rattle.pssm_routes.proofs.reacting.leads_at_sight.Goals as goal
 

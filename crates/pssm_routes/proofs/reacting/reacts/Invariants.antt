@@ -2,8 +2,8 @@
 use Rattle.std.proofs.Common.{◌≡◌, None, take, length}
 use Rattle.pssm_model.specs.Routes.{Truth}
 use Rattle.pssm_config.specs.Tables.{configuration_of}
-use Rattle.pssm_routes.specs.Telling.{Tells}
-use Rattle.pssm_routes.specs.inner.Steps.{KnowsDeadEnds}
+use Rattle.pssm_enabled.specs.Telling.{Tells}
+use Rattle.pssm_enabled.specs.Steps.{KnowsDeadEnds}
 use Rattle.pssm_routes.proofs.Fruitless.{IsFruitless}
 use Rattle.pssm_routes.proofs.reacting.reacts.Given as goal
 

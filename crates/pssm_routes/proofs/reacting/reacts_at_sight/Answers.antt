@@ -4,7 +4,7 @@ use Rattle.std.proofs.lemmas.Bool.{true≢false}
 use Rattle.std.proofs.lemmas.List.Elements.{Contains-get_or}
 use Rattle.pssm_model.specs.declared.ids.TransId.{TransId}
 use Rattle.pssm_config.specs.Tables.{configuration_of}
-use Rattle.pssm_routes.proofs.ListPlaces.{refuted}
+use Rattle.pssm_enabled.proofs.ListPlaces.{refuted}
 use Rattle.pssm_routes.proofs.Sights.{way_starts, none_more, none_react}
 use Rattle.pssm_routes.proofs.reacting.reacts_at_sight.Goals as goal
 

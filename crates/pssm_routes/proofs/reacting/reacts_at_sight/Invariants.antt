@@ -2,7 +2,7 @@
 use Rattle.std.proofs.Common.{take}
 use Rattle.pssm_model.specs.Routes.{Truth}
 use Rattle.pssm_config.specs.Tables.{configuration_of}
-use Rattle.pssm_routes.specs.Telling.{Tells}
+use Rattle.pssm_enabled.specs.Telling.{Tells}
 use Rattle.pssm_routes.proofs.Sights.{StartNone}
 use Rattle.pssm_routes.proofs.reacting.reacts_at_sight.Given as goal
 

@@ -3,8 +3,8 @@ use Rattle.std.proofs.Common.{◌<◌, refl, arith}
 use Rattle.pssm_model.specs.declared.ids.TransId.{TransId}
 use Rattle.pssm_config.specs.Tables.{configuration_of}
 use Rattle.pssm_routes.specs.inner.Starts.{IsStartedWith, GoesOnBy}
-use Rattle.pssm_routes.specs.inner.Ways.{EndsInside}
-use Rattle.pssm_routes.proofs.StartLaws.{goes_on_there}
+use Rattle.pssm_enabled.specs.Ways.{EndsInside}
+use Rattle.pssm_routes.proofs.Onward.{goes_on_there}
 use Rattle.pssm_routes.proofs.Fruitless.{no_start_more}
 use Rattle.pssm_routes.proofs.reacting.some_start_search.Goals as goal
 

@@ -3,7 +3,7 @@ use Rattle.std.proofs.Common.{◌<◌}
 use Rattle.pssm_model.specs.declared.ids.TransId.{TransId}
 use Rattle.pssm_config.specs.Tables.{configuration_of}
 use Rattle.pssm_routes.specs.inner.Starts.{IsStartedWith, GoesOnBy}
-use Rattle.pssm_routes.specs.inner.Ways.{EndsInside}
+use Rattle.pssm_enabled.specs.Ways.{EndsInside}
 use Rattle.pssm_routes.proofs.reacting.some_start_search.Given as goal
 
 abbrev pub invariant-loop-number : goal.invariant-loop-number

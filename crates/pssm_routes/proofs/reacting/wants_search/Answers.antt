@@ -1,5 +1,5 @@
 -- a transition that ends on no junction, exit point or join goes on by itself, and ends on neither
-use Rattle.pssm_routes.proofs.StartLaws.{wants_none}
+use Rattle.pssm_routes.proofs.Onward.{wants_none}
 use Rattle.pssm_routes.proofs.reacting.wants_search.Goals as goal
 
 pub returns-in_default : goal.returns-in_default

@@ -1,6 +1,6 @@
 -- each turn looks at one footprint more
 use Rattle.pssm_routes.proofs.FootprintLists.{apart_after}
-use Rattle.pssm_routes.proofs.Scanning.{refuted}
+use Rattle.pssm_enabled.proofs.Scanning.{refuted}
 use Rattle.pssm_routes.proofs.set.are_apart.Goals as goal
 
 pub loop-first-preserved : goal.loop-first-preserved

@@ -1,7 +1,7 @@
 use Rattle.pssm_model.specs.Routes.{Truth, IsStateRoute, IsEnabled}
 use Rattle.pssm_config.specs.Tables.{configuration_of}
-use Rattle.pssm_routes.specs.Telling.{Tells}
-use Rattle.pssm_routes.proofs.Scanning.{HoldsOfFirst}
+use Rattle.pssm_enabled.specs.Telling.{Tells}
+use Rattle.pssm_enabled.proofs.Scanning.{HoldsOfFirst}
 use Rattle.pssm_routes.proofs.set.are_enabled.Given as goal
 
 -- the routes so far are routes of States that the event enables

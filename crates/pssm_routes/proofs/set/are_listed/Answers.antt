@@ -1,7 +1,7 @@
 -- each neighbour that starts later keeps the order
 use Rattle.std.proofs.Common.{◌<◌, refl, arith}
 use Rattle.pssm_routes.proofs.Listing.{one_is_listed, one_more_listed, all_are_listed, neighbours_listed}
-use Rattle.pssm_routes.proofs.Scanning.{refuted}
+use Rattle.pssm_enabled.proofs.Scanning.{refuted}
 use Rattle.pssm_routes.proofs.set.are_listed.Goals as goal
 
 pub loop-i-init : goal.loop-i-init

@@ -4,7 +4,7 @@ use Rattle.std.proofs.lemmas.List.Elements.{Contains-get_or}
 use Rattle.pssm_legs.specs.declared.areas.Area.TheVariants.{Nowhere}
 use Rattle.pssm_routes.specs.declared.areas.Footprint.{Footprint}
 use Rattle.pssm_routes.specs.inner.Footprints.{Clash}
-use Rattle.pssm_routes.proofs.Scanning.{holds_of_more, holds_of_all, refuted}
+use Rattle.pssm_enabled.proofs.Scanning.{holds_of_more, holds_of_all, refuted}
 use Rattle.pssm_routes.proofs.set.clashes_with.Goals as goal
 
 pub returns-then-clash : goal.returns-then-clash

@@ -1,5 +1,5 @@
 use Rattle.pssm_routes.specs.inner.Footprints.{Clash}
-use Rattle.pssm_routes.proofs.Scanning.{HoldsOfFirst}
+use Rattle.pssm_enabled.proofs.Scanning.{HoldsOfFirst}
 use Rattle.pssm_routes.proofs.set.clashes_with.Given as goal
 
 -- none of the others so far clashes

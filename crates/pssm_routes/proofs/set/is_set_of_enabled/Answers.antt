@@ -3,7 +3,7 @@ use Rattle.std.proofs.Common.{◌↔◌, IsTrue, subst}
 use Rattle.pssm_config.specs.Tables.{configuration_of}
 use Rattle.pssm_routes.specs.inner.Sets.{AreComplete}
 use Rattle.pssm_routes.proofs.Judging.{fires_complete, all_start}
-use Rattle.pssm_routes.proofs.Scanning.{refuted}
+use Rattle.pssm_enabled.proofs.Scanning.{refuted}
 use Rattle.pssm_routes.proofs.set.is_set_of_enabled.Goals as goal
 
 pub are_listed-requires : goal.are_listed-requires

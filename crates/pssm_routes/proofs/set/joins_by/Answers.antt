@@ -1,7 +1,7 @@
 -- a start from the States has a joiner where there is a free route
 use Rattle.pssm_config.specs.Tables.{configuration_of}
 use Rattle.pssm_routes.proofs.Enabled.{started_state}
-use Rattle.pssm_routes.proofs.ListPlaces.{refuted}
+use Rattle.pssm_enabled.proofs.ListPlaces.{refuted}
 use Rattle.pssm_routes.proofs.RoutesOver.{joiner_is_free, joiner_started, joiner_among, free_joins}
 use Rattle.pssm_routes.proofs.set.joins_by.Goals as goal
 

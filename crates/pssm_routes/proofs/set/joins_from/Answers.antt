@@ -5,7 +5,7 @@ use Rattle.pssm_model.specs.declared.ids.TransId.{TransId}
 use Rattle.pssm_model.proofs.ElementLaws.{leaves_one}
 use Rattle.pssm_config.specs.Tables.{configuration_of}
 use Rattle.pssm_routes.specs.inner.Sets.{HasJoiner}
-use Rattle.pssm_routes.proofs.Scanning.{holds_of_more, holds_of_all, refuted}
+use Rattle.pssm_enabled.proofs.Scanning.{holds_of_more, holds_of_all, refuted}
 use Rattle.pssm_routes.proofs.set.joins_from.Goals as goal
 
 pub joins_by-requires-clause-source : goal.joins_by-requires-clause-source

@@ -6,7 +6,7 @@ use Rattle.pssm_model.specs.declared.ids.VertexId.{VertexId}
 use Rattle.pssm_model.specs.Legs.{Leaves}
 use Rattle.pssm_config.specs.Tables.{configuration_of}
 use Rattle.pssm_routes.specs.inner.Sets.{HasJoiner}
-use Rattle.pssm_routes.proofs.Scanning.{holds_of_more, holds_of_all, refuted}
+use Rattle.pssm_enabled.proofs.Scanning.{holds_of_more, holds_of_all, refuted}
 use Rattle.pssm_routes.proofs.set.joins_from_some.Goals as goal
 
 pub joins_from-requires-clause-among : goal.joins_from-requires-clause-among

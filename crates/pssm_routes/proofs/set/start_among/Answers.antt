@@ -3,7 +3,7 @@ use Rattle.std.proofs.Common.{◌<◌, ◌≤◌, length, Contains, refl, sym, s
 use Rattle.pssm_model.specs.declared.ids.VertexId.{VertexId}
 use Rattle.pssm_model.specs.declared.steps.Route.{Route}
 use Rattle.pssm_model.specs.Routes.{IsSource, IsStateRoute}
-use Rattle.pssm_routes.proofs.Scanning.{holds_of_item, holds_of_all, refuted}
+use Rattle.pssm_enabled.proofs.Scanning.{holds_of_item, holds_of_all, refuted}
 use Rattle.pssm_routes.proofs.set.start_among.Goals as goal
 
 pub starts_among-requires : goal.starts_among-requires

@@ -2,7 +2,7 @@ use Rattle.std.proofs.Common.{Contains}
 use Rattle.pssm_model.specs.declared.ids.VertexId.{VertexId}
 use Rattle.pssm_model.specs.declared.steps.Route.{Route}
 use Rattle.pssm_model.specs.Routes.{IsSource}
-use Rattle.pssm_routes.proofs.Scanning.{HoldsOfFirst}
+use Rattle.pssm_enabled.proofs.Scanning.{HoldsOfFirst}
 use Rattle.pssm_routes.proofs.set.start_among.Given as goal
 
 -- the sources of the routes so far are among the States

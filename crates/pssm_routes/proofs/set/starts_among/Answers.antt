@@ -1,7 +1,7 @@
 -- the sources of the route are those of its starts
 use Rattle.std.proofs.Common.{Contains, sym, subst}
-use Rattle.pssm_routes.proofs.Members.{all_of_members}
-use Rattle.pssm_routes.proofs.StartLaws.{start_there}
+use Rattle.pssm_enabled.proofs.Members.{all_of_members}
+use Rattle.pssm_enabled.proofs.StartLaws.{start_there}
 use Rattle.pssm_routes.proofs.set.starts_among.Goals as goal
 
 pub leave_among-requires : goal.leave_among-requires

@@ -9,7 +9,7 @@ use Rattle.pssm_config.specs.Tables.{configuration_of}
 use Rattle.pssm_routes.specs.inner.Footprints.{IsFootprintIn}
 use Rattle.pssm_routes.specs.inner.Sets.{AreComplete}
 use Rattle.pssm_routes.proofs.LoneReacting.{lone_fires}
-use Rattle.pssm_routes.proofs.Started.{one_of_length}
+use Rattle.pssm_enabled.proofs.Started.{one_of_length}
 use Rattle.pssm_routes.proofs.set.told_by_lone.Goals as goal
 
 pub footprint_of-footprint-requires-clause-route : goal.footprint_of-footprint-requires-clause-route

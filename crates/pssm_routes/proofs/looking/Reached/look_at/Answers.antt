@@ -1,6 +1,6 @@
 -- the transition is not open, or leads out, or comes to a vertex
-use Rattle.pssm_routes.specs.inner.Ways.LeadsOut.{ends}
-use Rattle.pssm_routes.proofs.ListPlaces.{refuted}
+use Rattle.pssm_enabled.specs.Ways.LeadsOut.{ends}
+use Rattle.pssm_enabled.proofs.ListPlaces.{refuted}
 use Rattle.pssm_routes.proofs.Looks.{looks_shut, looks_to, there_more}
 use Rattle.pssm_routes.proofs.looking.Reached.look_at.Goals as goal
 

@@ -2,7 +2,7 @@
 use Rattle.std.proofs.Common.{get_or}
 use Rattle.pssm_model.specs.declared.ids.TransId.{TransId}
 use Rattle.pssm_model.specs.Routes.{Truth}
-use Rattle.pssm_routes.specs.Telling.{Tells}
+use Rattle.pssm_enabled.specs.Telling.{Tells}
 use Rattle.pssm_routes.specs.inner.Looking.{AreThere, IsLooking, IsLookingOn}
 use Rattle.pssm_routes.proofs.looking.Reached.look_on.Given as goal
 

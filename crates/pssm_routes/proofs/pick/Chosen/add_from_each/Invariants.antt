@@ -2,7 +2,7 @@ use Rattle.std.proofs.Common.{take, All, Contains}
 use Rattle.pssm_model.specs.declared.ids.VertexId.{VertexId}
 use Rattle.pssm_model.specs.Routes.{Truth}
 use Rattle.pssm_config.specs.Tables.{configuration_of}
-use Rattle.pssm_routes.specs.Telling.{Tells}
+use Rattle.pssm_enabled.specs.Telling.{Tells}
 use Rattle.pssm_routes.specs.inner.Footprints.{IsFootprintIn}
 use Rattle.pssm_routes.specs.inner.Starts.{IsOutranked}
 use Rattle.pssm_routes.specs.inner.Picks.{IsChosen, IsGrown}

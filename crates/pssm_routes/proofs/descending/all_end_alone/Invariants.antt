@@ -1,7 +1,0 @@
--- a route ends with each of those before
-use Rattle.pssm_routes.specs.inner.Fitting.{EndsAlone}
-use Rattle.pssm_routes.proofs.ListPlaces.{Below}
-use Rattle.pssm_routes.proofs.descending.all_end_alone.Given as goal
-
-abbrev pub invariant-loop-t : goal.invariant-loop-t
-invariant-loop-t l = Below (EndsAlone l.machine) l.t-items l.t-index

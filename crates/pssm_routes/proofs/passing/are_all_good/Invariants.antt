@@ -1,7 +1,0 @@
-use Rattle.pssm_routes.specs.inner.Passing.{EndsOnMarked}
-use Rattle.pssm_routes.proofs.ListPlaces.{Below}
-use Rattle.pssm_routes.proofs.passing.are_all_good.Given as goal
-
--- those before end on marked vertices
-abbrev pub invariant-loop-t : goal.invariant-loop-t
-invariant-loop-t l = Below (EndsOnMarked l.machine l.good) l.t-items l.t-index

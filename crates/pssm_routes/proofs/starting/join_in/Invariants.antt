@@ -1,8 +1,0 @@
-use Rattle.pssm_config.specs.Tables.{configuration_of}
-use Rattle.pssm_routes.specs.inner.Starts.{JoinsIn}
-use Rattle.pssm_routes.proofs.ListPlaces.{Below}
-use Rattle.pssm_routes.proofs.starting.join_in.Given as goal
-
--- those before join in
-abbrev pub invariant-loop-t : goal.invariant-loop-t
-invariant-loop-t l = Below (JoinsIn l.machine (configuration_of l.config) l.state) l.starts l.t-index

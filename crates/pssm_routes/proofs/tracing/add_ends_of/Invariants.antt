@@ -1,7 +1,0 @@
-use Rattle.std.proofs.Common.{take}
-use Rattle.pssm_routes.specs.inner.Behind.{IsFurtherBy}
-use Rattle.pssm_routes.proofs.tracing.add_ends_of.Given as goal
-
--- the ends of those before are added
-abbrev pub invariant-loop-t : goal.invariant-loop-t
-invariant-loop-t l = IsFurtherBy l.machine l.fn.come l.come (take l.t-index l.transitions)
