@@ -27,7 +27,8 @@ use Rattle.pssm_plan.specs.inner.Marks.{IsListed, IsLonger, IsNoted, IsSettled, 
 use Rattle.pssm_plan.specs.declared.waiting.Since.{Since}
 use Rattle.pssm_plan.specs.declared.waiting.Wait.{Wait}
 use Rattle.pssm_plan.specs.Waiting.{IsExact}
-use Rattle.pssm_plan.specs.inner.Sequence.{IsSequence, IsNestedPair, IsOrderedBySome, IsResting, AreLooseUpTo, ArePassedNested, AreApartFrom, AreNewSince, IsNewCall, IsApart, IsRoster}
+use Rattle.pssm_plan.specs.inner.Sequence.{IsSequence, IsNestedPair, IsOrderedBySome, AreLooseUpTo, ArePassedNested, AreApartFrom, AreNewSince, IsNewCall, IsRoster}
+use Rattle.pssm_plan.specs.inner.Passes.{ArePassed, IsOrderedBehindNone}
 use Rattle.pssm_plan.specs.inner.Calling.{IsNoExit, IsLate, IsOfRestored, IsEntered}
 use Rattle.pssm_plan.specs.inner.Going.{KeepsOrder, IsFollowedSo}
 use Rattle.pssm_plan.proofs.Growing.{lower_or_same}
@@ -35,81 +36,25 @@ use Rattle.pssm_plan.proofs.Looking.{waiting}
 use Rattle.pssm_plan.proofs.NearWays.{way_calls_first, way_calls_second}
 use Rattle.pssm_plan.proofs.Rewriting.{AreAlike}
 
--- the call, as one that has seen them all
-abbrev pub through_all : List Call → Call → Call
-through_all calls call = record { item = call.item; ran = call.ran; blocked = call.blocked; seen = length calls }
-
--- of what such a call has not seen, only that comes before it which does so by where the States lie
-module _ (m : DraftMachine) (ways : List Way) (calls : List Call) (call : Call) (h : IsApart m ways calls call)
-    (s : HasSeen (IsSequence m ways) calls call) where
-  pub nested_seen : HasSeen (IsNestedPair m) calls call
-  nested_seen = record {
-    within = s.within;
-    passed = λ k d lt inside up. s.passed k d lt inside (inl up.0, up.1);
-    there = λ blocked. absurd (h.free blocked);
-  }
-
-  pub nested_settled : (new : Call) → IsSettled (IsNestedPair m) calls call new → IsSettled (IsSequence m ways) calls call new
-  nested_settled new n = record {
-    item_is = n.item_is;
-    ran = n.ran;
-    exact = record {
-      passed = λ k d lt inside up. ⊎_elim
-          (λ low. s.passed k d low inside (subst (λ (i : Item). IsSequence m ways (get_or calls k d).item i) n.item_is up.0, up.1))
-          (λ high. ⊎_elim
-          (λ nested. n.exact.passed k d lt inside (nested, up.1))
-          (λ ordered. h.apart k d high inside (subst (λ (i : Item). IsOrderedBySome m ways (get_or calls k d).item i) n.item_is ordered))
-          up.0)
-          (cases_lt k call.seen);
-      waits = λ blocked. (let w = n.exact.waits blocked in (w.0, λ d. (inl (w.1 d).0, (w.1 d).1)));
-      through = n.exact.through;
-    };
-  }
-
--- a call before the first of those that no way orders before the others, which has come to it
-pub apart_now : (m : DraftMachine) (ways : List Way) (old now : List Call) (first i : ℕ) (d : Call) → AreAlike old now → AreApartFrom m ways old first
-    → i < length old → i < first → first ≤ (get_or now i d).seen → (IsTrue (get_or now i d).blocked → ⊥) → IsApart m ways now (get_or now i d)
-apart_now m ways old now first i d alike apart lt below come free = record {
-  free = free;
-  apart = λ k e le inside ordered.
-      (let low : k < length old = omega (arith, alike.0, inside) in
-      let high : first ≤ k = omega (arith, come, le) in
-      let there : i < length now = omega (arith, alike.0, lt) in
-      let here : (get_or now i d).item ≡ (get_or old i e).item = ap (λ (c : Call). c.item) (get_or_default now i d e there) ∙ (alike.1 i e lt).0 in
-      apart i k e below high low
-      (inl (subst (λ (y : Item). IsOrderedBySome m ways (get_or old k e).item y) here
-      (subst (λ (x : Item). IsOrderedBySome m ways x (get_or now i d).item) (alike.1 k e low).0 ordered))));
-}
-
--- a call that waits for none of the new ones
-pub rests_settled : (m : DraftMachine) (ways : List Way) (calls : List Call) (since : Since) (place nests : ℕ) (loose : Bool) (d : Call)
-    → AreNewSince m ways calls since → place < length calls → IsResting m since place loose (get_or calls place d)
-    → (IsTrue loose → length calls ≤ nests) → AreLooseUpTo m calls since.calls nests → HasSeen (IsSequence m ways) calls (get_or calls place d)
-    → IsSettled (IsSequence m ways) calls (get_or calls place d) (through_all calls (get_or calls place d))
-rests_settled m ways calls since place nests loose d new inside rests all are seen = record {
-  item_is = refl;
-  ran = refl;
+-- what none before the new ones holds up, and no way orders behind one of these, waits only for what comes before it by where the States lie
+pub free_settled : (m : DraftMachine) (ways : List Way) (calls : List Call) (call new : Call) (first : ℕ)
+    → ArePassed (IsSequence m ways) calls call.item first → IsOrderedBehindNone m ways calls call.item first
+    → IsSettled (IsNestedPair m) calls call new → IsSettled (IsSequence m ways) calls call new
+free_settled m ways calls call new first passed apart n = record {
+  item_is = n.item_is;
+  ran = n.ran;
   exact = record {
-    passed = λ k e lt low up. ⊎_elim
-        (λ before. seen.passed k e before low up)
-        (λ behind. ⊎_elim
-        (λ nested. not_nested k e behind low nested)
-        (λ ordered. apart.apart k e behind low ordered)
+    passed = λ k d lt inside up. ⊎_elim
+        (λ low. passed k d low inside (subst (λ (i : Item). IsSequence m ways (get_or calls k d).item i) n.item_is up.0, up.1))
+        (λ high. ⊎_elim
+        (λ nested. n.exact.passed k d lt inside (nested, up.1))
+        (λ ordered. apart k d high inside (subst (λ (i : Item). IsOrderedBySome m ways (get_or calls k d).item i) n.item_is ordered))
         up.0)
-        (cases_lt k (get_or calls place d).seen);
-    waits = λ blocked. absurd (rests.free blocked);
-    through = λ unblocked. refl;
+        (cases_lt k first);
+    waits = λ blocked. (let w = n.exact.waits blocked in (w.0, λ d. (inl (w.1 d).0, (w.1 d).1)));
+    through = n.exact.through;
   };
 }
-  where
-    apart : IsApart m ways calls (get_or calls place d)
-    apart = apart_now m ways calls calls since.calls place d (refl, λ k e lt. (refl, refl)) new.apart inside rests.old rests.come rests.free
-
-    not_nested : (k : ℕ) (e : Call) → (get_or calls place d).seen ≤ k → k < length calls → IsNestedPair m (get_or calls k e).item (get_or calls place d).item → ⊥
-    not_nested k e behind low nested = ⊎_elim
-        (λ sure. let far = all sure in are k e (get_or calls place d).item (omega (arith, rests.come, behind)) (omega (arith, far, low)) low nested)
-        (λ none. none (get_or calls k e).item nested)
-        rests.none
 
 -- a new call
 pub new_now : (m : DraftMachine) (ways : List Way) (old now : List Call) (since : Since) (i : ℕ) (d : Call) → AreAlike old now
@@ -213,18 +158,18 @@ loose_along m old now first nests alike h k d x le lt inside nested =
     let low : k < length old = omega (arith, alike.0, inside) in
     h k d x le lt low (subst (λ (i : Item). IsNestedPair m i x) (alike.1 k d low).0 nested)
 
--- a call that has come to the new ones has as good as seen those that come before none so
+-- a call that none before the new ones holds up has as good as seen those that come before none so
 pub raised_seen : (m : DraftMachine) (calls : List Call) (call raised : Call) (first nests : ℕ) → nests ≤ length calls
-    → AreLooseUpTo m calls first nests → first ≤ call.seen → (IsTrue call.blocked → ⊥) → HasSeen (IsNestedPair m) calls call
+    → AreLooseUpTo m calls first nests → (IsTrue call.blocked → ⊥) → ArePassed (IsNestedPair m) calls call.item first
     → raised.item ≡ call.item → raised.blocked ≡ call.blocked → raised.seen ≡ nests → HasSeen (IsNestedPair m) calls raised
-raised_seen m calls call raised first nests within loose come free s item blocked seen = record {
+raised_seen m calls call raised first nests within loose free passed item blocked seen = record {
   within = omega (arith, within, seen);
   passed = λ k d lt inside up.
       (let here = subst (λ (y : Item). IsNestedPair m (get_or calls k d).item y) item up.0 in
       ⊎_elim
-      (λ low. s.passed k d low inside (here, up.1))
-      (λ high. loose k d call.item (omega (arith, come, high)) (omega (arith, lt, seen)) inside here)
-      (cases_lt k call.seen));
+      (λ low. passed k d low inside (here, up.1))
+      (λ high. loose k d call.item high (omega (arith, lt, seen)) inside here)
+      (cases_lt k first));
   there = λ b. absurd (free (subst (λ (v : Bool). IsTrue v) blocked b));
 }
 

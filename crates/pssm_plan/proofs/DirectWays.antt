@@ -33,7 +33,7 @@ use Rattle.pssm_plan.specs.inner.Direct.{IsDirect, IsReopenedIn, MayCallDirectly
 use Rattle.pssm_plan.proofs.Growing.{AddedBy}
 
 -- what a place lies under is its owner, or what that lies under
-first_step : {m : DraftMachine} (p q k : Owner) → owner_of m p ≡ Some k → LiesUnder m p q → (q ≡ k) ⊎ LiesUnder m k q
+pub first_step : {m : DraftMachine} (p q k : Owner) → owner_of m p ≡ Some k → LiesUnder m p q → (q ≡ k) ⊎ LiesUnder m k q
 first_step p q k e (owned f) = let same : q ≡ k = cc (e, f) in inl same
 first_step {m} p q k e (further {q = l} f rest) = let same : l ≡ k = cc (e, f) in inr (subst (λ (o : Owner). LiesUnder m o q) same rest)
 
@@ -102,6 +102,15 @@ module _ {m : DraftMachine} (shape : HasShape m) (rules : KeepsModelRules m) (wa
   direct_may item h =
       may_told item (of_first (λ i a. IsCalledAsTold m way.legs i a way.fires item)
       (calls_is shape rules way.route.value way.legs is way.fires item h))
+
+  exit_told : (s : VertexId) → IsCalledAsTold m way.legs 0 first way.fires (Exit s) → LiesUnder m (State s) (Region r)
+  exit_told s h = subst (λ (a : Area). LiesInScope m s (scope_of a)) d.area h.1.0
+
+  -- what it exits lies in the region
+  pub exit_lies : (s : VertexId) → calls_by m way (Exit s) → LiesUnder m (State s) (Region r)
+  exit_lies s h =
+      exit_told s (of_first (λ i a. IsCalledAsTold m way.legs i a way.fires (Exit s))
+      (calls_is shape rules way.route.value way.legs is way.fires (Exit s) h))
 
   pub direct_entries : (x : Item) → ((x ≡ Enter first.last) × calls_by m way (Enter first.last)) ↔ IsEntryBy m way x
   direct_entries x = (

@@ -9,44 +9,21 @@ use Rattle.pssm_model.specs.Configuration.{Configuration}
 use Rattle.pssm_plan.specs.declared.ways.Way.{Way}
 use Rattle.pssm_plan.specs.declared.roster.Call.{Call}
 use Rattle.pssm_plan.specs.declared.waiting.Since.{Since}
-use Rattle.pssm_plan.specs.Waiting.{IsExact}
 use Rattle.pssm_plan.specs.inner.ByWays.{calls_by}
-use Rattle.pssm_plan.specs.inner.Marks.{IsListed, IsLonger, IsForgotten, IsAlike, IsSettled, HasSeen, ArePairwise}
+use Rattle.pssm_plan.specs.inner.Marks.{IsListed, IsLonger, IsForgotten, IsAlike, ArePairwise}
+use Rattle.pssm_plan.specs.inner.Passes.{AreAllSure, AreSureBefore}
 use Rattle.pssm_plan.specs.inner.Sequence.{IsSequence, AreItemsOf, AreNewSince, IsExtended}
 use Rattle.pssm_plan.specs.inner.Calling.{IsOfWays, MayRun}
 use Rattle.pssm_plan.specs.inner.Going.{IsMadeOf, KeepsOrder}
 use Rattle.pssm_plan.proofs.ApartCalls.{new_from}
 use Rattle.pssm_plan.proofs.Firing.{nothing_among}
-use Rattle.pssm_plan.proofs.Following.{order_kept, all_seen_over_ways}
+use Rattle.pssm_plan.proofs.Following.{order_kept, sure_over_ways}
 use Rattle.pssm_plan.proofs.Rewriting.{AreAlike, marked_along, listed_along, alike_back, roster_along}
-use Rattle.pssm_plan.proofs.Settling.{exact_along}
 use Rattle.pssm_plan.proofs.Taken.{none_taken, taken_cases, taken_more, taken_here}
 
 -- lists of the same items, of which the same have run
 pub all_alike : (a b : List Call) → ArePairwise IsAlike a b → AreAlike a b
 all_alike a b h = (h.0, λ k d lt. let is = h.1 k d lt in (is.item_is, is.ran))
-
-pub settled_alike : (Comes : Item → Item → Type 0) (old new : List Call) → ArePairwise (IsSettled Comes old) old new → ArePairwise IsAlike old new
-settled_alike Comes old new h = (h.0, λ k d lt. let is = h.1 k d lt in record { item_is = is.item_is; ran = is.ran })
-
-pub forgotten_alike : (Comes : Item → Item → Type 0) (old now new : List Call) → ArePairwise IsForgotten old now
-    → ArePairwise (IsSettled Comes now) now new → ArePairwise IsAlike old new
-forgotten_alike Comes old now new f h = (
-  h.0 ∙ f.0,
-  λ k d lt.
-      (let low : k < length now = omega (arith, f.0) in
-      let was = f.1 k d lt in
-      let is = h.1 k d low in
-      record { item_is = is.item_is ∙ was.item_is; ran = is.ran ∙ was.ran }),
-)
-
--- what is settled says exactly for which calls it waits
-pub settled_exact : (Comes : Item → Item → Type 0) (old new : List Call) → ArePairwise (IsSettled Comes old) old new
-    → (call : Call) → Contains new call → IsExact Comes new call
-settled_exact Comes old new h call inside =
-    let low : inside.0 < length old = omega (arith, inside.1, h.0) in
-    exact_along Comes old new call (all_alike old new (settled_alike Comes old new h))
-    (subst (λ (c : Call). IsExact Comes old c) inside.2 (h.1 inside.0 call low).exact)
 
 pub forgotten_items : (m : DraftMachine) (old now : List Call) → ArePairwise IsForgotten old now → AreItemsOf m old → AreItemsOf m now
 forgotten_items m old now f were x listed =
@@ -60,24 +37,21 @@ listed_back a b x h = listed_along b a x (sym h.0) (λ k d lt. sym (same_items a
 
 -- a roster of items that were listed where nothing was, and then settled
 pub made_settled : (m : DraftMachine) (ways : List Way) (Added : Item → Type 0) (old first calls : List Call) → old ≡ [] → IsExtended m old Added first
-    → ArePairwise (IsSettled (IsSequence m ways) first) first calls → IsMadeOf m ways Added calls
-made_settled m ways Added old first calls none extended settled = record {
-  roster = roster_along m first calls settled.0 (same_items first calls alike) extended.roster;
+    → ArePairwise IsAlike first calls → AreAllSure (IsSequence m ways) calls → IsMadeOf m ways Added calls
+made_settled m ways Added old first calls none extended alike sure = record {
+  roster = roster_along m first calls alike.0 (same_items first calls alike) extended.roster;
   listed = λ x. (
     λ h. ⊎_elim
         (λ was. absurd (nothing_among old was.0 none was.1))
         (λ added. added)
         ((extended.listed x).0 (listed_back first calls x alike h)),
-    λ added. listed_along first calls x settled.0 (same_items first calls alike) ((extended.listed x).1 (inr added)),
+    λ added. listed_along first calls x alike.0 (same_items first calls alike) ((extended.listed x).1 (inr added)),
   );
   marked = λ x h.
       (let was = (extended.marked x).0 (marked_along calls first x (alike_back first calls (all_alike first calls alike)) h) in
       nothing_among old was.0 none was.1);
-  exact = settled_exact (IsSequence m ways) first calls settled;
+  sure = sure;
 }
-  where
-    alike : ArePairwise IsAlike first calls
-    alike = settled_alike (IsSequence m ways) first calls settled
 
 -- nothing, by no ways
 pub made_of_none : (m : DraftMachine) (now : Configuration) (ways : List Way) (calls : List Call) → calls ≡ []
@@ -89,7 +63,7 @@ made_of_none m now ways calls none = record {
   };
   listed = λ x. (λ h. absurd (nothing_among calls h.0 none h.1), λ h. absurd (none_taken ways h.0 h.1));
   marked = λ x h. nothing_among calls h.0 none h.1;
-  exact = λ call inside. absurd (nothing_among calls call none inside);
+  sure = λ k d lt. (let long = ap length none in absurd (omega (arith, long, lt)));
 }
 
 -- what is among the first elements of a list is among them all
@@ -112,8 +86,9 @@ module _ (m : DraftMachine) (now : Configuration) (ways : List Way) (i : ℕ) (w
     kept : KeepsOrder m old (take i ways) (take (i + 1) ways)
     kept = subst (λ (l : List Way). KeepsOrder m old (take i ways) l) (sym more) (order_kept m old (take i ways) way none)
 
-    pub fired_seen : (call : Call) → Contains grown call → HasSeen (IsSequence m (take (i + 1) ways)) grown call
-    fired_seen = all_seen_over_ways m old grown (take i ways) (take (i + 1) ways) longer further kept made.exact extended.fresh
+    pub fired_before : (first : ℕ) → first ≡ length old → AreSureBefore (IsSequence m (take (i + 1) ways)) first grown
+    fired_before first is = subst (λ (n : ℕ). AreSureBefore (IsSequence m (take (i + 1) ways)) n grown) (sym is)
+        (sure_over_ways m old grown (take i ways) (take (i + 1) ways) longer further kept made.sure)
 
     pub fired_new : (since : Since) → since.calls ≡ length old → since.ways ≡ i → AreNewSince m (take (i + 1) ways) grown since
     fired_new since first from =
@@ -124,13 +99,12 @@ module _ (m : DraftMachine) (now : Configuration) (ways : List Way) (i : ℕ) (w
 
   -- and settled
   pub fired_made : (calls : List Call) → ArePairwise IsAlike grown calls
-      → ((call : Call) → Contains calls call → IsExact (IsSequence m (take (i + 1) ways)) calls call)
-      → IsMadeOf m (take (i + 1) ways) (IsOfWays m now (take (i + 1) ways)) calls
-  fired_made calls alike exact = record {
+      → AreAllSure (IsSequence m (take (i + 1) ways)) calls → IsMadeOf m (take (i + 1) ways) (IsOfWays m now (take (i + 1) ways)) calls
+  fired_made calls alike sure = record {
     roster = roster_along m grown calls alike.0 (same_items grown calls alike) extended.roster;
     listed = λ x. (λ h. down x ((extended.listed x).0 (listed_back grown calls x alike h)), λ h. up x h);
     marked = λ x h. made.marked x ((extended.marked x).0 (marked_along calls grown x (alike_back grown calls (all_alike grown calls alike)) h));
-    exact = exact;
+    sure = sure;
   }
     where
       down : (x : Item) → IsListed old x ⊎ (MayRun now x × calls_by m way x) → IsOfWays m now (take (i + 1) ways) x

@@ -1,8 +1,9 @@
 -- The progress of a step as an item runs: what is listed is a roster, and what each call has seen.
-use Rattle.std.proofs.Common.{◌≡◌, ◌⊎◌, ◌<◌, ◌++◌, ◌^◌, ℕ, Bool, List, [], ◌∷◌, length, get_or, take, Contains, IsTrue}
+use Rattle.std.proofs.Common.{◌≡◌, ◌⊎◌, ◌<◌, ◌≤◌, ◌++◌, ℕ, Bool, List, [], ◌∷◌, length, get_or, take, Contains, IsTrue, Vec}
 use Rattle.std.proofs.Common.{arith, inl, inr, refl, sym, subst, ap, ⊎_elim, ◌∙◌}
-use Rattle.std.proofs.lemmas.List.{take_at}
+use Rattle.std.proofs.lemmas.List.{take_at, get_or_append_left, length-append}
 use Rattle.std.proofs.lemmas.List.Elements.{Contains-push_cases, Contains-append_left, Contains-get_or}
+use Rattle.std.specs.declared.alloc.Global.{Global}
 use Rattle.pssm_model.specs.declared.elements.DraftMachine.{DraftMachine}
 use Rattle.pssm_model.specs.declared.steps.How.{How}
 use Rattle.pssm_model.specs.declared.steps.How.TheVariants.{By, Restore, Nothing}
@@ -11,10 +12,12 @@ use Rattle.pssm_plan.specs.declared.ways.Way.{Way}
 use Rattle.pssm_plan.specs.declared.roster.Call.{Call}
 use Rattle.pssm_plan.specs.declared.progress.Progress.{Progress}
 use Rattle.pssm_plan.specs.declared.progress.Restored.{Restored}
-use Rattle.pssm_plan.specs.Waiting.{IsExact}
+use Rattle.pssm_plan.specs.declared.waiters.Span.{Span}
+use Rattle.pssm_plan.specs.Waiting.{HoldsUp}
 use Rattle.pssm_plan.specs.Ways.{AreWaysIn}
 use Rattle.pssm_plan.specs.inner.ByWays.{calls_by, orders_by}
-use Rattle.pssm_plan.specs.inner.Marks.{IsListed, IsLonger, IsFresh, IsTold, IsForgotten, IsNoted, HasSeen, AreThrough, ArePairwise}
+use Rattle.pssm_plan.specs.inner.Marks.{IsListed, IsLonger, IsFresh, IsTold, IsForgotten, IsNoted, ArePairwise}
+use Rattle.pssm_plan.specs.inner.Passes.{IsSure, IsSureBefore, AreAllSure, AreSureBefore}
 use Rattle.pssm_plan.specs.inner.Sequence.{IsSequence, IsOrderedBySome, AreItemsOf, IsRoster, IsExtended}
 use Rattle.pssm_plan.specs.inner.Calling.{IsEntered}
 use Rattle.pssm_plan.specs.inner.Going.{KeepsOrder, IsLongerProgress, IsFollowedPlainly, IsFollowedSo, IsFinished, IsRunSo, IsUnchanged}
@@ -22,7 +25,6 @@ use Rattle.pssm_plan.proofs.Growing.{longer_same}
 use Rattle.pssm_plan.proofs.Firing.{nothing_among, one_more_way}
 use Rattle.pssm_plan.proofs.NearWays.{way_calls_first, way_calls_second}
 use Rattle.pssm_plan.proofs.Rewriting.{listed_along}
-use Rattle.pssm_plan.proofs.Settling.{seen_fresh, seen_longer, seen_told}
 
 -- a way that calls no listed item orders none of them
 pub order_kept : (m : DraftMachine) (calls : List Call) (ways : List Way) (way : Way) → ((x : Item) × IsListed calls x × calls_by m way x → ⊥)
@@ -54,29 +56,45 @@ sequence_longer m ways more x y longer h =
 
 module _ (m : DraftMachine) (old grown : List Call) (ways more : List Way) (longer : IsLonger old grown) (further : IsLonger ways more)
     (kept : KeepsOrder m old ways more) where
-  -- what is exact has seen as much of more calls and more ways that do not order the calls so far anew
-  seen_over_ways : (call : Call) → Contains old call → IsExact (IsSequence m ways) old call → HasSeen (IsSequence m more) grown call
-  seen_over_ways call inside exact =
-      let seen = seen_longer (IsSequence m ways) old grown call longer exact in
-      record {
-        within = seen.within;
-        passed = λ k d lt there up.
-            (let was = ⊎_elim
-            (λ nested. inl nested)
-            (λ ordered. inr (kept (get_or grown k d).item call.item (inr (call, inside, refl)) ordered))
-            up.0 in
-            seen.passed k d lt there (was, up.1));
-        there = λ blocked d there. sequence_longer m ways more (get_or grown call.seen d).item call.item further (seen.there blocked d there);
-      }
+  -- each call that was sure says for which of the calls before the new ones it waits
+  pub sure_over_ways : AreAllSure (IsSequence m ways) old → AreSureBefore (IsSequence m more) (length old) grown
+  sure_over_ways sure k d low inside = subst (λ (c : Call). IsSureBefore (IsSequence m more) (length old) grown c) (sym (same k d low)) (record {
+    seen = λ blocked. record {
+      within = (let at = (s.waits blocked).0 in omega (arith, at, more_calls));
+      passed = λ j e lt there up.
+          (let less : j < length old = (let at = (s.waits blocked).0 in omega (arith, at, lt)) in
+          s.passed blocked j e lt less (up_before j e less up));
+      there = λ again e there. sequence_longer m ways more (get_or grown call.seen e).item call.item further
+          (subst (λ (c : Call). IsSequence m ways c.item call.item) (sym (same call.seen e (s.waits blocked).0)) ((s.waits blocked).1 e).0);
+    };
+    held = λ blocked. record {
+      inside = (let at = (s.waits blocked).0 in omega (arith, at, more_calls));
+      waiting = λ e ran. ((s.waits blocked).1 e).1 (subst (λ (c : Call). IsTrue c.ran) (same call.seen e (s.waits blocked).0) ran);
+    };
+    free = λ free j e lt there up. s.clear free j e lt lt (up_before j e lt up);
+  })
+    where
+      more_calls : length old ≤ length grown
+      more_calls = (let e = ap (λ (l : List Call). length l) longer.1 in omega (arith, e, length-append old longer.0))
 
-  pub all_seen_over_ways : ((call : Call) → Contains old call → IsExact (IsSequence m ways) old call)
-      → ((call : Call) → Contains grown call → Contains old call ⊎ IsFresh call)
-      → (call : Call) → Contains grown call → HasSeen (IsSequence m more) grown call
-  all_seen_over_ways exact fresh call inside =
-      ⊎_elim
-      (λ was. seen_over_ways call was (exact call was))
-      (λ new. seen_fresh (IsSequence m more) grown call new)
-      (fresh call inside)
+      same : (j : ℕ) (e : Call) → j < length old → get_or grown j e ≡ get_or old j e
+      same j e lt = ap (λ (l : List Call). get_or l j e) longer.1 ∙ get_or_append_left old longer.0 e j lt
+
+      call : Call
+      call = get_or old k d
+
+      s : IsSure (IsSequence m ways) old call
+      s = sure k d low
+
+      up_before : (j : ℕ) (e : Call) → j < length old → HoldsUp (IsSequence m more) (get_or grown j e) call.item → HoldsUp (IsSequence m ways) (get_or old j e) call.item
+      up_before j e lt up =
+          let at = subst (λ (c : Call). HoldsUp (IsSequence m more) c call.item) (same j e lt) up in (
+            ⊎_elim
+                (λ nested. inl nested)
+                (λ ordered. inr (kept (get_or old j e).item call.item (inr (call, Contains-get_or old k d low, refl)) ordered))
+                at.0,
+            at.1,
+          )
 
 -- what is listed once an item has run in this way
 pub followed_roster : (m : DraftMachine) (old : Progress) (item : Item) (how : How) (new : Progress) → IsFollowedSo m old item how new
@@ -96,6 +114,26 @@ pub followed_ways : (m : DraftMachine) (old : Progress) (item : Item) (how : How
 followed_ways m old item (By p) new h were = subst (AreWaysIn m) (sym h.ways) (one_more_way m old.ways.items h.way were h.inside)
 followed_ways m old item (Restore s) new h were = subst (AreWaysIn m) (sym h.3.ways) were
 followed_ways m old item Nothing new h were = subst (AreWaysIn m) (sym h.ways) were
+
+-- and once there is more room
+pub followed_room : (m : DraftMachine) (old new : Progress) (item : Item) (how : How) (spans : Vec Span Global) → IsFollowedSo m old item how new
+    → IsFollowedSo m old item how (record { roster = new.roster; ways = new.ways; restored = new.restored; spans = spans })
+followed_room m old new item (By p) spans h = record {
+  way = h.way;
+  inside = h.inside;
+  route = h.route;
+  late = h.late;
+  ways = h.ways;
+  restored = h.restored;
+  extended = h.extended;
+}
+followed_room m old new item (Restore s) spans h = (
+  h.0,
+  h.1,
+  h.2,
+  record { ways = h.3.ways; restored = h.3.restored; extended = h.3.extended },
+)
+followed_room m old new item Nothing spans h = record { ways = h.ways; restored = h.restored; extended = h.extended }
 
 -- lists of calls that are noted as run
 pub told_noted : (item : Item) (a b : List Call) → ArePairwise (IsTold item) a b → ArePairwise (IsNoted item) a b
@@ -122,33 +160,6 @@ forgotten_fresh b c g call inside =
     let low : inside.0 < length b = omega (arith, g.0, inside.1) in
     subst IsFresh inside.2 (g.1 inside.0 call low).fresh
 
-pub all_seen_told : (Comes : Item → Item → Type 0) (grown now : List Call) (item : Item) → ArePairwise (IsTold item) grown now
-    → ((call : Call) → Contains grown call → HasSeen Comes grown call) → (call : Call) → Contains now call → HasSeen Comes now call
-all_seen_told Comes grown now item told seen call inside =
-    let k = inside.0 in
-    let low : k < length grown = omega (arith, told.0, inside.1) in
-    let g = get_or grown k call in
-    subst (λ (c : Call). HasSeen Comes now c) inside.2
-    (seen_told Comes grown now item g (get_or now k call) told (told.1 k call low) (seen g (Contains-get_or grown k call low)))
-
--- those that are not blocked have seen all, as before
-pub told_through : (item : Item) (a b : List Call) → ArePairwise (IsTold item) a b → AreThrough a → AreThrough b
-told_through item a b told through call inside free =
-    let k = inside.0 in
-    let low : k < length a = omega (arith, told.0, inside.1) in
-    let t = told.1 k call low in
-    let was : IsTrue (get_or a k call).blocked → ⊥ =
-    λ blocked. free (subst (λ (c : Call). IsTrue c.blocked) inside.2 (subst (λ (v : Bool). IsTrue v) (sym t.blocked) blocked)) in
-    let seen = through (get_or a k call) (Contains-get_or a k call low) was in
-    let here = ap (λ (c : Call). c.seen) inside.2 in
-    omega (arith, seen, told.0, t.seen, here)
-
--- where nothing has been added, what is exact has
-pub all_through : (Comes : Item → Item → Type 0) (old grown : List Call) → ((call : Call) → Contains old call → IsExact Comes old call)
-    → grown ≡ old → AreThrough grown
-all_through Comes old grown exact same =
-    subst AreThrough (sym same) (λ call inside free. (let all = (exact call inside).through free in omega (arith, all)))
-
 pub noted_items : (m : DraftMachine) (item : Item) (a b : List Call) → ArePairwise (IsNoted item) a b → AreItemsOf m a → AreItemsOf m b
 noted_items m item a b h were x listed =
     were x (listed_along b a x (sym h.0) (λ k d lt. sym (h.1 k d (omega (arith, h.0, lt))).item_is) listed)
@@ -169,11 +180,13 @@ from_nothing m old new Added none h call inside =
 -- progress that is cut back to what it was before it grew
 pub back_again : (old grown new : Progress) (calls ways restored : ℕ) → IsLongerProgress old grown → calls ≡ length old.roster.calls.items
     → ways ≡ length old.ways.items → restored ≡ length old.restored.items → new.roster.calls.items ≡ take calls grown.roster.calls.items
-    → new.ways.items ≡ take ways grown.ways.items → new.restored.items ≡ take restored grown.restored.items → IsUnchanged old new
-back_again old grown new calls ways restored longer a b c x y z = record {
+    → new.ways.items ≡ take ways grown.ways.items → new.restored.items ≡ take restored grown.restored.items
+    → new.spans.items ≡ grown.spans.items → IsUnchanged old new
+back_again old grown new calls ways restored longer a b c x y z w = record {
   calls = x ∙ cut_back old.roster.calls.items grown.roster.calls.items calls longer.calls a;
   ways = y ∙ cut_back old.ways.items grown.ways.items ways longer.ways b;
   restored = z ∙ cut_back old.restored.items grown.restored.items restored longer.restored c;
+  spans = subst (λ (l : List Span). IsLonger old.spans.items l) (sym w) longer.spans;
 }
 
 -- the progress once an item has run, from what is followed and what is finished
@@ -188,15 +201,10 @@ run_so m old grown new item how said followed same ways restored finished = reco
   finished = subst (λ (l : List Way). IsFinished m l item grown.roster.calls.items new.roster.calls.items) (same ∙ sym ways) finished;
 }
 
--- what is finished is as long as it was
-pub finished_few : (m : DraftMachine) (ways : List Way) (item : Item) (grown calls : List Call) → IsFinished m ways item grown calls
-    → length grown < 2 ^ 32 → length calls < 2 ^ 32
-finished_few m ways item grown calls h few = subst (λ (n : ℕ). n < 2 ^ 32) (sym (h.settled.0 ∙ h.noted.0)) few
-
 -- what is longer, list by list
 pub longer_progress : (old new : Progress) → IsLonger old.roster.calls.items new.roster.calls.items → IsLonger old.ways.items new.ways.items
-    → IsLonger old.restored.items new.restored.items → IsLongerProgress old new
-longer_progress old new calls ways restored = record { calls = calls; ways = ways; restored = restored }
+    → IsLonger old.restored.items new.restored.items → IsLonger old.spans.items new.spans.items → IsLongerProgress old new
+longer_progress old new calls ways restored spans = record { calls = calls; ways = ways; restored = restored; spans = spans }
 
 pub longer_kept : {X : Type 0} (xs ys : List X) → ys ≡ xs → IsLonger xs ys
 longer_kept {X} xs ys same = subst (λ (l : List X). IsLonger xs l) (sym same) (longer_same xs)

@@ -1,9 +1,16 @@
+pub mod KeptPlaces
+pub mod PlacedCalls
+pub mod QuietRegions
+pub mod MetItems
 pub mod Taken
 pub mod Extending
 pub mod Growing
 pub mod Rewriting
 pub mod Forgetting
 pub mod Settling
+pub mod Passes
+pub mod Shown
+pub mod Caught
 pub mod FiredWays
 pub mod Firing
 pub mod Following

@@ -38,17 +38,19 @@ use Rattle.pssm_plan.specs.Agenda.{Agenda, course_of}
 use Rattle.pssm_plan.specs.Waiting.{HoldsUp, IsExact}
 use Rattle.pssm_plan.specs.Ways.{AreWaysOf}
 use Rattle.pssm_plan.specs.Plans.{IsPlanOf}
-use Rattle.pssm_plan.specs.inner.Marks.{IsListed, IsMarked, IsNoted, IsSettled, ArePairwise}
+use Rattle.pssm_plan.specs.inner.Marks.{IsListed, IsMarked, IsNoted, IsAlike, ArePairwise}
 use Rattle.pssm_plan.specs.inner.Sequence.{IsSequence, IsRoster, IsExtended}
 use Rattle.pssm_plan.specs.inner.Calling.{IsTopOpening, MayRun, IsNoExit, IsOfWays, IsLate, IsOfRestored, IsEntered}
 use Rattle.pssm_plan.specs.inner.Going.{IsMadeOf, AreFired, AreCovered, CanRunSo, IsFollowedRestoring, IsFollowedSo, IsRunSo}
-use Rattle.pssm_plan.specs.inner.Views.{nothing_held}
+use Rattle.pssm_plan.specs.inner.Views.{nothing_held, shown}
 use Rattle.pssm_plan.proofs.MoreRan.{gone_on, nothing_ran, run_more}
 use Rattle.pssm_plan.proofs.WayLaws.{called_is, called_of, before_both, called_there}
 use Rattle.pssm_plan.proofs.RouteSteps.{late_is_step}
 use Rattle.pssm_plan.proofs.CalledNext.{restored_one, called_kept, called_by, called_restoring, called_plainly, ways_by, ways_restoring, ways_plainly}
 use Rattle.pssm_plan.proofs.Rewriting.{marked_along, listed_along, alike_back, roster_along}
-use Rattle.pssm_plan.proofs.Settling.{set_or_not, exact_along, exact_same}
+use Rattle.pssm_plan.proofs.Settling.{set_or_not, exact_same}
+use Rattle.pssm_plan.proofs.Passes.{pairs_further}
+use Rattle.pssm_plan.proofs.Shown.{shown_pairs, shown_exact, shown_listed, shown_marked}
 use Rattle.pssm_plan.proofs.StandingItems.{one_call}
 
 -- a settled roster of what the step calls is its plan
@@ -57,9 +59,9 @@ module _ {m : DraftMachine} (head : Head) (tables : Tables) (ran : List (Item ×
   pub settled_plan : (calls new : List Call) → IsRoster m calls
       → ((x : Item) → IsListed calls x ↔ Called m (course_by head (configuration_of tables) ran) x)
       → ((x : Item) → IsMarked calls x ↔ HasRun (course_by head (configuration_of tables) ran) x)
-      → ArePairwise (IsSettled (IsSequence m ways) calls) calls new
+      → ArePairwise IsAlike calls new → ((call : Call) → Contains new call → IsExact (IsSequence m ways) new call)
       → IsPlanOf m (record { head = head; at_head = tables; ran = ran; calls = new; ways = ways; restored = states })
-  settled_plan calls new r listed marked settled = record {
+  settled_plan calls new r listed marked settled sure = record {
     step = gone;
     called = λ x. (λ h. (listed x).0 (back x h), λ h. on x ((listed x).1 h));
     once = (roster_along m calls new settled.0 same_items r).once;
@@ -88,20 +90,15 @@ module _ {m : DraftMachine} (head : Head) (tables : Tables) (ran : List (Item ×
       back : (x : Item) → IsListed new x → IsListed calls x
       back x h = listed_along new calls x (sym settled.0) (λ k d lt. sym (same_items k d (omega (arith, settled.0)))) h
 
-      there : (call : Call) (inside : Contains new call) → inside.0 < length calls
-      there call inside = omega (arith, inside.1, settled.0)
-
       called_at : (call : Call) → Contains new call → Called m course call.item
       called_at call inside = (listed call.item).0 (back call.item (call, inside, refl))
 
       exact : (call : Call) → Contains new call → IsExact (Before m course) new call
       exact call inside =
-          let s = settled.1 inside.0 call (there call inside) in
-          let here = subst (λ (c : Call). IsExact (IsSequence m ways) calls c) inside.2 s.exact in
           exact_same (IsSequence m ways) (Before m course) new call
           (λ k d lt. before_both course ways states are (get_or new k d).item call.item
           (called_at (get_or new k d) (Contains-get_or new k d lt)) (called_at call inside))
-          (exact_along (IsSequence m ways) calls new call alike here)
+          (sure call inside)
 
       run_at : (call : Call) → Contains new call → (IsTrue call.ran → ⊥) → HasRun course call.item → ⊥
       run_at call inside not run =
@@ -139,12 +136,12 @@ module _ {m : DraftMachine} (head : Head) (tables : Tables) (ran : List (Item ×
 made_plan : {m : DraftMachine} (head : Head) (tables : Tables) (ways : List Way) (Added : Item → Type 0) (calls : List Call)
     → ((route : Route) → FiresBy head route → IsStateRoute m route) → AreWaysOf m (course_by head (configuration_of tables) []) ways []
     → ((x : Item) → Added x ↔ Called m (course_by head (configuration_of tables) []) x) → IsMadeOf m ways Added calls
-    → IsPlanOf m (record { head = head; at_head = tables; ran = []; calls = calls; ways = ways; restored = [] })
+    → IsPlanOf m (record { head = head; at_head = tables; ran = []; calls = shown calls; ways = ways; restored = [] })
 made_plan {m} head tables ways Added calls fires are same made =
-    settled_plan head tables [] (begun fires) ways [] are calls calls made.roster
+    settled_plan head tables [] (begun fires) ways [] are calls (shown calls) made.roster
     (λ x. (λ h. (same x).0 ((made.listed x).0 h), λ h. (made.listed x).1 ((same x).1 h)))
     (λ x. (λ h. absurd (made.marked x h), λ h. absurd (nothing_ran head (configuration_of tables) x h)))
-    (refl, λ k d lt. record { item_is = refl; ran = refl; exact = made.exact (get_or calls k d) (Contains-get_or calls k d lt) })
+    (shown_pairs calls) (shown_exact (IsSequence m ways) calls made.sure)
 
 -- the roster of a plan
 module _ (m : DraftMachine) (shape : HasShape m) (plan : Agenda) (h : IsPlanOf m plan) where
@@ -189,7 +186,7 @@ nothing_at_start = record {
 
 -- the plan of a start
 pub start_plan : {m : DraftMachine} (calls : List Call) → IsMadeOf m [] (IsTopOpening m) calls
-    → IsPlanOf m (record { head = Starts; at_head = nothing_held; ran = []; calls = calls; ways = []; restored = [] })
+    → IsPlanOf m (record { head = Starts; at_head = nothing_held; ran = []; calls = shown calls; ways = []; restored = [] })
 start_plan {m} calls made =
     made_plan Starts nothing_held [] (IsTopOpening m) calls (λ route is. absurd is) none_yet (λ x. (up x, down x)) made
   where
@@ -237,7 +234,7 @@ start_plan {m} calls made =
 pub firing_plan : {m : DraftMachine} (tables : Tables) (routes : List Route) (ways : List Way) (calls : List Call)
     → ((route : Route) → Contains routes route → IsStateRoute m route) → AreFired m routes ways
     → IsMadeOf m ways (IsOfWays m (configuration_of tables) ways) calls
-    → IsPlanOf m (record { head = Fires routes; at_head = tables; ran = []; calls = calls; ways = ways; restored = [] })
+    → IsPlanOf m (record { head = Fires routes; at_head = tables; ran = []; calls = shown calls; ways = ways; restored = [] })
 firing_plan {m} tables routes ways calls fires fired made =
     made_plan (Fires routes) tables ways (IsOfWays m (configuration_of tables) ways) calls fires are (λ x. (up x, down x)) made
   where
@@ -408,7 +405,7 @@ noted_marks grown now item noted listed x = (down, up)
 -- what progress shows of a step
 abbrev pub agenda_of : Head → Tables → List (Item × How) → Progress → Agenda
 agenda_of head tables ran p =
-    record { head = head; at_head = tables; ran = ran; calls = p.roster.calls.items; ways = p.ways.items; restored = p.restored.items }
+    record { head = head; at_head = tables; ran = ran; calls = shown p.roster.calls.items; ways = p.ways.items; restored = p.restored.items }
 
 -- the plan once a ready item has run
 pub run_plan : {m : DraftMachine} (head : Head) (tables : Tables) (ran : List (Item × How)) (old new : Progress) (item : Item) (how : How)
@@ -417,8 +414,10 @@ pub run_plan : {m : DraftMachine} (head : Head) (tables : Tables) (ran : List (I
     → IsPlanOf m (agenda_of head tables (ran ++ (item, how) ∷ []) new)
 run_plan {m} head tables ran old new item how h ready truth way run =
     settled_plan head tables (ran ++ (item, how) ∷ []) (more item how h.step ready truth way) new.ways.items new.restored.items are
-    now new.roster.calls.items
-    (roster_along m grown now run.finished.noted.0 same_items next.roster) (λ x. (down x, up x)) marked run.finished.settled
+    now (shown new.roster.calls.items)
+    (roster_along m grown now run.finished.noted.0 same_items next.roster) (λ x. (down x, up x)) marked
+    (pairs_further now new.roster.calls.items (shown new.roster.calls.items) run.finished.alike (shown_pairs new.roster.calls.items))
+    (shown_exact (IsSequence m new.ways.items) new.roster.calls.items run.finished.sure)
   where
     course : Course
     course = course_by head (configuration_of tables) ran
@@ -429,8 +428,20 @@ run_plan {m} head tables ran old new item how h ready truth way run =
     now : List Call
     now = run.finished.now
 
+    called_raw : (x : Item) → IsListed old.roster.calls.items x ↔ Called m course x
+    called_raw x = (
+      λ l. (h.called x).0 ((shown_listed old.roster.calls.items x).1 l),
+      λ c. (shown_listed old.roster.calls.items x).0 ((h.called x).1 c),
+    )
+
+    ran_raw : (x : Item) → IsMarked old.roster.calls.items x ↔ HasRun course x
+    ran_raw x = (
+      λ l. (h.ran x).0 ((shown_marked old.roster.calls.items x).1 l),
+      λ c. (shown_marked old.roster.calls.items x).0 ((h.ran x).1 c),
+    )
+
     next : IsGoneOn m course (gone_on course item how) run.grown
-    next = followed_so course item how old run.grown h.ways h.called h.ran (no_entry m truth _ item how way) run.followed
+    next = followed_so course item how old run.grown h.ways called_raw ran_raw (no_entry m truth _ item how way) run.followed
 
     are : AreWaysOf m (gone_on course item how) new.ways.items new.restored.items
     are =

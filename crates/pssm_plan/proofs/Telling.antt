@@ -4,7 +4,7 @@ use Rattle.std.proofs.lemmas.Bool.{cases_lt}
 use Rattle.std.proofs.lemmas.List.{get_or-set_same, get_or-set_other, length-set, get_or_default}
 use Rattle.pssm_model.specs.declared.steps.Item.{Item}
 use Rattle.pssm_plan.specs.declared.roster.Call.{Call}
-use Rattle.pssm_plan.specs.inner.Marks.{IsTold, ArePairwise}
+use Rattle.pssm_plan.specs.inner.Marks.{IsTold, IsPlaceOf, ArePairwise}
 use Rattle.pssm_plan.proofs.Growing.{lower_or_same}
 
 -- none of the calls below a number is one of the item
@@ -41,6 +41,14 @@ module _ (calls : List Call) (item : Item) where
 
   pub told_none : (n : ℕ) → length calls ≤ n → NoneBelow calls item n → ArePairwise (IsTold item) calls calls
   told_none n le none = (refl, λ k d lt. told_other item (get_or calls k d) (none k d (omega arith) lt))
+
+  pub one_place : (n : ℕ) → AllPairs (λ a b. a.item ≢ b.item) calls → n < length calls → ((d : Call) → (get_or calls n d).item ≡ item)
+      → IsPlaceOf calls item n
+  one_place n once lt same k e inside is =
+      ⊎_elim
+      (λ less. absurd (once k n e less lt (is ∙ sym (same e))))
+      (λ le. ⊎_elim (λ more. absurd (once n k e more inside (same e ∙ sym is))) (λ ge. omega (arith, le, ge)) (cases_lt n k))
+      (cases_lt k n)
 
   pub told_at : (n : ℕ) (d : Call) → AllPairs (λ a b. a.item ≢ b.item) calls → n < length calls → (get_or calls n d).item ≡ item
       → ArePairwise (IsTold item) calls (set calls n (told_call (get_or calls n d)))

@@ -1,5 +1,7 @@
+pub mod Places
 pub mod Marks
 pub mod Sequence
+pub mod Passes
 pub mod Calling
 pub mod Going
 pub mod Views

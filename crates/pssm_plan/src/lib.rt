@@ -4,15 +4,19 @@
 //! This crate knows nothing of behaviours, journals or objects.
 #![tactic(auto)]
 
+mod calls;
 mod direct;
 mod laws;
 mod listing;
+mod meeting;
 mod near;
+mod places;
 mod plan;
 mod progress;
 mod ready;
 mod roster;
 mod standing;
+mod waiters;
 mod waiting;
 mod ways;
 

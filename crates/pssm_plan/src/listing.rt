@@ -15,81 +15,18 @@ ghost use Rattle.pssm_plan.specs.inner.Sequence.{IsRoster, IsExtended};
 ghost use Rattle.pssm_plan.specs.inner.Calling.{IsTopOpening, IsExitBy, IsEffectBy, IsEntryBy, IsOpeningBy, IsPickBy};
 ghost use Rattle.pssm_plan.specs.inner.Calling.{IsEffectAmong, IsEffectOf, IsEffectOfSome, IsPickAt, IsPickAtSome};
 ghost use Rattle.pssm_plan.specs.inner.Calling.{IsOtherBy, IsReopened, IsLate, IsOfRestored, IsOpeningOf, MayRun};
-ghost use Rattle.pssm_plan.specs.inner.Direct.{IsDirect, IsReopenedIn};
+ghost use Rattle.pssm_plan.specs.inner.Direct.{IsDirect, HasNoneInside, IsReopenedIn};
 ghost use Rattle.pssm_plan.specs.inner.Calling.{IsDefaultOf, IsRestoredOf, IsOpenedByEntry, IsEntered};
 
-use crate::direct::{direct_region, may_call, may_call_directly};
+use crate::direct::{direct_region, quiet_region};
 use crate::near::comes_near;
 use crate::progress::Restored;
-use crate::roster::{Call, Roster, has_run};
+use crate::roster::Roster;
 use crate::ways::{Way, some_way_opens, way_calls, way_opens};
 use pssm_config::Config;
 use pssm_legs::Leg;
 use pssm_model::{Item, Machine, Mode, Owner, RegionId, TransId, VertexId};
 use std::alloc::AllocError as NoMemory;
-
-// Whether a listed item is one that a way may call, which ends in the region where it exits and enters.
-#[inline(always)]
-fn meets_directly(machine: &Machine, calls: &[Call], way: &Way, r: RegionId) -> bool
-    requires rules { KeepsModelRules machine.now }
-    requires way { IsWayIn machine.now way.now }
-    requires direct { IsDirect machine.now way.now r }
-    ensures { ((x : Called) × IsListed calls.now x × calls_by machine.now way.now x) → IsTrue result }
-{
-    let _shaped = machine.regions();
-    for call in calls {
-        if may_call_directly(way, r, call.item) {
-            return true;
-        }
-    }
-    false
-}
-
-/// Whether a listed item may be one that the way calls. It is asked of each.
-#[inline(always)]
-pub fn meets_each(machine: &Machine, calls: &[Call], way: &Way) -> bool
-    requires rules { KeepsModelRules machine.now }
-    requires way { IsWayIn machine.now way.now }
-    requires items { (x : Called) → IsListed calls.now x → IsItemIn machine.now x }
-    ensures { ((x : Called) × IsListed calls.now x × calls_by machine.now way.now x) → IsTrue result }
-{
-    for call in calls {
-        if may_call(machine, way, call.item) {
-            return true;
-        }
-    }
-    false
-}
-
-/// Whether a listed item may be one that the way calls.
-#[inline(always)]
-pub fn meets(machine: &Machine, calls: &[Call], way: &Way) -> bool
-    requires rules { KeepsModelRules machine.now }
-    requires way { IsWayIn machine.now way.now }
-    requires items { (x : Called) → IsListed calls.now x → IsItemIn machine.now x }
-    ensures { ((x : Called) × IsListed calls.now x × calls_by machine.now way.now x) → IsTrue result }
-{
-    match direct_region(machine, way) {
-        Some(r) => meets_directly(machine, calls, way, r),
-        None => meets_somewhere(machine, calls, way),
-    }
-}
-
-// Whether a listed item is one that the way calls.
-#[inline(never)]
-fn meets_somewhere(machine: &Machine, calls: &[Call], way: &Way) -> bool
-    requires rules { KeepsModelRules machine.now }
-    requires way { IsWayIn machine.now way.now }
-    requires items { (x : Called) → IsListed calls.now x → IsItemIn machine.now x }
-    ensures { IsTrue result ↔ ((x : Called) × IsListed calls.now x × calls_by machine.now way.now x) }
-{
-    for call in calls {
-        if way_calls(machine, way, call.item) {
-            return true;
-        }
-    }
-    false
-}
 
 // Whether a vertex is active, and the way calls its exit.
 fn calls_exit(machine: &Machine, config: &Config, way: &Way, s: VertexId) -> bool
@@ -127,8 +64,14 @@ impl Roster {
         Ok(())
     }
 
-    // Lists the exits of what is active where a way exits.
-    fn list_exits(&mut self, machine: &Machine, config: &Config, way: &Way) -> Result<(), NoMemory>
+    // Lists the exits of what is active where a way exits, asking of each vertex.
+    #[inline(always)]
+    fn list_all_exits(
+        &mut self,
+        machine: &Machine,
+        config: &Config,
+        way: &Way,
+    ) -> Result<(), NoMemory>
         requires rules { KeepsModelRules machine.now }
         requires roster { IsRoster machine.now self.old.calls.items }
         requires fits { Fits machine.now config.now }
@@ -142,6 +85,49 @@ impl Roster {
             self.add(machine, Item::Exit(VertexId(number)), wanted)?;
         }
         Ok(())
+    }
+
+    // Lists the exit of the active vertex of a region, where a way exits that ends in it and no other region lies in it.
+    #[inline(never)]
+    fn list_exit_in(
+        &mut self,
+        machine: &Machine,
+        config: &Config,
+        way: &Way,
+        r: RegionId,
+    ) -> Result<(), NoMemory>
+        requires rules { KeepsModelRules machine.now }
+        requires roster { IsRoster machine.now self.old.calls.items }
+        requires fits { Fits machine.now config.now }
+        requires way { IsWayIn machine.now way.now }
+        requires direct { IsDirect machine.now way.now r }
+        requires quiet { HasNoneInside machine.now r }
+        ensures calls { IsLonger self.old.calls.items self.new.calls.items }
+        ensures added { OnOk result (IsExtended machine.now self.old.calls.items
+            (IsExitBy machine.now (configuration_of config.now) way.now) self.new.calls.items) }
+    {
+        let _shaped = machine.regions();
+        match config.active_in(r) {
+            Some(s) => self.list_called(machine, way, Item::Exit(s)),
+            None => Ok(()),
+        }
+    }
+
+    // Lists the exits of what is active where a way exits.
+    #[inline(always)]
+    fn list_exits(&mut self, machine: &Machine, config: &Config, way: &Way) -> Result<(), NoMemory>
+        requires rules { KeepsModelRules machine.now }
+        requires roster { IsRoster machine.now self.old.calls.items }
+        requires fits { Fits machine.now config.now }
+        requires way { IsWayIn machine.now way.now }
+        ensures calls { IsLonger self.old.calls.items self.new.calls.items }
+        ensures added { OnOk result (IsExtended machine.now self.old.calls.items
+            (IsExitBy machine.now (configuration_of config.now) way.now) self.new.calls.items) }
+    {
+        match quiet_region(machine, way) {
+            Some(r) => self.list_exit_in(machine, config, way, r),
+            None => self.list_all_exits(machine, config, way),
+        }
     }
 
     // Lists the effects of transitions.
@@ -388,7 +374,7 @@ impl Roster {
         let _shaped = machine.regions();
         match machine.region_owner(r) {
             Owner::State(s) => {
-                way_opens(machine, way, s, r) && has_run(self.calls.as_slice(), Item::Enter(s))
+                way_opens(machine, way, s, r) && self.calls.has_run(Item::Enter(s))
             }
             Owner::Top | Owner::Region(_) => false,
         }
@@ -501,7 +487,7 @@ impl Roster {
             (IsOfRestored machine.now self.old.calls.items mode s) self.new.calls.items) }
     {
         self.add(machine, Item::Enter(s), true)?;
-        let ran = has_run(self.calls.as_slice(), Item::Enter(s));
+        let ran = self.calls.has_run(Item::Enter(s));
         self.list_regions(machine, s, restored_mode(mode), ran)
     }
 

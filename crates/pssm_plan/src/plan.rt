@@ -57,12 +57,12 @@ impl Model for Plan {
 
     ghost Value = { Agenda };
 
-    ghost use Rattle.pssm_plan.specs.inner.Views.{head_of, tables_of, steps_of};
-    ghost use Rattle.std.specs.Prelude.{◌<◌, ◌^◌, length};
+    ghost use Rattle.pssm_plan.specs.inner.Views.{head_of, tables_of, steps_of, shown};
+    ghost use Rattle.pssm_plan.specs.inner.Passes.{AreCaught};
 
-    ghost view = { λ p. record { head = head_of p.beginning; at_head = tables_of p.beginning; ran = steps_of p.ran.items; calls = p.progress.roster.calls.items; ways = p.progress.ways.items; restored = p.progress.restored.items } };
+    ghost view = { λ p. record { head = head_of p.beginning; at_head = tables_of p.beginning; ran = steps_of p.ran.items; calls = shown p.progress.roster.calls.items; ways = p.progress.ways.items; restored = p.progress.restored.items } };
 
-    ghost invariant = { λ p. length p.progress.roster.calls.items < 2 ^ 32 };
+    ghost invariant = { λ p. AreCaught p.progress.spans.items p.progress.roster.calls.items };
 }
 
 impl Plan {
@@ -72,7 +72,8 @@ impl Plan {
         ensures { (m : DraftMachine) → IsPlanOf m self.now → StandsAs m (course_of self.now) item result }
     {
         let calls = self.progress.roster.calls.as_slice();
-        let Some(call) = call_of(calls, item, self.ran.len()) else {
+        let place = self.progress.roster.likely_place(item, self.ran.len());
+        let Some(call) = call_of(calls, item, place) else {
             return Standing::NotCalled;
         };
         if call.ran {
@@ -226,7 +227,8 @@ impl Plan {
             how: Snapshot::of(how),
         };
         self.ran.push(step)?;
-        let outcome = self.progress.run(alloc, machine, item, how, ran);
+        let place = self.progress.roster.likely_place(item, ran);
+        let outcome = self.progress.run(alloc, machine, item, how, place);
         if outcome.is_err() {
             self.ran.truncate(ran);
         }

@@ -1,5 +1,5 @@
 //! How far a step has come: what it calls, the routes by which it goes, and what it has restored.
-ghost use Rattle.std.specs.Prelude.{◌^◌, ◌≡◌, ◌≢◌, ◌<◌, ◌≤◌, ◌+◌, [], length, take, AllPairs, Contains};
+ghost use Rattle.std.specs.Prelude.{◌^◌, ◌≡◌, ◌<◌, ◌≤◌, ◌+◌, [], length, take, Contains};
 ghost use Rattle.std.specs.Prelude.{OnOk, OnErr, IfOk, IsTrue};
 ghost use Rattle.pssm_model.specs.declared.steps.Route.{Route as TheRoute};
 ghost use Rattle.pssm_model.specs.declared.steps.How.TheVariants.{Restore};
@@ -8,9 +8,9 @@ ghost use Rattle.pssm_model.specs.WellFormed.{KeepsModelRules};
 ghost use Rattle.pssm_config.specs.Tables.{Fits, configuration_of};
 ghost use Rattle.pssm_legs.specs.Calls.{IsItemIn};
 ghost use Rattle.pssm_plan.specs.declared.roster.Call.{Call};
-ghost use Rattle.pssm_plan.specs.Waiting.{IsExact};
 ghost use Rattle.pssm_plan.specs.Ways.{AreWaysIn};
-ghost use Rattle.pssm_plan.specs.inner.Marks.{IsFresh, HasSeen, IsTold, IsNoted, IsAlike, AreThrough, IsSettled, ArePairwise};
+ghost use Rattle.pssm_plan.specs.inner.Marks.{IsFresh, IsLonger, IsAlike, ArePairwise};
+ghost use Rattle.pssm_plan.specs.inner.Passes.{AreCaught, AreAllSure, AreSureBut, AreSureBefore, FreeLeft};
 ghost use Rattle.pssm_plan.specs.inner.Sequence.{IsSequence, AreItemsOf, AreNewSince, IsRoster, IsExtended};
 ghost use Rattle.pssm_plan.specs.inner.Calling.{IsTopOpening, IsOfWays};
 ghost use Rattle.pssm_plan.specs.inner.Going.{IsMadeOf, AreFired, CanRunSo, KeepsOrder, AreCovered};
@@ -18,8 +18,9 @@ ghost use Rattle.pssm_plan.specs.inner.Going.{IsFollowedBy, IsFollowedRestoring}
 ghost use Rattle.pssm_plan.specs.inner.Going.{IsFollowedPlainly, IsFollowedSo};
 ghost use Rattle.pssm_plan.specs.inner.Going.{IsLongerProgress, IsFinished, IsRunSo, IsUnchanged};
 
-use crate::listing::{meets, meets_each};
-use crate::roster::Roster;
+use crate::meeting::{meets, meets_fired};
+use crate::roster::{Call, Roster};
+use crate::waiters::{NONE_WAITS, Span};
 use crate::waiting::Since;
 use crate::ways::{Way, way_of};
 use pssm_config::Config;
@@ -39,54 +40,62 @@ pub struct Progress {
     pub roster: Roster,
     pub ways: Vec<Way>,
     pub restored: Vec<Restored>,
+    /// For each call, where those stand that wait for it.
+    pub spans: Vec<Span>,
 }
 
 /// The most items that a plan lists; for more there is no memory.
 const MOST_CALLS: usize = 4_294_967_295;
 
-// Says of each call once more for which one it waits; none relies on what it has seen.
-#[inline(never)]
-fn settle_anew(roster: &mut Roster, machine: &Machine, ways: &[Way])
-    requires rules { KeepsModelRules machine.now }
-    requires ways { AreWaysIn machine.now ways.now }
-    requires items { AreItemsOf machine.now roster.old.calls.items }
-    requires few { length roster.old.calls.items < 2 ^ 32 }
-    ensures alike { ArePairwise IsAlike roster.old.calls.items roster.new.calls.items }
-    ensures exact { (call : Call) → Contains roster.new.calls.items call
-        → IsExact (IsSequence machine.now ways.now) roster.new.calls.items call }
+// Makes the list of spans as long as that of the calls, if these are not too many.
+fn make_room(calls: &[Call], spans: &mut Vec<Span>) -> Result<(), NoMemory>
+    ensures longer { IsLonger spans.old.items spans.new.items }
+    ensures few { OnOk result (length calls.now < 2 ^ 32) }
+    ensures room { OnOk result (length calls.now ≤ length spans.new.items) }
 {
-    roster.forget();
-    let since = Since {
-        calls: roster.calls.len(),
-        ways: ways.len(),
-    };
-    roster.settle(machine, ways, since, true);
+    if calls.len() > MOST_CALLS {
+        return Err(NoMemory);
+    }
+    for k in spans.len()..calls.len() {
+        let _place = k;
+        spans.push(NONE_WAITS)?;
+    }
+    Ok(())
 }
 
 // Says of each call for which one it waits; `anew` where none may rely on what it has seen.
 #[inline(always)]
-fn settle_fired(roster: &mut Roster, machine: &Machine, ways: &[Way], since: Since, anew: bool)
+fn settle_fired(
+    roster: &mut Roster,
+    spans: &mut [Span],
+    machine: &Machine,
+    ways: &[Way],
+    since: Since,
+    anew: bool,
+)
     requires rules { KeepsModelRules machine.now }
     requires ways { AreWaysIn machine.now ways.now }
     requires items { AreItemsOf machine.now roster.old.calls.items }
-    requires few { length roster.old.calls.items < 2 ^ 32 }
-    requires seen { (IsTrue anew → ⊥) → (call : Call) → Contains roster.old.calls.items call
-        → HasSeen (IsSequence machine.now ways.now) roster.old.calls.items call }
+    requires caught { AreCaught spans.old roster.old.calls.items }
+    requires left { (IsTrue anew → ⊥) → AreSureBut (FreeLeft (IsSequence machine.now ways.now) since.calls
+        (length roster.old.calls.items) 0) (IsSequence machine.now ways.now) roster.old.calls.items }
     requires new { (IsTrue anew → ⊥) → AreNewSince machine.now ways.now roster.old.calls.items since }
     ensures alike { ArePairwise IsAlike roster.old.calls.items roster.new.calls.items }
-    ensures exact { (call : Call) → Contains roster.new.calls.items call
-        → IsExact (IsSequence machine.now ways.now) roster.new.calls.items call }
+    ensures sure { AreAllSure (IsSequence machine.now ways.now) roster.new.calls.items }
+    ensures caught { AreCaught spans.new roster.new.calls.items }
 {
     if anew {
-        settle_anew(roster, machine, ways);
+        roster.settle_anew(machine, ways, spans);
     } else {
-        roster.settle(machine, ways, since, true);
+        let none = roster.calls.len();
+        roster.settle(machine, ways, spans, since, none);
     }
 }
 
 // Lists what the way at a place calls, where what the ways before it call is listed and settled, and settles it.
 fn fire_way(
     roster: &mut Roster,
+    spans: &mut Vec<Span>,
     machine: &Machine,
     config: &Config,
     ways: &[Way],
@@ -96,37 +105,38 @@ fn fire_way(
     requires fits { Fits machine.now config.now }
     requires ways { AreWaysIn machine.now ways.now }
     requires there { place < length ways.now }
+    requires caught { AreCaught spans.old.items roster.old.calls.items }
     requires made { IsMadeOf machine.now (take place ways.now)
         (IsOfWays machine.now (configuration_of config.now) (take place ways.now)) roster.old.calls.items }
-    ensures few { OnOk result (length roster.new.calls.items < 2 ^ 32) }
+    ensures caught { OnOk result (AreCaught spans.new.items roster.new.calls.items) }
     ensures made { OnOk result (IsMadeOf machine.now (take (place + 1) ways.now)
         (IsOfWays machine.now (configuration_of config.now) (take (place + 1) ways.now))
         roster.new.calls.items) }
 {
     let way = &ways[place];
-    let anew = meets_each(machine, roster.calls.as_slice(), way);
+    let anew = meets_fired(machine, config, &roster.calls, way);
     let listed = roster.calls.len();
     roster.list_fired(machine, config, way)?;
-    if roster.calls.as_slice().len() > MOST_CALLS {
-        return Err(NoMemory);
-    }
-    let before = Since {
+    make_room(roster.calls.as_slice(), spans)?;
+    let since = Since {
         calls: listed,
         ways: place,
     };
-    let count = roster.calls.len();
-    let now = Since {
-        calls: count,
-        ways: place + 1,
-    };
-    let since = new_since(place == 0, before, now);
-    settle_fired(roster, machine, &ways[..place + 1], since, anew);
+    settle_fired(
+        roster,
+        spans.as_mut_slice(),
+        machine,
+        &ways[..place + 1],
+        since,
+        anew,
+    );
     Ok(())
 }
 
 // Lists what each of the ways calls that fire, one after another, and settles it.
 fn fire_all(
     roster: &mut Roster,
+    spans: &mut Vec<Span>,
     machine: &Machine,
     config: &Config,
     ways: &[Way],
@@ -135,12 +145,12 @@ fn fire_all(
     requires fits { Fits machine.now config.now }
     requires ways { AreWaysIn machine.now ways.now }
     requires none { roster.old.calls.items ≡ [] }
-    ensures few { OnOk result (length roster.new.calls.items < 2 ^ 32) }
+    ensures caught { OnOk result (AreCaught spans.new.items roster.new.calls.items) }
     ensures made { OnOk result (IsMadeOf machine.now ways.now
         (IsOfWays machine.now (configuration_of config.now) ways.now) roster.new.calls.items) }
 {
     for place in 0..ways.len() {
-        fire_way(roster, machine, config, ways, place)?;
+        fire_way(roster, spans, machine, config, ways, place)?;
     }
     Ok(())
 }
@@ -166,24 +176,21 @@ fn add_ways(
 }
 
 // Settles a roster of items of which none has looked at the others yet, if they are not too many.
-fn settle_first(roster: &mut Roster, machine: &Machine, ways: &[Way]) -> Result<(), NoMemory>
+fn settle_first(
+    roster: &mut Roster,
+    spans: &mut Vec<Span>,
+    machine: &Machine,
+    ways: &[Way],
+) -> Result<(), NoMemory>
     requires rules { KeepsModelRules machine.now }
     requires ways { AreWaysIn machine.now ways.now }
     requires items { AreItemsOf machine.now roster.old.calls.items }
-    requires fresh { (call : Call) → Contains roster.old.calls.items call → IsFresh call }
-    ensures few { OnOk result (length roster.new.calls.items < 2 ^ 32) }
-    ensures settled { OnOk result (ArePairwise
-        (IsSettled (IsSequence machine.now ways.now) roster.old.calls.items)
-        roster.old.calls.items roster.new.calls.items) }
+    ensures caught { OnOk result (AreCaught spans.new.items roster.new.calls.items) }
+    ensures alike { OnOk result (ArePairwise IsAlike roster.old.calls.items roster.new.calls.items) }
+    ensures sure { OnOk result (AreAllSure (IsSequence machine.now ways.now) roster.new.calls.items) }
 {
-    if roster.calls.as_slice().len() > MOST_CALLS {
-        return Err(NoMemory);
-    }
-    let since = Since {
-        calls: roster.calls.len(),
-        ways: ways.len(),
-    };
-    roster.settle(machine, ways, since, true);
+    make_room(roster.calls.as_slice(), spans)?;
+    roster.settle_anew(machine, ways, spans.as_mut_slice());
     Ok(())
 }
 
@@ -198,6 +205,7 @@ impl Progress {
             roster: Roster::new(alloc),
             ways: Vec::new(alloc),
             restored: Vec::new(alloc),
+            spans: Vec::new(alloc),
         }
     }
 
@@ -205,7 +213,7 @@ impl Progress {
     #[tactic(auto, using(crate::proofs::Firing::none_are_ways))]
     pub fn of_start(alloc: Global, machine: &Machine) -> Result<Progress, NoMemory>
         requires rules { KeepsModelRules machine.now }
-        ensures few { IfOk result (λ progress. length progress.roster.calls.items < 2 ^ 32) }
+        ensures caught { IfOk result (λ progress. AreCaught progress.spans.items progress.roster.calls.items) }
         ensures ways { IfOk result (λ progress. progress.ways.items ≡ []) }
         ensures restored { IfOk result (λ progress. progress.restored.items ≡ []) }
         ensures made { IfOk result (λ progress.
@@ -213,7 +221,7 @@ impl Progress {
     {
         let mut progress = Progress::new(alloc);
         progress.roster.list_tops(machine)?;
-        settle_first(&mut progress.roster, machine, &[])?;
+        settle_first(&mut progress.roster, &mut progress.spans, machine, &[])?;
         Ok(progress)
     }
 
@@ -227,7 +235,7 @@ impl Progress {
         requires rules { KeepsModelRules machine.now }
         requires fits { Fits machine.now config.now }
         requires routes { (p : TheRoute) → Contains routes.now p → IsStepRoute machine.now p }
-        ensures few { IfOk result (λ progress. length progress.roster.calls.items < 2 ^ 32) }
+        ensures caught { IfOk result (λ progress. AreCaught progress.spans.items progress.roster.calls.items) }
         ensures ways { IfOk result (λ progress.
             AreFired machine.now routes.now progress.ways.items) }
         ensures restored { IfOk result (λ progress. progress.restored.items ≡ []) }
@@ -251,7 +259,7 @@ impl Progress {
         requires rules { KeepsModelRules machine.now }
         requires fits { Fits machine.now config.now }
         requires routes { (p : TheRoute) → Contains routes.now p → IsStepRoute machine.now p }
-        ensures few { OnOk result (length self.new.roster.calls.items < 2 ^ 32) }
+        ensures caught { OnOk result (AreCaught self.new.spans.items self.new.roster.calls.items) }
         ensures ways { OnOk result (AreFired machine.now routes.now self.new.ways.items) }
         ensures restored { OnOk result (self.new.restored.items ≡ []) }
         ensures made { OnOk result (IsMadeOf machine.now self.new.ways.items
@@ -261,9 +269,10 @@ impl Progress {
         self.roster.calls.clear();
         self.ways.clear();
         self.restored.clear();
+        self.spans.clear();
         add_ways(alloc, &mut self.ways, machine, routes)?;
         let ways = self.ways.as_slice();
-        fire_all(&mut self.roster, machine, config, ways)
+        fire_all(&mut self.roster, &mut self.spans, machine, config, ways)
     }
 
     // The places behind its calls and its ways.
@@ -283,6 +292,7 @@ impl Progress {
         ensures calls { self.new.roster.calls.items ≡ take calls self.old.roster.calls.items }
         ensures ways { self.new.ways.items ≡ take ways self.old.ways.items }
         ensures restored { self.new.restored.items ≡ take restored self.old.restored.items }
+        ensures spans { self.new.spans.items ≡ self.old.spans.items }
     {
         self.roster.calls.truncate(calls);
         self.ways.truncate(ways);
@@ -308,7 +318,7 @@ impl Progress {
             self.new.ways.items) }
     {
         let way = way_of(alloc, machine, route, false)?;
-        let anew = meets(machine, self.roster.calls.as_slice(), &way);
+        let anew = meets(machine, &self.roster.calls, &way);
         self.roster.list_late(machine, &way)?;
         self.ways.push(way)?;
         Ok(anew)
@@ -411,11 +421,10 @@ impl Progress {
             → KeepsOrder machine.now self.old.roster.calls.items self.old.ways.items
             self.new.ways.items) }
         ensures few { OnOk result (length self.new.roster.calls.items < 2 ^ 32) }
+        ensures room { OnOk result (length self.new.roster.calls.items ≤ length self.new.spans.items) }
     {
         let anew = self.follow(alloc, machine, item, how)?;
-        if self.roster.calls.as_slice().len() > MOST_CALLS {
-            return Err(NoMemory);
-        }
+        make_room(self.roster.calls.as_slice(), &mut self.spans)?;
         Ok(anew)
     }
 
@@ -440,6 +449,7 @@ impl Progress {
             self.new.ways.items) }
         ensures longer { OnOk result (IsLongerProgress self.old self.new) }
         ensures few { OnOk result (length self.new.roster.calls.items < 2 ^ 32) }
+        ensures room { OnOk result (length self.new.roster.calls.items ≤ length self.new.spans.items) }
         ensures refused { OnErr result (IsUnchanged self.old self.new) }
     {
         let calls = self.roster.calls.len();
@@ -468,19 +478,19 @@ impl Progress {
         requires ways { AreWaysIn machine.now self.old.ways.items }
         requires item { IsItemIn machine.now item }
         requires covered { AreCovered machine.now self.old.ways.items self.old.roster.calls.items }
-        requires exact { (call : Call) → Contains self.old.roster.calls.items call
-            → IsExact (IsSequence machine.now self.old.ways.items) self.old.roster.calls.items
-            call }
+        requires caught { AreCaught self.old.spans.items self.old.roster.calls.items }
+        requires sure { AreAllSure (IsSequence machine.now self.old.ways.items) self.old.roster.calls.items }
         requires way { CanRunSo machine.now item how.now }
         ensures ran { OnOk result (IsRunSo machine.now self.old item how.now self.new) }
-        ensures few { OnOk result (length self.new.roster.calls.items < 2 ^ 32) }
+        ensures caught { AreCaught self.new.spans.items self.new.roster.calls.items }
         ensures refused { OnErr result (IsUnchanged self.old self.new) }
     {
-        let before = self.places();
+        let since = self.places();
         let anew = self.follow_whole(alloc, machine, item, how)?;
-        let since = new_since(anew, before, self.places());
+        let spans = self.spans.as_mut_slice();
         finish(
             &mut self.roster,
+            spans,
             machine,
             self.ways.as_slice(),
             item,
@@ -492,60 +502,12 @@ impl Progress {
     }
 }
 
-// From which places on calls and ways are new; where none may rely on what it has seen, none is.
-#[inline(always)]
-fn new_since(anew: bool, before: Since, now: Since) -> Since
-    ensures anew { IsTrue anew → result ≡ now }
-    ensures new { (IsTrue anew → ⊥) → result ≡ before }
-{
-    if anew { now } else { before }
-}
-
-// Whether calls are new, or none may rely on what it has seen.
-#[inline(always)]
-fn has_grown(anew: bool, since: Since, count: usize) -> bool
-    ensures { (IsTrue result → ⊥) → ((IsTrue anew → ⊥) × (count ≤ since.calls)) }
-{
-    anew || since.calls < count
-}
-
-// Notes that an item has run, and has each call forget what it has seen.
-#[inline(never)]
-#[tactic(auto, using(crate::proofs::Following::forgotten_noted, crate::proofs::Following::forgotten_fresh))]
-fn note_anew(roster: &mut Roster, item: Item, hint: usize)
-    requires once { AllPairs (λ a b. a.item ≢ b.item) roster.old.calls.items }
-    ensures noted { ArePairwise (IsNoted item) roster.old.calls.items roster.new.calls.items }
-    ensures fresh { (call : Call) → Contains roster.new.calls.items call → IsFresh call }
-{
-    roster.tell(item, hint);
-    roster.forget();
-}
-
-// Notes that an item has run; `anew` where none may rely on what it has seen.
-#[inline(always)]
-#[tactic(auto, using(crate::proofs::Following::told_noted))]
-fn note(roster: &mut Roster, machine: &Machine, ways: &[Way], item: Item, hint: usize, anew: bool)
-    requires roster { IsRoster machine.now roster.old.calls.items }
-    requires seen { (IsTrue anew → ⊥) → (call : Call) → Contains roster.old.calls.items call
-        → HasSeen (IsSequence machine.now ways.now) roster.old.calls.items call }
-    ensures noted { ArePairwise (IsNoted item) roster.old.calls.items roster.new.calls.items }
-    ensures told { (IsTrue anew → ⊥) → ArePairwise (IsTold item) roster.old.calls.items roster.new.calls.items }
-    ensures seen { (call : Call) → Contains roster.new.calls.items call
-        → HasSeen (IsSequence machine.now ways.now) roster.new.calls.items call }
-{
-    if anew {
-        note_anew(roster, item, hint);
-    } else {
-        roster.tell(item, hint);
-    }
-}
-
 // Notes that an item has run, and says of each call once more for which one it waits; `anew` where
 // none may rely on what it has seen.
 #[inline(always)]
-#[tactic(auto, using(crate::proofs::Following::noted_items))]
 fn finish(
     roster: &mut Roster,
+    spans: &mut [Span],
     machine: &Machine,
     ways: &[Way],
     item: Item,
@@ -556,15 +518,16 @@ fn finish(
     requires rules { KeepsModelRules machine.now }
     requires ways { AreWaysIn machine.now ways.now }
     requires roster { IsRoster machine.now roster.old.calls.items }
-    requires few { length roster.old.calls.items < 2 ^ 32 }
-    requires seen { (IsTrue anew → ⊥) → (call : Call) → Contains roster.old.calls.items call
-        → HasSeen (IsSequence machine.now ways.now) roster.old.calls.items call }
-    requires new { AreNewSince machine.now ways.now roster.old.calls.items since }
-    requires through { (IsTrue anew → ⊥) → length roster.old.calls.items ≤ since.calls
-        → AreThrough roster.old.calls.items }
-    ensures { IsFinished machine.now ways.now item roster.old.calls.items roster.new.calls.items }
+    requires caught { AreCaught spans.old roster.old.calls.items }
+    requires left { (IsTrue anew → ⊥) → AreSureBefore (IsSequence machine.now ways.now) since.calls roster.old.calls.items }
+    requires new { (IsTrue anew → ⊥) → AreNewSince machine.now ways.now roster.old.calls.items since }
+    ensures finished { IsFinished machine.now ways.now item roster.old.calls.items roster.new.calls.items }
+    ensures caught { AreCaught spans.new roster.new.calls.items }
 {
-    let grown = has_grown(anew, since, roster.calls.len());
-    note(roster, machine, ways, item, hint, anew);
-    roster.settle(machine, ways, since, grown);
+    let ran = roster.tell(item, hint);
+    if anew {
+        roster.settle_anew(machine, ways, spans);
+    } else {
+        roster.settle(machine, ways, spans, since, ran);
+    }
 }

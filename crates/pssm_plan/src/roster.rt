@@ -3,10 +3,11 @@ ghost use Rattle.std.specs.Prelude.{◌≡◌, ◌≢◌, ◌↔◌, ◌<◌, �
 ghost use Rattle.std.specs.Prelude.{IsTrue, AllPairs, IfSome, MatchOption, Contains, OnOk};
 ghost use Rattle.pssm_model.specs.declared.steps.Item.{Item};
 ghost use Rattle.pssm_plan.specs.declared.roster.Call.{Call};
-ghost use Rattle.pssm_plan.specs.inner.Marks.{IsListed, IsMarked, IsLonger, IsTold, IsForgotten, ArePairwise};
+ghost use Rattle.pssm_plan.specs.inner.Marks.{IsListed, IsMarked, IsLonger, IsTold, IsForgotten, IsPlaceOf, ArePairwise};
 ghost use Rattle.pssm_legs.specs.Calls.{IsItemIn};
 ghost use Rattle.pssm_plan.specs.inner.Sequence.{IsRoster, IsExtended};
 
+use crate::calls::{Calls, stands_at};
 use pssm_model::{Item, Machine};
 use std::alloc::{AllocError as NoMemory, Global};
 
@@ -28,18 +29,6 @@ pub fn same_item(a: Item, b: Item) -> bool
     ensures { IsTrue result ↔ (a ≡ b) }
 {
     a == b
-}
-
-/// Whether the item is listed.
-pub fn is_listed(calls: &[Call], item: Item) -> bool
-    ensures { IsTrue result ↔ IsListed calls.now item }
-{
-    for call in calls {
-        if same_item(call.item, item) {
-            return true;
-        }
-    }
-    false
 }
 
 // The place of an item, where it is listed at a place from the first one on.
@@ -103,22 +92,30 @@ pub fn call_at(calls: &[Call], place: u32) -> Option<Call>
     }
 }
 
-/// Whether the item is listed as one that has run.
-pub fn has_run(calls: &[Call], item: Item) -> bool
-    ensures { IsTrue result ↔ IsMarked calls.now item }
+// Whether the call at a place has not run.
+#[inline(always)]
+fn waits_at(calls: &[Call], place: usize) -> bool
+    requires { place < length calls.now }
+    ensures { IsTrue result → ((call : Call) → Contains calls.now call → IsTrue call.ran) → ⊥ }
 {
-    for call in calls {
-        if same_item(call.item, item) && call.ran {
-            return true;
-        }
-    }
-    false
+    !calls[place].ran
 }
 
-/// Whether all listed items have run.
+// Whether the last call has not run.
+#[inline(always)]
+fn last_waits(calls: &[Call]) -> bool
+    ensures { IsTrue result → ((call : Call) → Contains calls.now call → IsTrue call.ran) → ⊥ }
+{
+    !calls.is_empty() && waits_at(calls, calls.len() - 1)
+}
+
+/// Whether all listed items have run. The last one is asked first, which most often runs last.
 pub fn have_all_run(calls: &[Call]) -> bool
     ensures { IsTrue result ↔ ((call : Call) → Contains calls.now call → IsTrue call.ran) }
 {
+    if last_waits(calls) {
+        return false;
+    }
     for call in calls {
         if !call.ran {
             return false;
@@ -127,14 +124,20 @@ pub fn have_all_run(calls: &[Call]) -> bool
     true
 }
 
-// Says of the call of an item that it has run. It is looked for from the hint on first.
+// Says of the call of an item that it has run, and at which place it stands; the place behind all where none is of the
+// item. It is looked for from the hint on first.
 #[inline(always)]
-fn tell_one(calls: &mut [Call], item: Item, hint: usize)
+fn tell_one(calls: &mut [Call], item: Item, hint: usize) -> usize
     requires once { AllPairs (λ a b. a.item ≢ b.item) calls.old }
-    ensures { ArePairwise (IsTold item) calls.old calls.new }
+    ensures told { ArePairwise (IsTold item) calls.old calls.new }
+    ensures place { IsPlaceOf calls.old item result }
 {
-    if let Some(k) = place_of(calls, item, hint) {
-        calls[k].ran = true;
+    match place_of(calls, item, hint) {
+        Some(k) => {
+            calls[k].ran = true;
+            k
+        }
+        None => calls.len(),
     }
 }
 
@@ -154,7 +157,7 @@ fn forget_all(calls: &mut [Call])
 /// The items that a step calls, each once.
 #[derive(Drop)]
 pub struct Roster {
-    pub calls: Vec<Call>,
+    pub calls: Calls,
 }
 
 impl Roster {
@@ -163,7 +166,7 @@ impl Roster {
         ensures calls { result.calls.items ≡ [] }
     {
         Roster {
-            calls: Vec::new(alloc),
+            calls: Calls::new(alloc),
         }
     }
 
@@ -193,7 +196,7 @@ impl Roster {
         ensures calls { IsLonger self.old.calls.items self.new.calls.items }
         ensures added { OnOk result (IsExtended machine.now self.old.calls.items (λ x. x ≡ item) self.new.calls.items) }
     {
-        if !is_listed(self.calls.as_slice(), item) {
+        if !self.calls.is_listed(item) {
             self.push(machine, item)
         } else {
             Ok(())
@@ -216,19 +219,36 @@ impl Roster {
         }
     }
 
+    /// At which place an item stands where it is listed: the hint where it stands there, else what the table says. Who
+    /// looks for it begins there, so that a wrong place would only cost time.
+    #[inline(always)]
+    pub fn likely_place(&self, item: Item, hint: usize) -> usize {
+        if stands_at(self.calls.as_slice(), hint, item) {
+            return hint;
+        }
+        match self.calls.place_of(item) {
+            Some(place) => place,
+            None => hint,
+        }
+    }
+
     /// Says of each item that it has not looked at the others yet.
     pub fn forget(&mut self)
         ensures forgot { ArePairwise IsForgotten self.old.calls.items self.new.calls.items }
     {
-        forget_all(self.calls.as_mut_slice());
+        let calls = &mut self.calls;
+        forget_all(calls.list.as_mut_slice());
     }
 
-    /// Says of an item that it has run. It is looked for from the hint on first.
+    /// Says of an item that it has run, and at which place it stands; the place behind all where it is not listed. It is
+    /// looked for from the hint on first.
     #[inline(always)]
-    pub fn tell(&mut self, item: Item, hint: usize)
+    pub fn tell(&mut self, item: Item, hint: usize) -> usize
         requires once { AllPairs (λ a b. a.item ≢ b.item) self.old.calls.items }
         ensures told { ArePairwise (IsTold item) self.old.calls.items self.new.calls.items }
+        ensures place { IsPlaceOf self.old.calls.items item result }
     {
-        tell_one(self.calls.as_mut_slice(), item, hint);
+        let calls = &mut self.calls;
+        tell_one(calls.list.as_mut_slice(), item, hint)
     }
 }

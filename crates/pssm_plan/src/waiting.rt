@@ -1,19 +1,20 @@
-//! Which of the listed items wait for others.
-ghost use Rattle.std.specs.Prelude.{◌≡◌, ◌↔◌, ◌<◌, ◌≤◌, ◌^◌, IsTrue, Contains, length, slice_index_or};
+//! How a listed item looks for the first that it waits for.
+ghost use Rattle.std.specs.Prelude.{◌≡◌, ◌↔◌, ◌<◌, ◌≤◌, ◌^◌, IsTrue, length};
 ghost use Rattle.pssm_model.specs.WellFormed.{KeepsModelRules};
 ghost use Rattle.pssm_legs.specs.Calls.{IsItemIn};
 ghost use Rattle.pssm_plan.specs.declared.roster.Call.{Call};
 ghost use Rattle.pssm_plan.specs.Waiting.{HoldsUp};
 ghost use Rattle.pssm_plan.specs.Ways.{AreWaysIn};
-ghost use Rattle.pssm_plan.specs.inner.Marks.{HasSeen, IsHeldAt, IsUpToDate, AreThrough, IsSettled, IsSettledSo, IsSettledAt, ArePairwise};
+ghost use Rattle.pssm_plan.specs.inner.Marks.{HasSeen, IsSettledSo};
+ghost use Rattle.pssm_plan.specs.inner.Passes.{ArePassed, IsOrderedBehindNone};
 ghost use Rattle.pssm_plan.specs.inner.Sequence.{IsSomeLong, IsSequence, IsNestedPair, AreItemsOf};
-ghost use Rattle.pssm_plan.specs.inner.Sequence.{AreNewSince, IsNewCall, IsApart, IsNestedInNone, IsResting, AreLooseUpTo, ArePassedNested};
+ghost use Rattle.pssm_plan.specs.inner.Sequence.{IsNewCall, IsNestedInNone, AreLooseUpTo, ArePassedNested};
 ghost use Rattle.pssm_model.specs.declared.steps.Item.{Item as Waiting};
 ghost use Rattle.pssm_model.specs.declared.ids.VertexId.{VertexId as Place};
 ghost use Rattle.pssm_model.specs.declared.elements.Owner.TheVariants.{Top};
 ghost use Rattle.pssm_model.specs.Forest.{LiesInState};
 
-use crate::roster::{Call, Roster};
+use crate::roster::Call;
 use crate::ways::{Way, comes_before, nests, some_is_long, ways_of};
 use pssm_model::{Item, Machine, Owner, VertexId};
 
@@ -42,31 +43,6 @@ fn holds_up(machine: &Machine, ways: &[Way], long: bool, on: &Call, call: &Call)
     ensures { IsTrue result ↔ HoldsUp (IsSequence machine.now ways.now) on.now call.now.item }
 {
     !on.ran && comes_before(machine, ways, long, &on.item, &call.item)
-}
-
-// Whether the call with a place has not run.
-#[inline(always)]
-fn holds_at(calls: &[Call], place: u32) -> bool
-    ensures { IsTrue result → IsHeldAt calls.now place }
-{
-    match calls.get(place as usize) {
-        Some(on) => !on.ran,
-        None => false,
-    }
-}
-
-// Whether a call is blocked by one that has not run yet, or has seen them all; it has where it is not blocked and the
-// calls are not more than they were.
-#[inline(always)]
-fn is_up_to_date(calls: &[Call], call: Call, grown: bool) -> bool
-    requires through { (IsTrue grown → ⊥) → (IsTrue call.blocked → ⊥) → length calls.now ≤ call.seen }
-    ensures { IsTrue result → IsUpToDate calls.now call }
-{
-    if call.blocked {
-        holds_at(calls, call.seen)
-    } else {
-        !grown || calls.len() <= call.seen as usize
-    }
 }
 
 // Whether a call waits, once it has looked further for the first call that holds it up.
@@ -185,9 +161,9 @@ fn look_nested(machine: &Machine, calls: &[Call], call: &Call) -> Wait
     }
 }
 
-// Whether a call waits, once it has looked further.
+/// Whether a call waits, once it has looked further.
 #[inline(always)]
-fn look_on(machine: &Machine, ways: &[Way], calls: &[Call], call: &Call) -> Wait
+pub fn look_on(machine: &Machine, ways: &[Way], calls: &[Call], call: &Call) -> Wait
     requires rules { KeepsModelRules machine.now }
     requires ways { AreWaysIn machine.now ways.now }
     requires items { AreItemsOf machine.now calls.now }
@@ -225,10 +201,10 @@ fn is_outermost(machine: &Machine, v: VertexId) -> bool
     }
 }
 
-// Whether another item may come before an item by where their States lie: before exits of States with regions, and
-// entries of what lies in States.
+/// Whether another item may come before an item by where their States lie: before exits of States with regions, and
+/// entries of what lies in States.
 #[inline(always)]
-fn may_wait(machine: &Machine, item: Item) -> bool
+pub fn may_wait(machine: &Machine, item: Item) -> bool
     requires rules { KeepsModelRules machine.now }
     requires item { IsItemIn machine.now item }
     ensures { (IsTrue result → ⊥) → IsNestedInNone machine.now item }
@@ -266,6 +242,9 @@ fn first_before(machine: &Machine, calls: &[Call], call: &Call, first: usize) ->
     ensures within { result ≤ first }
     ensures none { ArePassedNested machine.now calls.now call.now.item result }
 {
+    if first == 0 {
+        return first;
+    }
     if may_wait(machine, call.item) {
         first_nested(machine, calls, call, first)
     } else {
@@ -293,15 +272,14 @@ fn begun(machine: &Machine, ways: &[Way], calls: &[Call], call: &Call, since: Si
     }
 }
 
-// Whether a new call waits, once it has looked further. Only new ways say something of it.
+/// Whether a new call waits, once it has looked further. Only new ways say something of it.
 #[inline(always)]
-fn look_new(machine: &Machine, ways: &[Way], calls: &[Call], call: &Call, since: Since) -> Wait
+pub fn look_new(machine: &Machine, ways: &[Way], calls: &[Call], call: &Call, since: Since) -> Wait
     requires rules { KeepsModelRules machine.now }
     requires ways { AreWaysIn machine.now ways.now }
     requires items { AreItemsOf machine.now calls.now }
     requires item { IsItemIn machine.now call.now.item }
     requires few { length calls.now < 2 ^ 32 }
-    requires seen { HasSeen (IsSequence machine.now ways.now) calls.now call.now }
     requires new { IsNewCall machine.now ways.now calls.now call.now since }
     ensures { IsSettledSo (IsSequence machine.now ways.now) calls.now call.now result }
 {
@@ -323,8 +301,9 @@ fn may_hold(machine: &Machine, item: Item) -> bool
     }
 }
 
-// The place of the first of the new calls that may come before others by where their States lie, or that behind all.
-fn first_nesting(machine: &Machine, calls: &[Call], first: usize) -> usize
+/// The place of the first of the new calls that may come before others by where their States lie, or that behind all.
+#[inline(always)]
+pub fn first_nesting(machine: &Machine, calls: &[Call], first: usize) -> usize
     requires items { AreItemsOf machine.now calls.now }
     requires first { first ≤ length calls.now }
     ensures within { result ≤ length calls.now }
@@ -338,278 +317,44 @@ fn first_nesting(machine: &Machine, calls: &[Call], first: usize) -> usize
     calls.len()
 }
 
-// A call that is not blocked and has seen all before the new ones, as one that has seen all up to a place.
+// A call that is not blocked, as one that has seen all up to a place.
 #[inline(always)]
 fn raised(machine: &Machine, calls: &[Call], call: &Call, first: usize, nests: usize) -> Call
     requires few { length calls.now < 2 ^ 32 }
     requires within { nests ≤ length calls.now }
     requires loose { AreLooseUpTo machine.now calls.now first nests }
-    requires come { first ≤ call.now.seen }
     requires free { IsTrue call.now.blocked → ⊥ }
-    requires seen { HasSeen (IsNestedPair machine.now) calls.now call.now }
+    requires passed { ArePassed (IsNestedPair machine.now) calls.now call.now.item first }
     ensures item { result.item ≡ call.now.item }
     ensures ran { result.ran ≡ call.now.ran }
     ensures seen { HasSeen (IsNestedPair machine.now) calls.now result }
 {
-    if nests <= call.seen as usize {
-        return *call;
-    }
     Call {
         seen: nests as u32,
         ..*call
     }
 }
 
-// Whether a call is not blocked and has seen all before the new ones.
+/// Whether a call that is not blocked waits for one of the new ones, of which those before a place come before none by
+/// where their States lie.
 #[inline(always)]
-fn has_come_to(call: &Call, since: Since) -> bool
-    ensures { IsTrue result → ((since.calls ≤ call.now.seen) × (IsTrue call.now.blocked → ⊥)) }
-{
-    !call.blocked && since.calls <= call.seen as usize
-}
-
-// Whether a call that is not new waits, once it has looked further.
-#[inline(always)]
-fn look_again(
+pub fn look_free(
     machine: &Machine,
     ways: &[Way],
     calls: &[Call],
     call: &Call,
-    since: Since,
+    first: usize,
     nests: usize,
 ) -> Wait
-    requires rules { KeepsModelRules machine.now }
-    requires ways { AreWaysIn machine.now ways.now }
     requires items { AreItemsOf machine.now calls.now }
     requires item { IsItemIn machine.now call.now.item }
     requires few { length calls.now < 2 ^ 32 }
-    requires seen { HasSeen (IsSequence machine.now ways.now) calls.now call.now }
-    requires apart { since.calls ≤ call.now.seen → (IsTrue call.now.blocked → ⊥)
-        → IsApart machine.now ways.now calls.now call.now }
     requires within { nests ≤ length calls.now }
-    requires loose { AreLooseUpTo machine.now calls.now since.calls nests }
+    requires loose { AreLooseUpTo machine.now calls.now first nests }
+    requires free { IsTrue call.now.blocked → ⊥ }
+    requires passed { ArePassed (IsSequence machine.now ways.now) calls.now call.now.item first }
+    requires apart { IsOrderedBehindNone machine.now ways.now calls.now call.now.item first }
     ensures { IsSettledSo (IsSequence machine.now ways.now) calls.now call.now result }
 {
-    if has_come_to(call, since) {
-        look_nested(
-            machine,
-            calls,
-            &raised(machine, calls, call, since.calls, nests),
-        )
-    } else {
-        look_on(machine, ways, calls, call)
-    }
-}
-
-// Whether the call at a place waits, once it has looked further.
-#[inline(always)]
-fn look(
-    machine: &Machine,
-    ways: &[Way],
-    calls: &[Call],
-    call: &Call,
-    place: usize,
-    since: Since,
-    nests: usize,
-) -> Wait
-    requires rules { KeepsModelRules machine.now }
-    requires ways { AreWaysIn machine.now ways.now }
-    requires items { AreItemsOf machine.now calls.now }
-    requires item { IsItemIn machine.now call.now.item }
-    requires few { length calls.now < 2 ^ 32 }
-    requires seen { HasSeen (IsSequence machine.now ways.now) calls.now call.now }
-    requires apart { place < since.calls → since.calls ≤ call.now.seen → (IsTrue call.now.blocked → ⊥)
-        → IsApart machine.now ways.now calls.now call.now }
-    requires new { since.calls ≤ place → IsNewCall machine.now ways.now calls.now call.now since }
-    requires within { nests ≤ length calls.now }
-    requires loose { AreLooseUpTo machine.now calls.now since.calls nests }
-    ensures { IsSettledSo (IsSequence machine.now ways.now) calls.now call.now result }
-{
-    if place < since.calls {
-        look_again(machine, ways, calls, call, since, nests)
-    } else {
-        look_new(machine, ways, calls, call, since)
-    }
-}
-
-// Whether a call is neither new nor blocked, and has seen all before the new ones.
-#[inline(always)]
-fn has_come(call: Call, place: usize, since: Since) -> bool
-    ensures { IsTrue result → ((place < since.calls) × (since.calls ≤ call.seen) × (IsTrue call.blocked → ⊥)) }
-{
-    !call.blocked && place < since.calls && since.calls <= call.seen as usize
-}
-
-// Whether such a call waits for none of the new ones: none of them comes before others by where their States lie, or
-// none comes before this one so.
-#[inline(always)]
-fn rests(machine: &Machine, calls: &[Call], place: usize, since: Since, loose: bool) -> bool
-    requires rules { KeepsModelRules machine.now }
-    requires items { AreItemsOf machine.now calls.now }
-    requires there { place < length calls.now }
-    ensures { IsTrue result → (d : Call) → IsResting machine.now since place loose (slice_index_or calls.now place d) }
-{
-    has_come(calls[place], place, since) && (loose || !may_wait(machine, calls[place].item))
-}
-
-// Whether none of the new calls may come before others by where their States lie.
-#[inline(always)]
-fn is_loose(calls: &[Call], nests: usize) -> bool
-    ensures { IsTrue result → length calls.now ≤ nests }
-{
-    calls.len() <= nests
-}
-
-// Says of the call at a place whether it waits, and for which one.
-#[inline(never)]
-fn look_at(
-    machine: &Machine,
-    ways: &[Way],
-    calls: &mut [Call],
-    place: usize,
-    since: Since,
-    nests: usize,
-)
-    requires rules { KeepsModelRules machine.now }
-    requires ways { AreWaysIn machine.now ways.now }
-    requires items { AreItemsOf machine.now calls.old }
-    requires few { length calls.old < 2 ^ 32 }
-    requires there { place < length calls.old }
-    requires seen { (d : Call) → HasSeen (IsSequence machine.now ways.now) calls.old (slice_index_or calls.old place d) }
-    requires new { AreNewSince machine.now ways.now calls.old since }
-    requires within { nests ≤ length calls.old }
-    requires loose { AreLooseUpTo machine.now calls.old since.calls nests }
-    ensures { IsSettledAt (IsSequence machine.now ways.now) calls.old place calls.new }
-{
-    let all = &calls[..];
-    let wait = look(machine, ways, all, &all[place], place, since, nests);
-    calls[place] = Call {
-        blocked: wait.blocked,
-        seen: wait.seen,
-        ..calls[place]
-    };
-}
-
-// The same; a call that rests is not looked at.
-#[inline(always)]
-fn settle_at(
-    machine: &Machine,
-    ways: &[Way],
-    calls: &mut [Call],
-    place: usize,
-    since: Since,
-    nests: usize,
-)
-    requires rules { KeepsModelRules machine.now }
-    requires ways { AreWaysIn machine.now ways.now }
-    requires items { AreItemsOf machine.now calls.old }
-    requires few { length calls.old < 2 ^ 32 }
-    requires there { place < length calls.old }
-    requires seen { (d : Call) → HasSeen (IsSequence machine.now ways.now) calls.old (slice_index_or calls.old place d) }
-    requires new { AreNewSince machine.now ways.now calls.old since }
-    requires within { nests ≤ length calls.old }
-    requires loose { AreLooseUpTo machine.now calls.old since.calls nests }
-    ensures { IsSettledAt (IsSequence machine.now ways.now) calls.old place calls.new }
-{
-    let loose = is_loose(calls, nests);
-    if rests(machine, calls, place, since, loose) {
-        calls[place].seen = calls.len() as u32;
-    } else {
-        look_at(machine, ways, calls, place, since, nests);
-    }
-}
-
-// Says of the call at a place whether it waits, and for which one, where no call is new.
-#[inline(never)]
-fn look_once_more(machine: &Machine, ways: &[Way], calls: &mut [Call], place: usize)
-    requires rules { KeepsModelRules machine.now }
-    requires ways { AreWaysIn machine.now ways.now }
-    requires items { AreItemsOf machine.now calls.old }
-    requires few { length calls.old < 2 ^ 32 }
-    requires there { place < length calls.old }
-    requires seen { (d : Call) → HasSeen (IsSequence machine.now ways.now) calls.old (slice_index_or calls.old place d) }
-    ensures { IsSettledAt (IsSequence machine.now ways.now) calls.old place calls.new }
-{
-    let all = &calls[..];
-    let wait = look_on(machine, ways, all, &all[place]);
-    calls[place] = Call {
-        blocked: wait.blocked,
-        seen: wait.seen,
-        ..calls[place]
-    };
-}
-
-// Says of each call whether it waits, and for which one, where no call is new.
-#[inline(always)]
-fn settle_old(machine: &Machine, ways: &[Way], calls: &mut [Call])
-    requires rules { KeepsModelRules machine.now }
-    requires ways { AreWaysIn machine.now ways.now }
-    requires items { AreItemsOf machine.now calls.old }
-    requires few { length calls.old < 2 ^ 32 }
-    requires seen { (call : Call) → Contains calls.old call → HasSeen (IsSequence machine.now ways.now) calls.old call }
-    requires through { AreThrough calls.old }
-    ensures { ArePairwise (IsSettled (IsSequence machine.now ways.now) calls.old) calls.old calls.new }
-{
-    for k in 0..calls.len() {
-        if !is_up_to_date(calls, calls[k], false) {
-            look_once_more(machine, ways, calls, k);
-        }
-    }
-}
-
-// Says of each call whether it waits, and for which one, where calls may be new.
-#[inline(always)]
-fn settle_grown(machine: &Machine, ways: &[Way], calls: &mut [Call], since: Since)
-    requires rules { KeepsModelRules machine.now }
-    requires ways { AreWaysIn machine.now ways.now }
-    requires items { AreItemsOf machine.now calls.old }
-    requires few { length calls.old < 2 ^ 32 }
-    requires seen { (call : Call) → Contains calls.old call → HasSeen (IsSequence machine.now ways.now) calls.old call }
-    requires new { AreNewSince machine.now ways.now calls.old since }
-    ensures { ArePairwise (IsSettled (IsSequence machine.now ways.now) calls.old) calls.old calls.new }
-{
-    let nests = first_nesting(machine, calls, since.calls);
-    for k in 0..calls.len() {
-        if !is_up_to_date(calls, calls[k], true) {
-            settle_at(machine, ways, calls, k, since, nests);
-        }
-    }
-}
-
-// Says of each call whether it waits, and for which one.
-fn settle_all(machine: &Machine, ways: &[Way], calls: &mut [Call], since: Since, grown: bool)
-    requires rules { KeepsModelRules machine.now }
-    requires ways { AreWaysIn machine.now ways.now }
-    requires items { AreItemsOf machine.now calls.old }
-    requires few { length calls.old < 2 ^ 32 }
-    requires seen { (call : Call) → Contains calls.old call → HasSeen (IsSequence machine.now ways.now) calls.old call }
-    requires new { AreNewSince machine.now ways.now calls.old since }
-    requires through { (IsTrue grown → ⊥) → AreThrough calls.old }
-    ensures { ArePairwise (IsSettled (IsSequence machine.now ways.now) calls.old) calls.old calls.new }
-{
-    if grown {
-        settle_grown(machine, ways, calls, since);
-    } else {
-        settle_old(machine, ways, calls);
-    }
-}
-
-impl Roster {
-    /// Says of each call whether it waits, and for which one. Where the calls are not more than they
-    /// were, those that are not blocked have seen them all.
-    #[inline(never)]
-    pub fn settle(&mut self, machine: &Machine, ways: &[Way], since: Since, grown: bool)
-        requires rules { KeepsModelRules machine.now }
-        requires ways { AreWaysIn machine.now ways.now }
-        requires items { AreItemsOf machine.now self.old.calls.items }
-        requires few { length self.old.calls.items < 2 ^ 32 }
-        requires seen { (call : Call) → Contains self.old.calls.items call
-            → HasSeen (IsSequence machine.now ways.now) self.old.calls.items call }
-        requires new { AreNewSince machine.now ways.now self.old.calls.items since }
-        requires through { (IsTrue grown → ⊥) → AreThrough self.old.calls.items }
-        ensures { ArePairwise (IsSettled (IsSequence machine.now ways.now) self.old.calls.items)
-            self.old.calls.items self.new.calls.items }
-    {
-        settle_all(machine, ways, self.calls.as_mut_slice(), since, grown);
-    }
+    look_nested(machine, calls, &raised(machine, calls, call, first, nests))
 }

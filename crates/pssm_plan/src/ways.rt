@@ -11,7 +11,7 @@ ghost use Rattle.pssm_plan.specs.inner.ByWays.{calls_by, opens_by, orders_by};
 ghost use Rattle.pssm_plan.specs.inner.Sequence.{IsLong, IsSomeLong, MayOrder, IsNestedPair, IsSequence, IsOrderedBySome};
 ghost use Rattle.pssm_plan.specs.inner.Sequence.{IsOpenedBySome, IsNoEnd, kind_number};
 
-use crate::direct::may_call;
+use crate::direct::{may_call, may_exit};
 use crate::near::leads_on_near;
 use pssm_legs::{Legs, calls, legs_of, lone_legs, lone_start, opens_for, orders};
 use pssm_model::{Item, Machine, RegionId, Route, TransId, VertexId};
@@ -148,6 +148,17 @@ fn effect_may_lead(machine: &Machine, way: &Way, t: TransId, second: Item) -> bo
     is_long(way)
 }
 
+// Whether the exit of a vertex may come before an item by a way: of one of which the way may call the exit.
+#[inline(always)]
+fn exit_may_lead(machine: &Machine, way: &Way, s: VertexId, second: Item) -> bool
+    requires rules { KeepsModelRules machine.now }
+    requires way { IsWayIn machine.now way.now }
+    requires vertex { s.0 < length machine.now.vertices }
+    ensures { orders_by machine.now way.now (Called.Exit s) second → IsTrue result }
+{
+    may_exit(machine, way, s)
+}
+
 // Whether the first of two items may come before the second by a way.
 #[inline(always)]
 fn may_lead(machine: &Machine, way: &Way, first: Item, second: Item) -> bool
@@ -159,7 +170,8 @@ fn may_lead(machine: &Machine, way: &Way, first: Item, second: Item) -> bool
     match first {
         Item::Enter(s) => entry_may_lead(machine, way, s, second),
         Item::Effect(t) => effect_may_lead(machine, way, t, second),
-        Item::Exit(_) | Item::Opened(_, _) | Item::Pick(_) => true,
+        Item::Exit(s) => exit_may_lead(machine, way, s, second),
+        Item::Opened(_, _) | Item::Pick(_) => true,
     }
 }
 

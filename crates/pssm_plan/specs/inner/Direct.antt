@@ -34,3 +34,7 @@ MayCallDirectly way r (Pick c) = c ≡ way.legs.first.last
 abbrev pub IsReopenedIn : DraftMachine → List Call → Way → VertexId → Item → Type 0
 IsReopenedIn m calls way s x =
     (r : RegionId) × (owner_of m (Region r) ≡ Some (State s)) × (x ≡ Opened r Plain) × IsReopened m calls way (Opened r Plain)
+
+-- No State that the region owns has a region.
+abbrev pub HasNoneInside : DraftMachine → RegionId → Type 0
+HasNoneInside m r = (q : RegionId) (w : VertexId) → owner_of m (Region q) ≡ Some (State w) → owner_of m (State w) ≡ Some (Region r) → ⊥

@@ -13,19 +13,19 @@ use Rattle.pssm_model.specs.RouteWords.{IsStepRoute}
 use Rattle.pssm_plan.specs.declared.ways.Way.{Way}
 use Rattle.pssm_plan.specs.declared.roster.Call.{Call}
 use Rattle.pssm_plan.specs.declared.progress.Progress.{Progress}
-use Rattle.pssm_plan.specs.Waiting.{IsExact}
 use Rattle.pssm_plan.specs.Ways.{IsWayIn, AreWaysIn, IsWayTaken, IsWayFired}
-use Rattle.pssm_plan.specs.inner.Marks.{IsListed, IsMarked, IsLonger, IsNoted, IsSettled, ArePairwise}
+use Rattle.pssm_plan.specs.inner.Marks.{IsListed, IsMarked, IsLonger, IsNoted, IsAlike, ArePairwise}
 use Rattle.pssm_plan.specs.inner.ByWays.{calls_by}
+use Rattle.pssm_plan.specs.inner.Passes.{AreAllSure}
 use Rattle.pssm_plan.specs.inner.Sequence.{IsSequence, IsOrderedBySome, IsRoster, IsExtended}
 use Rattle.pssm_plan.specs.inner.Calling.{IsNoExit, IsLate, IsOfRestored, IsEntered}
 
--- the list of a roster that has these items, none of which has run, and each of which says exactly for which one it waits
+-- the list of a roster that has these items, none of which has run, and each of which says for which one it waits
 pub record IsMadeOf (m : DraftMachine) (ways : List Way) (Added : Item → Type 0) (calls : List Call) : Type 0 where
   pub roster : IsRoster m calls
   pub listed : (x : Item) → IsListed calls x ↔ Added x
   pub marked : (x : Item) → IsMarked calls x → ⊥
-  pub exact : (call : Call) → Contains calls call → IsExact (IsSequence m ways) calls call
+  pub sure : AreAllSure (IsSequence m ways) calls
 
 -- the ways of routes that fire, and no others
 pub record AreFired (m : DraftMachine) (routes : List Route) (ways : List Way) : Type 0 where
@@ -52,6 +52,7 @@ pub record IsLongerProgress (old new : Progress) : Type 0 where
   pub calls : IsLonger old.roster.calls.items new.roster.calls.items
   pub ways : IsLonger old.ways.items new.ways.items
   pub restored : IsLonger old.restored.items new.restored.items
+  pub spans : IsLonger old.spans.items new.spans.items
 
 -- The step has gone by a late route, and what this calls is listed.
 pub record IsFollowedBy (m : DraftMachine) (old : Progress) (p : Route) (new : Progress) : Type 0 where
@@ -85,7 +86,8 @@ IsFollowedSo m old item Nothing new = IsFollowedPlainly m old item new
 pub record IsFinished (m : DraftMachine) (ways : List Way) (item : Item) (grown : List Call) (calls : List Call) : Type 0 where
   pub now : List Call
   pub noted : ArePairwise (IsNoted item) grown now
-  pub settled : ArePairwise (IsSettled (IsSequence m ways) now) now calls
+  pub alike : ArePairwise IsAlike now calls
+  pub sure : AreAllSure (IsSequence m ways) calls
 
 -- the progress of a step once an item has run in this way
 pub record IsRunSo (m : DraftMachine) (old : Progress) (item : Item) (how : How) (new : Progress) : Type 0 where
@@ -95,8 +97,9 @@ pub record IsRunSo (m : DraftMachine) (old : Progress) (item : Item) (how : How)
   pub restored : new.restored.items ≡ grown.restored.items
   pub finished : IsFinished m new.ways.items item grown.roster.calls.items new.roster.calls.items
 
--- The progress is as before.
+-- The progress is as before; there may be more room.
 pub record IsUnchanged (old new : Progress) : Type 0 where
   pub calls : new.roster.calls.items ≡ old.roster.calls.items
   pub ways : new.ways.items ≡ old.ways.items
   pub restored : new.restored.items ≡ old.restored.items
+  pub spans : IsLonger old.spans.items new.spans.items

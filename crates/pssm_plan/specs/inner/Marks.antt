@@ -84,3 +84,7 @@ pub record IsSettledAt (Comes : Item → Item → Type 0) (calls : List Call) (p
 abbrev pub ArePairwise : (Call → Call → Type 0) → List Call → List Call → Type 0
 ArePairwise Is old new =
     (length new ≡ length old) × ((k : ℕ) (d : Call) → k < length old → Is (slice_index_or old k d) (slice_index_or new k d))
+
+-- No call but that at the place is of the item.
+abbrev pub IsPlaceOf : List Call → Item → ℕ → Type 0
+IsPlaceOf calls item place = (k : ℕ) (d : Call) → k < length calls → (slice_index_or calls k d).item ≡ item → k ≡ place

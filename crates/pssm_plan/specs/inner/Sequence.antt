@@ -91,11 +91,6 @@ pub record IsNewCall (m : DraftMachine) (ways : List Way) (calls : List Call) (c
   pub apart : (j : ℕ) (d : Call) → j < since.calls → j < length calls → IsOrderedBySome m ways (slice_index_or calls j d).item call.item → ⊥
   pub by : (way : Way) → Contains ways way → calls_by m way call.item → Contains (drop since.ways ways) way
 
--- The call is not blocked, and no way orders one that it has not seen before it.
-pub record IsApart (m : DraftMachine) (ways : List Way) (calls : List Call) (call : Call) : Type 0 where
-  pub free : IsTrue call.blocked → ⊥
-  pub apart : (k : ℕ) (d : Call) → call.seen ≤ k → k < length calls → IsOrderedBySome m ways (slice_index_or calls k d).item call.item → ⊥
-
 -- The item is neither an opening nor a pick.
 abbrev pub IsNoEnd : Item → Type 0
 IsNoEnd (Opened r mode) = ⊥
@@ -105,14 +100,6 @@ IsNoEnd _ = Unit {0}
 -- No item comes before this one by where their States lie.
 abbrev pub IsNestedInNone : DraftMachine → Item → Type 0
 IsNestedInNone m item = (x : Item) → IsNestedPair m x item → ⊥
-
--- The call at the place is neither new nor blocked, has seen all before the new ones, and where these are not loose, none comes before it
--- by where their States lie.
-pub record IsResting (m : DraftMachine) (since : Since) (place : ℕ) (loose : Bool) (call : Call) : Type 0 where
-  pub old : place < since.calls
-  pub come : since.calls ≤ call.seen
-  pub free : IsTrue call.blocked → ⊥
-  pub none : IsTrue loose ⊎ IsNestedInNone m call.item
 
 -- What each listed item names is there.
 abbrev pub AreItemsOf : DraftMachine → List Call → Type 0

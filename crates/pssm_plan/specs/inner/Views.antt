@@ -1,5 +1,5 @@
 -- From the fields of a plan to what clauses see of it.
-use Rattle.std.specs.Prelude.{List, [], map}
+use Rattle.std.specs.Prelude.{ℕ, List, [], map, length, if◌then◌else◌}
 use Rattle.pssm_model.specs.declared.steps.Item.{Item}
 use Rattle.pssm_model.specs.declared.steps.How.{How}
 use Rattle.pssm_model.specs.Course.{Head}
@@ -8,6 +8,7 @@ use Rattle.pssm_config.specs.Tables.{Tables}
 use Rattle.pssm_plan.specs.declared.plan.Beginning.{Beginning}
 use Rattle.pssm_plan.specs.declared.plan.Beginning.TheVariants.{Start, Firing}
 use Rattle.pssm_plan.specs.declared.plan.Step.{Step}
+use Rattle.pssm_plan.specs.declared.roster.Call.{Call}
 
 -- the head of the step
 abbrev pub head_of : Beginning → Head
@@ -26,3 +27,11 @@ tables_of (Firing firing config) = config.value
 -- the items that have run, each with its way
 abbrev pub steps_of : List Step → List (Item × How)
 steps_of = map (λ x. (x.item.value, x.how.value))
+
+-- the call as clauses see it among so many: where it is not blocked, it has seen them all
+abbrev pub shown_among : ℕ → Call → Call
+shown_among n call = record { item = call.item; ran = call.ran; blocked = call.blocked; seen = if call.blocked then call.seen else n }
+
+-- the calls as clauses see them
+abbrev pub shown : List Call → List Call
+shown calls = map (shown_among (length calls)) calls

@@ -27,3 +27,9 @@ returns c =
     let whole = take_all c.loop-call.call-index c.args.calls.now (omega (arith, c.loop-call-test.false)) in
     let all = rw whole at c.loop-call.invariant in
     (λ t. all, λ h. (let e : true ≡ true = (cc) in e))
+
+pub returns-then-last_waits : goal.returns-then-last_waits
+returns-then-last_waits c = (
+  λ f. absurd (let e : false ≡ true = f in cc),
+  λ all. absurd (c.last_waits.ensures c.if-last_waits.true all),
+)

@@ -1,10 +1,13 @@
 use Rattle.std.proofs.Common.{false}
 use Rattle.pssm_model.specs.declared.steps.Item.TheVariants.{Exit}
 use Rattle.pssm_plan.specs.declared.roster.Call.{Call}
-use Rattle.pssm_plan.proofs.Telling.{told_at}
+use Rattle.pssm_plan.proofs.Telling.{told_at, one_place}
 use Rattle.pssm_plan.proofs.roster.tell_one.Goals as goal
 
 pub returns-in-Some : goal.returns-in-Some
 returns-in-Some c =
     let d : Call = record { item = Exit (record { 0 = 0 }); ran = false; blocked = false; seen = 0 } in
-    told_at c.args.calls.now c.args.item c.in-Some.k d c.requires.once c.in-Some.ensures.0 (c.in-Some.ensures.1 d)
+    record {
+      told = told_at c.args.calls.now c.args.item c.in-Some.k d c.requires.once c.in-Some.ensures.0 (c.in-Some.ensures.1 d);
+      place = one_place c.args.calls.now c.args.item c.in-Some.k c.requires.once c.in-Some.ensures.0 c.in-Some.ensures.1;
+    }

@@ -14,13 +14,15 @@ use Rattle.pssm_plan.specs.Ways.{AreWaysIn}
 use Rattle.pssm_plan.specs.inner.Sequence.{IsRoster, IsSequence}
 use Rattle.pssm_plan.specs.inner.Going.{AreCovered}
 use Rattle.pssm_plan.specs.inner.Views.{head_of, tables_of, steps_of}
+use Rattle.pssm_plan.proofs.Shown.{shown_roster, shown_covered, shown_sure}
 use Rattle.pssm_plan.proofs.Settled.{agenda_of, plan_roster, plan_covered, plan_exact, can_run_so, run_plan}
 use Rattle.pssm_plan.proofs.plan.Plan.run.Goals as goal
 
 pub run-outcome-requires-clause-roster : goal.run-outcome-requires-clause-roster
 run-outcome-requires-clause-roster c =
-    subst (λ (p : Agenda). IsRoster c.args.machine.now p.calls) (sym c.self.view_is)
-    (plan_roster c.args.machine.now c.regions-shaped.ensures.shaped c.args.self.now c.requires.plan)
+    shown_roster c.args.machine.now c.self.inside.progress.roster.calls.items
+    (subst (λ (p : Agenda). IsRoster c.args.machine.now p.calls) (sym c.self.view_is)
+    (plan_roster c.args.machine.now c.regions-shaped.ensures.shaped c.args.self.now c.requires.plan))
 
 pub run-outcome-requires-clause-ways : goal.run-outcome-requires-clause-ways
 run-outcome-requires-clause-ways c =
@@ -33,13 +35,15 @@ run-outcome-requires-clause-item c =
 
 pub run-outcome-requires-clause-covered : goal.run-outcome-requires-clause-covered
 run-outcome-requires-clause-covered c =
-    subst (λ (p : Agenda). AreCovered c.args.machine.now p.ways p.calls) (sym c.self.view_is)
-    (plan_covered c.args.machine.now c.args.self.now c.requires.plan)
+    shown_covered c.args.machine.now c.self.inside.progress.ways.items c.self.inside.progress.roster.calls.items
+    (subst (λ (p : Agenda). AreCovered c.args.machine.now p.ways p.calls) (sym c.self.view_is)
+    (plan_covered c.args.machine.now c.args.self.now c.requires.plan))
 
-pub run-outcome-requires-clause-exact : goal.run-outcome-requires-clause-exact
-run-outcome-requires-clause-exact c =
-    subst (λ (p : Agenda). (call : Call) → Contains p.calls call → IsExact (IsSequence c.args.machine.now p.ways) p.calls call) (sym c.self.view_is)
-    (plan_exact c.args.machine.now c.regions-shaped.ensures.shaped c.args.self.now c.requires.plan)
+pub run-outcome-requires-clause-sure : goal.run-outcome-requires-clause-sure
+run-outcome-requires-clause-sure c =
+    shown_sure (IsSequence c.args.machine.now c.self.inside.progress.ways.items) c.self.inside.progress.roster.calls.items
+    (subst (λ (p : Agenda). (call : Call) → Contains p.calls call → IsExact (IsSequence c.args.machine.now p.ways) p.calls call) (sym c.self.view_is)
+    (plan_exact c.args.machine.now c.regions-shaped.ensures.shaped c.args.self.now c.requires.plan))
 
 pub run-outcome-requires-clause-way : goal.run-outcome-requires-clause-way
 run-outcome-requires-clause-way c =

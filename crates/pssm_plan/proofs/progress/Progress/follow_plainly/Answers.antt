@@ -8,7 +8,7 @@ pub list_entered-requires-clause-ways : goal.list_entered-requires-clause-ways
 list_entered-requires-clause-ways c = rw c.as_slice-ways.ensures.value c.requires.ways
 
 pub returns-clause-longer : goal.returns-clause-longer
-returns-clause-longer c = longer_progress _ _ c.list_entered.ensures.calls (longer_same _) (longer_same _)
+returns-clause-longer c = longer_progress _ _ c.list_entered.ensures.calls (longer_same _) (longer_same _) (longer_same _)
 
 pub returns-clause-followed : goal.returns-clause-followed
 returns-clause-followed c =

@@ -1,27 +1,22 @@
 use Rattle.std.proofs.Common.{List, refl, subst, sym}
-use Rattle.pssm_plan.specs.declared.roster.Call.{Call}
 use Rattle.pssm_plan.specs.declared.ways.Way.{Way}
-use Rattle.pssm_plan.specs.inner.Marks.{IsListed}
 use Rattle.pssm_plan.specs.inner.Going.{KeepsOrder}
 use Rattle.pssm_plan.proofs.Growing.{longer_same}
 use Rattle.pssm_plan.proofs.Following.{order_kept, longer_progress, longer_kept, longer_by}
 use Rattle.pssm_plan.proofs.progress.Progress.follow_route.Goals as goal
 
-pub meets-anew-requires-clause-items : goal.meets-anew-requires-clause-items
-meets-anew-requires-clause-items c = rw c.as_slice.ensures.value c.requires.roster.items
-
 pub returns-in_err-way-clause-longer : goal.returns-in_err-way-clause-longer
-returns-in_err-way-clause-longer c = longer_progress _ _ (longer_same _) (longer_same _) (longer_same _)
+returns-in_err-way-clause-longer c = longer_progress _ _ (longer_same _) (longer_same _) (longer_same _) (longer_same _)
 
 pub returns-in_err-list_late-clause-longer : goal.returns-in_err-list_late-clause-longer
-returns-in_err-list_late-clause-longer c = longer_progress _ _ c.list_late.ensures.calls (longer_same _) (longer_same _)
+returns-in_err-list_late-clause-longer c = longer_progress _ _ c.list_late.ensures.calls (longer_same _) (longer_same _) (longer_same _)
 
 pub returns-in_err-push-clause-longer : goal.returns-in_err-push-clause-longer
 returns-in_err-push-clause-longer c =
-    longer_progress _ _ c.list_late.ensures.calls (longer_kept _ _ c.in_err-push.ensures.items) (longer_same _)
+    longer_progress _ _ c.list_late.ensures.calls (longer_kept _ _ c.in_err-push.ensures.items) (longer_same _) (longer_same _)
 
 pub returns-clause-longer : goal.returns-clause-longer
-returns-clause-longer c = longer_progress _ _ c.list_late.ensures.calls (longer_by _ _ _ c.in_ok-push.ensures.items) (longer_same _)
+returns-clause-longer c = longer_progress _ _ c.list_late.ensures.calls (longer_by _ _ _ c.in_ok-push.ensures.items) (longer_same _) (longer_same _)
 
 pub returns-clause-followed : goal.returns-clause-followed
 returns-clause-followed c = record {
@@ -41,4 +36,4 @@ returns-clause-kept c = λ free.
     let ways = c.args.self.now.ways.items in
     subst (λ (l : List Way). KeepsOrder m calls ways l) (sym c.in_ok-push.ensures.items)
     (order_kept m calls ways c.in_ok-way.way
-    (λ h. free (c.meets-anew.ensures (h.0, subst (λ (l : List Call). IsListed l h.0) (sym c.as_slice.ensures.value) h.1, h.2))))
+    (λ h. free (c.meets-anew.ensures h)))

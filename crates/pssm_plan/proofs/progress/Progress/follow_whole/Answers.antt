@@ -9,10 +9,9 @@ on_err (Err e) p = p
 pub returns-then-is_err-clause-refused : goal.returns-then-is_err-clause-refused
 returns-then-is_err-clause-refused c =
     let old = c.args.self.now in
-    let calls : vec_len old.roster.calls ≡ length old.roster.calls.items = search rules in
     let ways : vec_len old.ways ≡ length old.ways.items = search rules in
     let restored : vec_len old.restored ≡ length old.restored.items = search rules in
     on_err c.follow_few-outcome.result
     (back_again c.args.self.now c.follow_few-outcome.new.self _ c.len-calls.result c.len-ways.result c.len-restored.result
-    c.follow_few-outcome.ensures.longer (c.len-calls.ensures ∙ calls) (c.len-ways.ensures ∙ ways) (c.len-restored.ensures ∙ restored)
-    c.undo.ensures.calls c.undo.ensures.ways c.undo.ensures.restored)
+    c.follow_few-outcome.ensures.longer c.len-calls.ensures (c.len-ways.ensures ∙ ways) (c.len-restored.ensures ∙ restored)
+    c.undo.ensures.calls c.undo.ensures.ways c.undo.ensures.restored c.undo.ensures.spans)

@@ -1,9 +1,6 @@
-use Rattle.std.proofs.Common.{◌≡◌, Some, subst, List, IsTrue, ◌↔◌}
+use Rattle.std.proofs.Common.{◌≡◌, Some}
 use Rattle.pssm_model.specs.declared.elements.Owner.TheVariants.{Region, State}
-use Rattle.pssm_model.specs.declared.steps.Item.TheVariants.{Enter}
 use Rattle.pssm_model.specs.Forest.{owner_of}
-use Rattle.pssm_plan.specs.declared.roster.Call.{Call}
-use Rattle.pssm_plan.specs.inner.Marks.{IsMarked}
 use Rattle.pssm_plan.proofs.CalledPlaces.{owning_there}
 use Rattle.pssm_plan.proofs.AddedCalls.{reopened_here}
 use Rattle.pssm_plan.proofs.roster.Roster.is_reopened.Goals as goal
@@ -18,7 +15,7 @@ returns-then-way_opens c =
     let s = c.in-State.s in
     let e : owner_of c.args.machine.now (Region c.args.r) ≡ Some (State s) = (let at = c.region_owner.ensures in let is = c.in-State.is in cc) in
     let here = reopened_here c.args.machine.now c.args.self.now.calls.items c.args.way.now c.args.r s e in
-    let ran = subst (λ (l : List Call). IsTrue c.has_run.result ↔ IsMarked l (Enter s)) c.as_slice.ensures.value c.has_run.ensures in
+    let ran = c.has_run.ensures in
     (λ t. here.1 (c.way_opens.ensures.0 c.if-way_opens.true, ran.0 t), λ h. ran.1 (here.0 h).1)
 
 pub returns-else-way_opens : goal.returns-else-way_opens

@@ -1,9 +1,7 @@
-use Rattle.std.proofs.Common.{◌≡◌, ◌⊎◌, ◌↔◌, IsTrue, true, refl, List, subst}
+use Rattle.std.proofs.Common.{◌≡◌, ◌⊎◌, IsTrue, true, refl}
 use Rattle.std.proofs.lemmas.Result.{on_ok_weaker}
 use Rattle.pssm_model.specs.declared.steps.Item.{Item}
 use Rattle.pssm_model.specs.declared.steps.Item.TheVariants.{Enter}
-use Rattle.pssm_plan.specs.declared.roster.Call.{Call}
-use Rattle.pssm_plan.specs.inner.Marks.{IsMarked}
 use Rattle.pssm_plan.specs.inner.Calling.{IsOpeningOf, IsOfRestored}
 use Rattle.pssm_plan.proofs.Extending.{extended_same, extended_further}
 use Rattle.pssm_plan.proofs.AddedCalls.{of_restored}
@@ -15,7 +13,7 @@ returns-clause-added c =
     let s = c.args.s in
     let old = c.args.self.now.calls.items in
     let mid = c.add.new.self.calls.items in
-    let ran = subst (λ (l : List Call). IsTrue c.has_run-ran.result ↔ IsMarked l (Enter s)) c.as_slice.ensures.value c.has_run-ran.ensures in
+    let ran = c.has_run-ran.ensures in
     on_ok_weaker c.list_regions.result
     (λ added. extended_same m old _ (λ (x : Item). (IsTrue true × (x ≡ Enter s)) ⊎ (IsTrue c.has_run-ran.result × IsOpeningOf m s c.restored_mode.result x))
     (IsOfRestored m old c.args.mode s)
