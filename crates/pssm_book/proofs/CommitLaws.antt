@@ -1,5 +1,5 @@
 -- What comes of a commit.
-use Rattle.std.proofs.Common.{◌≡◌, ◌≤◌, ◌+◌, ◌++◌, ℕ, List, [], ◌∷◌, length, refl, sym, ap, ◌∙◌, arith}
+use Rattle.std.proofs.Common.{◌≡◌, ◌≤◌, ◌+◌, ◌++◌, Bool, true, false, ℕ, List, [], ◌∷◌, length, refl, sym, ap, ◌∙◌, arith}
 use Rattle.pssm_semantics.specs.declared.entry.ObjectId.{ObjectId}
 use Rattle.pssm_semantics.specs.declared.entry.Entry.{Entry}
 use Rattle.pssm_semantics.specs.declared.entry.Out.{Out}
@@ -18,6 +18,9 @@ use Rattle.pssm_book.specs.inner.Keeping.{IsInOrder, HasAppended, bare}
 use Rattle.pssm_book.specs.inner.Coming.{Commits}
 use Rattle.pssm_book.proofs.RunLaws.{outputs_more, limits_more}
 use Rattle.pssm_book.proofs.DeskLaws.{full_is, appended, task_next}
+
+pub true_and_false : (b : Bool) → b ≡ true → b ≡ false → ⊥
+true_and_false b p q = let both : true ≡ false = sym p ∙ q in cc
 
 -- a task posts nothing, and its entry has the outputs that it is given
 task_posts : (o : ObjectId) (task : Task) (outs : List Out) → posts_of_entry (entry_of o task outs) ≡ []

@@ -1,6 +1,6 @@
 //! `Book`: a run that several workers share.
 ghost use Rattle.std.specs.Prelude.{◌≡◌, ◌≤◌, ◌<◌, ◌+◌, ◌↔◌, ◌⊎◌, [], length, IfOk, OnErr, Contains, ℕ, ℤ};
-ghost use Rattle.std.specs.Prelude.{None, IfSome, IfNone};
+ghost use Rattle.std.specs.Prelude.{None, Some, IfSome, IfNone};
 ghost use Rattle.std.specs.List.{AllByRecursion};
 ghost use Rattle.pssm_book.specs.inner.Coming.{entries_by_claim, entries_by_commit};
 
@@ -55,6 +55,7 @@ impl<L: Ledger> Book<L> {
     ghost use Rattle.pssm_book.specs.Contents.{IsKept, KeepsTerms};
     ghost use Rattle.pssm_book.specs.Claiming.{IsBusy, HasMoved, HasClaimed, CarriesWork, CanRun, MayRun, IsRefusal};
     ghost use Rattle.pssm_book.specs.Claiming.{AreAllOutOf};
+    ghost use Rattle.pssm_book.specs.Works.{behaviour_in};
     ghost use Rattle.pssm_book.specs.Committing.{IsItsWork, IsStale, IsUpToDate, HasDone, IsWithout};
 
     /// A book with no entry and no task handed out, and the share that has all parts of its ledger.
@@ -182,6 +183,49 @@ impl<L: Ledger> Book<L> {
         ensures err { OnErr result (self.new ≡ self.old) }
     {
         let answer = self.desk.commit(self.alloc, task, worked)?;
+        count_commit(&mut self.tally, share, answer);
+        Ok(answer)
+    }
+
+    /// The same as [`Book::commit`] for work that is known to have run the behaviour of its task,
+    /// as work for a job that this book has handed out: the behaviours are not compared.
+    ///
+    /// The object is the one that the work is of. An entry that is appended adds one to the share.
+    /// With every answer but `NoMemory` the task is taken back, where the object has it handed out.
+    /// `NoMemory`: memory ran out; nothing has changed.
+    pub fn commit_known(
+        &mut self,
+        task: Task,
+        worked: &Worked,
+        share: &mut Share<L>,
+    ) -> Result<Committed, NoMemory>
+        requires part { 0 < share.old.parts }
+        requires known { behaviour_in self.old.run.setting worked.now.own task ≡ Some worked.now.act }
+
+        // Which answer comes.
+        ensures gone { IfOk result (λ answer. (answer ≡ Committed.Gone task)
+            ↔ (IsItsWork self.old.run self.old.claims task worked.now → ⊥)) }
+        ensures which { IfOk result (λ answer. (other : ATask) → answer ≡ Committed.Gone other → other ≡ task) }
+        ensures stale { IfOk result (λ answer. (variable : ℕ) (kept carried : ℤ)
+            → (answer ≡ Committed.Stale variable kept carried)
+            ↔ IsStale self.old.run self.old.claims task worked.now variable kept carried) }
+        ensures full { IfOk result (λ answer. (answer ≡ Committed.Full)
+            ↔ (IsUpToDate self.old.run self.old.claims task worked.now × IsFull self.old.limit self.old.run.journal)) }
+        ensures done { IfOk result (λ answer. (answer ≡ Committed.Done)
+            ↔ (IsUpToDate self.old.run self.old.claims task worked.now
+            × (IsFull self.old.limit self.old.run.journal → ⊥))) }
+
+        // What it leaves.
+        ensures appends { IfOk result (λ answer. answer ≡ Committed.Done → HasDone self.old task worked.now self.new) }
+        ensures refused { IfOk result (λ answer. (answer ≡ Committed.Done → ⊥) → self.new.run ≡ self.old.run) }
+        ensures given_back { IfOk result (λ answer. IsWithout self.old.claims (worked.now.own, task) self.new.claims) }
+        ensures unclaimed { (Contains self.old.claims (worked.now.own, task) → ⊥) → self.new ≡ self.old }
+        ensures terms { KeepsTerms self.old self.new }
+        ensures counted { share.new.amount + length self.old.run.journal ≡ share.old.amount + length self.new.run.journal }
+        ensures parts { share.new.parts ≡ share.old.parts }
+        ensures err { OnErr result (self.new ≡ self.old) }
+    {
+        let answer = self.desk.commit_known(self.alloc, task, worked)?;
         count_commit(&mut self.tally, share, answer);
         Ok(answer)
     }

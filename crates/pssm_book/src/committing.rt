@@ -1,8 +1,9 @@
 //! How a desk goes on by what was run for a task.
-ghost use Rattle.std.specs.Prelude.{◌≡◌, IfOk, OnOk, OnErr, Contains};
+ghost use Rattle.std.specs.Prelude.{◌≡◌, Some, IfOk, OnOk, OnErr, Contains};
 ghost use Rattle.pssm_semantics.specs.Admissible.{IsFull};
 ghost use Rattle.pssm_semantics.specs.Work.{outcome_from};
 ghost use Rattle.pssm_object.specs.Tasks.{entry_of as entry_for};
+ghost use Rattle.pssm_book.specs.Works.{behaviour_in};
 ghost use Rattle.pssm_book.specs.Committing.{IsUpToDate, IsWithout};
 ghost use Rattle.pssm_book.specs.inner.Coming.{Commits};
 
@@ -34,6 +35,31 @@ impl Desk {
         ensures terms { KeepsTerms (bare self.old) (bare self.new) }
         ensures err { OnErr result (IsUnchanged self.old self.new) }
     {
+        if self.is_run_of(task, worked) {
+            return self.commit_known(alloc, task, worked);
+        }
+        self.give_back(worked.own(), task);
+        Ok(Committed::Gone { task })
+    }
+
+    /// Takes back a task that was handed out, with what was run for it, which is known to be its
+    /// behaviour; the entry is appended where it may be.
+    pub fn commit_known(
+        &mut self,
+        alloc: Global,
+        task: Task,
+        worked: &Worked,
+    ) -> Result<Committed, NoMemory>
+        requires order { IsInOrder self.old }
+        requires known { behaviour_in self.old.system.setting worked.now.own task ≡ Some worked.now.act }
+        ensures order { IsInOrder self.new }
+        ensures commits { IfOk result (λ answer. Commits (bare self.old) task worked.now answer (bare self.new)) }
+        ensures given_back { IfOk result
+            (λ answer. IsWithout self.old.claims.items (worked.now.own, task) self.new.claims.items) }
+        ensures unclaimed { (Contains self.old.claims.items (worked.now.own, task) → ⊥) → IsUnchanged self.old self.new }
+        ensures terms { KeepsTerms (bare self.old) (bare self.new) }
+        ensures err { OnErr result (IsUnchanged self.old self.new) }
+    {
         let object = worked.own();
         if !self.has_claim(object, task) {
             return Ok(Committed::Gone { task });
@@ -48,6 +74,7 @@ impl Desk {
     fn settle(&mut self, alloc: Global, task: Task, worked: &Worked) -> Result<Committed, NoMemory>
         requires order { IsInOrder self.old }
         requires claimed { Contains self.old.claims.items (worked.now.own, task) }
+        requires known { behaviour_in self.old.system.setting worked.now.own task ≡ Some worked.now.act }
         ensures order { IsInOrder self.new }
         ensures commits { IfOk result (λ answer. Commits (bare self.old) task worked.now answer (bare self.new)) }
         ensures claims { self.new.claims.items ≡ self.old.claims.items }

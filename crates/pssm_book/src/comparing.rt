@@ -1,11 +1,11 @@
 //! What the work for a task is worth now.
-ghost use Rattle.std.specs.Prelude.{◌≡◌, ◌<◌, ◌↔◌, length, IsTrue, Contains};
+ghost use Rattle.std.specs.Prelude.{◌≡◌, ◌<◌, ◌↔◌, length, Some, IsTrue, Contains};
 ghost use Rattle.pssm_semantics.specs.Values.{no_params};
 ghost use Rattle.pssm_semantics.specs.Pool.{told_by};
 ghost use Rattle.pssm_semantics.specs.Behaviours.{params_of};
 ghost use Rattle.pssm_system.specs.Tasks.{IsReadyOf};
-ghost use Rattle.pssm_book.specs.Works.{params_in};
-ghost use Rattle.pssm_book.specs.inner.Comparing.{HasItsForm, ComparesStores, Compares};
+ghost use Rattle.pssm_book.specs.Works.{behaviour_in, params_in};
+ghost use Rattle.pssm_book.specs.inner.Comparing.{ComparesStores, Compares};
 
 use crate::behaviours::behaviour;
 use crate::desk::Desk;
@@ -28,37 +28,37 @@ pub enum Compared {
 impl Desk {
     ghost use Rattle.pssm_book.specs.inner.Keeping.{IsInOrder};
 
-    /// How what was run stands to a task that is handed out.
+    /// Whether what was run is the behaviour of a task.
+    pub fn is_run_of(&self, task: Task, worked: &Worked) -> bool
+        ensures { IsTrue result
+            ↔ (behaviour_in self.now.system.setting worked.now.own task ≡ Some worked.now.act) }
+    {
+        match behaviour(self.system.setting(), worked.own(), task) {
+            Some(act) => act.same(worked.act()),
+            None => false,
+        }
+    }
+
+    /// How what was run stands to a task that is handed out, where it is the task's behaviour.
     pub fn compare(&self, task: Task, worked: &Worked) -> Compared
         requires order { IsInOrder self.now }
         requires claimed { Contains self.now.claims.items (worked.now.own, task) }
+        requires known { behaviour_in self.now.system.setting worked.now.own task ≡ Some worked.now.act }
         ensures { Compares self.now.system self.now.claims.items task worked.now result }
     {
         let object = worked.own();
         if !self.system.is_ready(object, task) {
             return Compared::Apart;
         }
-        if !self.has_its_form(task, worked) {
+        if !self.has_params(task, worked) {
             return Compared::Apart;
         }
         compare_stores(self.system.store(object), worked.store())
     }
 
-    // Whether what was run is the behaviour of a ready task, on the parameters of the task's entry.
-    fn has_its_form(&self, task: Task, worked: &Worked) -> bool
-        requires order { IsInOrder self.now }
-        requires ready { IsReadyOf self.now.system.setting self.now.system.journal worked.now.own task }
-        ensures { IsTrue result ↔ HasItsForm self.now.system task worked.now }
-    {
-        match behaviour(self.system.setting(), worked.own(), task) {
-            Some(act) => act.same(worked.act()) && self.has_params(task, worked),
-            None => false,
-        }
-    }
-
-    // Whether it was run on the parameters of the task's entry.
+    // Whether what was run for a ready task was run on the parameters of the task's entry.
     fn has_params(&self, task: Task, worked: &Worked) -> bool
-        requires { worked.now.own.0 < length self.now.system.setting.objects }
+        requires { IsReadyOf self.now.system.setting self.now.system.journal worked.now.own task }
         ensures { IsTrue result ↔ (worked.now.params ≡ params_in self.now.system.journal worked.now.own task) }
     {
         match task {

@@ -50,7 +50,9 @@ use Rattle.pssm_book.specs.contracts.book.Book as book
 use Rattle.std.proofs.sync.Condvar.TheSendSync as condvar
 use Rattle.std.proofs.sync.Mutex.TheSendSync as mutex
 use Rattle.std.specs.contracts.sync.Mutex as lock
+use Rattle.pssm_workers.specs.declared.scene.Scene.{Ghosts as Scenes}
 use Rattle.pssm_workers.proofs.seat.Seat.TheSendSync as seats
+use Rattle.pssm_workers.specs.contracts.hall.Hall as hall
 use Rattle.pssm_workers.specs.contracts.floor.Floor as floor
 use Rattle.pssm_workers.specs.contracts.seat.Seat as seat
 use Rattle.pssm_workers.specs.contracts.shift.Shift as shift
@@ -142,17 +144,20 @@ book_send L g = search (sendable, book_parts) depth 10
 
 -- ---- a shift
 
-floor_sync : (L : RattleType) (g : Ghosts L.Denot) → IsSync (floor.the_field L g).row
-floor_sync L g = search (sendable, crosses, mutex.the_sync, condvar.the_sync, book_send) depth 60 fits 20000
+hall_send : (L V : RattleType) (v : Scenes V.Denot) (g : Ghosts L.Denot) → IsSend (hall.the_row L V v g)
+hall_send L V v g = search (sendable, book_send) depth 20
+
+floor_sync : (L V : RattleType) (v : Scenes V.Denot) (g : Ghosts L.Denot) → IsSync (floor.the_field L V v g).row
+floor_sync L V v g = search (sendable, crosses, mutex.the_sync, condvar.the_sync, hall_send) depth 60 fits 20000
 
 seat_sync : (L : RattleType) (g : Ghosts L.Denot) → IsSync (lock.the_row (seat.the_row L g))
 seat_sync L g = search (sendable, mutex.the_sync, seats.the_send) depth 30
 
 -- Several workers may share what they have in common.
-pub shift_sync : (L : RattleType) (g : Ghosts L.Denot) → IsSync (shift.the_row L g)
-shift_sync L g =
-    recorded_sync (shift.the_field L g).row _ _ (shift.the_type L g).to_one
-    (struct_sync (shape (shift.the_type L g)) (
+pub shift_sync : (L V : RattleType) (v : Scenes V.Denot) (g : Ghosts L.Denot) → IsSync (shift.the_row L V v g)
+shift_sync L V v g =
+    recorded_sync (shift.the_field L V v g).row _ _ (shift.the_type L V v g).to_one
+    (struct_sync (shape (shift.the_type L V v g)) (
       heap.the_field_sync,
-      (floor_sync L g, (Vec-sync (lock.the_row (seat.the_row L g)) (seat_sync L g), (search sendable depth 10, tt))),
+      (floor_sync L V v g, (Vec-sync (lock.the_row (seat.the_row L g)) (seat_sync L g), (search sendable depth 10, tt))),
     ))

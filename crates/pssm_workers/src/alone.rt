@@ -1,9 +1,9 @@
 //! What one worker does, on the caller's own thread.
 ghost use Rattle.std.specs.Prelude.{◌≡◌, ◌≤◌, ◌<◌, length, IfOk};
 ghost use Rattle.std.specs.List.{AllByRecursion};
-ghost use Rattle.pssm_semantics.specs.Arguments.{ActArgsFit};
 ghost use Rattle.pssm_semantics.specs.Proper.{IsWellFormed};
 ghost use Rattle.pssm_semantics.specs.Known.{IsStimulusOf};
+ghost use Rattle.pssm_workers.specs.inner.Jobs.{IsJobIn};
 
 use crate::copies::copies;
 use crate::gathered::Gathered;
@@ -76,7 +76,7 @@ fn do_alone<L: Ledger>(
     job: Job,
 ) -> Result<(), NoMemory>
     requires part { 0 < share.old.parts }
-    requires runs { ActArgsFit job.act }
+    requires job { IsJobIn book.old.run.setting job }
     ensures { share.new.parts ≡ share.old.parts }
 {
     let worked = run(
@@ -86,6 +86,6 @@ fn do_alone<L: Ledger>(
         job.store.as_slice(),
         &job.params,
     )?;
-    book.commit(job.task, &worked, share)?;
+    book.commit_known(job.task, &worked, share)?;
     Ok(())
 }

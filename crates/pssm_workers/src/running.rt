@@ -7,12 +7,14 @@ ghost use Rattle.pssm_semantics.specs.Known.{IsStimulusOf};
 use crate::copies::copies;
 use crate::floor::Floor;
 use crate::gathered::Gathered;
+use crate::scene::Scene;
 use crate::seat::Seat;
 use crate::shift::{Crew, Shift};
 use pssm_base::Gate;
 use pssm_book::Book;
 use pssm_semantics::{Setting, Stimulus};
 use std::alloc::{AllocError as NoMemory, Global};
+use std::marker::Brand;
 use std::sync::ledger::{Blank, Ledger, Share};
 use std::sync::{Mutex, Wait};
 use std::thread;
@@ -51,11 +53,43 @@ pub fn run_workers<L: Ledger + Send + Sync, R: Threads + Wait + Sync, G: Gate + 
     ensures whole { IfOk result (λ gathered. gathered.share.parts ≡ L.parts) }
     ensures counted { IfOk result (λ gathered. gathered.share.amount ≡ length gathered.book.run.journal) }
 {
+    run_in::<L, Brand, R, G>(
+        rt, alloc, blank, setting, stimuli, limit, workers, seed, gate,
+    )
+}
+
+// The same, with a type that stands for the setting.
+fn run_in<
+    L: Ledger + Send + Sync,
+    V: Scene + Send + Sync,
+    R: Threads + Wait + Sync,
+    G: Gate + Sync,
+>(
+    rt: &R,
+    alloc: Global,
+    blank: Blank,
+    setting: &Setting,
+    stimuli: &[Stimulus],
+    limit: u32,
+    workers: u8,
+    seed: u64,
+    gate: &G,
+) -> Result<Gathered<L>, NoMemory>
+    requires name { blank.name ≡ L.name }
+    requires parts { blank.parts ≡ L.parts }
+    requires enough { workers + 1 ≤ blank.parts }
+    requires scene { setting.now ≡ V.setting }
+    requires well_formed { IsWellFormed setting.now }
+    requires known { AllByRecursion (IsStimulusOf setting.now) stimuli.now }
+    requires limit { limit ≤ 1000000 }
+    ensures whole { IfOk result (λ gathered. gathered.share.parts ≡ L.parts) }
+    ensures counted { IfOk result (λ gathered. gathered.share.amount ≡ length gathered.book.run.journal) }
+{
     let setting = setting.copy(alloc)?;
     let stimuli = copies(alloc, stimuli)?;
     let (book, mut share) = Book::<L>::new(alloc, blank, setting, stimuli, limit)?;
     let seats = new_seats(alloc, &mut share, workers)?;
-    let shift = Shift {
+    let shift = Shift::<L, V> {
         alloc,
         floor: Floor::new(book, workers > 1),
         seats,
@@ -117,11 +151,12 @@ fn work_together<R: Threads + Wait + Sync, G: Gate + Sync, C: Crew + Sync>(
 }
 
 // Lets a thread work at each seat of a shift, and returns when all of them have ended.
-fn all_work<L: Ledger + Send + Sync, R: Threads + Wait + Sync, G: Gate + Sync>(
-    rt: &R,
-    shift: &Shift<L>,
-    gate: &G,
-) {
+fn all_work<
+    L: Ledger + Send + Sync,
+    V: Scene + Send + Sync,
+    R: Threads + Wait + Sync,
+    G: Gate + Sync,
+>(rt: &R, shift: &Shift<L, V>, gate: &G) {
     work_together(rt, shift, gate, shift.seats.as_slice().len());
 }
 

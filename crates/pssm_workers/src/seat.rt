@@ -1,8 +1,9 @@
 //! `Seat`: what a worker has of its own.
-ghost use Rattle.std.specs.Prelude.{◌≡◌, IfOk};
-ghost use Rattle.pssm_book.specs.Claiming.{MayRun};
+ghost use Rattle.std.specs.Prelude.{◌≡◌};
 
-use pssm_book::{Book, Claimed, Committed};
+use crate::hall::Hall;
+use crate::scene::Scene;
+use pssm_book::{Claimed, Committed};
 use pssm_semantics::{Task, Worked};
 use std::alloc::AllocError as NoMemory;
 use std::sync::ledger::{Ledger, Share};
@@ -19,6 +20,10 @@ pub struct Seat<L: Ledger> {
 }
 
 impl<L: Ledger> Seat<L> {
+    ghost use Rattle.std.specs.Prelude.{Some, IfOk};
+    ghost use Rattle.pssm_book.specs.Works.{behaviour_in};
+    ghost use Rattle.pssm_workers.specs.inner.Jobs.{HandsOutIn};
+
     /// A seat with this share.
     pub fn new(share: Share<L>) -> Seat<L>
         requires { share.parts ≡ 1 }
@@ -30,20 +35,22 @@ impl<L: Ledger> Seat<L> {
     }
 
     /// Claims what may be done next in the book.
-    pub fn claim(&mut self, book: &mut Book<L>, word: u64) -> Result<Claimed, NoMemory>
-        ensures { IfOk result MayRun }
+    pub fn claim<V: Scene>(&mut self, hall: &mut Hall<L, V>, word: u64) -> Result<Claimed, NoMemory>
+        ensures { IfOk result (HandsOutIn V.setting) }
     {
-        book.claim(word, &mut self.share)
+        hall.claim(word, &mut self.share)
     }
 
-    /// Commits what was run for a task.
-    pub fn commit(
+    /// Commits what was run for a task: the task's behaviour.
+    pub fn commit<V: Scene>(
         &mut self,
-        book: &mut Book<L>,
+        hall: &mut Hall<L, V>,
         task: Task,
         worked: &Worked,
-    ) -> Result<Committed, NoMemory> {
-        book.commit(task, worked, &mut self.share)
+    ) -> Result<Committed, NoMemory>
+        requires { behaviour_in V.setting worked.now.own task ≡ Some worked.now.act }
+    {
+        hall.commit(task, worked, &mut self.share)
     }
 
     /// Notes whether memory ran out.

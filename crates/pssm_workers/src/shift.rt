@@ -1,5 +1,6 @@
 //! `Shift`: several workers at one run.
 use crate::floor::Floor;
+use crate::scene::Scene;
 use crate::seat::Seat;
 use crate::working::sit;
 use pssm_base::Gate;
@@ -14,14 +15,14 @@ pub trait Crew {
 }
 
 /// Several workers at one run: what they share, and a seat for each.
-pub struct Shift<L: Ledger> {
+pub struct Shift<L: Ledger, V: Scene> {
     pub alloc: Global,
-    pub floor: Floor<L>,
+    pub floor: Floor<L, V>,
     pub seats: Vec<Mutex<Seat<L>>>,
     pub seed: u64,
 }
 
-impl<L: Ledger> Crew for Shift<L> {
+impl<L: Ledger, V: Scene> Crew for Shift<L, V> {
     fn work<R: Wait, G: Gate>(&self, rt: &R, gate: &G, number: usize) {
         if let Some(seat) = self.seats.as_slice().get(number) {
             sit(

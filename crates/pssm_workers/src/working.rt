@@ -1,9 +1,9 @@
 //! What a worker does.
 ghost use Rattle.std.specs.Prelude.{IfOk, IfSome};
-ghost use Rattle.pssm_semantics.specs.Arguments.{ActArgsFit};
-ghost use Rattle.pssm_book.specs.Claiming.{CanRun};
+ghost use Rattle.pssm_workers.specs.inner.Jobs.{IsJobIn};
 
 use crate::floor::Floor;
+use crate::scene::Scene;
 use crate::seat::Seat;
 use crate::words::words_of;
 use pssm_base::Gate;
@@ -17,10 +17,10 @@ use std::sync::{Mutex, Wait};
 
 /// Sits down, and works until nothing is left to do, the journal is full or memory has run out;
 /// then wakes the others, who will find the same or go on without it.
-pub fn sit<L: Ledger, R: Wait, G: Gate>(
+pub fn sit<L: Ledger, V: Scene, R: Wait, G: Gate>(
     rt: &R,
     alloc: Global,
-    floor: &Floor<L>,
+    floor: &Floor<L, V>,
     gate: &G,
     seat: &Mutex<Seat<L>>,
     seed: u64,
@@ -41,10 +41,10 @@ const PATIENCE: u32 = 8;
 const LONG: usize = 32;
 
 // Claims, runs and commits, again and again. Words settle what comes where several things may.
-fn work<L: Ledger, R: Wait, G: Gate>(
+fn work<L: Ledger, V: Scene, R: Wait, G: Gate>(
     rt: &R,
     alloc: Global,
-    floor: &Floor<L>,
+    floor: &Floor<L, V>,
     gate: &G,
     seat: &mut Seat<L>,
     words: Pcg64,
@@ -82,16 +82,16 @@ fn patience_after(job: &Job, patience: u32) -> u32 {
 
 // Runs the behaviour of a task, and commits it; the answer is the task to go on with, if one was
 // claimed. Where memory runs out the task is given back.
-fn do_job<L: Ledger, R: Wait>(
+fn do_job<L: Ledger, V: Scene, R: Wait>(
     rt: &R,
     alloc: Global,
-    floor: &Floor<L>,
+    floor: &Floor<L, V>,
     hasty: bool,
     seat: &mut Seat<L>,
     job: Job,
 ) -> Result<Option<Job>, NoMemory>
-    requires { ActArgsFit job.act }
-    ensures { IfOk result (λ job. IfSome job CanRun) }
+    requires { IsJobIn V.setting job }
+    ensures { IfOk result (λ job. IfSome job (IsJobIn V.setting)) }
 {
     let object = job.object;
     let task = job.task;
@@ -104,16 +104,16 @@ fn do_job<L: Ledger, R: Wait>(
 
 // Runs the behaviour of a task outside the lock, and commits it; the answer is the task to go on
 // with, if one was claimed.
-fn run_and_commit<L: Ledger, R: Wait>(
+fn run_and_commit<L: Ledger, V: Scene, R: Wait>(
     rt: &R,
     alloc: Global,
-    floor: &Floor<L>,
+    floor: &Floor<L, V>,
     hasty: bool,
     seat: &mut Seat<L>,
     job: Job,
 ) -> Result<Option<Job>, NoMemory>
-    requires { ActArgsFit job.act }
-    ensures { IfOk result (λ job. IfSome job CanRun) }
+    requires { IsJobIn V.setting job }
+    ensures { IfOk result (λ job. IfSome job (IsJobIn V.setting)) }
 {
     let worked = run(
         alloc,

@@ -1,18 +1,12 @@
 -- What the work for a task is worth now.
-use Rattle.std.specs.Prelude.{◌≡◌, ◌≢◌, ℤ, List, length, Some}
+use Rattle.std.specs.Prelude.{◌≡◌, ◌≢◌, ℤ, List, length}
 use Rattle.pssm_semantics.specs.declared.entry.ObjectId.{ObjectId}
 use Rattle.pssm_semantics.specs.declared.stimulus.Task.{Task}
 use Rattle.pssm_semantics.specs.Work.{Work}
 use Rattle.pssm_system.specs.History.{History}
 use Rattle.pssm_book.specs.declared.comparing.Compared.{Compared}
 use Rattle.pssm_book.specs.declared.comparing.Compared.TheVariants.{Apart, Differing, Same}
-use Rattle.pssm_book.specs.Works.{behaviour_in, params_in}
 use Rattle.pssm_book.specs.Committing.{IsItsWork, DifferFirst, IsStale, IsUpToDate}
-
--- The behaviour and the parameters of the work are those of the task.
-pub record HasItsForm (run : History) (task : Task) (work : Work) : Type 0 where
-  pub act : behaviour_in run.setting work.own task ≡ Some work.act
-  pub params : work.params ≡ params_in run.journal work.own task
 
 -- how the values that were carried stand to those that are kept
 abbrev pub ComparesStores : List ℤ → List ℤ → Compared → Type 0

@@ -16,6 +16,11 @@ compare_stores-requires c =
     let is = ap (λ (xs : List ℤ). length xs) (c.store.ensures ready.class ready.class_is) in
     omega (arith, few, is)
 
+-- the object of a ready task is the setting's, whichever way it is named
+pub has_params-requires : goal.has_params-requires
+has_params-requires c =
+    ready_of c.args.self.now.system c.args.self.now.claims.items c.args.task c.args.worked.now c.own-object.result c.own-object.ensures (c.is_ready.ensures.0 c.if-not-is_ready.false)
+
 pub returns : goal.returns
 returns c =
     let ready = c.is_ready.ensures.0 c.if-not-is_ready.false in
@@ -23,6 +28,6 @@ returns c =
     c.store.ensures ready.class ready.class_is ∙ sym (store_is c.requires.order.well_formed c.requires.order.admissible c.own-object.result ready.class_is) in
     compared c.args.self.now.system c.args.self.now.claims.items c.args.task c.args.worked.now c.requires.claimed
     (ready_of c.args.self.now.system c.args.self.now.claims.items c.args.task c.args.worked.now c.own-object.result c.own-object.ensures ready)
-    (c.has_its_form.ensures.0 c.if-not-has_its_form.false) c.store.result.now
+    c.requires.known (c.has_params.ensures.0 c.if-not-has_params.false) c.store.result.now
     (here ∙ ap (λ (q : ObjectId). store_in c.args.self.now.system.setting c.args.self.now.system.journal q) c.own-object.ensures) c.compare_stores.result
     (subst (λ (xs : List ℤ). ComparesStores c.store.result.now xs c.compare_stores.result) c.store-2.ensures c.compare_stores.ensures)
