@@ -1,5 +1,5 @@
 //! Stimuli among the words.
-ghost use Rattle.std.specs.Prelude.{◌≡◌, ◌↔◌, [], slice_get, IfOk, IfSome, IfNone, IsTrue, List, ℕ};
+ghost use Rattle.std.specs.Prelude.{◌≡◌, ◌↔◌, [], slice_get, IfOk, OnOk, IfSome, IfNone, IsTrue, List, ℕ};
 ghost use Rattle.std.specs.List.{AllByRecursion};
 ghost use Rattle.pssm_semantics.specs.declared.stimulus.Stimulus.{Stimulus};
 ghost use Rattle.pssm_semantics.specs.Pool.{posts_of_entry};
@@ -17,19 +17,20 @@ use std::alloc::{AllocError as NoMemory, Global};
 pub fn are_spelled(alloc: Global, words: &[&str]) -> Result<bool, NoMemory>
     ensures { IfOk result (λ yes. IsTrue yes ↔ AllByRecursion IsStimulusText (lent words.now)) }
 {
+    let mut text = Vec::new(alloc);
     for word in words {
-        if !is_spelled(alloc, word.as_bytes())? {
+        if !is_spelled(alloc, &mut text, word.as_bytes())? {
             return Ok(false);
         }
     }
     Ok(true)
 }
 
-// Whether a word is spelled as a stimulus.
-fn is_spelled(alloc: Global, word: &[u8]) -> Result<bool, NoMemory>
+// Whether a word is spelled as a stimulus. The text is room for the line that posts it.
+fn is_spelled(alloc: Global, text: &mut Vec<u8>, word: &[u8]) -> Result<bool, NoMemory>
     ensures { IfOk result (λ yes. IsTrue yes ↔ IsStimulusText word.now) }
 {
-    let text = post_text(alloc, word)?;
+    post_text(text, word)?;
     let call = call_at(alloc, text.as_slice())?;
     Ok(call.is_some())
 }
@@ -62,8 +63,9 @@ fn all_named(
     ensures none { IfOk result (λ o. IfNone o (NameNoStimuli setting.now (lent words.now))) }
 {
     let mut stimuli = Vec::new(alloc);
+    let mut text = Vec::new(alloc);
     for word in words {
-        match stimulus_of(alloc, setting, namespace, word.as_bytes())? {
+        match stimulus_of(alloc, setting, namespace, &mut text, word.as_bytes())? {
             Some(stimulus) => stimuli.push(stimulus)?,
             None => return Ok(None),
         }
@@ -71,21 +73,20 @@ fn all_named(
     Ok(Some(stimuli))
 }
 
-// The stimulus that a word names.
+// The stimulus that a word names. The text is room for the line that posts it.
 fn stimulus_of(
     alloc: Global,
     setting: &Setting,
     namespace: &Namespace,
+    text: &mut Vec<u8>,
     word: &[u8],
 ) -> Result<Option<Stimulus>, NoMemory>
     requires { namespace.now ≡ setting.now }
     ensures names { IfOk result (λ o. IfSome o (Names setting.now word.now)) }
     ensures none { IfOk result (λ o. IfNone o ((x : Stimulus) → Names setting.now word.now x → ⊥)) }
 {
-    let text = post_text(alloc, word)?;
-    let stimulus = stimulus_at(alloc, setting, namespace, text.as_slice());
-    drop(text);
-    stimulus
+    post_text(text, word)?;
+    stimulus_at(alloc, setting, namespace, text.as_slice())
 }
 
 // The stimulus that a word names, from the text of the line that posts it.
@@ -131,14 +132,15 @@ fn posted(entry: Entry) -> Option<Stimulus>
     }
 }
 
-// The text of the line of a journal that has the word after `post`, with its line feed.
-fn post_text(alloc: Global, word: &[u8]) -> Result<Vec<u8>, NoMemory>
-    ensures { IfOk result (λ text. text.items ≡ post_text_of word.now) }
+// Makes a text that of the line of a journal that has the word after `post`, with its line feed.
+fn post_text(text: &mut Vec<u8>, word: &[u8]) -> Result<(), NoMemory>
+    ensures { OnOk result (text.new.items ≡ post_text_of word.now) }
 {
-    let mut text = b"post ".to_vec(alloc)?;
+    text.clear();
+    text.extend_from_slice(b"post ")?;
     text.extend_from_slice(word)?;
     text.push(b'\n')?;
-    Ok(text)
+    Ok(())
 }
 
 // The parts of the line that this is the text of, where the word in it is spelled as a stimulus.
