@@ -12,7 +12,7 @@ sys.path.insert(0, os.path.dirname(os.path.realpath(__file__)))
 
 from saying import (  # noqa: E402
     NO_PROGRAM, Ended, Signalled, die_of, heed_usual_signals, say, write_answer, write_error)
-from words import call_of, help_text, list_of_words, list_unread, usage  # noqa: E402
+from words import Unclear, call_of, help_text, list_of_words, list_unread, usage, with_input  # noqa: E402
 
 
 def answer_at_once(call, is_quiet):
@@ -104,6 +104,10 @@ def main(words):
     status = own_call(words, is_quiet) if not is_trying or not words else None
     if status is not None:
         return status
+    try:
+        words = with_input(words)
+    except Unclear as why:
+        return usage(str(why), is_quiet)
     return ask_unproved(words, is_quiet) if is_trying else ask_program(words, is_quiet)
 
 

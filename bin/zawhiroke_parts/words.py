@@ -8,6 +8,11 @@ import os
 from saying import say, write_answer, write_error
 
 MOST = 1 << 64
+INPUT = '/dev/stdin'
+
+
+class Unclear(Exception):
+    """Words that mean nothing, and why."""
 
 
 class Call:
@@ -113,6 +118,16 @@ def call_of(words):
     return Call(words, range(1, len(words)), [])
 
 
+def with_input(words):
+    """The words as the program takes them: a path `-` stands for standard input. More than one are words that mean nothing."""
+    call = call_of(words)
+    if isinstance(call, str) or '-' not in call.paths:
+        return words
+    if call.paths.count('-') > 1:
+        raise Unclear('standard input is one file: - may stand once')
+    return [INPUT if place in call.places and word == '-' else word for place, word in enumerate(words)]
+
+
 def no_command(word):
     """Why the word is no command."""
     if word.startswith('-'):
@@ -183,7 +198,8 @@ def help_text():
         for name, rest, does, example in commands:
             lines.append('  %s\n      %s\n%s      $ bin/zawhiroke %s\n'
                          % ((name + ' ' + rest).rstrip(), does, options_text() if name == 'run' else '', example))
-    lines.append('\nREADME.md has the statuses, docs/FORMATS.md every text that is read and written.\n')
+    lines.append('\nA path `-` is standard input; a file of that name is `./-`.\n')
+    lines.append('docs/USING.md has the statuses, docs/FORMATS.md every text that is read and written.\n')
     return ''.join(lines)
 
 

@@ -61,6 +61,14 @@ class Through(InRepository):
         self.repository.write('crates/low/src/lib.rt', '// built anew\n')
         self.repository.build()
         self.assertEqual(self.run_words('check', '/dev/stdin', given=b'pssm-flat 1\n')[1], 'pssm-flat 1\n')
+        self.assertEqual(self.run_words('check', '-', given=b'pssm-flat 1\n')[1], 'pssm-flat 1\n')
+        self.repository.write('standin/program', '#!/bin/sh\n[ $# -gt 0 ] || { echo usage; exit 2; }\n'
+                              '[ "$1" != judge ] || [ "$3" != /dev/stdin ] || cat "$3"\n', 0o755)
+        self.repository.write('crates/low/src/lib.rt', '// built once more\n')
+        self.repository.build()
+        ran = self.run_words('judge', 'examples/go.flat', '-', given=b'accept 3\n')
+        self.assertEqual(ran[:2], (0, 'accept 3\n'))
+        self.assertEqual(self.run_words('judge', '-', '-', given=b'pssm-flat 1\n')[:2], (2, 'usage\n'))
 
     def test_links_and_other_folders(self):
         os.symlink('bin/zawhiroke', self.repository.path('one'))
