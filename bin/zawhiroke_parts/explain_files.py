@@ -2,7 +2,7 @@
 from shown import marked, shown
 from texts import ACT_FAULTS, FILE_FAULTS, REDEFINITIONS
 
-EXPORT = 'README.md, "What your tool must export"'
+EXPORT = 'docs/XMI.md'
 
 
 def refused_file(path, data, byte, fault):

@@ -129,7 +129,7 @@ REDEFINITIONS = {
     'Cycle': 'no machine extends itself, directly or through others',
 }
 
-# The faults of a model file: what the file has there, and what to change (README.md, "What your tool must export").
+# The faults of a model file: what the file has there, and what to change (docs/XMI.md).
 FILE_FAULTS = {
     'NotUtf8': 'the file is not UTF-8, as one in UTF-16 or Latin-1: save it as UTF-8',
     'Malformed': (

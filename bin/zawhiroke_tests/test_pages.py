@@ -1,4 +1,4 @@
-"""What docs/ANSWERS.md and README.md show of standard error is what the script writes, where the program answers so."""
+"""What docs/ANSWERS.md, README.md and docs/USING.md show of standard error is what the script writes, where the program answers so."""
 import os
 import re
 import subprocess
@@ -44,7 +44,10 @@ class Pages(InRepository):
 
     def test_readme(self):
         self.repository.build()
-        for block in blocks_of('README.md'):
+        shown = 0
+        for block in list(blocks_of('README.md')) + list(blocks_of('docs/USING.md')):
             for command, wanted in block:
                 if 'zawhiroke: ' in wanted and 'judge-all' not in command:
                     self.shown(command, wanted)
+                    shown += 1
+        self.assertGreater(shown, 0)
