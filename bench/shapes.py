@@ -71,6 +71,14 @@ def deferring(count):
     return of_rounds('\n'.join(lines) + '\n', lambda rounds: ['a.D()'] * count + ['a.G()'] * rounds, 4, 5 if count < 10 else 50)
 
 
+def recalling():
+    """A State that defers `A` and is left by `B` for one that is left by `A`: what was deferred is taken from the front of the pool."""
+    lines = ['pssm-flat 1', 'signal A 0', 'signal B 0', 'class M', 'object a M', 'machine M', 'region r0 top',
+             'vertex v0 r0 initial', 'vertex v1 r0 state', 'defer A', 'vertex v2 r0 state', 'transition t0 v0 v1 external',
+             'transition t1 v1 v2 external', 'on B', 'transition t2 v2 v1 external', 'on A', 'end']
+    return of_rounds('\n'.join(lines) + '\n', lambda rounds: ['a.A()', 'a.B()'] * rounds, 4, 10)
+
+
 def shapes():
     """The shapes by name, each made when its turn comes."""
     yield 'round', lambda: of_rounds(CYCLE, lambda rounds: ['a.G()'] * rounds, 4, 5)
@@ -95,6 +103,7 @@ def shapes():
                                ('steps', completion.STEPS, completion.with_steps)):
         for count in counts:
             yield '%s %d' % (name, count), lambda make=make, count=count: to_limits(make(count))
+    yield 'recalled', recalling
     for count in DEFERRED:
         yield 'deferred %d' % count, lambda count=count: deferring(count)
 
