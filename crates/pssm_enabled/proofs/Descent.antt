@@ -16,7 +16,7 @@ use Rattle.pssm_model.specs.Legs.{Leaves, Enters}
 use Rattle.pssm_model.specs.Paths.{LeadsOn}
 use Rattle.pssm_model.specs.Paths.LeadsOn.{after}
 use Rattle.pssm_model.specs.WellFormed.{KeepsModelRules}
-use Rattle.pssm_model_laws.specs.inner.RouteWords.{IsThrough}
+use Rattle.pssm_enabled.specs.Fitting.{IsThrough}
 use Rattle.pssm_model.proofs.ElementLaws.{same_vertex, nothing_in_nil}
 use Rattle.pssm_model_laws.proofs.Through.{step_leads, target_there, no_cycle}
 

@@ -14,13 +14,12 @@ use Rattle.pssm_model.specs.Paths.{LeadsOn}
 use Rattle.pssm_model.specs.Paths.LeadsOn.{after}
 use Rattle.pssm_model.specs.Routes.{Truth, IsTrueAt}
 use Rattle.pssm_model.specs.WellFormed.{KeepsModelRules}
-use Rattle.pssm_model_laws.specs.inner.RouteWords.{IsThrough}
 use Rattle.pssm_model.proofs.ElementLaws.{kind_at, leaves_one, enters_one, nothing_in_nil}
 use Rattle.pssm_model.proofs.RouteLaws.{in_one, is_one}
 use Rattle.pssm_model_laws.proofs.Through.{kinds_clash, step_leads, target_there, exit_one_out}
 use Rattle.pssm_model_laws.proofs.LegShapes.{cut_no_junction}
 use Rattle.pssm_enabled.specs.declared.passing.Points.{Points}
-use Rattle.pssm_enabled.specs.Fitting.{PassesBy}
+use Rattle.pssm_enabled.specs.Fitting.{IsThrough, PassesBy}
 use Rattle.pssm_enabled.specs.inner.Fitting.{IsMarked}
 use Rattle.pssm_enabled.specs.Ways.{IsPassedOver, HasWay}
 use Rattle.pssm_enabled.specs.inner.Passing.{KnowsWays, IsFoundOnce, IsFurther, found_by}

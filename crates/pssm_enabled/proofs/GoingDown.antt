@@ -13,9 +13,8 @@ use Rattle.pssm_model.specs.Paths.LeadsOn.{after}
 use Rattle.pssm_model.specs.Routes.{Truth}
 use Rattle.pssm_model.specs.WellFormed.{KeepsModelRules}
 use Rattle.pssm_model.proofs.ElementLaws.{mapped_some, leaves_one, enters_one, nothing_in_nil}
-use Rattle.pssm_model_laws.specs.inner.RouteWords.{IsThrough}
 use Rattle.pssm_model_laws.proofs.Through.{kinds_clash, step_leads}
-use Rattle.pssm_enabled.specs.Fitting.{PassesBy}
+use Rattle.pssm_enabled.specs.Fitting.{IsThrough, PassesBy}
 use Rattle.pssm_enabled.specs.Ways.{HasWay}
 use Rattle.pssm_enabled.specs.Behind.{CanGoOn, GoesOnFrom}
 use Rattle.pssm_enabled.specs.inner.Down.{AllEndAlone, IsStepDown, IsDown}

@@ -17,7 +17,7 @@ use Rattle.pssm_model.specs.Paths.{HasOut}
 use Rattle.pssm_model.specs.Routes.{Truth, IsRoute, IsTrueAt, GoesOnAt}
 use Rattle.pssm_model.specs.WellFormed.{KeepsModelRules}
 use Rattle.pssm_model.specs.WellFormed.Breaks.{E05, E16}
-use Rattle.pssm_model_laws.specs.inner.RouteWords.{IsThrough}
+use Rattle.pssm_enabled.specs.Fitting.{IsThrough}
 use Rattle.pssm_model.proofs.ElementLaws.{kind_unique, enters_one}
 use Rattle.pssm_model_laws.proofs.Known.{Known, known_either}
 use Rattle.pssm_model_laws.proofs.KnownPlaces.{known_vertex_kind}

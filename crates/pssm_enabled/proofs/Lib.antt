@@ -1,5 +1,7 @@
 pub mod Leaving
 pub mod LeadingOn
+pub mod WayPaths
+pub mod FollowedWays
 pub mod Sought
 pub mod OneSearch
 pub mod TrailLaws

@@ -52,7 +52,7 @@ at_cases [] y (suc k) x e = absurd (cc)
 at_cases (z ∷ xs) y zero x e = inl e
 at_cases (z ∷ xs) y (suc k) x e = ⊎_elim (λ h. inl h) (λ h. inr (ap suc h.0, h.1)) (at_cases xs y k x e)
 
-at_last : {X : Type 0} (xs : List X) (y : X) → slice_get (xs ++ y ∷ []) (length xs) ≡ Some y
+pub at_last : {X : Type 0} (xs : List X) (y : X) → slice_get (xs ++ y ∷ []) (length xs) ≡ Some y
 at_last [] y = refl
 at_last (z ∷ xs) y = at_last xs y
 
@@ -80,11 +80,11 @@ nothing_at : {X : Type 0} (k : ℕ) (x : X) → slice_get [] k ≡ Some x → �
 nothing_at k x e = cc
 
 -- a trail stays one as further steps are kept
-trail_more : {xs : List Step} (ys : List Step) {step : Step} {path : List TransId} → IsTrail xs step path → IsTrail (xs ++ ys) step path
+pub trail_more : {xs : List Step} (ys : List Step) {step : Step} {path : List TransId} → IsTrail xs step path → IsTrail (xs ++ ys) step path
 trail_more ys (trail_first t) = trail_first t
 trail_more {xs = xs} ys (further {k = k} {step = step} u at before) = further u (at_left xs ys k step at) (trail_more ys before)
 
-trail_of_taken : {xs : List Step} (n : ℕ) {step : Step} {path : List TransId} → IsTrail (take n xs) step path → IsTrail xs step path
+pub trail_of_taken : {xs : List Step} (n : ℕ) {step : Step} {path : List TransId} → IsTrail (take n xs) step path → IsTrail xs step path
 trail_of_taken n (trail_first t) = trail_first t
 trail_of_taken {xs = xs} n (further {k = k} {step = step} u at before) = further u (at_taken n xs k step at) (trail_of_taken n before)
 

@@ -17,7 +17,7 @@ use Rattle.pssm_model.specs.declared.ids.VertexId.{VertexId}
 use Rattle.pssm_model.specs.declared.elements.DraftMachine.{DraftMachine}
 use Rattle.pssm_model.specs.Legs.{Leaves, Enters}
 use Rattle.pssm_model.specs.Routes.{Truth, IsAscending}
-use Rattle.pssm_model_laws.specs.inner.RouteWords.{IsThrough}
+use Rattle.pssm_enabled.specs.Fitting.{IsThrough}
 use Rattle.pssm_enabled.specs.Starts.{AreStartsWith}
 use Rattle.pssm_enabled.specs.Behind.{GoesOnFrom, IsRouteBehind}
 use Rattle.pssm_enabled.specs.Steps.{IsTrail}

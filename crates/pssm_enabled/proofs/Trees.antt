@@ -14,14 +14,13 @@ use Rattle.pssm_model.specs.Paths.{LeadsOn}
 use Rattle.pssm_model.specs.Paths.LeadsOn.{after}
 use Rattle.pssm_model.specs.Routes.{Truth, IsTrueAt}
 use Rattle.pssm_model.specs.WellFormed.{KeepsModelRules}
-use Rattle.pssm_model_laws.specs.inner.RouteWords.{IsThrough}
 use Rattle.pssm_model.proofs.ElementLaws.{some_at, mapped_at, leaves_one, enters_one, nothing_in_nil}
 use Rattle.pssm_model.proofs.RouteLaws.{in_one, is_one}
 use Rattle.pssm_model_laws.proofs.Known.{Known}
 use Rattle.pssm_model_laws.proofs.KnownPlaces.{known_vertex_kind}
 use Rattle.pssm_model_laws.proofs.LegShapes.{cut_no_junction}
 use Rattle.pssm_model_laws.proofs.Through.{kinds_clash, not_through, end_not_through, known_through, step_leads, target_there, join_from_state, fork_to_end, exit_one_out}
-use Rattle.pssm_enabled.specs.Fitting.{PassesBy}
+use Rattle.pssm_enabled.specs.Fitting.{IsThrough, PassesBy}
 use Rattle.pssm_enabled.specs.Ways.{IsPassedOver, HasWay}
 use Rattle.pssm_enabled.specs.Ways.HasWay.{ends as way_ends, over as way_over, all as way_all}
 use Rattle.pssm_enabled.specs.Behind.{CanGoOn, GoesOnFrom}

@@ -10,7 +10,7 @@ use Rattle.pssm_model.specs.Routes.{Truth, guard_of}
 abbrev pub IsGuardOf : DraftMachine → GuardId → Type 0
 IsGuardOf m g = (t : TransId) × (guard_of m t ≡ Some (When g))
 
--- Each guard of the machine may be asked for (this profile's choice).
+-- Each guard of the machine may be asked for (this profile's own choice).
 abbrev pub CanBeAsked : DraftMachine → (GuardId → Type 0) → Type 0
 CanBeAsked m MayAsk = (g : GuardId) → IsGuardOf m g → MayAsk g
 

@@ -1,5 +1,6 @@
-//! How a route goes on behind a fork, and behind entry points that lead to one another, where it ends with the transitions
-//! out of the last (UML 2.5.1, 14.2.3.7, fork and entry point). It needs no marks.
+//! How a route goes on behind a fork, and behind entry points that lead to one another, where it
+//! ends with the transitions out of the last (UML 2.5.1, 14.2.3.7, fork and entryPoint). It needs no
+//! marks.
 ghost use Rattle.std.specs.Prelude.{◌↔◌, ◌⊎◌, ◌<◌, length, IsTrue, IfOk, IfSome};
 ghost use Rattle.pssm_model.specs.declared.elements.VertexKind.TheVariants as kinds;
 ghost use Rattle.pssm_model.specs.Forest.{HasKind};
@@ -8,18 +9,19 @@ ghost use Rattle.pssm_model.specs.WellFormed.{KeepsModelRules};
 ghost use Rattle.pssm_enabled.specs.Behind.{CanGoOn, GoesOnFrom};
 ghost use Rattle.pssm_enabled.specs.inner.Down.{AllEndAlone, IsStepDown, IsDown};
 
-use crate::route::ends_alone;
+use crate::vertices::{ends_alone, is_entry_point};
 use pssm_model::{Machine, TransId, VertexId, VertexKind};
 use std::alloc::{AllocError as NoMemory, Global};
 
-/// The transitions over entry points, one after another, and the vertex to which they lead.
+// The transitions over entry points, one after another, and the vertex to which they lead.
 #[derive(Drop)]
 struct Descent {
     over: Vec<TransId>,
     to: VertexId,
 }
 
-// Whether a route goes on from the vertex over all transitions out of it: it is a fork or an entry point.
+// Whether a route goes on from the vertex over all transitions out of it: it is a fork or an entry
+// point.
 fn goes_down(machine: &Machine, v: VertexId) -> bool
     requires there { v.0 < length machine.now.vertices }
     ensures { IsTrue result ↔ (HasKind machine.now v kinds.Fork ⊎ HasKind machine.now v kinds.EntryPoint) }
@@ -29,14 +31,6 @@ fn goes_down(machine: &Machine, v: VertexId) -> bool
         VertexKind::EntryPoint => true,
         _ => false,
     }
-}
-
-// Whether the vertex is an entry point.
-fn is_entry_point(machine: &Machine, v: VertexId) -> bool
-    requires { v.0 < length machine.now.vertices }
-    ensures { IsTrue result ↔ HasKind machine.now v kinds.EntryPoint }
-{
-    machine.vertex(v).kind == VertexKind::EntryPoint
 }
 
 // Whether a route ends with each transition out of the vertex.
@@ -69,13 +63,14 @@ fn step_down(machine: &Machine, v: VertexId) -> Option<TransId>
     }
 }
 
-// The transitions from the vertex over entry points, as far as each has one that leads to another. No more than 32 States
-// stand around one another.
+// The transitions from the vertex over entry points, as far as each has one that leads to another.
+// No more than 32 States stand around one another.
 fn descend(alloc: Global, machine: &Machine, v: VertexId) -> Result<Descent, NoMemory>
     requires rules { KeepsModelRules machine.now }
     requires there { v.0 < length machine.now.vertices }
     ensures there { IfOk result (λ descent. descent.to.0 < length machine.now.vertices) }
-    ensures down { (values : Truth) → IfOk result (λ descent. IsDown machine.now values v descent.over.items descent.to) }
+    ensures down { (values : Truth)
+        → IfOk result (λ descent. IsDown machine.now values v descent.over.items descent.to) }
 {
     let _shaped = machine.regions();
     let mut over = Vec::new(alloc);
@@ -92,11 +87,12 @@ fn descend(alloc: Global, machine: &Machine, v: VertexId) -> Result<Descent, NoM
     Ok(Descent { over, to })
 }
 
-/// The transitions by which a route goes on from the vertex, where it is a fork, or an entry point from which others lead
-/// on, and a route ends with the transitions out of the last. It is left open elsewhere.
+/// The transitions by which a route goes on from the vertex, where it is a fork, or an entry point
+/// from which others lead on, and a route ends with the transitions out of the last. It is left open
+/// elsewhere.
 ///
 /// `NoMemory`: memory ran out.
-pub fn transitions_down(
+pub(crate) fn transitions_down(
     alloc: Global,
     machine: &Machine,
     v: VertexId,

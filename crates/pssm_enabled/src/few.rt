@@ -1,5 +1,5 @@
-//! Whether a route of few transitions fits together: its lists are looked through where a longer one wants marks
-//! (UML 2.5.1, 14.2.3.8, compound transitions).
+//! Whether a route of few transitions fits together: its lists are looked through where a longer one
+//! wants marks (UML 2.5.1, 14.2.3.8, compound transitions).
 ghost use Rattle.std.specs.Prelude.{◌↔◌, ◌<◌, length, All, Contains, IsTrue};
 ghost use Rattle.pssm_model.specs.declared.ids.VertexId.{VertexId};
 ghost use Rattle.pssm_model.specs.declared.ids.TransId.{TransId};
@@ -7,7 +7,7 @@ ghost use Rattle.pssm_model.specs.Legs.{Leaves, Enters, On};
 ghost use Rattle.pssm_enabled.specs.Fitting.{route_with, HasOneBy, HasEveryBy, PassesBy};
 ghost use Rattle.pssm_enabled.specs.inner.Fitting.{FitsTogether, IsOrOff, GoesOnBehind, LeavesEntered};
 
-use crate::route::{is_cut, is_junction, is_through};
+use crate::vertices::{is_cut, is_junction, is_through};
 use pssm_model::{Machine, TransId, VertexId};
 
 // Whether the transition is one of these.
@@ -34,7 +34,8 @@ fn is_or_off(starts: &[TransId], rest: &[TransId], t: TransId, u: TransId) -> bo
 // Whether no other transition out of the vertex is on the route.
 fn is_only(machine: &Machine, starts: &[TransId], rest: &[TransId], v: VertexId, t: TransId) -> bool
     requires there { v.0 < length machine.now.vertices }
-    ensures { IsTrue result ↔ ((u : TransId) → Leaves machine.now u v → IsOrOff (On (route_with starts.now rest.now)) t u) }
+    ensures { IsTrue result ↔ ((u : TransId) → Leaves machine.now u v
+        → IsOrOff (On (route_with starts.now rest.now)) t u) }
 {
     for u in machine.outgoing(v) {
         if !is_or_off(starts, rest, t, *u) {
@@ -143,7 +144,7 @@ fn leave_entered(machine: &Machine, starts: &[TransId], rest: &[TransId], some: 
 }
 
 /// Whether the starts fit together with the other transitions.
-pub fn fit_few(machine: &Machine, starts: &[TransId], rest: &[TransId]) -> bool
+pub(crate) fn fit_few(machine: &Machine, starts: &[TransId], rest: &[TransId]) -> bool
     requires starts { All (λ t. t.0 < length machine.now.transitions) starts.now }
     requires rest { All (λ t. t.0 < length machine.now.transitions) rest.now }
     ensures { IsTrue result ↔ FitsTogether machine.now (route_with starts.now rest.now) }

@@ -53,8 +53,9 @@ fn another_is_true<T: Fn(GuardId) -> bool>(machine: &Machine, truth: &T, t: Tran
     false
 }
 
-/// Whether the transition is true: by its value, or as `else` where no other transition out of its source has a true
-/// guard (UML 2.5.1, 14.2.3.7 and 14.2.3.8).
+/// Whether the transition is true: by the value of its guard, or as `else` where no other transition
+/// out of its source has a true guard (UML 2.5.1, 14.2.3.8, guards, and 14.2.3.7, junction and
+/// choice).
 #[inline(always)]
 pub fn is_true_at<T: Fn(GuardId) -> bool>(machine: &Machine, truth: &T, t: TransId) -> bool
     requires there { t.0 < length machine.now.transitions }

@@ -1,52 +1,32 @@
-//! Which vertices a route can pass: a way with true guards leads on from there (UML 2.5.1, 14.2.3.7, pseudostates).
+//! Which vertices a route can pass: a way with true guards leads on from there (UML 2.5.1, 14.2.3.7,
+//! pseudostates).
 ghost use Rattle.std.specs.Prelude.{◌≡◌, ◌↔◌, ◌<◌, ◌+◌, length, IsTrue};
 ghost use Rattle.pssm_model.specs.declared.ids.VertexId.{VertexId};
 ghost use Rattle.pssm_model.specs.declared.elements.DraftMachine.{DraftMachine};
-ghost use Rattle.pssm_model.specs.declared.elements.VertexKind.TheVariants as kinds;
-ghost use Rattle.pssm_model.specs.Forest.{HasKind};
 ghost use Rattle.pssm_model.specs.Routes.{Truth};
 ghost use Rattle.pssm_enabled.specs.Telling.{CanBeAsked, Tells};
 ghost use Rattle.pssm_enabled.specs.inner.Fitting.{IsMarked};
-ghost use Rattle.pssm_enabled.specs.Ways.{IsPassedOver, HasWay};
+ghost use Rattle.pssm_enabled.specs.Ways.{HasWay};
 ghost use Rattle.pssm_enabled.specs.inner.Passing.{EndsWay, EndsOnMarked, LeadsBack, AreAllGood, IsFoundOnce, Grows};
 ghost use Rattle.pssm_enabled.specs.inner.Passing.{IsFurther, IsFurtherEnd, IsFurtherBack, HasEnds, HasGoneBack};
 ghost use Rattle.pssm_enabled.specs.inner.Passing.{AllLead};
 
 use crate::guards::is_true_at;
-use crate::route::{has_no_out, is_seen};
-use pssm_model::{GuardId, Machine, TransId, VertexId, VertexKind};
+use crate::marked::is_seen;
+use crate::vertices::{has_no_out, is_entry_point, is_passed_over};
+use pssm_model::{GuardId, Machine, TransId, VertexId};
 
-/// A mark for each vertex from which a way leads on, and these vertices in the order in which they were found. A machine
-/// has at most 4,096 vertices.
+/// A mark for each vertex from which a way leads on, and these vertices in the order in which they
+/// were found. A machine has at most 4,096 vertices.
 #[derive(Drop)]
-pub struct Points {
-    pub good: [bool; 4096],
-    pub found: [VertexId; 4096],
-    pub count: u16,
-}
-
-// Whether a route goes on from the vertex over one true transition.
-fn is_passed_over(machine: &Machine, v: VertexId) -> bool
-    requires there { v.0 < length machine.now.vertices }
-    ensures { IsTrue result ↔ IsPassedOver machine.now v }
-{
-    match machine.vertex(v).kind {
-        VertexKind::Junction => true,
-        VertexKind::ExitPoint => true,
-        _ => false,
-    }
-}
-
-// Whether the vertex is an entry point.
-fn is_entry_point(machine: &Machine, v: VertexId) -> bool
-    requires there { v.0 < length machine.now.vertices }
-    ensures { IsTrue result ↔ HasKind machine.now v kinds.EntryPoint }
-{
-    machine.vertex(v).kind == VertexKind::EntryPoint
+pub(crate) struct Points {
+    pub(crate) good: [bool; 4096],
+    pub(crate) found: [VertexId; 4096],
+    pub(crate) count: u16,
 }
 
 /// Whether a route that comes to the vertex ends or forks there, or cannot go on from an entry point.
-pub fn ends_way(machine: &Machine, v: VertexId) -> bool
+pub(crate) fn ends_way(machine: &Machine, v: VertexId) -> bool
     requires there { v.0 < length machine.now.vertices }
     ensures { IsTrue result ↔ EndsWay machine.now v }
 {
@@ -80,8 +60,8 @@ fn are_all_good(machine: &Machine, good: &[bool; 4096], v: VertexId) -> bool
     true
 }
 
-// Whether a way leads from the source of the transition to its target, which is marked: over it alone where it is true,
-// or over all transitions out of an entry point.
+// Whether a way leads from the source of the transition to its target, which is marked: over it
+// alone where it is true, or over all transitions out of an entry point.
 fn leads_back<T: Fn(GuardId) -> bool>(
     machine: &Machine,
     truth: &T,
@@ -102,7 +82,7 @@ fn leads_back<T: Fn(GuardId) -> bool>(
 
 impl Points {
     /// No vertices.
-    pub fn none() -> Points
+    pub(crate) fn none() -> Points
         ensures count { result.count ≡ 0 }
         ensures nothing { (v : VertexId) → IsMarked result.good v.0 → ⊥ }
         ensures once { (m : DraftMachine) → IsFoundOnce m result }
@@ -115,7 +95,7 @@ impl Points {
     }
 
     /// Adds the vertex, unless it was found before.
-    pub fn add(&mut self, machine: &Machine, v: VertexId)
+    pub(crate) fn add(&mut self, machine: &Machine, v: VertexId)
         requires there { v.0 < length machine.now.vertices }
         requires once { IsFoundOnce machine.now self.now }
         ensures once { IsFoundOnce machine.now self.new }
@@ -189,7 +169,7 @@ impl Points {
     }
 
     /// Whether the vertex was found.
-    pub fn has(&self, machine: &Machine, v: VertexId) -> bool
+    pub(crate) fn has(&self, machine: &Machine, v: VertexId) -> bool
         requires there { v.0 < length machine.now.vertices }
         ensures { IsTrue result ↔ IsMarked self.now.good v.0 }
     {
@@ -197,9 +177,10 @@ impl Points {
         self.good[v.0 as usize]
     }
 
-    /// The vertices from which ways with true guards lead on: first those at which routes end, then those from which ways
-    /// lead to them. It takes time for each transition into a vertex, and no memory but its own.
-    pub fn of<T: Fn(GuardId) -> bool>(machine: &Machine, truth: &T) -> Points
+    /// The vertices from which ways with true guards lead on: first those at which routes end, then
+    /// those from which ways lead to them. It takes time for each transition into a vertex, and no
+    /// memory but its own.
+    pub(crate) fn of<T: Fn(GuardId) -> bool>(machine: &Machine, truth: &T) -> Points
         requires askable { CanBeAsked machine.now (T.pre truth.now) }
         ensures { (values : Truth) → Tells machine.now (T.post truth.now) values → (v : VertexId)
             → v.0 < length machine.now.vertices

@@ -1,26 +1,25 @@
-//! The search for a way over junctions and exit points: each of them is gone on from once.
-ghost use Rattle.std.specs.Prelude.{◌≡◌, ◌↔◌, ◌<◌, ◌≤◌, ◌+◌, List, Option, length, IsTrue, IfSome, IfNone, IfOk};
+//! The search for a way over junctions and exit points, so for a path with true guards (UML 2.5.1,
+//! 14.2.3.9, enabled transitions). Each of them is gone on from once. How it is sought is this
+//! profile's own choice.
+ghost use Rattle.std.specs.Prelude.{◌≡◌, ◌<◌, ◌≤◌, ◌+◌, List, Option, length, IsTrue, IfSome, IfNone, IfOk};
 ghost use Rattle.pssm_model.specs.declared.ids.RegionId.{RegionId};
 ghost use Rattle.pssm_model.specs.declared.ids.TransId.{TransId};
 ghost use Rattle.pssm_model.specs.declared.elements.DraftMachine.{DraftMachine};
-ghost use Rattle.pssm_model.specs.declared.elements.VertexKind.TheVariants as kinds;
-ghost use Rattle.pssm_model.specs.Forest.{HasKind};
 ghost use Rattle.pssm_model.specs.Routes.{Truth};
 ghost use Rattle.pssm_enabled.specs.declared.seeking.Search.{Search};
 ghost use Rattle.pssm_enabled.specs.declared.seeking.Step.{Step};
 ghost use Rattle.pssm_enabled.specs.Telling.{CanBeAsked, Tells};
-ghost use Rattle.pssm_enabled.specs.Ways.{IsPassedOver, HasWay, CanBePassed, IsAllowed, EndsInside, IsOpen, LeadsOut};
-ghost use Rattle.pssm_enabled.specs.inner.Passing.{AllEndWays};
+ghost use Rattle.pssm_enabled.specs.Ways.{EndsInside, LeadsOut};
 ghost use Rattle.pssm_enabled.specs.Steps.{SeesDeadEnds, KnowsDeadEnds, steps_of, IsFound};
 ghost use Rattle.pssm_enabled.specs.inner.Seeking.{ComesTo, Tries, ComesOnce, IsUnderWay};
 
-use crate::guards::is_true_at;
-use crate::passing::{Points, ends_way};
-use pssm_model::{GuardId, Machine, RegionId, TransId, VertexId, VertexKind};
+use crate::opening::is_open;
+use crate::vertices::{ends_inside, is_passed_over};
+use pssm_model::{GuardId, Machine, RegionId, TransId};
 use std::alloc::{AllocError as NoMemory, Global};
 
-/// By which transition a search came to a junction or exit point, and the place of the step before
-/// it, if there is one.
+/// A transition of a way over junctions and exit points, by which a search came to one of them or
+/// which leads out, and the place of the step before it, if there is one (this profile's own choice).
 #[derive(Clone, Copy, PartialEq, Eq)]
 pub struct Step {
     pub by: TransId,
@@ -28,7 +27,9 @@ pub struct Step {
 }
 
 /// What a search has seen: a mark for each junction and exit point, and the steps by which it came
-/// to them, in the order in which it did. A machine has at most 4,096 vertices.
+/// to them, in the order in which it did (this profile's own choice). A machine has at most 4,096
+/// vertices. More than one way may be sought with one search: what was seen before is not gone on
+/// from again, so one that is used again must have seen dead ends alone, or be cleared.
 #[derive(Drop)]
 pub struct Search {
     pub seen: [bool; 4096],
@@ -37,7 +38,7 @@ pub struct Search {
 }
 
 impl Search {
-    /// A search that has seen nothing.
+    /// A search that has seen nothing (this profile's own choice).
     pub fn new() -> Search
         ensures count { result.count ≡ 0 }
         ensures nothing { (m : DraftMachine) (truth : Truth) (within : Option RegionId)
@@ -53,7 +54,7 @@ impl Search {
         }
     }
 
-    /// Forgets what was seen. The marks are cleared in this call alone.
+    /// Forgets what was seen (this profile's own choice). The marks are cleared in this call alone.
     #[inline(never)]
     pub fn clear(&mut self)
         ensures nothing { (m : DraftMachine) (truth : Truth) (within : Option RegionId)
@@ -142,159 +143,6 @@ impl Search {
     }
 }
 
-/// Whether the vertex is a junction or exit point.
-pub fn is_passed_over(machine: &Machine, v: VertexId) -> bool
-    requires { v.0 < length machine.now.vertices }
-    ensures { IsTrue result ↔ IsPassedOver machine.now v }
-{
-    match machine.vertex(v).kind {
-        VertexKind::Junction => true,
-        VertexKind::ExitPoint => true,
-        _ => false,
-    }
-}
-
-/// Whether the transition ends on a junction or exit point.
-pub fn ends_inside(machine: &Machine, t: TransId) -> bool
-    requires { t.0 < length machine.now.transitions }
-    ensures { IsTrue result ↔ EndsInside machine.now t }
-{
-    is_passed_over(machine, machine.target(t))
-}
-
-// Whether a way leads on from the vertex. What is marked stands in this call alone.
-#[inline(never)]
-fn has_way<T: Fn(GuardId) -> bool>(machine: &Machine, truth: &T, v: VertexId) -> bool
-    requires there { v.0 < length machine.now.vertices }
-    requires askable { CanBeAsked machine.now (T.pre truth.now) }
-    ensures { (values : Truth) → Tells machine.now (T.post truth.now) values
-        → (IsTrue result ↔ HasWay machine.now values v) }
-{
-    let points = Points::of(machine, truth);
-    points.has(machine, v)
-}
-
-// Whether the vertex is an entry point.
-fn is_entry_point(machine: &Machine, v: VertexId) -> bool
-    requires { v.0 < length machine.now.vertices }
-    ensures { IsTrue result ↔ HasKind machine.now v kinds.EntryPoint }
-{
-    machine.vertex(v).kind == VertexKind::EntryPoint
-}
-
-// Whether all transitions out of the vertex end where ways do.
-fn ends_all_ways(machine: &Machine, v: VertexId) -> bool
-    requires { v.0 < length machine.now.vertices }
-    ensures { IsTrue result → AllEndWays machine.now v }
-{
-    for t in machine.outgoing(v) {
-        if !ends_way(machine, machine.target(*t)) {
-            return false;
-        }
-    }
-    true
-}
-
-// The entry point to which the one transition out of an entry point leads, if there is one.
-fn next_entry(machine: &Machine, v: VertexId) -> Option<VertexId>
-    requires there { v.0 < length machine.now.vertices }
-    requires entry { HasKind machine.now v kinds.EntryPoint }
-    ensures there { IfSome result (λ w. w.0 < length machine.now.vertices) }
-    ensures entry { IfSome result (λ w. HasKind machine.now w kinds.EntryPoint) }
-    ensures same { (values : Truth) → IfSome result (λ w. HasWay machine.now values v ↔ HasWay machine.now values w) }
-{
-    let _shaped = machine.regions();
-    let [t] = machine.outgoing(v) else {
-        return None;
-    };
-    let w = machine.target(*t);
-    if is_entry_point(machine, w) {
-        Some(w)
-    } else {
-        None
-    }
-}
-
-// The last of the entry points that lead from one to the next. No more than 32 States stand around one another.
-fn last_entry(machine: &Machine, v: VertexId) -> VertexId
-    requires there { v.0 < length machine.now.vertices }
-    requires entry { HasKind machine.now v kinds.EntryPoint }
-    ensures there { result.0 < length machine.now.vertices }
-    ensures entry { HasKind machine.now result kinds.EntryPoint }
-    ensures same { (values : Truth) → HasWay machine.now values v ↔ HasWay machine.now values result }
-{
-    let mut at = v;
-    let mut left: u16 = 32;
-    while left > 0 {
-        let Some(next) = next_entry(machine, at) else {
-            return at;
-        };
-        at = next;
-        left -= 1;
-    }
-    at
-}
-
-// Whether a way leads on from the entry point. Marks are made only where ways branch on behind it.
-fn passes_entry<T: Fn(GuardId) -> bool>(machine: &Machine, truth: &T, v: VertexId) -> bool
-    requires there { v.0 < length machine.now.vertices }
-    requires entry { HasKind machine.now v kinds.EntryPoint }
-    requires askable { CanBeAsked machine.now (T.pre truth.now) }
-    ensures { (values : Truth) → Tells machine.now (T.post truth.now) values
-        → (IsTrue result ↔ HasWay machine.now values v) }
-{
-    let last = last_entry(machine, v);
-    if ends_all_ways(machine, last) {
-        return true;
-    }
-    has_way(machine, truth, last)
-}
-
-// Whether the transition ends on no entry point from which no way leads on.
-fn can_be_passed<T: Fn(GuardId) -> bool>(machine: &Machine, truth: &T, t: TransId) -> bool
-    requires there { t.0 < length machine.now.transitions }
-    requires askable { CanBeAsked machine.now (T.pre truth.now) }
-    ensures { (values : Truth) → Tells machine.now (T.post truth.now) values
-        → (IsTrue result ↔ CanBePassed machine.now values t) }
-{
-    let v = machine.target(t);
-    if !is_entry_point(machine, v) {
-        return true;
-    }
-    passes_entry(machine, truth, v)
-}
-
-// Whether the vertex lies in the region, if one is named.
-fn is_allowed(machine: &Machine, within: Option<RegionId>, v: VertexId) -> bool
-    requires vertex { v.0 < length machine.now.vertices }
-    requires region { IfSome within (λ r. r.0 < length machine.now.regions) }
-    ensures { IsTrue result ↔ IsAllowed machine.now within v }
-{
-    match within {
-        Some(region) => machine.lies_in_region(v, region),
-        None => true,
-    }
-}
-
-/// Whether the transition is true, ends where it may, and not on an entry point from which no way
-/// leads on.
-pub fn is_open<T: Fn(GuardId) -> bool>(
-    machine: &Machine,
-    truth: &T,
-    within: Option<RegionId>,
-    t: TransId,
-) -> bool
-    requires there { t.0 < length machine.now.transitions }
-    requires region { IfSome within (λ r. r.0 < length machine.now.regions) }
-    requires askable { CanBeAsked machine.now (T.pre truth.now) }
-    ensures { (values : Truth) → Tells machine.now (T.post truth.now) values
-        → (IsTrue result ↔ IsOpen machine.now values within t) }
-{
-    is_allowed(machine, within, machine.target(t))
-        && is_true_at(machine, truth, t)
-        && can_be_passed(machine, truth, t)
-}
-
 // The step by a transition that ends on no junction or exit point, where it is open.
 fn step_alone<T: Fn(GuardId) -> bool>(
     machine: &Machine,
@@ -322,8 +170,8 @@ fn step_alone<T: Fn(GuardId) -> bool>(
 }
 
 // Seeks a way from the transition over junctions and exit points that the search has not seen. It
-// answers the last transition of a way, and the place of the step before it; none exactly where
-// there is no way.
+// answers the last transition of a way, and the place of the step before it. Where the search had
+// seen dead ends alone, it answers none exactly where there is no way.
 fn find_way_over<T: Fn(GuardId) -> bool>(
     machine: &Machine,
     truth: &T,
@@ -362,9 +210,12 @@ fn find_way_over<T: Fn(GuardId) -> bool>(
     None
 }
 
-/// Seeks a way from the transition over junctions and exit points that the search has not seen. It
-/// answers the last transition of a way, and the place of the step before it; none exactly where
-/// there is no way. Where the transition ends on no junction or exit point, it takes no search.
+/// Seeks a way from the transition over junctions and exit points that the search has not seen (UML
+/// 2.5.1, 14.2.3.9, enabled transitions: a path with true guards). All its transitions end in the
+/// region `within`, if one is named (this profile's own choice). It answers the last transition of a
+/// way, and the place of the step before it. Where the search had seen dead ends alone, it answers
+/// none exactly where there is no way, and what it has then seen are dead ends too. Where the
+/// transition ends on no junction or exit point, it takes no search.
 pub fn find_way<T: Fn(GuardId) -> bool>(
     machine: &Machine,
     truth: &T,
@@ -394,7 +245,7 @@ pub fn find_way<T: Fn(GuardId) -> bool>(
     }
 }
 
-/// A search that has seen nothing, where one is wanted.
+/// A search that has seen nothing, where one is wanted (this profile's own choice).
 ///
 /// `NoMemory`: memory ran out.
 pub fn search_if(alloc: Global, wanted: bool) -> Result<Vec<Search>, NoMemory>
@@ -421,7 +272,7 @@ fn one_search(alloc: Global) -> Result<Vec<Search>, NoMemory>
     Ok(search)
 }
 
-/// The steps of the search, if there is one.
+/// The steps of the search, if there is one (this profile's own choice).
 pub fn steps_of(search: &[Search]) -> &[Step]
     ensures steps { result.now ≡ steps_of search.now }
     ensures few { length result.now ≤ 4096 }

@@ -13,8 +13,9 @@ ghost use Rattle.pssm_enabled.specs.inner.Started.{IsStarted, IsReady, JoinsIn};
 use pssm_config::Config;
 use pssm_model::{Event, Machine, TransId, VertexId, VertexKind};
 
-/// Whether the signal triggers the transition out of the State, or it is the completion of this State and the
-/// transition has no trigger.
+/// Whether the signal triggers the transition out of the State, or it is the completion of this
+/// State and the transition has no trigger (UML 2.5.1, 14.2.3.8, triggers and completion
+/// transitions).
 pub fn is_caused_by(machine: &Machine, event: Event, t: TransId, source: VertexId) -> bool
     requires { t.0 < length machine.now.transitions }
     ensures { IsTrue result ↔ IsCausedBy machine.now event t source }
@@ -26,8 +27,9 @@ pub fn is_caused_by(machine: &Machine, event: Event, t: TransId, source: VertexI
     }
 }
 
-/// Whether the event starts the transition: it leaves an active State and is caused by the event.
-pub fn is_started(machine: &Machine, config: &Config, event: Event, t: TransId) -> bool
+/// Whether the event starts the transition: it leaves an active State and is caused by the event (UML
+/// 2.5.1, 14.2.3.9, enabled transitions).
+pub(crate) fn is_started(machine: &Machine, config: &Config, event: Event, t: TransId) -> bool
     requires fits { Fits machine.now config.now }
     requires there { t.0 < length machine.now.transitions }
     ensures { IsTrue result ↔ ((s : VertexId) × IsStarted machine.now (configuration_of config.now) event t s) }
@@ -112,7 +114,9 @@ fn is_left_by(machine: &Machine, starts: &[TransId], state: VertexId) -> bool
     false
 }
 
-/// Whether the completion of this State starts the transitions together.
+/// Whether the completion of this State starts the transitions together: they have no triggers, and
+/// leave active States of which this is one and the others are complete (UML 2.5.1, 14.2.3.8,
+/// completion transitions, and 14.2.3.9, enabled transitions).
 pub fn are_completed_by(
     machine: &Machine,
     config: &Config,
@@ -121,7 +125,8 @@ pub fn are_completed_by(
 ) -> bool
     requires fits { Fits machine.now config.now }
     requires there { All (λ t. t.0 < length machine.now.transitions) starts.now }
-    ensures { IsTrue result ↔ AreStarted machine.now (configuration_of config.now) (events.Completion state) starts.now }
+    ensures { IsTrue result
+        ↔ AreStarted machine.now (configuration_of config.now) (events.Completion state) starts.now }
 {
     is_left_by(machine, starts, state) && join_in(machine, config, state, starts)
 }
@@ -139,10 +144,15 @@ fn are_completed(machine: &Machine, config: &Config, event: Event, starts: &[Tra
     }
 }
 
-/// Whether the event starts the transitions together: they leave active States, and the event is a signal that triggers
-/// the one of them, or the completion of one of these States where the others are complete (UML 2.5.1, 14.2.3.9, enabled
-/// transitions).
-pub fn are_started(machine: &Machine, config: &Config, event: Event, starts: &[TransId]) -> bool
+/// Whether the event starts the transitions together: they leave active States, and the event is a
+/// signal that triggers the one of them, or the completion of one of these States where the others
+/// are complete (UML 2.5.1, 14.2.3.9, enabled transitions).
+pub(crate) fn are_started(
+    machine: &Machine,
+    config: &Config,
+    event: Event,
+    starts: &[TransId],
+) -> bool
     requires fits { Fits machine.now config.now }
     requires there { All (λ t. t.0 < length machine.now.transitions) starts.now }
     ensures { IsTrue result ↔ AreStarted machine.now (configuration_of config.now) event starts.now }

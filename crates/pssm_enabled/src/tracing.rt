@@ -1,4 +1,5 @@
-//! The route of a way that a search has found, and of what the route goes on with behind its end.
+//! The route of a way that was found, and of what it goes on with behind the end of the way (UML
+//! 2.5.1, 14.2.3.8, compound transitions).
 ghost use Rattle.std.specs.Prelude.{◌≡◌, ◌⊎◌, ◌↔◌, ◌≢◌, ◌<◌, ◌≤◌, ◌+◌, List, length, All, Contains, IsTrue, IfOk};
 ghost use Rattle.std.specs.Prelude.{OnOk, [], ◌∷◌};
 ghost use Rattle.pssm_model.specs.declared.ids.VertexId.{VertexId};
@@ -8,7 +9,7 @@ ghost use Rattle.pssm_model.specs.Forest.{HasKind};
 ghost use Rattle.pssm_model.specs.Legs.{Leaves, Enters};
 ghost use Rattle.pssm_model.specs.Routes.{Truth, IsTrueAt, IsAscending};
 ghost use Rattle.pssm_model.specs.WellFormed.{KeepsModelRules};
-ghost use Rattle.pssm_model_laws.specs.inner.RouteWords.{IsThrough};
+ghost use Rattle.pssm_enabled.specs.Fitting.{IsThrough};
 ghost use Rattle.pssm_enabled.specs.Telling.{CanBeAsked, Tells};
 ghost use Rattle.pssm_enabled.specs.inner.Fitting.{IsMarked};
 ghost use Rattle.pssm_enabled.specs.Ways.{IsPassedOver};
@@ -21,9 +22,10 @@ ghost use Rattle.pssm_enabled.specs.Starts.{AreStartsWith};
 
 use crate::descending::transitions_down;
 use crate::guards::is_true_at;
+use crate::marked::is_seen;
 use crate::passing::Points;
-use crate::route::{ends_at, is_join, is_seen};
 use crate::seeking::Step;
+use crate::vertices::{ends_at, is_join};
 use pssm_model::{GuardId, Machine, Route, Row, TransId, VertexId, VertexKind};
 use std::alloc::{AllocError as NoMemory, Global};
 
@@ -294,7 +296,9 @@ fn starts_with(alloc: Global, machine: &Machine, t: TransId) -> Result<Vec<Trans
 }
 
 /// The route of the starts with this one that takes the other transitions of the trail and goes on
-/// behind it, in ascending number.
+/// behind it (UML 2.5.1, 14.2.3.8, compound transitions), in ascending number (this profile's own
+/// choice). The trail is what the steps tell from the last one back to the start; the starts are this
+/// one alone, or all transitions into the join on which it ends.
 ///
 /// `NoMemory`: memory ran out.
 pub fn route_of_trail<T: Fn(GuardId) -> bool>(

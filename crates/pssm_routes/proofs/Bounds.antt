@@ -25,7 +25,7 @@ use Rattle.pssm_routes.specs.inner.Starts.{GoesOnBy}
 use Rattle.pssm_enabled.specs.Ways.{IsPassedOver, IsWay}
 use Rattle.pssm_enabled.specs.Behind.{GoesOnFrom, IsRouteOver}
 use Rattle.pssm_enabled.proofs.Trees.{no_join_after}
-use Rattle.pssm_routes.proofs.WayPaths.{way_is_open, way_goes_on}
+use Rattle.pssm_enabled.proofs.WayPaths.{way_is_open, way_goes_on}
 use Rattle.pssm_routes.proofs.Routed.{over_cases, passed_apart, behind_leaves, alone_in_path}
 
 module _ {m : DraftMachine} (shape : HasShape m) (rules : KeepsModelRules m) (truth : Truth) (r : RegionId) (t first last : TransId)

@@ -25,7 +25,6 @@ pub mod TrueOnes
 pub mod SettledStarts
 pub mod StartedWith
 pub mod AnchorLaws
-pub mod WayPaths
 pub mod WayEnds
 pub mod Bounds
 pub mod Spans

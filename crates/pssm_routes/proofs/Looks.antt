@@ -13,7 +13,7 @@ use Rattle.pssm_model.specs.Routes.{Truth}
 use Rattle.pssm_model.specs.declared.elements.Transition.{Transition}
 use Rattle.pssm_model.specs.Forest.{transition_at}
 use Rattle.pssm_model.proofs.ElementLaws.{enters_one, mapped_at, nothing_in_nil}
-use Rattle.pssm_routes.proofs.WayPaths.{true_is_there}
+use Rattle.pssm_enabled.proofs.WayPaths.{true_is_there}
 use Rattle.pssm_routes.specs.declared.looking.Reached.{Reached}
 use Rattle.pssm_enabled.specs.Ways.{IsPassedOver, EndsInside, IsOpen, LeadsOut}
 use Rattle.pssm_enabled.specs.Ways.LeadsOut.{ends, on}

@@ -31,7 +31,7 @@ use Rattle.pssm_enabled.proofs.Fitting.{fits_is_route}
 use Rattle.pssm_enabled.proofs.LeadingOn.{passed_through}
 use Rattle.pssm_enabled.proofs.StartLaws.{is_among_starts}
 use Rattle.pssm_enabled.proofs.Unguarded.{join_true}
-use Rattle.pssm_routes.proofs.WayPaths.{true_is_there, GoesOver, way_has_start, way_has_last, way_is_open, way_leaves, way_goes_on, way_entered, way_led, way_leaves_once}
+use Rattle.pssm_enabled.proofs.WayPaths.{true_is_there, GoesOver, way_has_start, way_has_last, way_is_open, way_leaves, way_goes_on, way_entered, way_led, way_leaves_once}
 
 module _ {m : DraftMachine} (shape : HasShape m) (rules : KeepsModelRules m) (truth : Truth) (within : Option RegionId) (t first last : TransId)
     (path : List TransId) (passed : List VertexId) (way : IsWay m truth within first last passed path) (onward : GoesOnBy m t first)

@@ -18,7 +18,7 @@ use Rattle.pssm_enabled.specs.Ways.HasWay.{ends as way_ends}
 use Rattle.pssm_enabled.specs.Behind.{LeadsFurther}
 use Rattle.pssm_enabled.proofs.LeadingOn.{passed_through}
 use Rattle.pssm_enabled.proofs.Trees.{no_join_after}
-use Rattle.pssm_routes.proofs.WayPaths.{true_is_there, way_has_last, way_is_open, way_leaves}
+use Rattle.pssm_enabled.proofs.WayPaths.{true_is_there, way_has_last, way_is_open, way_leaves}
 
 module _ {m : DraftMachine} (rules : KeepsModelRules m) (truth : Truth) (within : Option RegionId) (t first last : TransId) (path : List TransId)
     (way : IsWayOut m truth within first last path) (on : GoesOnBy m t first) where

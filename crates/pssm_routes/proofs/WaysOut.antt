@@ -28,7 +28,7 @@ use Rattle.pssm_routes.proofs.Looks.{open_leads}
 use Rattle.pssm_routes.proofs.RoutesOver.{some_route_behind, starts_here}
 use Rattle.pssm_enabled.proofs.StartLaws.{is_among_starts}
 use Rattle.pssm_routes.proofs.WayEnds.{out_leads_further}
-use Rattle.pssm_routes.proofs.WayPaths.{way_led}
+use Rattle.pssm_enabled.proofs.WayPaths.{way_led}
 
 module _ {m : DraftMachine} (rules : KeepsModelRules m) (truth : Truth) (within : Option RegionId) (start : TransId) where
   way_on : (t : TransId) (passed : List VertexId) (path : List TransId) → IsWay m truth within start t passed path → LeadsOut m truth within t

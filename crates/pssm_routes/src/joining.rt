@@ -21,7 +21,7 @@ ghost use Rattle.pssm_routes.specs.inner.Sets.{HasFreeRoute, IsTouched, HoldsSou
 use crate::areas::{Footprint, anchor_of, are_on_one_chain};
 use crate::leading::onward;
 use crate::looking::look;
-use pssm_enabled::{Search, Step, find_way, is_join};
+use pssm_enabled::{Search, Step, find_way, follow, is_join};
 use pssm_legs::covers;
 use pssm_model::{GuardId, Machine, Owner, RegionId, TransId, TransKind, VertexId};
 
@@ -162,6 +162,31 @@ fn room_for(machine: &Machine, footprints: &[Footprint], t: TransId) -> Room
             None => Room::Shut,
         },
         _ => Room::Open(None),
+    }
+}
+
+/// Follows the first open transitions from this start on to the end of a route that clashes with none
+/// of the footprints; none where these do not tell of one.
+pub fn follow_joiner<T: Fn(GuardId) -> bool>(
+    machine: &Machine,
+    truth: &T,
+    footprints: &[Footprint],
+    t: TransId,
+    steps: &mut [Step; 64],
+) -> Option<Step>
+    requires rules { KeepsModelRules machine.now }
+    requires there { t.0 < length machine.now.transitions }
+    requires footprints { All (IsFootprintIn machine.now) footprints.now }
+    requires askable { CanBeAsked machine.now (T.pre truth.now) }
+    requires source { (v : VertexId) → Leaves machine.now t v → HasKind machine.now v kinds.State }
+    ensures there { IfSome result (λ last. last.by.0 < length machine.now.transitions) }
+    ensures some { (values : Truth) → Tells machine.now (T.post truth.now) values
+        → IfSome result (IsJoiningStep machine.now values footprints.now steps.new t) }
+{
+    let _shaped = machine.regions();
+    match room_for(machine, footprints, t) {
+        Room::Shut => None,
+        Room::Open(within) => follow(machine, truth, within, onward(machine, t), steps),
     }
 }
 

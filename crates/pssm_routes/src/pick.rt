@@ -4,6 +4,8 @@ ghost use Rattle.std.specs.Prelude.{IfNone};
 ghost use Rattle.std.specs.List.Sorted.{IsPermutation};
 ghost use Rattle.pssm_model.specs.declared.ids.TransId.{TransId};
 ghost use Rattle.pssm_model.specs.declared.ids.VertexId.{VertexId};
+ghost use Rattle.pssm_model.specs.declared.elements.VertexKind.TheVariants as kinds;
+ghost use Rattle.pssm_model.specs.Forest.{HasKind};
 ghost use Rattle.pssm_model.specs.Legs.{Leaves};
 ghost use Rattle.pssm_model.specs.Routes.{Truth, IsStateRoute};
 ghost use Rattle.pssm_model.specs.FiringSets.{IsFiringSet, IsListed, IsFiring};
@@ -12,16 +14,17 @@ ghost use Rattle.pssm_config.specs.Tables.{Fits, configuration_of};
 ghost use Rattle.pssm_enabled.specs.Telling.{CanBeAsked, Tells};
 ghost use Rattle.pssm_routes.specs.inner.Footprints.{IsFootprintIn};
 ghost use Rattle.pssm_routes.specs.inner.Starts.{IsStartedWith, StartsAmong, IsOutranked, IsCandidate};
-ghost use Rattle.pssm_routes.specs.inner.Sets.{HasJoiner};
+ghost use Rattle.pssm_routes.specs.inner.Sets.{HasFreeRoute, HasJoiner};
+ghost use Rattle.pssm_routes.specs.inner.Rooms.{IsJoiningRoute};
 ghost use Rattle.pssm_routes.specs.inner.Picks.{first_number, StartApart, IsFreeRoute, IsFreeFrom, IsSpent, IsChosen};
 ghost use Rattle.pssm_routes.specs.inner.Picks.{IsAdded, IsGrown};
 
 use crate::areas::{Footprint, footprint_of};
 use crate::candidates::candidates;
-use crate::joining::{find_joiner, is_kept_out};
+use crate::joining::{find_joiner, follow_joiner, is_kept_out};
 use crate::leading::{is_started_with, onward, start_all_among};
 use pssm_config::Config;
-use pssm_enabled::{check_route, ends_inside, route_of_trail, search_if, steps_of};
+use pssm_enabled::{Step, check_route, ends_inside, route_of_trail, search_if, steps_of};
 use pssm_model::{Event, Firing, GuardId, Machine, Route, Row, TransId, VertexId};
 use std::alloc::{AllocError as NoMemory, Global};
 
@@ -44,9 +47,92 @@ fn starts_here(
     is_started_with(machine, config, event, t) && start_all_among(machine, states, t)
 }
 
+// The route with this start along the first open transitions, where it clashes with none of the
+// footprints; none where these do not tell of one.
+fn route_at_sight<T: Fn(GuardId) -> bool>(
+    alloc: Global,
+    machine: &Machine,
+    truth: &T,
+    footprints: &[Footprint],
+    t: TransId,
+) -> Result<Option<Route>, NoMemory>
+    requires rules { KeepsModelRules machine.now }
+    requires there { t.0 < length machine.now.transitions }
+    requires footprints { All (IsFootprintIn machine.now) footprints.now }
+    requires askable { CanBeAsked machine.now (T.pre truth.now) }
+    requires source { (v : VertexId) → Leaves machine.now t v → HasKind machine.now v kinds.State }
+    ensures some { (values : Truth) → Tells machine.now (T.post truth.now) values
+        → IfOk result (λ found. IfSome found (IsJoiningRoute machine.now values footprints.now t)) }
+{
+    let mut steps = [Step {
+        by: t,
+        before: None,
+    }; 64];
+    let Some(last) = follow_joiner(machine, truth, footprints, t, &mut steps) else {
+        return Ok(None);
+    };
+    let route = route_of_trail(alloc, machine, truth, &steps, t, last)?;
+    Ok(Some(route))
+}
+
+// A route with this start that clashes with none of the footprints, if there is one, by a search.
+fn route_by_search<T: Fn(GuardId) -> bool>(
+    alloc: Global,
+    machine: &Machine,
+    truth: &T,
+    footprints: &[Footprint],
+    t: TransId,
+) -> Result<Option<Route>, NoMemory>
+    requires rules { KeepsModelRules machine.now }
+    requires there { t.0 < length machine.now.transitions }
+    requires footprints { All (IsFootprintIn machine.now) footprints.now }
+    requires askable { CanBeAsked machine.now (T.pre truth.now) }
+    requires source { (v : VertexId) → Leaves machine.now t v → HasKind machine.now v kinds.State }
+    ensures some { (values : Truth) → Tells machine.now (T.post truth.now) values
+        → IfOk result (λ found. IfSome found (IsJoiningRoute machine.now values footprints.now t)) }
+    ensures none { (values : Truth) → Tells machine.now (T.post truth.now) values
+        → IfOk result (λ found. IfNone found (HasFreeRoute machine.now values footprints.now t → ⊥)) }
+{
+    let _shaped = machine.regions();
+    let mut made = search_if(alloc, ends_inside(machine, onward(machine, t)))?;
+    let search = made.as_mut_slice();
+    let Some(last) = find_joiner(machine, truth, footprints, t, search) else {
+        return Ok(None);
+    };
+    let route = route_of_trail(alloc, machine, truth, steps_of(search), t, last)?;
+    Ok(Some(route))
+}
+
+// A route with this start that clashes with none of the footprints, if there is one. Over junctions
+// and exit points the first open transitions are followed before a search is made.
+fn joining_route<T: Fn(GuardId) -> bool>(
+    alloc: Global,
+    machine: &Machine,
+    truth: &T,
+    footprints: &[Footprint],
+    t: TransId,
+) -> Result<Option<Route>, NoMemory>
+    requires rules { KeepsModelRules machine.now }
+    requires there { t.0 < length machine.now.transitions }
+    requires footprints { All (IsFootprintIn machine.now) footprints.now }
+    requires askable { CanBeAsked machine.now (T.pre truth.now) }
+    requires source { (v : VertexId) → Leaves machine.now t v → HasKind machine.now v kinds.State }
+    ensures some { (values : Truth) → Tells machine.now (T.post truth.now) values
+        → IfOk result (λ found. IfSome found (IsJoiningRoute machine.now values footprints.now t)) }
+    ensures none { (values : Truth) → Tells machine.now (T.post truth.now) values
+        → IfOk result (λ found. IfNone found (HasFreeRoute machine.now values footprints.now t → ⊥)) }
+{
+    if ends_inside(machine, onward(machine, t)) {
+        if let Some(route) = route_at_sight(alloc, machine, truth, footprints, t)? {
+            return Ok(Some(route));
+        }
+    }
+    route_by_search(alloc, machine, truth, footprints, t)
+}
+
 // A route from these States with this start that the event enables and that clashes with none of
-// the footprints, if there is one. What the search has found is checked, since only the values of
-// the guards say that it is enabled.
+// the footprints, if there is one. What was found is checked, since only the values of the guards
+// say that it is enabled.
 fn free_route<T: Fn(GuardId) -> bool>(
     alloc: Global,
     machine: &Machine,
@@ -78,12 +164,9 @@ fn free_route<T: Fn(GuardId) -> bool>(
     if !starts_here(machine, config, event, states, t) {
         return Ok(None);
     }
-    let mut made = search_if(alloc, ends_inside(machine, onward(machine, t)))?;
-    let search = made.as_mut_slice();
-    let Some(last) = find_joiner(machine, truth, footprints, t, search) else {
+    let Some(route) = joining_route(alloc, machine, truth, footprints, t)? else {
         return Ok(None);
     };
-    let route = route_of_trail(alloc, machine, truth, steps_of(search), t, last)?;
     if !check_route(machine, config, truth, event, &route) {
         return Ok(None);
     }

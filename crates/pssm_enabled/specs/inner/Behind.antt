@@ -6,10 +6,9 @@ use Rattle.pssm_model.specs.declared.elements.DraftMachine.{DraftMachine}
 use Rattle.pssm_model.specs.Legs.{Leaves, Enters}
 use Rattle.pssm_model.specs.Paths.{LeadsOn}
 use Rattle.pssm_model.specs.Routes.{Truth, IsTrueAt}
-use Rattle.pssm_model_laws.specs.inner.RouteWords.{IsThrough}
 use Rattle.pssm_enabled.specs.Behind.{CanGoOn}
 use Rattle.pssm_enabled.specs.declared.passing.Points.{Points}
-use Rattle.pssm_enabled.specs.Fitting.{PassesBy}
+use Rattle.pssm_enabled.specs.Fitting.{IsThrough, PassesBy}
 use Rattle.pssm_enabled.specs.inner.Passing.{IsFoundOnce, found_by}
 
 -- the transitions by which a route goes on from the vertex at once: one true one from which a way leads on out of a junction or exit point, all out

@@ -7,8 +7,7 @@ use Rattle.pssm_model.specs.declared.elements.VertexKind.TheVariants as kinds
 use Rattle.pssm_model.specs.declared.steps.Route.{Route}
 use Rattle.pssm_model.specs.Forest.{HasKind}
 use Rattle.pssm_model.specs.Legs.{Leaves, Enters, On}
-use Rattle.pssm_model_laws.specs.inner.RouteWords.{IsThrough}
-use Rattle.pssm_enabled.specs.Fitting.{route_with, PassesBy}
+use Rattle.pssm_enabled.specs.Fitting.{route_with, IsThrough, PassesBy}
 
 -- The place of the list is marked.
 abbrev pub IsMarked : List Bool → ℕ → Type 0

@@ -11,6 +11,7 @@ use Rattle.pssm_model.specs.declared.elements.VertexKind.TheVariants as kinds
 use Rattle.pssm_model.specs.declared.elements.Owner.TheVariants.{Region}
 use Rattle.pssm_model.specs.Forest.{HasKind, LiesUnder, IsOrLiesIn, IsWithin}
 use Rattle.pssm_legs.specs.Areas.{scope_of}
+use Rattle.pssm_enabled.specs.Starts.{AreStartsWith}
 use Rattle.pssm_enabled.specs.Steps.{IsTrail}
 use Rattle.pssm_enabled.specs.declared.seeking.Step.{Step}
 use Rattle.pssm_enabled.specs.Ways.{IsAllowed}
@@ -67,3 +68,9 @@ IsJoiningStep m truth footprints steps t last =
     (path : List TransId) × IsTrail steps last path × LeadsFurther m truth last.by
     × ((q : Route) → IsRouteBehind m truth t last.by path q
     → IsStateRoute m q × ((u : TransId) → On q u → IsTrueAt m truth u) × ((b : Footprint) → IsFootprintOf m q b → ClashesWithSome m footprints b → ⊥))
+
+-- The route starts with the transition, is one of States with true guards, and clashes with none of the footprints.
+abbrev pub IsJoiningRoute : DraftMachine → Truth → List Footprint → TransId → Route → Type 0
+IsJoiningRoute m truth footprints t q =
+    AreStartsWith m t q.starts × IsStateRoute m q × ((u : TransId) → On q u → IsTrueAt m truth u)
+    × ((b : Footprint) → IsFootprintOf m q b → ClashesWithSome m footprints b → ⊥)

@@ -3,9 +3,8 @@ use Rattle.std.proofs.Common.{subst}
 use Rattle.pssm_model.specs.declared.ids.VertexId.{VertexId}
 use Rattle.pssm_model.specs.declared.ids.TransId.{TransId}
 use Rattle.pssm_model.specs.Legs.{On, Enters}
-use Rattle.pssm_model_laws.specs.inner.RouteWords.{IsThrough}
 use Rattle.pssm_model.proofs.ElementLaws.{leaves_one}
-use Rattle.pssm_enabled.specs.Fitting.{route_with}
+use Rattle.pssm_enabled.specs.Fitting.{route_with, IsThrough}
 use Rattle.pssm_enabled.proofs.few.leaves_entered.Goals as goal
 
 pub returns-then-is_through : goal.returns-then-is_through
