@@ -4,3 +4,4 @@ pub mod Meaning
 pub mod Blocks
 pub mod ArgumentLaws
 pub mod ProperSettings
+pub mod Changes

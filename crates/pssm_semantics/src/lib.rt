@@ -7,10 +7,12 @@
 #![tactic(auto)]
 
 mod args;
+mod changing;
 mod copies;
 mod entry;
 mod equal;
 mod line;
+mod making;
 mod running;
 mod setting;
 mod shared;
@@ -21,11 +23,13 @@ mod value;
 mod worked;
 
 pub use args::Args;
+pub use changing::change_store;
 pub use entry::{Entry, ObjectId, Out, Rule};
 pub use line::{Line, LineOut};
+pub use making::makes;
 pub use setting::{Class, Names, ObjectDecl, Outcome, Program, Setting, SignalDecl, VarDecl};
 pub use shared::Shared;
 pub use stimulus::{Stimulus, Task};
 pub use tree::{Act, Cond, Expr, Rel, Stmt};
 pub use value::truth;
-pub use worked::{Worked, run};
+pub use worked::{Worked, outcome, run};

@@ -97,20 +97,35 @@ pub fn run(
     ensures store { IfOk result (λ w. w.store ≡ store.now) }
     ensures params { IfOk result (λ w. w.params ≡ params.now) }
 {
+    Ok(Worked {
+        own,
+        act: act.copy(alloc)?,
+        store: Row::from_vec(store.to_vec(alloc)?),
+        params: params.copy(alloc)?,
+        outcome: outcome(alloc, own, act, store, params)?,
+    })
+}
+
+/// What a behaviour of an object makes of the values of its variables and of the parameters of a step
+/// (UML 2.5.1, 13.2.3), as `run` runs it.
+pub fn outcome(
+    alloc: Global,
+    own: ObjectId,
+    act: &Act,
+    store: &[i64],
+    params: &Args,
+) -> Result<Outcome, NoMemory>
+    requires { ActArgsFit act.now }
+    ensures { IfOk result (λ o. o ≡ outcome_of act.now own store.now params.now) }
+{
     let mut execution = Execution {
         store: store.to_vec(alloc)?,
         outs: Vec::new(alloc),
     };
     run_block(alloc, own, act.stmts.as_slice(), params, &mut execution)?;
     let Execution { store: after, outs } = execution;
-    Ok(Worked {
-        own,
-        act: act.copy(alloc)?,
-        store: Row::from_vec(store.to_vec(alloc)?),
-        params: params.copy(alloc)?,
-        outcome: Outcome {
-            store: Row::from_vec(after),
-            outs: Row::from_vec(outs),
-        },
+    Ok(Outcome {
+        store: Row::from_vec(after),
+        outs: Row::from_vec(outs),
     })
 }
