@@ -21,3 +21,5 @@ pub mod SpanLaws
 pub mod CoveringLegs
 pub mod Backwards
 pub mod EnteredAt
+pub mod LegEntries
+pub mod OneCalls

@@ -103,13 +103,13 @@ module _ {m : DraftMachine} (shape : HasShape m) (rules : KeepsModelRules m) (p 
   route = route_of m p are.route
 
   -- each transition is in a leg of the list
-  record InLegAt (t : TransId) : Type 0 where
-    place : ℕ
-    leg : Leg
-    at : IsAt legs place leg
-    same : SameLeg m p leg.named t
+  pub record InLegAt (t : TransId) : Type 0 where
+    pub place : ℕ
+    pub leg : Leg
+    pub at : IsAt legs place leg
+    pub same : SameLeg m p leg.named t
 
-  found : (t : TransId) → On p t → InLegAt t
+  pub found : (t : TransId) → On p t → InLegAt t
   found t is =
       let f = are.all t is in
       record { place = f.0; leg = f.1; at = f.2; same = ((are.each f.0 f.1 f.2).path t).0 f.3 }
@@ -222,7 +222,7 @@ module _ {m : DraftMachine} (shape : HasShape m) (rules : KeepsModelRules m) (p 
     pick_of : (c : VertexId) → IsChoiceEnd m a c → LegEnds m p t (items.Pick c)
     pick_of c h = (last_of c (inl (h.0, h.1)), h.2)
 
-    effect_in : (u : TransId) → SameLeg m p t u → Contains (path_of a) u
+    pub effect_in : (u : TransId) → SameLeg m p t u → Contains (path_of a) u
     effect_in u h = (is_leg.path u).1 (leg_on m p a.named t u same h)
 
     effect_is : (u : TransId) → SameLeg m p t u → HasTransition a u
@@ -308,7 +308,7 @@ module _ {m : DraftMachine} (shape : HasShape m) (rules : KeepsModelRules m) (p 
   beside_of i a at t same r h = (h.0.0, local_leg i a at t same h.0.0 h.0.1, h.0.2, λ aims. h.1 (aimed_is i a at t same r aims))
 
   -- what it calls
-  called_is : (i : ℕ) (a : Leg) (at : IsAt legs i a) (t : TransId) (same : SameLeg m p a.named t) (fires : Bool) (item : Item)
+  pub called_is : (i : ℕ) (a : Leg) (at : IsAt legs i a) (t : TransId) (same : SameLeg m p a.named t) (fires : Bool) (item : Item)
       → IsItemOfLeg m fires p t item → IsCalledAsTold m legs i a fires item
   called_is i a at t same fires (items.Exit s) h = ⊎_elim (λ x. exits_is i a at t same fires s x) (λ x. absurd (⊎_elim (λ e. e) (λ e. e) x)) h
   called_is i a at t same fires (items.Effect u) h = ⊎_elim (λ x. effect_is i a at t same u x) (λ x. absurd (⊎_elim (λ e. e) (λ e. e) x)) h
@@ -322,7 +322,7 @@ module _ {m : DraftMachine} (shape : HasShape m) (rules : KeepsModelRules m) (p 
       (⊎_elim (λ x. history_is i a at t same kinds.DeepHistory r (λ e. cc) (λ e. cc) (λ e. cc) x) (λ x. absurd x)) h
   called_is i a at t same fires (items.Pick c) h = ⊎_elim (λ x. absurd x) (⊎_elim (λ x. pick_is i a at t same c x) (λ x. absurd x)) h
 
-  called_of : (i : ℕ) (a : Leg) (at : IsAt legs i a) (t : TransId) (same : SameLeg m p a.named t) (fires : Bool) (item : Item)
+  pub called_of : (i : ℕ) (a : Leg) (at : IsAt legs i a) (t : TransId) (same : SameLeg m p a.named t) (fires : Bool) (item : Item)
       → IsCalledAsTold m legs i a fires item → IsItemOfLeg m fires p t item
   called_of i a at t same fires (items.Exit s) h = inl (exits_of i a at t same fires s h.0 h.1)
   called_of i a at t same fires (items.Effect u) h = inl (effect_of i a at t same u h)
@@ -370,7 +370,7 @@ module _ {m : DraftMachine} (shape : HasShape m) (rules : KeepsModelRules m) (p 
       later_is_further legs are.inside.before (λ j b. StandsLater (leg_list legs) i j × IsCalledAsTold m legs j b fires y) i f.place f.leg stands f.at
       (stands, called_is f.place f.leg f.at u f.same fires y h)
 
-  ordered_is : (i : ℕ) (a : Leg) (at : IsAt legs i a) (t : TransId) (same : SameLeg m p a.named t) (fires : Bool) (x y : Item)
+  pub ordered_is : (i : ℕ) (a : Leg) (at : IsAt legs i a) (t : TransId) (same : SameLeg m p a.named t) (fires : Bool) (x y : Item)
       → IsOrderedInLeg m fires p t x y → IsOrderedAsTold m legs i a fires x y
   ordered_is i a at t same fires _ _ (exit_effect {x = x} {y = y} ex ef cx cy) =
       inl (inr (exit_before_effect x y ex ef, called_is i a at t same fires x (inl cx), called_is i a at t same fires y (inl cy)))
@@ -386,7 +386,7 @@ module _ {m : DraftMachine} (shape : HasShape m) (rules : KeepsModelRules m) (p 
   ordered_is i a at t same fires _ _ (later {x = x} {y = y} u far cx cy) =
       inr (called_comes_before m p t fires x cx, called_is i a at t same fires x (inl cx), called_later i a at t u same fires y far cy)
 
-  pair_of : (i : ℕ) (a : Leg) (at : IsAt legs i a) (fires : Bool) (x y : Item) → IsPathPair a x y → IsOrderedInLeg m fires p a.named x y
+  pub pair_of : (i : ℕ) (a : Leg) (at : IsAt legs i a) (fires : Bool) (x y : Item) → IsPathPair a x y → IsOrderedInLeg m fires p a.named x y
   pair_of i a at fires (items.Effect t) (items.Effect u) h =
       let before = before_of a.named a.further.items t u h.1 in
       let inside = at_contains (path_of a) before.0 t before.3 in
@@ -404,7 +404,7 @@ module _ {m : DraftMachine} (shape : HasShape m) (rules : KeepsModelRules m) (p 
     named_in : SameLeg m p a.named a.named
     named_in = itself (are.each i a at).on
 
-    first_of : (fires : Bool) (x y : Item) → ComesFirst x y → IsCalledAsTold m legs i a fires x → IsCalledAsTold m legs i a fires y
+    pub first_of : (fires : Bool) (x y : Item) → ComesFirst x y → IsCalledAsTold m legs i a fires x → IsCalledAsTold m legs i a fires y
         → IsOrderedInLeg m fires p a.named x y
     first_of fires (items.Exit s) (items.Effect t) k h g =
         exit_effect tt tt (exits_of i a at a.named named_in fires s h.0 h.1) (effect_of i a at a.named named_in t g)
@@ -437,7 +437,7 @@ module _ {m : DraftMachine} (shape : HasShape m) (rules : KeepsModelRules m) (p 
     first_of fires (items.Opened r mode) y k h g = absurd k
     first_of fires (items.Pick c) y k h g = absurd k
 
-    itself_of : (fires : Bool) (x : Item) → ComesBeforeLater x → IsCalledAsTold m legs i a fires x → IsCalledInLeg m fires p a.named x
+    pub itself_of : (fires : Bool) (x : Item) → ComesBeforeLater x → IsCalledAsTold m legs i a fires x → IsCalledInLeg m fires p a.named x
     itself_of fires (items.Exit s) k h = exits_of i a at a.named named_in fires s h.0 h.1
     itself_of fires (items.Effect t) k h = effect_of i a at a.named named_in t h
     itself_of fires (items.Enter s) k h = enters_of i a at a.named named_in s h
@@ -451,7 +451,7 @@ module _ {m : DraftMachine} (shape : HasShape m) (rules : KeepsModelRules m) (p 
         let on = (are.each j b h.2.2).on in
         later b.named ((are.later i j a b at h.2.2).1 h.2.3.0) (itself_of fires x h.0 h.1) (called_of j b h.2.2 b.named (itself on) fires y h.2.3.1)
 
-    ordered_at : (fires : Bool) (x y : Item) → IsOrderedAsTold m legs i a fires x y → IsOrderedBy m fires p x y
+    pub ordered_at : (fires : Bool) (x y : Item) → IsOrderedAsTold m legs i a fires x y → IsOrderedBy m fires p x y
     ordered_at fires x y h = (
       a.named,
       (are.each i a at).on,

@@ -1,3 +1,4 @@
 pub mod Told
 pub mod Chained
 pub mod Spans
+pub mod Callers

@@ -74,10 +74,10 @@ fn is_covered_ahead(
         || is_covered_before(machine, legs, leg, place, s)
 }
 
-// Whether the exit of a State comes ahead of an item that the leg with the place calls: where the State lies where this leg
-// exits, and the item is an effect, or where one behind which it stands exits. The first of them that does exits the State.
+/// Whether the exit of a State comes ahead of an item that the leg with the place calls: where the State lies where this leg
+/// exits, and the item is an effect, or where one behind which it stands exits. The first of them that does exits the State.
 #[inline(always)]
-fn is_exit_ahead(
+pub fn is_exit_ahead(
     machine: &Machine,
     legs: &Legs,
     leg: &Leg,

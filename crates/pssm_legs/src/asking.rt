@@ -13,8 +13,8 @@ use crate::entering::{ends_inside, has_transition, is_entered};
 use crate::legs::{Leg, Legs, leg_at};
 use pssm_model::{Item, Machine, Mode, Owner, RegionId, VertexId, VertexKind};
 
-// Whether the leg with the place stands later than that with the other place.
-fn is_later(legs: &Legs, leg: &Leg, place: usize, other: usize) -> bool
+/// Whether the leg with the place stands later than that with the other place.
+pub fn is_later(legs: &Legs, leg: &Leg, place: usize, other: usize) -> bool
     requires place { IsAt legs.now place leg.now }
     requires before { (i j : ℕ) (b : Leg) → IsAt legs.now j b → b.before ≡ Some i → i < j }
     ensures { IsTrue result ↔ StandsLater (leg_list legs.now) other place }

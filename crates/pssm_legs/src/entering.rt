@@ -262,6 +262,16 @@ pub fn is_entered(machine: &Machine, leg: &Leg, s: VertexId) -> bool
     leg.area != Area::Nowhere && last_meets(machine, leg, Aim::Entering(s))
 }
 
+/// Whether the leg ends on the State or an entry point of it, and enters the State. It is asked first where the leg ends.
+#[inline(always)]
+pub fn enters_at_end(machine: &Machine, leg: &Leg, s: VertexId) -> bool
+    requires leg { IsLegIn machine.now leg.now }
+    requires state { s.0 < length machine.now.vertices }
+    ensures { IsTrue result → IsEntered machine.now leg.now s }
+{
+    is_end_state(machine, leg.last, s) && is_entered(machine, leg, s)
+}
+
 /// Whether a last vertex of the leg lies in the region.
 pub fn ends_inside(machine: &Machine, leg: &Leg, r: RegionId) -> bool
     requires leg { IsLegIn machine.now leg.now }

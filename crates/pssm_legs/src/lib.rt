@@ -8,6 +8,7 @@
 mod ahead;
 mod areas;
 mod asking;
+mod callers;
 mod entering;
 mod further;
 mod legs;

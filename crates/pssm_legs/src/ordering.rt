@@ -5,11 +5,13 @@ ghost use Rattle.pssm_model.specs.WellFormed.{KeepsModelRules};
 ghost use Rattle.pssm_legs.specs.Calls.{IsItemIn, IsOrderedBy};
 ghost use Rattle.pssm_legs.specs.LegsOf.{IsAt, IsLegIn, AreLegsIn, AreLegsOf};
 ghost use Rattle.pssm_legs.specs.inner.Told.{HasBefore, IsCalledAsTold, IsCalledLater, ComesFirst, ComesBeforeLater, IsPathPair, HasLeg, HasFurther};
+ghost use Rattle.pssm_legs.specs.inner.Callers.{TellsOrder};
 ghost use Rattle.pssm_legs.specs.inner.Told.{ComesBehind, IsOrderedWithin, IsOrderedOver, IsOrderedAsTold, IsCoveredExit, IsInnerExit};
 
 use crate::ahead::{are_called_from, comes_first, starts_ahead};
 use crate::areas::covers;
 use crate::asking::{is_called, is_called_later};
+use crate::callers::{has_one_caller, orders_from_one, orders_to_one};
 use crate::entering::lies_in;
 use crate::legs::{Leg, Legs};
 use pssm_model::{Item, Machine, TransId};
@@ -22,16 +24,17 @@ fn has_before(leg: &Leg, t: TransId, u: TransId) -> bool
     (leg.named == t && leg.further.contains(u)) || leg.further.puts_before(t, u)
 }
 
-// Whether the item is an exit, effect or entry, which comes before all that later legs call.
-fn comes_before_later(item: Item) -> bool
+/// Whether the item is an exit, effect or entry, which comes before all that later legs call.
+#[inline(always)]
+pub fn comes_before_later(item: Item) -> bool
     ensures { IsTrue result ↔ ComesBeforeLater item }
 {
     matches!(item, Item::Exit(_) | Item::Effect(_) | Item::Enter(_))
 }
 
-// Whether the items are effects, the first of which stands in the leg before the second.
+/// Whether the items are effects, the first of which stands in the leg before the second.
 #[inline(always)]
-fn are_path_pair(leg: &Leg, first: Item, second: Item) -> bool
+pub fn are_path_pair(leg: &Leg, first: Item, second: Item) -> bool
     ensures { IsTrue result ↔ IsPathPair leg.now first second }
 {
     match (first, second) {
@@ -201,10 +204,10 @@ fn comes_behind(
         || (comes_before_later(first) && is_called_behind(machine, legs, leg, place, fires, second))
 }
 
-// Whether the second item comes behind the first where the leg with the place calls the first: as effects of the leg do,
-// or otherwise.
+/// Whether the second item comes behind the first where the leg with the place calls the first: as effects of the leg do,
+/// or otherwise.
 #[inline(always)]
-fn follows(
+pub fn follows(
     machine: &Machine,
     legs: &Legs,
     leg: &Leg,
@@ -401,6 +404,67 @@ fn are_ordered_by_some(
         || are_ordered_by_more(machine, legs, fires, first, second)
 }
 
+// Whether a route puts the first of two items before the second, by what is told of each leg.
+#[inline(always)]
+fn orders_as_told(machine: &Machine, legs: &Legs, fires: bool, first: Item, second: Item) -> bool
+    requires rules { KeepsModelRules machine.now }
+    requires legs { AreLegsIn machine.now legs.now }
+    requires first { IsItemIn machine.now first }
+    requires second { IsItemIn machine.now second }
+    ensures { TellsOrder machine.now legs.now fires first second result }
+{
+    let _shaped = machine.regions();
+    are_ordered_by_some(machine, legs, fires, first, second)
+}
+
+// Whether a route puts an exit, effect or entry before an exit, or before what is called at an end.
+#[inline(always)]
+fn orders_to_others(machine: &Machine, legs: &Legs, fires: bool, first: Item, second: Item) -> bool
+    requires rules { KeepsModelRules machine.now }
+    requires legs { AreLegsIn machine.now legs.now }
+    requires first { IsItemIn machine.now first }
+    requires second { IsItemIn machine.now second }
+    requires before { ComesBeforeLater first }
+    ensures { TellsOrder machine.now legs.now fires first second result }
+{
+    if has_one_caller(first) {
+        orders_from_one(machine, legs, fires, first, second)
+    } else {
+        orders_as_told(machine, legs, fires, first, second)
+    }
+}
+
+// Whether a route puts an exit, effect or entry before another item. It is asked first which leg calls one of them, where
+// one leg alone does.
+#[inline(always)]
+fn orders_from_start(machine: &Machine, legs: &Legs, fires: bool, first: Item, second: Item) -> bool
+    requires rules { KeepsModelRules machine.now }
+    requires legs { AreLegsIn machine.now legs.now }
+    requires first { IsItemIn machine.now first }
+    requires second { IsItemIn machine.now second }
+    requires before { ComesBeforeLater first }
+    ensures { TellsOrder machine.now legs.now fires first second result }
+{
+    if has_one_caller(second) {
+        orders_to_one(machine, legs, fires, first, second)
+    } else {
+        orders_to_others(machine, legs, fires, first, second)
+    }
+}
+
+// Whether a route of several legs puts the first of two items before the second.
+#[inline(always)]
+fn orders_over_legs(machine: &Machine, legs: &Legs, fires: bool, first: Item, second: Item) -> bool
+    requires rules { KeepsModelRules machine.now }
+    requires legs { AreLegsIn machine.now legs.now }
+    requires first { IsItemIn machine.now first }
+    requires second { IsItemIn machine.now second }
+    ensures { TellsOrder machine.now legs.now fires first second result }
+{
+    let _shaped = machine.regions();
+    comes_before_later(first) && orders_from_start(machine, legs, fires, first, second)
+}
+
 /// Whether a route puts the first of two items before the second, since one of its legs calls both, or a later leg the
 /// second (UML 2.5.1, 14.2.3.9, transition execution sequence).
 #[inline(always)]
@@ -412,6 +476,10 @@ pub fn orders(machine: &Machine, legs: &Legs, fires: bool, first: Item, second: 
     ensures { (p : Route) → AreLegsOf machine.now p legs.now
         → (IsTrue result ↔ IsOrderedBy machine.now fires p first second) }
 {
-    let _shaped = machine.regions();
-    are_ordered_by_some(machine, legs, fires, first, second)
+    let alone = legs.more.len() == 0;
+    if alone {
+        orders_as_told(machine, legs, fires, first, second)
+    } else {
+        orders_over_legs(machine, legs, fires, first, second)
+    }
 }

@@ -1,6 +1,6 @@
 -- the legs of the route do what is told of them
 use Rattle.pssm_legs.proofs.TheLegs.{orders_is, orders_of}
-use Rattle.pssm_legs.proofs.ordering.orders.Goals as goal
+use Rattle.pssm_legs.proofs.ordering.orders_as_told.Goals as goal
 
 pub returns : goal.returns
 returns c = λ p are. (
