@@ -111,7 +111,7 @@ begun_seen m ways calls call begun since h none low item free = record {
 
 -- the rest of a list, as a slice from a place on
 module _ {X : Type 0} (xs : List X) (first : ℕ) where
-  rest_is : take (length xs - first) (drop first xs) ≡ drop first xs
+  pub rest_is : take (length xs - first) (drop first xs) ≡ drop first xs
   rest_is = let long = length-drop first xs in take_all (length xs - first) (drop first xs) (omega (arith, long))
 
   pub rest_some : (x : X) → Contains (take (length xs - first) (drop first xs)) x → Contains xs x
@@ -150,13 +150,6 @@ loose_more m calls first k d there none h j e x le lt inside nested =
     (λ low. h j e x le low inside nested)
     (λ same. none x (subst (λ (c : Call). IsNestedPair m c.item x) (ap (λ (n : ℕ). get_or calls n e) same ∙ get_or_default calls k e d there) nested))
     (lower_or_same j k lt)
-
--- over the same items
-pub loose_along : (m : DraftMachine) (old now : List Call) (first nests : ℕ) → AreAlike old now → AreLooseUpTo m old first nests
-    → AreLooseUpTo m now first nests
-loose_along m old now first nests alike h k d x le lt inside nested =
-    let low : k < length old = omega (arith, alike.0, inside) in
-    h k d x le lt low (subst (λ (i : Item). IsNestedPair m i x) (alike.1 k d low).0 nested)
 
 -- a call that none before the new ones holds up has as good as seen those that come before none so
 pub raised_seen : (m : DraftMachine) (calls : List Call) (call raised : Call) (first nests : ℕ) → nests ≤ length calls
@@ -219,15 +212,6 @@ new_along m ways old now since alike = new_same m ways old now since alike.0 (λ
 pub noted_new : (m : DraftMachine) (ways : List Way) (item : Item) (old now : List Call) (since : Since) → ArePairwise (IsNoted item) old now
     → AreNewSince m ways old since → AreNewSince m ways now since
 noted_new m ways item old now since noted = new_same m ways old now since noted.0 (λ k d lt. (noted.1 k d lt).item_is)
-
-pub none_new : (m : DraftMachine) (ways : List Way) (calls : List Call) (since : Since) → since.calls ≡ length calls → since.ways ≡ length ways
-    → AreNewSince m ways calls since
-none_new m ways calls since same all = record {
-  within = omega (arith, same);
-  ways_within = omega (arith, all);
-  apart = λ j k d before behind inside. absurd (omega (arith, same, behind, inside));
-  by = λ k d le inside. absurd (omega (arith, same, le, inside));
-}
 
 no_exit_opened : (x : Item) (y : Item) → x ≡ y → IsNoExit y → IsNoExit x
 no_exit_opened x y same h = subst IsNoExit (sym same) h

@@ -1,5 +1,5 @@
 -- Spans in which those stand that wait for a call.
-use Rattle.std.proofs.Common.{◌≡◌, ◌≢◌, ◌⊎◌, ◌<◌, ◌≤◌, ◌^◌, ◌++◌, ℕ, List, [], Bool, length, get_or, Contains, IsTrue, arith, refl, sym, ap, subst, inl, inr, ⊎_elim, ◌∙◌, length-append}
+use Rattle.std.proofs.Common.{◌≡◌, ◌⊎◌, ◌<◌, ◌≤◌, ◌^◌, ℕ, List, [], Bool, length, get_or, Contains, IsTrue, arith, sym, ap, subst, ⊎_elim, ◌∙◌, length-append}
 use Rattle.std.proofs.lemmas.Bool.{cases_lt}
 use Rattle.std.proofs.lemmas.List.{get_or_default, get_or_append_left}
 use Rattle.std.proofs.lemmas.List.Elements.{Contains-get_or}

@@ -1,14 +1,16 @@
 -- A roster that gains items.
-use Rattle.std.proofs.Common.{◌≡◌, ◌≢◌, ◌⊎◌, ◌↔◌, List, [], ◌∷◌, ◌++◌, get_or, Contains, AllPairs, IsTrue, false, sym, subst, ap, refl, ◌∙◌, inl, inr, ⊎_elim}
+use Rattle.std.proofs.Common.{◌≡◌, ◌≢◌, ◌⊎◌, ◌↔◌, List, [], ◌∷◌, ◌++◌, get_or, Contains, AllPairs, IsTrue, false, sym, subst, ap, refl, ◌∙◌, inl, inr, ⊎_elim, Result, Ok, Err, OnOk, OnErr}
 use Rattle.std.proofs.lemmas.List.Elements.{Contains-push, Contains-push_cases, Contains-append_left, Contains-get_or}
 use Rattle.std.proofs.lemmas.List.Quantifiers.{all_pairs_push}
 use Rattle.std.proofs.lemmas.Bool.{false≢true}
 use Rattle.pssm_model.specs.declared.elements.DraftMachine.{DraftMachine}
 use Rattle.pssm_model.specs.declared.steps.Item.{Item}
 use Rattle.pssm_plan.specs.declared.roster.Call.{Call}
-use Rattle.pssm_plan.specs.inner.Marks.{IsListed, IsMarked, IsFresh}
+use Rattle.pssm_plan.specs.inner.Marks.{IsListed, IsMarked, IsLonger, IsFresh}
+use Rattle.pssm_plan.specs.inner.Places.{IsAdded}
 use Rattle.pssm_legs.specs.Calls.{IsItemIn}
 use Rattle.pssm_plan.specs.inner.Sequence.{IsRoster, IsExtended}
+use Rattle.pssm_plan.proofs.Growing.{longer_same}
 
 -- a call that has not run
 abbrev pub fresh_call : Item → Call
@@ -104,3 +106,25 @@ extended_further m a b c P Q h g = record {
   marked = λ x. (λ l. (h.marked x).0 ((g.marked x).0 l), λ l. (g.marked x).1 ((h.marked x).1 l));
   fresh = λ call is. ⊎_elim (λ was. h.fresh call was) (λ new. inr new) (g.fresh call is);
 }
+
+kept_longer : (old new : List Call) → new ≡ old → IsLonger old new
+kept_longer old new same = subst (λ (l : List Call). IsLonger old l) (sym same) (longer_same old)
+
+-- a call that is added where its item is not listed: the list is longer, or as it was
+pub added_longer : (old new : List Call) (call : Call) → IsAdded old call new → IsLonger old new
+added_longer old new call h = ⊎_elim (λ was. kept_longer old new was.1) (λ more. (call ∷ [], more.1)) h
+
+pub added_or_refused : {E : Type 0} (r : Result Unit E) (old new : List Call) (call : Call) → OnOk r (IsAdded old call new) → OnErr r (new ≡ old)
+    → IsLonger old new
+added_or_refused (Ok x) old new call added refused = added_longer old new call added
+added_or_refused (Err e) old new call added refused = kept_longer old new refused
+
+-- and it is that of a roster with the item
+pub extended_added : (m : DraftMachine) (old new : List Call) (item : Item) → IsRoster m old → IsItemIn m item → IsAdded old (fresh_call item) new
+    → IsExtended m old (λ x. x ≡ item) new
+extended_added m old new item r there h =
+    ⊎_elim
+    (λ was. subst (IsExtended m old (λ x. x ≡ item)) (sym was.1)
+    (extended_none m old (λ x. x ≡ item) (λ x e. subst (IsListed old) (sym e) was.0) r))
+    (λ more. subst (IsExtended m old (λ x. x ≡ item)) (sym more.1) (extended_push m old item r there more.0))
+    h

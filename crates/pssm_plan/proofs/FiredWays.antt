@@ -10,9 +10,9 @@ use Rattle.pssm_plan.specs.declared.ways.Way.{Way}
 use Rattle.pssm_plan.specs.declared.roster.Call.{Call}
 use Rattle.pssm_plan.specs.declared.waiting.Since.{Since}
 use Rattle.pssm_plan.specs.inner.ByWays.{calls_by}
-use Rattle.pssm_plan.specs.inner.Marks.{IsListed, IsLonger, IsForgotten, IsAlike, ArePairwise}
+use Rattle.pssm_plan.specs.inner.Marks.{IsListed, IsLonger, IsAlike, ArePairwise}
 use Rattle.pssm_plan.specs.inner.Passes.{AreAllSure, AreSureBefore}
-use Rattle.pssm_plan.specs.inner.Sequence.{IsSequence, AreItemsOf, AreNewSince, IsExtended}
+use Rattle.pssm_plan.specs.inner.Sequence.{IsSequence, AreNewSince, IsExtended}
 use Rattle.pssm_plan.specs.inner.Calling.{IsOfWays, MayRun}
 use Rattle.pssm_plan.specs.inner.Going.{IsMadeOf, KeepsOrder}
 use Rattle.pssm_plan.proofs.ApartCalls.{new_from}
@@ -24,10 +24,6 @@ use Rattle.pssm_plan.proofs.Taken.{none_taken, taken_cases, taken_more, taken_he
 -- lists of the same items, of which the same have run
 pub all_alike : (a b : List Call) → ArePairwise IsAlike a b → AreAlike a b
 all_alike a b h = (h.0, λ k d lt. let is = h.1 k d lt in (is.item_is, is.ran))
-
-pub forgotten_items : (m : DraftMachine) (old now : List Call) → ArePairwise IsForgotten old now → AreItemsOf m old → AreItemsOf m now
-forgotten_items m old now f were x listed =
-    were x (listed_along now old x (sym f.0) (λ k d lt. sym (f.1 k d (omega (arith, f.0, lt))).item_is) listed)
 
 same_items : (a b : List Call) → ArePairwise IsAlike a b → (k : ℕ) (d : Call) → k < length a → (get_or b k d).item ≡ (get_or a k d).item
 same_items a b h k d lt = (h.1 k d lt).item_is

@@ -1,5 +1,5 @@
 -- The progress of a step as an item runs: what is listed is a roster, and what each call has seen.
-use Rattle.std.proofs.Common.{◌≡◌, ◌⊎◌, ◌<◌, ◌≤◌, ◌++◌, ℕ, Bool, List, [], ◌∷◌, length, get_or, take, Contains, IsTrue, Vec}
+use Rattle.std.proofs.Common.{◌≡◌, ◌⊎◌, ◌<◌, ◌≤◌, ◌++◌, ℕ, List, [], ◌∷◌, length, get_or, take, Contains, IsTrue, Vec}
 use Rattle.std.proofs.Common.{arith, inl, inr, refl, sym, subst, ap, ⊎_elim, ◌∙◌}
 use Rattle.std.proofs.lemmas.List.{take_at, get_or_append_left, length-append}
 use Rattle.std.proofs.lemmas.List.Elements.{Contains-push_cases, Contains-append_left, Contains-get_or}
@@ -16,13 +16,13 @@ use Rattle.pssm_plan.specs.declared.waiters.Span.{Span}
 use Rattle.pssm_plan.specs.Waiting.{HoldsUp}
 use Rattle.pssm_plan.specs.Ways.{AreWaysIn}
 use Rattle.pssm_plan.specs.inner.ByWays.{calls_by, orders_by}
-use Rattle.pssm_plan.specs.inner.Marks.{IsListed, IsLonger, IsFresh, IsTold, IsForgotten, IsNoted, ArePairwise}
+use Rattle.pssm_plan.specs.inner.Marks.{IsListed, IsLonger, IsFresh, IsTold, IsNoted, ArePairwise}
 use Rattle.pssm_plan.specs.inner.Passes.{IsSure, IsSureBefore, AreAllSure, AreSureBefore}
 use Rattle.pssm_plan.specs.inner.Sequence.{IsSequence, IsOrderedBySome, AreItemsOf, IsRoster, IsExtended}
 use Rattle.pssm_plan.specs.inner.Calling.{IsEntered}
 use Rattle.pssm_plan.specs.inner.Going.{KeepsOrder, IsLongerProgress, IsFollowedPlainly, IsFollowedSo, IsFinished, IsRunSo, IsUnchanged}
 use Rattle.pssm_plan.proofs.Growing.{longer_same}
-use Rattle.pssm_plan.proofs.Firing.{nothing_among, one_more_way}
+use Rattle.pssm_plan.proofs.Firing.{one_more_way}
 use Rattle.pssm_plan.proofs.NearWays.{way_calls_first, way_calls_second}
 use Rattle.pssm_plan.proofs.Rewriting.{listed_along}
 
@@ -139,27 +139,6 @@ followed_room m old new item Nothing spans h = record { ways = h.ways; restored 
 pub told_noted : (item : Item) (a b : List Call) → ArePairwise (IsTold item) a b → ArePairwise (IsNoted item) a b
 told_noted item a b h = (h.0, λ k d lt. (let t = h.1 k d lt in record { item_is = t.item_is; ran = t.ran }))
 
-pub forgotten_noted : (item : Item) (a b c : List Call) → ArePairwise (IsTold item) a b → ArePairwise IsForgotten b c → ArePairwise (IsNoted item) a c
-forgotten_noted item a b c h g = (
-  g.0 ∙ h.0,
-  λ k d lt.
-      (let low : k < length b = omega (arith, h.0) in
-      let t = h.1 k d lt in
-      let f = g.1 k d low in
-      record {
-        item_is = f.item_is ∙ t.item_is;
-        ran = (
-          λ ran. t.ran.0 (subst (λ (v : Bool). IsTrue v) f.ran ran),
-          λ was. subst (λ (v : Bool). IsTrue v) (sym f.ran) (t.ran.1 was),
-        );
-      }),
-)
-
-pub forgotten_fresh : (b c : List Call) → ArePairwise IsForgotten b c → (call : Call) → Contains c call → IsFresh call
-forgotten_fresh b c g call inside =
-    let low : inside.0 < length b = omega (arith, g.0, inside.1) in
-    subst IsFresh inside.2 (g.1 inside.0 call low).fresh
-
 pub noted_items : (m : DraftMachine) (item : Item) (a b : List Call) → ArePairwise (IsNoted item) a b → AreItemsOf m a → AreItemsOf m b
 noted_items m item a b h were x listed =
     were x (listed_along b a x (sym h.0) (λ k d lt. sym (h.1 k d (omega (arith, h.0, lt))).item_is) listed)
@@ -167,15 +146,6 @@ noted_items m item a b h were x listed =
 -- a list that is cut back to its length before it grew
 pub cut_back : {X : Type 0} (old new : List X) (n : ℕ) → IsLonger old new → n ≡ length old → take n new ≡ old
 cut_back {X} old new n longer same = ap (λ (l : List X). take n l) longer.1 ∙ take_at old longer.0 n (sym same)
-
--- what is listed where nothing was has not looked at the others yet
-pub from_nothing : (m : DraftMachine) (old new : List Call) (Added : Item → Type 0) → old ≡ [] → IsExtended m old Added new
-    → (call : Call) → Contains new call → IsFresh call
-from_nothing m old new Added none h call inside =
-    ⊎_elim
-    (λ was. absurd (nothing_among old call none was))
-    (λ fresh. fresh)
-    (h.fresh call inside)
 
 -- progress that is cut back to what it was before it grew
 pub back_again : (old grown new : Progress) (calls ways restored : ℕ) → IsLongerProgress old grown → calls ≡ length old.roster.calls.items

@@ -23,6 +23,8 @@ pub mod NearItems
 pub mod LeadingLegs
 pub mod DirectWays
 pub mod ApartCalls
+pub mod FreeCalls
+pub mod ClearCalls
 pub mod Telling
 pub mod StandingItems
 pub mod ReadyCalls
@@ -44,6 +46,7 @@ pub mod KnownItems
 pub mod StepLengths
 pub mod ReadyOrOut
 pub mod SteadyPlaces
+pub mod Around
 pub mod Arrivals
 pub mod SteadyApart
 pub mod SteadyItems
@@ -57,6 +60,5 @@ pub mod CalledNext
 pub mod Settled
 pub mod CalledPlaces
 pub mod AddedCalls
-pub mod LegEntries
 pub mod OnceCalled
 pub mod Stations

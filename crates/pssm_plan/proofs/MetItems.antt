@@ -1,5 +1,5 @@
 -- Listed items that a way may call, which ends in the region where it exits and enters.
-use Rattle.std.proofs.Common.{◌≡◌, ◌⊎◌, List, IsTrue, Contains, refl, sym, subst, ⊎_elim}
+use Rattle.std.proofs.Common.{◌≡◌, List, IsTrue, Contains, refl, sym, subst, ⊎_elim}
 use Rattle.pssm_model.specs.declared.ids.VertexId.{VertexId}
 use Rattle.pssm_model.specs.declared.ids.RegionId.{RegionId}
 use Rattle.pssm_model.specs.declared.ids.TransId.{TransId}

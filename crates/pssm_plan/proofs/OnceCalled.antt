@@ -26,7 +26,7 @@ use Rattle.pssm_model_laws.proofs.LegRoots.{leg_ends, leg_turned, legs_meet, beg
 use Rattle.pssm_model_laws.proofs.UpAndDown.{up_along, up_no_down, height}
 use Rattle.pssm_model_laws.proofs.RouteKinds.{state_start, one_start}
 use Rattle.pssm_model_laws.proofs.RouteAreas.{scope_on, below_exits_nothing}
-use Rattle.pssm_plan.proofs.LegEntries.{one_entering}
+use Rattle.pssm_legs.proofs.LegEntries.{one_entering}
 
 -- what a leg calls: its exits, effects and entries, and what it calls at its end
 abbrev pub IsOfLegHere : DraftMachine → (VertexId → Type 0) → Route → TransId → Item → Type 0

@@ -1,5 +1,5 @@
 -- Calls that are told, pass after pass, for which one they wait.
-use Rattle.std.proofs.Common.{◌≡◌, ◌≢◌, ◌⊎◌, ◌+◌, ◌<◌, ◌≤◌, ℕ, List, Bool, length, get_or, set, Contains, IsTrue, arith, refl, sym, ap, subst, inl, inr, ⊎_elim, ◌∙◌}
+use Rattle.std.proofs.Common.{◌≡◌, ◌≢◌, ◌⊎◌, ◌+◌, ◌<◌, ◌≤◌, ℕ, List, Bool, length, get_or, IsTrue, arith, refl, sym, ap, subst, inl, inr, ⊎_elim, ◌∙◌}
 use Rattle.std.proofs.lemmas.Bool.{cases_lt}
 use Rattle.std.proofs.lemmas.List.{get_or_default, get_or-set_same, get_or-set_other, length-set}
 use Rattle.pssm_model.specs.declared.elements.DraftMachine.{DraftMachine}
@@ -9,10 +9,10 @@ use Rattle.pssm_plan.specs.declared.roster.Call.{Call}
 use Rattle.pssm_plan.specs.declared.waiting.Since.{Since}
 use Rattle.pssm_plan.specs.declared.waiting.Wait.{Wait}
 use Rattle.pssm_plan.specs.Waiting.{HoldsUp, IsExact}
-use Rattle.pssm_plan.specs.inner.Marks.{IsTold, IsFresh, IsPlaceOf, IsAlike, HasSeen, IsSettled, IsSettledSo, IsSettledAt, ArePairwise}
+use Rattle.pssm_plan.specs.inner.Marks.{IsTold, IsPlaceOf, IsAlike, HasSeen, IsSettled, IsSettledSo, IsSettledAt, ArePairwise}
 use Rattle.pssm_plan.specs.inner.Sequence.{IsSequence, IsNestedPair, IsOrderedBySome, IsNestedInNone, AreLooseUpTo, AreNewSince}
 use Rattle.pssm_plan.specs.inner.Passes.{ArePassed, IsSure, IsWaitingLeft, IsFreeLeft, AreSureBut, AreAllSure, NewLeft, WaitingLeft, FreeLeft, IsOrderedBehindNone, AreSureBefore, IsSureBefore, IsPut, told_wait}
-use Rattle.pssm_plan.proofs.Rewriting.{AreAlike, alike_back}
+use Rattle.pssm_plan.proofs.Rewriting.{AreAlike}
 use Rattle.pssm_plan.proofs.Settling.{set_or_not, holds_along, seen_along, seen_told}
 
 pub same_or_not : (k p : ℕ) → (k ≡ p) ⊎ (k ≢ p)

@@ -41,7 +41,7 @@ use Rattle.pssm_model_laws.proofs.RouteKinds.{state_start, one_start, inner_sour
 use Rattle.pssm_model_laws.proofs.DownLegs.{down_target, local_target}
 use Rattle.pssm_model_laws.proofs.UpScopes.{scope_in_area}
 use Rattle.pssm_model_laws.proofs.RouteAreas.{has_area, scope_on, below_exits_nothing}
-use Rattle.pssm_plan.proofs.LegEntries.{not_up}
+use Rattle.pssm_legs.proofs.LegEntries.{not_up}
 use Rattle.pssm_model_laws.proofs.OneLegScope.{one_area}
 use Rattle.pssm_plan.proofs.SteadyPlaces.{IsRegionIn, IsRegionUnder, IsEdge, IsAtOrUnder, IsGoOn, go_on_is_no, same_state, same_region_place, no_circle, one_reached, home_in_scope, at_end_in_scope, under_or_at, in_region_at}
 

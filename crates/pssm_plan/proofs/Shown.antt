@@ -1,5 +1,5 @@
 -- The calls of a plan as clauses see them.
-use Rattle.std.proofs.Common.{◌≡◌, ◌↔◌, ◌<◌, ◌≤◌, ◌∷◌, ℕ, List, [], Bool, true, false, cond, length, map, take, get_or, Contains, IsTrue, IfSome, IfNone, Option, Some, None, arith, refl, sym, ap, subst, ⊎_elim, ◌∙◌}
+use Rattle.std.proofs.Common.{◌≡◌, ◌↔◌, ◌<◌, ◌∷◌, ℕ, List, [], Bool, true, false, cond, length, map, take, get_or, Contains, IsTrue, IfSome, IfNone, Option, Some, None, arith, refl, sym, ap, subst, ⊎_elim, ◌∙◌}
 use Rattle.std.specs.List.{filter}
 use Rattle.std.proofs.lemmas.Bool.{false≢true}
 use Rattle.std.proofs.lemmas.List.{length-map, get_or-map, get_or_default, take-map}
@@ -14,7 +14,7 @@ use Rattle.pssm_plan.specs.Standings.{stands_ready, ready_before, IsItemAt, IsNe
 use Rattle.pssm_plan.specs.inner.Marks.{IsListed, IsMarked, IsAlike, ArePairwise}
 use Rattle.pssm_plan.specs.inner.Sequence.{IsRoster}
 use Rattle.pssm_plan.specs.inner.Going.{AreCovered}
-use Rattle.pssm_plan.specs.inner.Passes.{IsSure, AreAllSure, ArePassed}
+use Rattle.pssm_plan.specs.inner.Passes.{IsSure, AreAllSure}
 use Rattle.pssm_plan.specs.inner.Views.{shown, shown_among}
 use Rattle.pssm_plan.proofs.Rewriting.{AreAlike, alike_back, listed_along, marked_along, roster_along}
 use Rattle.pssm_plan.proofs.Settling.{set_or_not, exact_along}

@@ -1,5 +1,6 @@
 -- A search through a list for an element of which something holds.
 use Rattle.std.proofs.Common.{◌≡◌, ◌+◌, ◌<◌, ◌≤◌, ℕ, List, Some, length, take, get_or, slice_get, Contains, arith, sym, subst, ap, ⊎_elim, ◌∙◌}
+use Rattle.std.proofs.lemmas.List.{get_or_default}
 use Rattle.std.proofs.lemmas.Option.{get_or_from_slice_get}
 use Rattle.pssm_plan.proofs.Growing.{lower_or_same}
 use Rattle.pssm_plan.proofs.Taken.{taken_cases}
@@ -31,6 +32,14 @@ module _ {X : Type 0} (xs : List X) (i : ℕ) (x : X) (lt : i < length xs) (is :
       → (j : ℕ) (y : X) → from ≤ j → j < i + 1 → slice_get xs j ≡ Some y → Q y → ⊥
   none_from_more Q from not none j y above low at q =
       ⊎_elim (λ less. none j y above less at q) (λ same. not_here Q not j y same at q) (lower_or_same j i low)
+
+-- the element of a list of one
+pub only_one : {X : Type 0} (xs : List X) (x : X) → length xs ≡ 1 → x ≡ get_or xs 0 x → (y : X) → Contains xs y → x ≡ y
+only_one {X} xs x one is y h =
+    let low = h.1 in
+    let zero : h.0 ≡ 0 = omega (arith, one, low) in
+    let some : 0 < length xs = omega (arith, one) in
+    is ∙ get_or_default xs 0 x y some ∙ ap (λ (n : ℕ). get_or xs n y) (sym zero) ∙ h.2
 
 -- of the first few elements of a list, it holds of none from a place on
 pub record NoneFrom {X : Type 0} (Q : X → Type 0) (xs : List X) (from k : ℕ) : Type 0 where

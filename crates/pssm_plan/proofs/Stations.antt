@@ -40,7 +40,7 @@ use Rattle.pssm_model_laws.proofs.UpScopes.{scope_turned, scope_in_area, last_up
 use Rattle.pssm_model_laws.proofs.DownScopes.{down_scope}
 use Rattle.pssm_model_laws.proofs.RouteAreas.{has_area}
 use Rattle.pssm_model_laws.proofs.RouteTree.{not_after_itself}
-use Rattle.pssm_plan.proofs.LegEntries.{enters_by, enters_turned, not_up, not_beside, fork_leg, behind_second, branch_enters_not, leg_or_later, entries_stand}
+use Rattle.pssm_legs.proofs.LegEntries.{enters_by, enters_turned, not_up, not_beside, fork_leg, behind_second, branch_enters_not, leg_or_later, entries_stand}
 
 -- a kind for which something is entered
 abbrev IsEnteredKind : VertexKind → Type 0

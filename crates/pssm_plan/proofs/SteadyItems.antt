@@ -31,7 +31,7 @@ use Rattle.pssm_plan.specs.inner.OverRoutes.{LiesInArea, GoesByRoutes, GoesBy, I
 use Rattle.pssm_model.proofs.ElementLaws.{nothing_in_nil}
 use Rattle.pssm_model_laws.proofs.LegRoots.{leg_ends}
 use Rattle.pssm_model_laws.proofs.RouteAreas.{has_area}
-use Rattle.pssm_plan.proofs.LegEntries.{not_up}
+use Rattle.pssm_legs.proofs.LegEntries.{not_up}
 use Rattle.pssm_plan.proofs.RouteLegs.{leg_opening_of}
 use Rattle.pssm_plan.proofs.RouteItems.{leg_at, exit_of, enter_of, called_of, called_in}
 use Rattle.pssm_plan.proofs.RouteSteps.{gone_by_routes, fires_states}

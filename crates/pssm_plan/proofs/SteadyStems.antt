@@ -37,7 +37,7 @@ use Rattle.pssm_model.proofs.OwnerChains.{one_owner}
 use Rattle.pssm_model_laws.proofs.InnerPaths.{late_is_kind}
 use Rattle.pssm_model_laws.proofs.LegRoots.{leg_begins, leg_turned}
 use Rattle.pssm_model_laws.proofs.LegShapes.{later_begins_on}
-use Rattle.pssm_plan.proofs.LegEntries.{enters_turned}
+use Rattle.pssm_legs.proofs.LegEntries.{enters_turned}
 use Rattle.pssm_plan.proofs.Stations.{entries_around}
 use Rattle.pssm_plan.proofs.RouteLegs.{last_of_end}
 use Rattle.pssm_plan.proofs.RouteItems.{leg_at, called_is, called_in}

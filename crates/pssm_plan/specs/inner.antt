@@ -9,3 +9,4 @@ pub mod OverRoutes
 pub mod Near
 pub mod ByWays
 pub mod Direct
+pub mod Clear

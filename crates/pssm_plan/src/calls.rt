@@ -4,7 +4,7 @@ ghost use Rattle.std.specs.Prelude.{IsTrue, IfSome, MatchOption, Contains, OnOk,
 ghost use Rattle.pssm_model.specs.declared.steps.Item.{Item as Called};
 ghost use Rattle.pssm_plan.specs.declared.roster.Call.{Call as Listed};
 ghost use Rattle.pssm_plan.specs.inner.Marks.{IsListed, IsMarked};
-ghost use Rattle.pssm_plan.specs.inner.Places.{ArePlaced, looked_through, place_in};
+ghost use Rattle.pssm_plan.specs.inner.Places.{ArePlaced, IsAdded, looked_through, place_in};
 
 use crate::places::{Row, note, place_by};
 use crate::roster::{Call, same_item};
@@ -15,8 +15,8 @@ use std::marker::Model;
 // So many calls are looked through, before the table is asked.
 const LOOKED_THROUGH: usize = 4;
 
-/// The most calls of a list; for more there is no memory.
-const MOST: usize = 4_294_967_295;
+/// The most calls of a step; for more there is no memory.
+pub const MOST_CALLS: usize = 4_294_967_295;
 
 /// The calls of a step.
 ///
@@ -73,7 +73,8 @@ fn first_place(calls: &[Call], item: Item) -> Option<usize>
 /// Whether the call at a place is one of the item.
 #[inline(always)]
 pub fn stands_at(calls: &[Call], place: usize, item: Item) -> bool
-    ensures there { IsTrue result → (place < length calls.now) × ((d : Listed) → (slice_index_or calls.now place d).item ≡ item) }
+    ensures there { IsTrue result → (place < length calls.now)
+        × ((d : Listed) → (slice_index_or calls.now place d).item ≡ item) }
     ensures none { (IsTrue result → ⊥) → place < length calls.now → (d : Listed)
         → (slice_index_or calls.now place d).item ≡ item → ⊥ }
 {
@@ -109,9 +110,9 @@ fn place_among_many(calls: &[Call], rows: &[Row], item: Item) -> Option<usize>
     }
 }
 
-// The place of an item, where it is listed.
+/// The place of an item, where it is listed.
 #[inline(always)]
-fn place_among(calls: &[Call], rows: &[Row], item: Item) -> Option<usize>
+pub fn place_among(calls: &[Call], rows: &[Row], item: Item) -> Option<usize>
     requires { ArePlaced calls.now rows.now }
     ensures { MatchOption result (IsListed calls.now item → ⊥)
         (λ k. (k < length calls.now) × ((d : Listed) → (slice_index_or calls.now k d).item ≡ item)) }
@@ -123,16 +124,13 @@ fn place_among(calls: &[Call], rows: &[Row], item: Item) -> Option<usize>
     }
 }
 
-// Keeps the place of an item that comes behind so many calls, if they are not too many; for the first few it is not kept.
+// Keeps the place of an item that comes behind so many calls, if they are not too many.
 #[inline(always)]
 fn note_later(rows: &mut Vec<Row>, item: Item, count: usize) -> Result<(), NoMemory>
     ensures others { (x : Called) → x ≢ item → place_in rows.new.items x ≡ place_in rows.old.items x }
-    ensures noted { OnOk result (looked_through ≤ count → place_in rows.new.items item ≡ count) }
+    ensures noted { OnOk result (place_in rows.new.items item ≡ count) }
 {
-    if count < LOOKED_THROUGH {
-        return Ok(());
-    }
-    if count > MOST {
+    if count > MOST_CALLS {
         return Err(NoMemory);
     }
     note(rows, item, count as u32)
@@ -181,10 +179,21 @@ impl Calls {
         self.list.truncate(count);
     }
 
-    /// Puts a call behind the others, of an item that is not listed yet.
-    ///
-    /// `NoMemory`: memory ran out; the calls are as before.
-    pub fn push(&mut self, call: Call) -> Result<(), NoMemory>
+    // Puts a call of an item that is not listed yet behind the first few, of which no place is kept.
+    #[inline(always)]
+    fn push_early(&mut self, call: Call) -> Result<(), NoMemory>
+        requires few { length self.old.items < looked_through }
+        requires fresh { IsListed self.old.items call.item → ⊥ }
+        ensures pushed { OnOk result (self.new.items ≡ self.old.items ++ call ∷ []) }
+        ensures refused { OnErr result (self.new.items ≡ self.old.items) }
+    {
+        self.list.push(call)?;
+        Ok(())
+    }
+
+    // Puts a call of an item that is not listed yet behind the others, and keeps its place.
+    #[inline(always)]
+    fn push_later(&mut self, call: Call) -> Result<(), NoMemory>
         requires fresh { IsListed self.old.items call.item → ⊥ }
         ensures pushed { OnOk result (self.new.items ≡ self.old.items ++ call ∷ []) }
         ensures refused { OnErr result (self.new.items ≡ self.old.items) }
@@ -193,6 +202,46 @@ impl Calls {
         note_later(&mut self.rows, call.item, count)?;
         self.list.push(call)?;
         Ok(())
+    }
+
+    // Puts a call behind the first few, where its item is not listed yet.
+    #[inline(always)]
+    fn add_early(&mut self, call: Call) -> Result<(), NoMemory>
+        requires few { length self.old.items < looked_through }
+        ensures added { OnOk result (IsAdded self.old.items call self.new.items) }
+        ensures refused { OnErr result (self.new.items ≡ self.old.items) }
+    {
+        match first_place(self.list.as_slice(), call.item) {
+            Some(_) => Ok(()),
+            None => self.push_early(call),
+        }
+    }
+
+    // Puts a call behind the others, where its item is not listed yet.
+    #[inline(never)]
+    fn add_later(&mut self, call: Call) -> Result<(), NoMemory>
+        ensures added { OnOk result (IsAdded self.old.items call self.new.items) }
+        ensures refused { OnErr result (self.new.items ≡ self.old.items) }
+    {
+        match self.place_of(call.item) {
+            Some(_) => Ok(()),
+            None => self.push_later(call),
+        }
+    }
+
+    /// Puts a call behind the others, where its item is not listed yet.
+    ///
+    /// `NoMemory`: memory ran out; the calls are as before.
+    #[inline(always)]
+    pub fn add(&mut self, call: Call) -> Result<(), NoMemory>
+        ensures added { OnOk result (IsAdded self.old.items call self.new.items) }
+        ensures refused { OnErr result (self.new.items ≡ self.old.items) }
+    {
+        if self.list.len() < LOOKED_THROUGH {
+            self.add_early(call)
+        } else {
+            self.add_later(call)
+        }
     }
 
     /// The place of an item, where it is listed.
@@ -204,13 +253,26 @@ impl Calls {
         place_among(self.list.as_slice(), self.rows.as_slice(), item)
     }
 
-    /// The call of an item, where it is listed.
+    /// The place of an item, where it is listed: the hint where it stands there, else what the table tells.
     #[inline(always)]
-    pub fn call_of(&self, item: Item) -> Option<Call>
+    pub fn place_near(&self, item: Item, hint: usize) -> Option<usize>
+        ensures { MatchOption result (IsListed self.now.items item → ⊥)
+            (λ k. (k < length self.now.items) × ((d : Listed) → (slice_index_or self.now.items k d).item ≡ item)) }
+    {
+        if stands_at(self.list.as_slice(), hint, item) {
+            Some(hint)
+        } else {
+            self.place_of(item)
+        }
+    }
+
+    /// The call of an item, where it is listed. It is looked for at the hint first.
+    #[inline(always)]
+    pub fn call_near(&self, item: Item, hint: usize) -> Option<Call>
         ensures { MatchOption result (IsListed self.now.items item → ⊥)
             (λ call. Contains self.now.items call × (call.item ≡ item)) }
     {
-        match self.place_of(item) {
+        match self.place_near(item, hint) {
             Some(k) => Some(self.list.as_slice()[k]),
             None => None,
         }
@@ -232,9 +294,8 @@ impl Calls {
     pub fn has_run(&self, item: Item) -> bool
         ensures { IsTrue result ↔ IsMarked self.now.items item }
     {
-        let _ = &self.list;
-        match self.call_of(item) {
-            Some(call) => call.ran,
+        match self.place_of(item) {
+            Some(k) => self.list.as_slice()[k].ran,
             None => false,
         }
     }

@@ -15,9 +15,9 @@ use crate::ways::{Way, way_calls};
 use pssm_legs::Area;
 use pssm_model::{Item, Machine, Mode, Owner, RegionId, VertexId};
 
-// Whether a way has one leg that exits and enters in the region, and ends on a vertex that the region owns.
+/// Whether a way has one leg that exits and enters in the region, and ends on a vertex that the region owns.
 #[inline(always)]
-fn is_direct(machine: &Machine, way: &Way, r: RegionId) -> bool
+pub fn is_direct(machine: &Machine, way: &Way, r: RegionId) -> bool
     requires way { IsWayIn machine.now way.now }
     ensures { IsTrue result → IsDirect machine.now way.now r }
 {
@@ -136,14 +136,15 @@ fn are_siblings(machine: &Machine, q: RegionId, r: RegionId) -> bool
     requires first { q.0 < length machine.now.regions }
     requires second { r.0 < length machine.now.regions }
     ensures apart { IsTrue result → q ≢ r }
-    ensures owner { IsTrue result → (o : Owning) × (owner_of machine.now (Region q) ≡ Some o) × (owner_of machine.now (Region r) ≡ Some o) }
+    ensures owner { IsTrue result → (o : Owning) × (owner_of machine.now (Region q) ≡ Some o)
+        × (owner_of machine.now (Region r) ≡ Some o) }
 {
     q != r && machine.region_owner(q) == machine.region_owner(r)
 }
 
-// Whether a vertex may lie in a region: it lies in no other one of the same owner than the one that owns it.
+/// Whether a vertex may lie in a region: it lies in no other one of the same owner than the one that owns it.
 #[inline(always)]
-fn may_lie_in(machine: &Machine, s: VertexId, r: RegionId) -> bool
+pub fn may_lie_in(machine: &Machine, s: VertexId, r: RegionId) -> bool
     requires vertex { s.0 < length machine.now.vertices }
     requires region { r.0 < length machine.now.regions }
     ensures { LiesInRegion machine.now s r → IsTrue result }
@@ -158,8 +159,8 @@ fn may_lie_in(machine: &Machine, s: VertexId, r: RegionId) -> bool
 // In a machine with so few regions it is not asked where a vertex lies.
 const FEW_REGIONS: u16 = 4;
 
-/// Whether a way may exit a vertex, by where it lies, where the way ends in the region in which it exits and enters; in a
-/// machine with few regions it may.
+/// Whether a way may exit a vertex, by where it lies, where the way ends in the region in which it exits and enters; in
+/// a machine with few regions it may.
 #[inline(always)]
 pub fn may_exit(machine: &Machine, way: &Way, s: VertexId) -> bool
     requires rules { KeepsModelRules machine.now }

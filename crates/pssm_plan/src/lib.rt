@@ -5,6 +5,7 @@
 #![tactic(auto)]
 
 mod calls;
+mod clear;
 mod direct;
 mod laws;
 mod listing;

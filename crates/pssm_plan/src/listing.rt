@@ -87,7 +87,7 @@ impl Roster {
         Ok(())
     }
 
-    // Lists the exit of the active vertex of a region, where a way exits that ends in it and no other region lies in it.
+    // Lists the exit of the active vertex of a region where a way exits that ends in it and no other region lies in it.
     #[inline(never)]
     fn list_exit_in(
         &mut self,

@@ -60,7 +60,8 @@ fn meets_each(machine: &Machine, calls: &[Call], way: &Way) -> bool
 // Whether the effect of one of the transitions is listed.
 #[inline(never)]
 fn some_effect_listed(calls: &Calls, transitions: &[TransId]) -> bool
-    ensures { (t : Transition) → Contains transitions.now t → IsListed calls.now.items (Called.Effect t) → IsTrue result }
+    ensures { (t : Transition) → Contains transitions.now t → IsListed calls.now.items (Called.Effect t)
+        → IsTrue result }
 {
     for t in transitions {
         if calls.is_listed(Item::Effect(*t)) {
@@ -74,8 +75,8 @@ fn some_effect_listed(calls: &Calls, transitions: &[TransId]) -> bool
 #[inline(always)]
 fn own_effect_listed(calls: &Calls, way: &Way) -> bool
     ensures named { IsListed calls.now.items (Called.Effect way.now.legs.first.named) → IsTrue result }
-    ensures further { (t : Transition) → Contains way.now.legs.first.further.items t → IsListed calls.now.items (Called.Effect t)
-        → IsTrue result }
+    ensures further { (t : Transition) → Contains way.now.legs.first.further.items t
+        → IsListed calls.now.items (Called.Effect t) → IsTrue result }
 {
     let leg = &way.legs.first;
     calls.is_listed(Item::Effect(leg.named)) || some_effect_listed(calls, leg.further.as_slice())
@@ -104,8 +105,8 @@ fn own_end_listed(calls: &Calls, way: &Way) -> bool
 #[inline(always)]
 fn own_listed(calls: &Calls, way: &Way) -> bool
     ensures named { IsListed calls.now.items (Called.Effect way.now.legs.first.named) → IsTrue result }
-    ensures further { (t : Transition) → Contains way.now.legs.first.further.items t → IsListed calls.now.items (Called.Effect t)
-        → IsTrue result }
+    ensures further { (t : Transition) → Contains way.now.legs.first.further.items t
+        → IsListed calls.now.items (Called.Effect t) → IsTrue result }
     ensures entry { IsListed calls.now.items (Called.Enter way.now.legs.first.last) → IsTrue result }
     ensures pick { IsListed calls.now.items (Called.Pick way.now.legs.first.last) → IsTrue result }
 {

@@ -35,9 +35,9 @@ fn is_near_among(machine: &Machine, transitions: &[TransId], s: VertexId) -> boo
     false
 }
 
-// Whether a leg ends near the State; where its transitions are taken in no order, whether one of them does.
+/// Whether a leg ends near the State; where its transitions are taken in no order, whether one of them does.
 #[inline(always)]
-fn ends_near(machine: &Machine, leg: &Leg, s: VertexId) -> bool
+pub fn ends_near(machine: &Machine, leg: &Leg, s: VertexId) -> bool
     requires leg { IsLegIn machine.now leg.now }
     requires state { s.0 < length machine.now.vertices }
     ensures { IsTrue result ↔ EndsNear machine.now leg.now s }

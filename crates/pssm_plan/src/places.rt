@@ -6,8 +6,8 @@ ghost use Rattle.pssm_plan.specs.inner.Places.{item_number, kept_in, with_kept, 
 use pssm_model::{Item, Mode};
 use std::alloc::AllocError as NoMemory;
 
-/// The places of the items that name what has one number: of the exit, the entry and the pick of a vertex, of the effect
-/// of a transition, and of the openings of a region in each mode.
+/// The places of the items that name what has one number: of the exit, the entry and the pick of a vertex, of the
+/// effect of a transition, and of the openings of a region in each mode.
 #[derive(Clone, Copy)]
 pub struct Row {
     pub exit: u32,
@@ -97,6 +97,8 @@ fn reach(rows: &mut Vec<Row>, number: usize) -> Result<(), NoMemory>
 }
 
 /// Keeps a place for an item. Those of all others stay.
+///
+/// `NoMemory`: memory ran out; what is kept of the others is as before.
 #[tactic(auto, using(crate::proofs::KeptPlaces::others_kept, crate::proofs::KeptPlaces::place_kept))]
 #[inline(never)]
 pub fn note(rows: &mut Vec<Row>, item: Item, place: u32) -> Result<(), NoMemory>

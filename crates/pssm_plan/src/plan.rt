@@ -15,7 +15,7 @@ ghost use Rattle.pssm_plan.specs.Standings.{StandsAs, ListsReady, IsItemAt, IsNe
 
 use crate::progress::Progress;
 use crate::ready::{ReadyItem, count_ready, next_ready, ready_item};
-use crate::roster::{call_at, call_of, have_all_run};
+use crate::roster::{call_at, have_all_run};
 use crate::standing::Standing;
 use pssm_config::Config;
 use pssm_model::{Firing, How, Item, Machine};
@@ -71,9 +71,8 @@ impl Plan {
     pub fn standing(&self, item: Item) -> Standing
         ensures { (m : DraftMachine) → IsPlanOf m self.now → StandsAs m (course_of self.now) item result }
     {
-        let calls = self.progress.roster.calls.as_slice();
-        let place = self.progress.roster.likely_place(item, self.ran.len());
-        let Some(call) = call_of(calls, item, place) else {
+        let calls = &self.progress.roster.calls;
+        let Some(call) = calls.call_near(item, self.ran.len()) else {
             return Standing::NotCalled;
         };
         if call.ran {
@@ -82,7 +81,7 @@ impl Plan {
         if !call.blocked {
             return Standing::Ready;
         }
-        match call_at(calls, call.seen) {
+        match call_at(calls.as_slice(), call.seen) {
             Some(on) => Standing::Waits { on: on.item },
             None => Standing::Ready,
         }
@@ -171,8 +170,8 @@ impl Plan {
         })
     }
 
-    /// Becomes the plan of routes that fire in a configuration. It takes memory for the legs of the routes, and else only
-    /// where it has less room than it needs.
+    /// Becomes the plan of routes that fire in a configuration. It takes memory for the legs of the routes, and else
+    /// only where it has less room than it needs.
     ///
     /// `NoMemory`: memory ran out; the plan is as before.
     pub fn fire(
@@ -227,8 +226,7 @@ impl Plan {
             how: Snapshot::of(how),
         };
         self.ran.push(step)?;
-        let place = self.progress.roster.likely_place(item, ran);
-        let outcome = self.progress.run(alloc, machine, item, how, place);
+        let outcome = self.progress.run(alloc, machine, item, how, ran);
         if outcome.is_err() {
             self.ran.truncate(ran);
         }

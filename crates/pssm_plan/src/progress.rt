@@ -18,6 +18,7 @@ ghost use Rattle.pssm_plan.specs.inner.Going.{IsFollowedBy, IsFollowedRestoring}
 ghost use Rattle.pssm_plan.specs.inner.Going.{IsFollowedPlainly, IsFollowedSo};
 ghost use Rattle.pssm_plan.specs.inner.Going.{IsLongerProgress, IsFinished, IsRunSo, IsUnchanged};
 
+use crate::calls::MOST_CALLS;
 use crate::meeting::{meets, meets_fired};
 use crate::roster::{Call, Roster};
 use crate::waiters::{NONE_WAITS, Span};
@@ -44,9 +45,6 @@ pub struct Progress {
     pub spans: Vec<Span>,
 }
 
-/// The most items that a plan lists; for more there is no memory.
-const MOST_CALLS: usize = 4_294_967_295;
-
 // Makes the list of spans as long as that of the calls, if these are not too many.
 fn make_room(calls: &[Call], spans: &mut Vec<Span>) -> Result<(), NoMemory>
     ensures longer { IsLonger spans.old.items spans.new.items }
@@ -56,11 +54,25 @@ fn make_room(calls: &[Call], spans: &mut Vec<Span>) -> Result<(), NoMemory>
     if calls.len() > MOST_CALLS {
         return Err(NoMemory);
     }
-    for k in spans.len()..calls.len() {
-        let _place = k;
+    for _ in spans.len()..calls.len() {
         spans.push(NONE_WAITS)?;
     }
     Ok(())
+}
+
+// The same, where it was so long as so many calls, which are not too many.
+#[inline(always)]
+fn make_more_room(calls: &[Call], spans: &mut Vec<Span>, listed: usize) -> Result<(), NoMemory>
+    requires few { listed < 2 ^ 32 }
+    requires room { listed ≤ length spans.old.items }
+    ensures longer { IsLonger spans.old.items spans.new.items }
+    ensures few { OnOk result (length calls.now < 2 ^ 32) }
+    ensures room { OnOk result (length calls.now ≤ length spans.new.items) }
+{
+    if calls.len() <= listed {
+        return Ok(());
+    }
+    make_room(calls, spans)
 }
 
 // Says of each call for which one it waits; `anew` where none may rely on what it has seen.
@@ -415,6 +427,8 @@ impl Progress {
         requires ways { AreWaysIn machine.now self.old.ways.items }
         requires item { IsItemIn machine.now item }
         requires way { CanRunSo machine.now item how.now }
+        requires few { length self.old.roster.calls.items < 2 ^ 32 }
+        requires room { length self.old.roster.calls.items ≤ length self.old.spans.items }
         ensures longer { IsLongerProgress self.old self.new }
         ensures followed { OnOk result (IsFollowedSo machine.now self.old item how.now self.new) }
         ensures kept { IfOk result (λ anew. (IsTrue anew → ⊥)
@@ -423,8 +437,9 @@ impl Progress {
         ensures few { OnOk result (length self.new.roster.calls.items < 2 ^ 32) }
         ensures room { OnOk result (length self.new.roster.calls.items ≤ length self.new.spans.items) }
     {
+        let listed = self.roster.calls.len();
         let anew = self.follow(alloc, machine, item, how)?;
-        make_room(self.roster.calls.as_slice(), &mut self.spans)?;
+        make_more_room(self.roster.calls.as_slice(), &mut self.spans, listed)?;
         Ok(anew)
     }
 
@@ -443,6 +458,8 @@ impl Progress {
         requires ways { AreWaysIn machine.now self.old.ways.items }
         requires item { IsItemIn machine.now item }
         requires way { CanRunSo machine.now item how.now }
+        requires few { length self.old.roster.calls.items < 2 ^ 32 }
+        requires room { length self.old.roster.calls.items ≤ length self.old.spans.items }
         ensures followed { OnOk result (IsFollowedSo machine.now self.old item how.now self.new) }
         ensures kept { IfOk result (λ anew. (IsTrue anew → ⊥)
             → KeepsOrder machine.now self.old.roster.calls.items self.old.ways.items
@@ -519,7 +536,8 @@ fn finish(
     requires ways { AreWaysIn machine.now ways.now }
     requires roster { IsRoster machine.now roster.old.calls.items }
     requires caught { AreCaught spans.old roster.old.calls.items }
-    requires left { (IsTrue anew → ⊥) → AreSureBefore (IsSequence machine.now ways.now) since.calls roster.old.calls.items }
+    requires left { (IsTrue anew → ⊥)
+        → AreSureBefore (IsSequence machine.now ways.now) since.calls roster.old.calls.items }
     requires new { (IsTrue anew → ⊥) → AreNewSince machine.now ways.now roster.old.calls.items since }
     ensures finished { IsFinished machine.now ways.now item roster.old.calls.items roster.new.calls.items }
     ensures caught { AreCaught spans.new roster.new.calls.items }

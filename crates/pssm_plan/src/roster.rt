@@ -3,11 +3,11 @@ ghost use Rattle.std.specs.Prelude.{◌≡◌, ◌≢◌, ◌↔◌, ◌<◌, �
 ghost use Rattle.std.specs.Prelude.{IsTrue, AllPairs, IfSome, MatchOption, Contains, OnOk};
 ghost use Rattle.pssm_model.specs.declared.steps.Item.{Item};
 ghost use Rattle.pssm_plan.specs.declared.roster.Call.{Call};
-ghost use Rattle.pssm_plan.specs.inner.Marks.{IsListed, IsMarked, IsLonger, IsTold, IsForgotten, IsPlaceOf, ArePairwise};
+ghost use Rattle.pssm_plan.specs.inner.Marks.{IsListed, IsLonger, IsTold, IsForgotten, IsPlaceOf, ArePairwise};
 ghost use Rattle.pssm_legs.specs.Calls.{IsItemIn};
 ghost use Rattle.pssm_plan.specs.inner.Sequence.{IsRoster, IsExtended};
 
-use crate::calls::{Calls, stands_at};
+use crate::calls::Calls;
 use pssm_model::{Item, Machine};
 use std::alloc::{AllocError as NoMemory, Global};
 
@@ -29,56 +29,6 @@ pub fn same_item(a: Item, b: Item) -> bool
     ensures { IsTrue result ↔ (a ≡ b) }
 {
     a == b
-}
-
-// The place of an item, where it is listed at a place from the first one on.
-#[inline(always)]
-fn place_from(calls: &[Call], item: Item, first: usize) -> Option<usize>
-    ensures { IfSome result (λ k. (k < length calls.now) × ((d : Call) → (slice_index_or calls.now k d).item ≡ item)) }
-{
-    for k in first..calls.len() {
-        if same_item(calls[k].item, item) {
-            return Some(k);
-        }
-    }
-    None
-}
-
-// The place of an item, where it is listed.
-#[inline(never)]
-fn first_place(calls: &[Call], item: Item) -> Option<usize>
-    ensures { MatchOption result (IsListed calls.now item → ⊥)
-        (λ k. (k < length calls.now) × ((d : Call) → (slice_index_or calls.now k d).item ≡ item)) }
-{
-    for k in 0..calls.len() {
-        if same_item(calls[k].item, item) {
-            return Some(k);
-        }
-    }
-    None
-}
-
-// The place of an item, where it is listed. It is looked for from the hint on, and then everywhere.
-#[inline(always)]
-fn place_of(calls: &[Call], item: Item, hint: usize) -> Option<usize>
-    ensures { MatchOption result (IsListed calls.now item → ⊥)
-        (λ k. (k < length calls.now) × ((d : Call) → (slice_index_or calls.now k d).item ≡ item)) }
-{
-    match place_from(calls, item, hint) {
-        Some(k) => Some(k),
-        None => first_place(calls, item),
-    }
-}
-
-/// The call of an item, where it is listed. It is looked for from the hint on first.
-#[inline(always)]
-pub fn call_of(calls: &[Call], item: Item, hint: usize) -> Option<Call>
-    ensures { MatchOption result (IsListed calls.now item → ⊥) (λ call. Contains calls.now call × (call.item ≡ item)) }
-{
-    match place_of(calls, item, hint) {
-        Some(k) => Some(calls[k]),
-        None => None,
-    }
 }
 
 /// The call at a place of the list, where it has as many.
@@ -124,15 +74,17 @@ pub fn have_all_run(calls: &[Call]) -> bool
     true
 }
 
-// Says of the call of an item that it has run, and at which place it stands; the place behind all where none is of the
-// item. It is looked for from the hint on first.
+// Says of the call of an item, which stands at this place where it is listed, that it has run. The result is that
+// place; the place behind all where the item is not listed.
 #[inline(always)]
-fn tell_one(calls: &mut [Call], item: Item, hint: usize) -> usize
+fn tell_at(calls: &mut [Call], item: Item, place: Option<usize>) -> usize
     requires once { AllPairs (λ a b. a.item ≢ b.item) calls.old }
+    requires place { MatchOption place (IsListed calls.old item → ⊥)
+        (λ k. (k < length calls.old) × ((d : Call) → (slice_index_or calls.old k d).item ≡ item)) }
     ensures told { ArePairwise (IsTold item) calls.old calls.new }
     ensures place { IsPlaceOf calls.old item result }
 {
-    match place_of(calls, item, hint) {
+    match place {
         Some(k) => {
             calls[k].ran = true;
             k
@@ -170,24 +122,6 @@ impl Roster {
         }
     }
 
-    // Lists an item that is not listed yet.
-    fn push(&mut self, machine: &Machine, item: Item) -> Result<(), NoMemory>
-        requires roster { IsRoster machine.now self.old.calls.items }
-        requires item { IsItemIn machine.now item }
-        requires fresh { IsListed self.old.calls.items item → ⊥ }
-        ensures calls { IsLonger self.old.calls.items self.new.calls.items }
-        ensures added { OnOk result (IsExtended machine.now self.old.calls.items (λ x. x ≡ item) self.new.calls.items) }
-    {
-        let call = Call {
-            item,
-            ran: false,
-            blocked: false,
-            seen: 0,
-        };
-        self.calls.push(call)?;
-        Ok(())
-    }
-
     // Lists an item where it is not listed yet.
     #[inline(never)]
     fn add_wanted(&mut self, machine: &Machine, item: Item) -> Result<(), NoMemory>
@@ -196,11 +130,12 @@ impl Roster {
         ensures calls { IsLonger self.old.calls.items self.new.calls.items }
         ensures added { OnOk result (IsExtended machine.now self.old.calls.items (λ x. x ≡ item) self.new.calls.items) }
     {
-        if !self.calls.is_listed(item) {
-            self.push(machine, item)
-        } else {
-            Ok(())
-        }
+        self.calls.add(Call {
+            item,
+            ran: false,
+            blocked: false,
+            seen: 0,
+        })
     }
 
     /// Lists an item where it is wanted and not listed yet.
@@ -219,19 +154,6 @@ impl Roster {
         }
     }
 
-    /// At which place an item stands where it is listed: the hint where it stands there, else what the table says. Who
-    /// looks for it begins there, so that a wrong place would only cost time.
-    #[inline(always)]
-    pub fn likely_place(&self, item: Item, hint: usize) -> usize {
-        if stands_at(self.calls.as_slice(), hint, item) {
-            return hint;
-        }
-        match self.calls.place_of(item) {
-            Some(place) => place,
-            None => hint,
-        }
-    }
-
     /// Says of each item that it has not looked at the others yet.
     pub fn forget(&mut self)
         ensures forgot { ArePairwise IsForgotten self.old.calls.items self.new.calls.items }
@@ -240,15 +162,16 @@ impl Roster {
         forget_all(calls.list.as_mut_slice());
     }
 
-    /// Says of an item that it has run, and at which place it stands; the place behind all where it is not listed. It is
-    /// looked for from the hint on first.
+    /// Says of an item that it has run, and at which place it stands; the place behind all where it is not listed. It
+    /// is looked for at the hint first.
     #[inline(always)]
     pub fn tell(&mut self, item: Item, hint: usize) -> usize
         requires once { AllPairs (λ a b. a.item ≢ b.item) self.old.calls.items }
         ensures told { ArePairwise (IsTold item) self.old.calls.items self.new.calls.items }
         ensures place { IsPlaceOf self.old.calls.items item result }
     {
+        let place = self.calls.place_near(item, hint);
         let calls = &mut self.calls;
-        tell_one(calls.list.as_mut_slice(), item, hint)
+        tell_at(calls.list.as_mut_slice(), item, place)
     }
 }

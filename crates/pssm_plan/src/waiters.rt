@@ -1,15 +1,21 @@
 //! Each listed item that waits is told for which one, as more is listed and one has run.
-ghost use Rattle.std.specs.Prelude.{◌≡◌, ◌<◌, ◌≤◌, ◌↔◌, ◌+◌, ◌^◌, ℕ, IsTrue, Contains, length, slice_index_or};
+ghost use Rattle.std.specs.Prelude.{◌≡◌, ◌<◌, ◌≤◌, ◌↔◌, ◌+◌, ◌^◌, ℕ, IsTrue, Contains, length, drop, slice_index_or};
 ghost use Rattle.pssm_model.specs.WellFormed.{KeepsModelRules};
 ghost use Rattle.pssm_plan.specs.declared.roster.Call.{Call};
 ghost use Rattle.pssm_plan.specs.declared.waiters.Span.{Span as TheSpan};
 ghost use Rattle.pssm_plan.specs.Ways.{AreWaysIn};
 ghost use Rattle.pssm_plan.specs.inner.Marks.{HasSeen, IsFresh, IsAlike, IsSettledAt, ArePairwise};
-ghost use Rattle.pssm_plan.specs.inner.Sequence.{IsSequence, AreItemsOf, AreNewSince, AreLooseUpTo, IsNestedInNone};
-ghost use Rattle.pssm_plan.specs.inner.Passes.{AreSureBut, AreAllSure, NewLeft, WaitingLeft, FreeLeft, AreCaught, IsPut};
+ghost use Rattle.pssm_plan.specs.inner.Sequence.{IsSequence, IsSomeLong, AreItemsOf, AreNewSince};
+ghost use Rattle.pssm_plan.specs.inner.Sequence.{AreLooseUpTo, IsNestedInNone};
+ghost use Rattle.pssm_plan.specs.inner.Places.{ArePlaced};
+ghost use Rattle.pssm_plan.specs.inner.Passes.{AreSureBut, AreAllSure, NewLeft, WaitingLeft, FreeLeft};
+ghost use Rattle.pssm_plan.specs.inner.Passes.{AreCaught, IsPut};
 
+use crate::places::Row;
 use crate::roster::{Call, Roster};
-use crate::waiting::{Since, Wait, first_nesting, look_free, look_new, look_on, may_wait};
+use crate::waiting::{
+    Since, Wait, first_nesting, look_free, look_new, look_on, look_over, may_wait, some_new_is_long,
+};
 use crate::ways::Way;
 use pssm_model::Machine;
 
@@ -176,13 +182,16 @@ fn settle_free(
     ensures left { AreSureBut (WaitingLeft (IsSequence machine.now ways.now) since.calls ran 0 since.calls)
         (IsSequence machine.now ways.now) calls.new }
 {
+    if since.calls == 0 {
+        return;
+    }
     let nests = first_nesting(machine, calls, since.calls);
     if nests < calls.len() {
         settle_each_free(machine, ways, calls, spans, since, ran, nests);
     }
 }
 
-// Says of the call at a place whether it waits, and for which one.
+// Says of the call at a place whether it waits, and for which one. It looks at the others one after another.
 #[inline(never)]
 fn look_once_more(
     machine: &Machine,
@@ -196,12 +205,40 @@ fn look_once_more(
     requires items { AreItemsOf machine.now calls.old }
     requires caught { AreCaught spans.old calls.old }
     requires there { place < length calls.old }
-    requires seen { (d : Call) → HasSeen (IsSequence machine.now ways.now) calls.old (slice_index_or calls.old place d) }
+    requires seen { (d : Call)
+        → HasSeen (IsSequence machine.now ways.now) calls.old (slice_index_or calls.old place d) }
     ensures settled { IsSettledAt (IsSequence machine.now ways.now) calls.old place calls.new }
     ensures caught { AreCaught spans.new calls.new }
 {
     let all = &calls[..];
     let wait = look_on(machine, ways, all, &all[place]);
+    put(calls, spans, place, wait);
+}
+
+// Says of the call at a place, which waited for one that has run, whether it waits, and for which one. Often all that
+// may hold it up is known without a look at the others.
+#[inline(never)]
+fn look_again(
+    machine: &Machine,
+    ways: &[Way],
+    calls: &mut [Call],
+    rows: &[Row],
+    spans: &mut [Span],
+    place: usize,
+)
+    requires rules { KeepsModelRules machine.now }
+    requires ways { AreWaysIn machine.now ways.now }
+    requires items { AreItemsOf machine.now calls.old }
+    requires placed { ArePlaced calls.old rows.now }
+    requires caught { AreCaught spans.old calls.old }
+    requires there { place < length calls.old }
+    requires seen { (d : Call)
+        → HasSeen (IsSequence machine.now ways.now) calls.old (slice_index_or calls.old place d) }
+    ensures settled { IsSettledAt (IsSequence machine.now ways.now) calls.old place calls.new }
+    ensures caught { AreCaught spans.new calls.new }
+{
+    let all = &calls[..];
+    let wait = look_over(machine, ways, all, rows, &all[place]);
     put(calls, spans, place, wait);
 }
 
@@ -211,6 +248,7 @@ fn settle_waiting_at(
     machine: &Machine,
     ways: &[Way],
     calls: &mut [Call],
+    rows: &[Row],
     spans: &mut [Span],
     since: Since,
     ran: usize,
@@ -221,6 +259,7 @@ fn settle_waiting_at(
     requires ways { AreWaysIn machine.now ways.now }
     requires items { AreItemsOf machine.now calls.old }
     requires caught { AreCaught spans.old calls.old }
+    requires placed { ArePlaced calls.old rows.now }
     requires old { place < since.calls }
     requires there { since.calls ≤ length calls.old }
     requires left { AreSureBut (WaitingLeft (IsSequence machine.now ways.now) since.calls ran place end)
@@ -231,7 +270,7 @@ fn settle_waiting_at(
         (IsSequence machine.now ways.now) calls.new }
 {
     if waits_for(calls[place], ran) {
-        look_once_more(machine, ways, calls, spans, place);
+        look_again(machine, ways, calls, rows, spans, place);
     }
 }
 
@@ -241,7 +280,8 @@ fn span_of(spans: &[Span], place: usize, since: Since) -> Span
     requires few { since.calls < 2 ^ 32 }
     ensures end { result.end ≤ since.calls }
     ensures caught { (k : ℕ) → place < length spans.now → k < since.calls
-        → ((d : TheSpan) → ((slice_index_or spans.now place d).first ≤ k) × (k < (slice_index_or spans.now place d).end))
+        → ((d : TheSpan) → ((slice_index_or spans.now place d).first ≤ k)
+        × (k < (slice_index_or spans.now place d).end))
         → (result.first ≤ k) × (k < result.end) }
 {
     match spans.get(place) {
@@ -263,6 +303,7 @@ fn settle_waiting(
     machine: &Machine,
     ways: &[Way],
     calls: &mut [Call],
+    rows: &[Row],
     spans: &mut [Span],
     since: Since,
     ran: usize,
@@ -270,6 +311,7 @@ fn settle_waiting(
     requires rules { KeepsModelRules machine.now }
     requires ways { AreWaysIn machine.now ways.now }
     requires items { AreItemsOf machine.now calls.old }
+    requires placed { ArePlaced calls.old rows.now }
     requires caught { AreCaught spans.old calls.old }
     requires there { since.calls ≤ length calls.old }
     requires left { AreSureBut (WaitingLeft (IsSequence machine.now ways.now) since.calls ran 0 since.calls)
@@ -281,7 +323,7 @@ fn settle_waiting(
     let span = span_of(spans, ran, since);
     let end = span.end as usize;
     for place in span.first as usize..end {
-        settle_waiting_at(machine, ways, calls, spans, since, ran, end, place);
+        settle_waiting_at(machine, ways, calls, rows, spans, since, ran, end, place);
     }
 }
 
@@ -291,15 +333,19 @@ fn settle_new_at(
     machine: &Machine,
     ways: &[Way],
     calls: &mut [Call],
+    rows: &[Row],
     spans: &mut [Span],
     since: Since,
+    long: bool,
     place: usize,
 )
     requires rules { KeepsModelRules machine.now }
     requires ways { AreWaysIn machine.now ways.now }
     requires items { AreItemsOf machine.now calls.old }
+    requires placed { ArePlaced calls.old rows.now }
     requires caught { AreCaught spans.old calls.old }
     requires new { AreNewSince machine.now ways.now calls.old since }
+    requires long { IsSomeLong (drop since.ways ways.now) → IsTrue long }
     requires from { since.calls ≤ place }
     requires there { place < length calls.old }
     requires left { AreSureBut (NewLeft place) (IsSequence machine.now ways.now) calls.old }
@@ -308,16 +354,52 @@ fn settle_new_at(
     ensures left { AreSureBut (NewLeft (place + 1)) (IsSequence machine.now ways.now) calls.new }
 {
     let all = &calls[..];
-    let wait = look_new(machine, ways, all, &all[place], since);
+    let wait = look_new(machine, ways, long, all, rows, &all[place], since);
     put(calls, spans, place, wait);
+}
+
+// Tells the new calls, of whose ways one may be long, for which one they wait.
+#[inline(always)]
+fn settle_each_new(
+    machine: &Machine,
+    ways: &[Way],
+    calls: &mut [Call],
+    rows: &[Row],
+    spans: &mut [Span],
+    since: Since,
+    long: bool,
+)
+    requires rules { KeepsModelRules machine.now }
+    requires ways { AreWaysIn machine.now ways.now }
+    requires items { AreItemsOf machine.now calls.old }
+    requires placed { ArePlaced calls.old rows.now }
+    requires caught { AreCaught spans.old calls.old }
+    requires new { AreNewSince machine.now ways.now calls.old since }
+    requires long { IsSomeLong (drop since.ways ways.now) → IsTrue long }
+    requires left { AreSureBut (NewLeft since.calls) (IsSequence machine.now ways.now) calls.old }
+    ensures alike { ArePairwise IsAlike calls.old calls.new }
+    ensures caught { AreCaught spans.new calls.new }
+    ensures sure { AreAllSure (IsSequence machine.now ways.now) calls.new }
+{
+    for place in since.calls..calls.len() {
+        settle_new_at(machine, ways, calls, rows, spans, since, long, place);
+    }
 }
 
 // Tells the new calls for which one they wait.
 #[inline(always)]
-fn settle_new(machine: &Machine, ways: &[Way], calls: &mut [Call], spans: &mut [Span], since: Since)
+fn settle_new(
+    machine: &Machine,
+    ways: &[Way],
+    calls: &mut [Call],
+    rows: &[Row],
+    spans: &mut [Span],
+    since: Since,
+)
     requires rules { KeepsModelRules machine.now }
     requires ways { AreWaysIn machine.now ways.now }
     requires items { AreItemsOf machine.now calls.old }
+    requires placed { ArePlaced calls.old rows.now }
     requires caught { AreCaught spans.old calls.old }
     requires new { AreNewSince machine.now ways.now calls.old since }
     requires left { AreSureBut (NewLeft since.calls) (IsSequence machine.now ways.now) calls.old }
@@ -325,8 +407,9 @@ fn settle_new(machine: &Machine, ways: &[Way], calls: &mut [Call], spans: &mut [
     ensures caught { AreCaught spans.new calls.new }
     ensures sure { AreAllSure (IsSequence machine.now ways.now) calls.new }
 {
-    for place in since.calls..calls.len() {
-        settle_new_at(machine, ways, calls, spans, since, place);
+    if since.calls < calls.len() {
+        let long = some_new_is_long(ways, since);
+        settle_each_new(machine, ways, calls, rows, spans, since, long);
     }
 }
 
@@ -353,6 +436,7 @@ fn settle_all(
     machine: &Machine,
     ways: &[Way],
     calls: &mut [Call],
+    rows: &[Row],
     spans: &mut [Span],
     since: Since,
     ran: usize,
@@ -360,6 +444,7 @@ fn settle_all(
     requires rules { KeepsModelRules machine.now }
     requires ways { AreWaysIn machine.now ways.now }
     requires items { AreItemsOf machine.now calls.old }
+    requires placed { ArePlaced calls.old rows.now }
     requires caught { AreCaught spans.old calls.old }
     requires new { AreNewSince machine.now ways.now calls.old since }
     requires left { AreSureBut (FreeLeft (IsSequence machine.now ways.now) since.calls ran 0)
@@ -369,8 +454,8 @@ fn settle_all(
     ensures sure { AreAllSure (IsSequence machine.now ways.now) calls.new }
 {
     settle_free(machine, ways, calls, spans, since, ran);
-    settle_waiting(machine, ways, calls, spans, since, ran);
-    settle_new(machine, ways, calls, spans, since);
+    settle_waiting(machine, ways, calls, rows, spans, since, ran);
+    settle_new(machine, ways, calls, rows, spans, since);
 }
 
 impl Roster {
@@ -396,7 +481,16 @@ impl Roster {
         ensures sure { AreAllSure (IsSequence machine.now ways.now) self.new.calls.items }
     {
         let calls = &mut self.calls;
-        settle_all(machine, ways, calls.list.as_mut_slice(), spans, since, ran);
+        let rows = calls.rows.as_slice();
+        settle_all(
+            machine,
+            ways,
+            calls.list.as_mut_slice(),
+            rows,
+            spans,
+            since,
+            ran,
+        );
     }
 
     // Tells each call, none of which has looked at the others yet, for which one it waits.

@@ -128,9 +128,9 @@ fn entry_may_lead(machine: &Machine, way: &Way, s: VertexId, second: Item) -> bo
     leads_on_near(machine, way, s)
 }
 
-// Whether the first leg of a way is named by a transition.
+/// Whether the first leg of a way is named by a transition.
 #[inline(always)]
-fn is_named(way: &Way, t: TransId) -> bool
+pub fn is_named(way: &Way, t: TransId) -> bool
     ensures { IsTrue result ↔ (way.now.legs.first.named ≡ t) }
 {
     way.legs.first.named == t
@@ -187,9 +187,9 @@ fn way_orders(machine: &Machine, way: &Way, first: Item, second: Item) -> bool
     may_lead(machine, way, first, second) && orders(machine, &way.legs, way.fires, first, second)
 }
 
-// Whether the first of two items comes before the second by one of the ways.
+// Whether the first of two items comes before the second by one of the ways. It is asked of each.
 #[inline(never)]
-fn some_way_orders(machine: &Machine, ways: &[Way], first: &Item, second: &Item) -> bool
+fn each_way_orders(machine: &Machine, ways: &[Way], first: &Item, second: &Item) -> bool
     requires rules { KeepsModelRules machine.now }
     requires ways { AreWaysIn machine.now ways.now }
     requires first { IsItemIn machine.now first.now }
@@ -204,9 +204,25 @@ fn some_way_orders(machine: &Machine, ways: &[Way], first: &Item, second: &Item)
     false
 }
 
-// Whether a way has more than one leg, or its first leg more than one transition.
+// Whether the first of two items comes before the second by one of the ways; most often there is one.
+#[inline(never)]
+fn some_way_orders(machine: &Machine, ways: &[Way], first: &Item, second: &Item) -> bool
+    requires rules { KeepsModelRules machine.now }
+    requires ways { AreWaysIn machine.now ways.now }
+    requires first { IsItemIn machine.now first.now }
+    requires second { IsItemIn machine.now second.now }
+    ensures { IsTrue result ↔ IsOrderedBySome machine.now ways.now first.now second.now }
+{
+    if ways.len() == 1 {
+        way_orders(machine, &ways[0], *first, *second)
+    } else {
+        each_way_orders(machine, ways, first, second)
+    }
+}
+
+/// Whether a way has more than one leg, or its first leg more than one transition.
 #[inline(always)]
-fn is_long(way: &Way) -> bool
+pub fn is_long(way: &Way) -> bool
     ensures { IsTrue result ↔ IsLong way.now }
 {
     way.legs.more.len() > 0 || way.legs.first.further.len() > 0

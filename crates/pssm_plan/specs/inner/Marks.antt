@@ -50,14 +50,6 @@ pub record IsHeldAt (calls : List Call) (place : ℕ) : Type 0 where
   pub inside : place < length calls
   pub waiting : (d : Call) → IsTrue (slice_index_or calls place d).ran → ⊥
 
--- The call is blocked and the one at the place that it has seen has not run, or it is not and has seen them all.
-abbrev pub IsUpToDate : List Call → Call → Type 0
-IsUpToDate calls call = (IsTrue call.blocked × IsHeldAt calls call.seen) ⊎ ((IsTrue call.blocked → ⊥) × (length calls ≤ call.seen))
-
--- Each of the calls that is not blocked has seen them all.
-abbrev pub AreThrough : List Call → Type 0
-AreThrough calls = (call : Call) → Contains calls call → (IsTrue call.blocked → ⊥) → length calls ≤ call.seen
-
 -- The second call is of the same item, has run where the first has, and says exactly for which of the calls it waits.
 pub record IsSettled (Comes : Item → Item → Type 0) (calls : List Call) (old new : Call) : Type 0 where
   pub item_is : new.item ≡ old.item

@@ -88,5 +88,6 @@ pub record IsSureBefore (Comes : Item → Item → Type 0) (first : ℕ) (calls 
   pub held : IsTrue call.blocked → IsHeldAt calls call.seen
   pub free : (IsTrue call.blocked → ⊥) → ArePassed Comes calls call.item first
 
+-- So is each of the calls before this place.
 abbrev pub AreSureBefore : (Item → Item → Type 0) → ℕ → List Call → Type 0
 AreSureBefore Comes first calls = (k : ℕ) (d : Call) → k < first → k < length calls → IsSureBefore Comes first calls (slice_index_or calls k d)

@@ -1,10 +1,12 @@
 -- Where the items of a list of calls stand in it, as a table tells.
-use Rattle.std.specs.Prelude.{◌≡◌, ◌≢◌, ◌<◌, ◌≤◌, ℕ, List, AllPairs, length, slice_index_or}
+use Rattle.std.specs.Prelude.{◌≡◌, ◌≢◌, ◌⊎◌, ◌<◌, ◌≤◌, ◌++◌, ◌∷◌, [], ℕ, List, IsTrue, AllPairs, length, slice_index_or}
+use Rattle.pssm_model.specs.declared.ids.VertexId.{VertexId}
 use Rattle.pssm_model.specs.declared.steps.Item.{Item}
 use Rattle.pssm_model.specs.declared.steps.Item.TheVariants.{Exit, Effect, Enter, Opened, Pick}
 use Rattle.pssm_model.specs.declared.steps.Mode.TheVariants.{Plain, Shallow, Deep}
 use Rattle.pssm_plan.specs.declared.roster.Call.{Call}
 use Rattle.pssm_plan.specs.declared.places.Row.{Row}
+use Rattle.pssm_plan.specs.inner.Marks.{IsListed}
 
 -- calls in a row
 pub record CallList : Type 0 where
@@ -54,3 +56,12 @@ looked_through = 4
 pub record ArePlaced (calls : List Call) (rows : List Row) : Type 0 where
   pub once : AllPairs (λ a b. a.item ≢ b.item) calls
   pub placed : (k : ℕ) (d : Call) → looked_through ≤ k → k < length calls → place_in rows (slice_index_or calls k d).item ≡ k
+
+-- The second list is the first with this call behind the others, or the first itself where its item is listed in it.
+abbrev pub IsAdded : List Call → Call → List Call → Type 0
+IsAdded old call new = (IsListed old call.item × (new ≡ old)) ⊎ ((IsListed old call.item → ⊥) × (new ≡ old ++ call ∷ []))
+
+-- No call before this place is of the entry of the State and has not run.
+abbrev pub IsEntryPassed : List Call → VertexId → ℕ → Type 0
+IsEntryPassed calls s place =
+    (k : ℕ) (d : Call) → k < place → k < length calls → (slice_index_or calls k d).item ≡ Enter s → (IsTrue (slice_index_or calls k d).ran → ⊥) → ⊥

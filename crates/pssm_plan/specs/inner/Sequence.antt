@@ -1,5 +1,5 @@
 -- Which of the items that a step calls come before which, in a step that goes by these ways; and the lists of its items.
-use Rattle.std.specs.Prelude.{Bool, ◌⊎◌, ◌↔◌, ◌<◌, ◌≤◌, ◌≢◌, ℕ, List, IsTrue, Contains, AllPairs, drop, length, slice_index_or}
+use Rattle.std.specs.Prelude.{◌⊎◌, ◌↔◌, ◌<◌, ◌≤◌, ◌≢◌, ℕ, List, Contains, AllPairs, drop, length, slice_index_or}
 use Rattle.pssm_model.specs.declared.ids.VertexId.{VertexId}
 use Rattle.pssm_model.specs.declared.ids.RegionId.{RegionId}
 use Rattle.pssm_model.specs.declared.elements.DraftMachine.{DraftMachine}

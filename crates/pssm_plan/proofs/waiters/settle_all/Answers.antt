@@ -1,5 +1,6 @@
 use Rattle.pssm_plan.proofs.ApartCalls.{new_along}
 use Rattle.pssm_plan.proofs.Passes.{pairs_alike, pairs_further}
+use Rattle.pssm_plan.proofs.PlacedCalls.{placed_alike}
 use Rattle.pssm_plan.proofs.waiters.settle_all.Goals as goal
 
 pub settle_new-requires-clause-new : goal.settle_new-requires-clause-new
@@ -8,3 +9,14 @@ settle_new-requires-clause-new c =
     (pairs_alike c.args.calls.now c.settle_waiting.new.calls
     (pairs_further c.args.calls.now c.settle_free.new.calls c.settle_waiting.new.calls c.settle_free.ensures.alike c.settle_waiting.ensures.alike))
     c.requires.new
+
+pub settle_new-requires-clause-placed : goal.settle_new-requires-clause-placed
+settle_new-requires-clause-placed c =
+    let alike =
+    pairs_further c.args.calls.now c.settle_free.new.calls c.settle_waiting.new.calls c.settle_free.ensures.alike c.settle_waiting.ensures.alike in
+    placed_alike c.args.calls.now c.settle_waiting.new.calls c.args.rows.now alike.0 (λ k d lt. (alike.1 k d lt).item_is) c.requires.placed
+
+pub settle_waiting-requires-clause-placed : goal.settle_waiting-requires-clause-placed
+settle_waiting-requires-clause-placed c =
+    placed_alike c.args.calls.now c.settle_free.new.calls c.args.rows.now c.settle_free.ensures.alike.0
+    (λ k d lt. (c.settle_free.ensures.alike.1 k d lt).item_is) c.requires.placed

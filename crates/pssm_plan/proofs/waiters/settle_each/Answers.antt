@@ -1,6 +1,5 @@
-use Rattle.std.proofs.Common.{◌<◌, ◌≢◌, ◌+◌, ℕ, false, length, get_or, subst, sym, arith, ◌∙◌}
+use Rattle.std.proofs.Common.{◌<◌, ◌≢◌, ◌+◌, length, get_or, subst, sym, arith, ◌∙◌}
 use Rattle.std.proofs.lemmas.List.Elements.{Contains-get_or}
-use Rattle.pssm_model.specs.declared.steps.Item.TheVariants.{Exit}
 use Rattle.pssm_plan.specs.declared.roster.Call.{Call}
 use Rattle.pssm_plan.specs.inner.Sequence.{IsSequence}
 use Rattle.pssm_plan.specs.inner.Marks.{HasSeen}

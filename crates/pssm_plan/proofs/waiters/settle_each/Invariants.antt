@@ -1,5 +1,5 @@
-use Rattle.pssm_plan.specs.inner.Marks.{IsAlike, IsFresh, ArePairwise}
-use Rattle.std.specs.Prelude.{◌<◌, ◌≡◌, ◌≤◌, ℕ, slice_index_or}
+use Rattle.pssm_plan.specs.inner.Marks.{IsAlike, ArePairwise}
+use Rattle.std.specs.Prelude.{◌≡◌, ◌≤◌, ℕ, slice_index_or}
 use Rattle.pssm_plan.specs.declared.roster.Call.{Call}
 use Rattle.pssm_plan.specs.inner.Sequence.{IsSequence}
 use Rattle.pssm_plan.specs.inner.Passes.{AreCaught, AreSureBut, NewLeft}

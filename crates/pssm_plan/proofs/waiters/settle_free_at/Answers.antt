@@ -1,4 +1,4 @@
-use Rattle.std.proofs.Common.{◌<◌, ◌+◌, false, length, arith, ◌∙◌}
+use Rattle.std.proofs.Common.{◌<◌, ◌+◌, false, length, arith}
 use Rattle.pssm_model.specs.declared.steps.Item.TheVariants.{Exit}
 use Rattle.pssm_plan.specs.declared.roster.Call.{Call}
 use Rattle.pssm_plan.specs.inner.Sequence.{IsSequence}

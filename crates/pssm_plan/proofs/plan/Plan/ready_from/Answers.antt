@@ -1,4 +1,4 @@
-use Rattle.std.proofs.Common.{◌≡◌, ◌∙◌, List, IfSome, IfNone, length, ap, subst, sym}
+use Rattle.std.proofs.Common.{◌≡◌, List, IfSome, IfNone, length, ap, subst}
 use Rattle.std.specs.List.{filter}
 use Rattle.pssm_plan.specs.declared.roster.Call.{Call}
 use Rattle.pssm_plan.specs.Agenda.{Agenda}

@@ -1,10 +1,9 @@
-use Rattle.std.proofs.Common.{◌≡◌, ◌∙◌, ◌++◌, List, Contains, length, take, drop, get_or, rules, ap, sym, subst}
+use Rattle.std.proofs.Common.{◌≡◌, ◌∙◌, ◌++◌, List, length, take, drop, get_or, rules, ap, sym, subst}
 use Rattle.std.proofs.Math.Seq.{take-append_seam}
 use Rattle.pssm_plan.specs.declared.roster.Call.{Call}
-use Rattle.pssm_plan.specs.inner.Marks.{IsFresh}
 use Rattle.pssm_plan.specs.inner.Sequence.{IsSequence, AreNewSince}
 use Rattle.pssm_plan.specs.inner.Passes.{AreCaught, AreSureBut, FreeLeft}
-use Rattle.pssm_plan.specs.inner.Places.{CallList}
+use Rattle.pssm_plan.specs.inner.Places.{CallList, ArePlaced}
 use Rattle.pssm_plan.proofs.PlacedCalls.{placed_alike}
 use Rattle.pssm_plan.proofs.roster.Roster.settle.Goals as goal
 
@@ -12,6 +11,11 @@ pub settle_all-requires-clause-caught : goal.settle_all-requires-clause-caught
 settle_all-requires-clause-caught c =
     let same = c.as_mut_slice.ensures.value ∙ ap (λ (l : CallList). l.items) c.calls.view_is in
     subst (λ (l : List Call). AreCaught c.args.spans.now l) (sym same) c.requires.caught
+
+pub settle_all-requires-clause-placed : goal.settle_all-requires-clause-placed
+settle_all-requires-clause-placed c =
+    subst (λ (l : List Call). ArePlaced l c.as_slice-rows.result.now) (sym c.as_mut_slice.ensures.value)
+    (subst (ArePlaced c.calls.inside.list.items) (sym c.as_slice-rows.ensures.value) c.calls.invariant)
 
 pub settle_all-requires-clause-new : goal.settle_all-requires-clause-new
 settle_all-requires-clause-new c =

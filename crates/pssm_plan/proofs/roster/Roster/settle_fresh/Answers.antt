@@ -2,8 +2,7 @@ use Rattle.std.proofs.Common.{◌≡◌, ◌∙◌, ◌++◌, List, Contains, le
 use Rattle.std.proofs.Math.Seq.{take-append_seam}
 use Rattle.pssm_plan.specs.declared.roster.Call.{Call}
 use Rattle.pssm_plan.specs.inner.Marks.{IsFresh}
-use Rattle.pssm_plan.specs.inner.Sequence.{IsSequence, AreNewSince}
-use Rattle.pssm_plan.specs.inner.Passes.{AreCaught, AreSureBut, FreeLeft}
+use Rattle.pssm_plan.specs.inner.Passes.{AreCaught}
 use Rattle.pssm_plan.specs.inner.Places.{CallList}
 use Rattle.pssm_plan.proofs.PlacedCalls.{placed_alike}
 use Rattle.pssm_plan.proofs.roster.Roster.settle_fresh.Goals as goal
