@@ -1,5 +1,5 @@
 -- Where no ready item in the list of a plan is an opening or a pick none of the plan is ready; and what is chosen in a step is chosen.
-use Rattle.std.proofs.Common.{◌≡◌, ◌≤◌, ◌<◌, ℕ, length, false, IfNone, Option, Some, None, sym, subst, ◌∙◌, inr, ⊎_elim, arith}
+use Rattle.std.proofs.Common.{◌≡◌, ◌≤◌, ◌<◌, ℕ, length, false, Option, Some, sym, subst, ◌∙◌, inr, ⊎_elim, arith}
 use Rattle.std.proofs.lemmas.Bool.{cases_lt, false≢true}
 use Rattle.std.proofs.lemmas.Option.{slice_get_within}
 use Rattle.pssm_model.specs.declared.elements.DraftMachine.{DraftMachine}
@@ -32,10 +32,3 @@ pub chooses_on : (class : Class) (x : Standing) (signal : Option Waiting) (p : A
     → ChoosesInStep class x signal p chosen → Chooses class x signal x.plan chosen
 chooses_on class x signal p is living chosen h =
     inr ((λ yes. false≢true (sym living ∙ yes)), subst (λ plan. ChoosesLiving class x signal plan chosen) (sym is) h)
-
--- in the form in which it is found
-pub none_so : {X : Type 0} (m : DraftMachine) (p : Agenda) → IsPlanOf m p → (place count : ℕ) → count ≡ length (ready_calls p)
-    → LacksChoices (ready_calls p) place count → (found : Option X) → IfNone found (LacksChoices (ready_calls p) 0 place)
-    → IfNone found (HasNoChoice m p)
-none_so m p plan place count all late None early = no_choice m p plan place count all late early
-none_so m p plan place count all late (Some x) early = tt

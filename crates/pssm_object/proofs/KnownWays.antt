@@ -22,7 +22,7 @@ use Rattle.pssm_enabled.proofs.Descent.{by_descent}
 use Rattle.pssm_enabled.proofs.LeadingOn.{passed_through, known_passed, opens}
 use Rattle.pssm_enabled.proofs.StartLaws.{entering_is_there}
 use Rattle.pssm_enabled.proofs.Trees.{target_some, known_way}
-use Rattle.pssm_routes.proofs.WayPaths.{way_led}
+use Rattle.pssm_enabled.proofs.WayPaths.{way_led}
 use Rattle.pssm_model_laws.proofs.Known.{Known, known_as, known_both}
 use Rattle.pssm_model_laws.proofs.KnownPlaces.{known_in_region, known_vertex_kind}
 use Rattle.pssm_object.proofs.MachineLaws.{leaving_there, known_leaves}

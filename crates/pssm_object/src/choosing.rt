@@ -10,8 +10,7 @@ ghost use Rattle.pssm_plan.specs.Plans.{IsPlanOf};
 ghost use Rattle.pssm_plan.specs.Standings.{ready_calls};
 ghost use Rattle.pssm_object.specs.Tasks.{ready_tasks};
 ghost use Rattle.pssm_object.specs.inner.Situations.{standing_of, IsAtRest, first_waiting};
-ghost use Rattle.pssm_semantics.specs.Arguments.{ActArgsFit};
-ghost use Rattle.pssm_object.specs.inner.Working.{HasPlace, Makes, MakesBy};
+ghost use Rattle.pssm_object.specs.inner.Working.{HasPlace, Makes};
 ghost use Rattle.pssm_object.specs.inner.Judging.{Completes};
 ghost use Rattle.pssm_object.specs.inner.Choosing.{IsItemThere, HasWays, IsReadyChoice, HasNoChoice, GoesSomeWay, TakesSignal, ServesCompletion, ChoosesNext, ChoosesInStep, Chooses, DoesTask, LacksChoices, IsDeferredHere};
 
@@ -20,10 +19,10 @@ use crate::opening::some_way;
 use crate::routes::route_from;
 use crate::situation::Situation;
 use crate::working::stated_act;
-use pssm_model::{Duplicate, Event, Firing, Item, Mode, RegionId, Row, VertexId};
+use pssm_model::{Event, Firing, Item, Mode, RegionId, Row, VertexId};
 use pssm_plan::Plan;
 use pssm_pool::Waiting;
-use pssm_semantics::{Act, Args, Class, Entry, Out, Task};
+use pssm_semantics::{Args, Class, Entry, Out, Task};
 use std::alloc::{AllocError as NoMemory, Global};
 
 impl Situation {
@@ -315,36 +314,53 @@ impl Situation {
         ensures { IfOk result (Makes class.now (standing_of self.now) item) }
     {
         match stated_act(class, item) {
-            Some(act) => self.outputs_of(alloc, act),
+            Some(act) => self.outputs_by(alloc, act),
             None => Ok(Row::from_vec(Vec::new(alloc))),
         }
-    }
-
-    // The outputs of the behaviour.
-    fn outputs_of(&self, alloc: Global, act: &Act) -> Result<Row<Out>, NoMemory>
-        requires { ActArgsFit act.now }
-        ensures { IfOk result (MakesBy act.now (standing_of self.now)) }
-    {
-        let worked = self.work(alloc, act)?;
-        worked.outcome().outs.duplicate(alloc)
     }
 }
 
 // A ready opening or pick, if there is one: the first at or after the place that the word picks, or else the first
-// before it.
+// of all. Most often there is none, and then one look at the ready items tells it.
 fn ready_choice(plan: &Plan, word: u64) -> Option<Item>
     ensures none { (m : DraftMachine) → IsPlanOf m plan.now → IfNone result (HasNoChoice m plan.now) }
     ensures ready { (m : DraftMachine) → IsPlanOf m plan.now → IfSome result (IsReadyChoice m plan.now) }
 {
+    match any_choice(plan) {
+        Some(first) => Some(choice_from(plan, word, first)),
+        None => None,
+    }
+}
+
+// The first ready opening or pick at or after the place that the word picks, or else the one that is handed in.
+fn choice_from(plan: &Plan, word: u64, first: Item) -> Item
+    ensures { (m : DraftMachine) → IsPlanOf m plan.now → IsReadyChoice m plan.now first
+        → IsReadyChoice m plan.now result }
+{
     let count = plan.ready_count();
     if count == 0 {
-        return None;
+        return first;
     }
     let place = (word % u64::from(count)) as u32;
     match first_choice(plan, place, count) {
-        Some(item) => Some(item),
-        None => first_choice(plan, 0, place),
+        Some(item) => item,
+        None => first,
     }
+}
+
+// The first ready opening or pick of all.
+fn any_choice(plan: &Plan) -> Option<Item>
+    ensures none { (m : DraftMachine) → IsPlanOf m plan.now → IfNone result (HasNoChoice m plan.now) }
+    ensures ready { (m : DraftMachine) → IsPlanOf m plan.now → IfSome result (IsReadyChoice m plan.now) }
+{
+    let mut place = 0;
+    while let Some(next) = plan.ready_from(place) {
+        if has_ways(next.item) {
+            return Some(next.item);
+        }
+        place = next.behind;
+    }
+    None
 }
 
 // Whether the item is an opening or a pick.

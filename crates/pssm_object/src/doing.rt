@@ -9,12 +9,12 @@ ghost use Rattle.pssm_semantics.specs.Arguments.{ActArgsFit};
 ghost use Rattle.pssm_semantics.specs.Values.{no_params};
 ghost use Rattle.pssm_object.specs.Doing.{next_do_step, do_task_of, do_tasks, AreDoersBelow};
 ghost use Rattle.pssm_object.specs.inner.Situations.{standing_of};
-ghost use Rattle.pssm_object.specs.inner.Doing.{step_act as act_of_step, step_outcome, MakesInStep, MakesInStepBy, IsIdleStep, IsStepWorkOf, IsNextHere, JudgesDoStep, DoesStep};
+ghost use Rattle.pssm_object.specs.inner.Doing.{step_act as act_of_step, step_outcome, MakesInStep, MakesInStepBy, IsIdleStep, IsNextHere, JudgesDoStep, DoesStep};
 
 use crate::situation::Situation;
 use pssm_config::Config;
-use pssm_model::{Duplicate, Machine, Row, Same, VertexId};
-use pssm_semantics::{Act, Args, Class, Out, Rule, Task, Worked, run};
+use pssm_model::{Machine, Row, VertexId};
+use pssm_semantics::{Act, Args, Class, Out, Outcome, Rule, Task, change_store, makes, outcome};
 use std::alloc::{AllocError as NoMemory, Global};
 
 /// The next do step of a State, if it is active and has one left (UML 2.5.1, 14.2.3.4).
@@ -235,17 +235,9 @@ impl Situation {
         requires { ActArgsFit act.now }
         ensures { IfOk result (λ same. IsTrue same ↔ MakesInStepBy act.now (standing_of self.now) outs.now) }
     {
-        let worked = self.work_in_step(alloc, act)?;
-        Ok(outs.same(&worked.outcome().outs))
-    }
-
-    // What the behaviour makes in a do step where the object stands.
-    fn work_in_step(&self, alloc: Global, act: &Act) -> Result<Worked, NoMemory>
-        requires { ActArgsFit act.now }
-        ensures { IfOk result (IsStepWorkOf act.now (standing_of self.now)) }
-    {
         let params = zeros(alloc)?;
-        run(alloc, self.own, act, self.store.as_slice(), &params)
+        let store = self.store.as_slice();
+        makes(alloc, self.own, act, store, &params, outs.as_slice())
     }
 
     /// The outputs of a do step.
@@ -271,13 +263,16 @@ impl Situation {
         requires { ActArgsFit act.now }
         ensures { IfOk result (MakesInStepBy act.now (standing_of self.now)) }
     {
-        let worked = self.work_in_step(alloc, act)?;
-        worked.outcome().outs.duplicate(alloc)
+        let params = zeros(alloc)?;
+        let store = self.store.as_slice();
+        let Outcome { store: _, outs } = outcome(alloc, self.own, act, store, &params)?;
+        Ok(outs)
     }
 
     /// Does the next do step of a State: it counts as done, and its behaviour changes the variables.
     ///
     /// On want of memory nothing has changed.
+    #[tactic(auto, using(crate::proofs::DoingBehaviours::step_leaves))]
     pub fn do_step(
         &mut self,
         alloc: Global,
@@ -297,8 +292,10 @@ impl Situation {
                 Ok(())
             }
             Some(act) => {
-                let worked = self.work_in_step(alloc, act)?;
-                self.do_step_made(alloc, class, s, step, worked.outcome().store.as_slice())
+                let params = zeros(alloc)?;
+                count_step(&mut self.config, class, s, step);
+                change_store(act, self.store.as_mut_slice(), &params);
+                Ok(())
             }
         }
     }

@@ -8,8 +8,7 @@ ghost use Rattle.pssm_config.specs.Tables.{Fits};
 ghost use Rattle.pssm_plan.specs.Plans.{IsPlanOf};
 ghost use Rattle.pssm_object.specs.Following.{NamesPlaces};
 ghost use Rattle.pssm_object.specs.inner.Situations.{standing_of, IsAtRest};
-ghost use Rattle.pssm_semantics.specs.Arguments.{ActArgsFit};
-ghost use Rattle.pssm_object.specs.inner.Working.{HasPlace, Makes, MakesBy};
+ghost use Rattle.pssm_object.specs.inner.Working.{HasPlace, Makes};
 ghost use Rattle.pssm_object.specs.inner.Judging.{FiresHere, Completes, JudgesRest, JudgesStart, JudgesFiring, JudgesTake, JudgesDone, JudgesItem, JudgesWork, IsWayHere, JudgesWay, JudgesDoing, IsPastEnd, JudgesLiving, Judges};
 
 use crate::firing::fires;
@@ -17,10 +16,10 @@ use crate::opening::opens_by;
 use crate::routes::goes_on_by;
 use crate::situation::Situation;
 use crate::working::stated_act;
-use pssm_model::{Event, Firing, How, Item, Mode, RegionId, Route, Row, Same, VertexId};
+use pssm_model::{Event, Firing, How, Item, Mode, RegionId, Route, Row, VertexId};
 use pssm_plan::Standing;
 use pssm_pool::Waiting;
-use pssm_semantics::{Act, Args, Class, Entry, Out, Rule};
+use pssm_semantics::{Args, Class, Entry, Out, Rule};
 use std::alloc::{AllocError as NoMemory, Global};
 
 impl Situation {
@@ -313,16 +312,6 @@ impl Situation {
             None => Ok(outs.as_slice().is_empty()),
             Some(act) => self.makes_by(alloc, act, outs),
         }
-    }
-
-    // Whether these are the outputs of the behaviour.
-    #[inline(never)]
-    fn makes_by(&self, alloc: Global, act: &Act, outs: &Row<Out>) -> Result<bool, NoMemory>
-        requires { ActArgsFit act.now }
-        ensures { IfOk result (λ same. IsTrue same ↔ MakesBy act.now (standing_of self.now) outs.now) }
-    {
-        let worked = self.work(alloc, act)?;
-        Ok(outs.same(&worked.outcome().outs))
     }
 
     // The verdict on an opening with its way.

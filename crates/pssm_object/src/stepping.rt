@@ -6,7 +6,6 @@ ghost use Rattle.pssm_model.specs.Changes.{Agree};
 ghost use Rattle.pssm_config.specs.Tables.{Fits, configuration_of};
 ghost use Rattle.pssm_plan.specs.Steadiness.{changed_by_item};
 ghost use Rattle.pssm_semantics.specs.Classes.{IsWellFormedClass};
-ghost use Rattle.pssm_semantics.specs.Arguments.{ActArgsFit};
 ghost use Rattle.pssm_object.specs.Following.{made_by};
 ghost use Rattle.pssm_object.specs.inner.Queueing.{QueueFits};
 ghost use Rattle.pssm_object.specs.inner.Working.{HasPlace, act_for, outcome_for};
@@ -22,7 +21,7 @@ use pssm_config::Config;
 use pssm_model::{Duplicate, Firing, How, Item, Machine, Route, VertexId};
 use pssm_plan::Plan;
 use pssm_pool::Waiting;
-use pssm_semantics::{Act, Class, Entry};
+use pssm_semantics::{Act, Class, Entry, change_store};
 use std::alloc::{AllocError as NoMemory, Global};
 
 impl Situation {
@@ -186,6 +185,7 @@ impl Situation {
 
     // Runs a ready exit, effect or entry with this behaviour, which is its own.
     #[inline(never)]
+    #[tactic(auto, using(crate::proofs::Behaving::item_leaves))]
     fn do_act(
         &mut self,
         alloc: Global,
@@ -198,12 +198,12 @@ impl Situation {
         requires room { QueueFits class.now.machine self.old.queue }
         requires can { CanRunHere class.now.machine self.old.plan self.old.config item How.Nothing }
         requires own { Some act.now ≡ act_for class.now item }
-        requires args { ActArgsFit act.now }
         ensures ok { OnOk result (WorksHere class.now (standing_of self.old) item (standing_of self.new)) }
         ensures err { OnErr result (standing_of self.new ≡ standing_of self.old) }
     {
-        let worked = self.work(alloc, act)?;
-        self.run_made(alloc, class, item, worked.outcome().store.as_slice())
+        self.run(alloc, &class.machine, item, &How::Nothing)?;
+        change_store(act, self.store.as_mut_slice(), &self.params);
+        Ok(())
     }
 
     // Runs a ready exit, effect or entry, whose behaviour was run and left the variables these values.

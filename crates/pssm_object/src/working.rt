@@ -1,26 +1,37 @@
 //! The behaviours of exits, effects and entries, and what they make.
-ghost use Rattle.std.specs.Prelude.{◌≡◌, ◌≤◌, ◌<◌, length, Option, Some, IfOk, IfSome, IfNone};
+ghost use Rattle.std.specs.Prelude.{◌≡◌, ◌≤◌, ◌<◌, ◌↔◌, length, Option, Some, IsTrue, IfOk, IfSome, IfNone};
 ghost use Rattle.std.specs.Option.{option_copied};
 ghost use Rattle.pssm_semantics.specs.Values.{eight_of, no_params};
 ghost use Rattle.pssm_semantics.specs.Behaviours.{act_at as behaviour_at};
 ghost use Rattle.pssm_semantics.specs.Classes.{IsWellFormedClass};
 ghost use Rattle.pssm_object.specs.inner.Situations.{standing_of};
 ghost use Rattle.pssm_semantics.specs.Arguments.{ActArgsFit};
-ghost use Rattle.pssm_object.specs.inner.Working.{HasPlace, act_for, MakesNothing, IsWorkOf};
+ghost use Rattle.pssm_object.specs.inner.Working.{HasPlace, act_for, MakesNothing, MakesBy};
 
 use crate::situation::Situation;
-use pssm_model::{ActId, Item};
-use pssm_semantics::{Act, Args, Class, Worked, run};
+use pssm_model::{ActId, Item, Row};
+use pssm_semantics::{Act, Args, Class, Out, Outcome, makes, outcome};
 use std::alloc::{AllocError as NoMemory, Global};
 use std::mem;
 
 impl Situation {
-    /// What the behaviour makes where the object stands.
-    pub fn work(&self, alloc: Global, act: &Act) -> Result<Worked, NoMemory>
+    /// Whether these are the outputs that the behaviour makes where the object stands.
+    pub fn makes_by(&self, alloc: Global, act: &Act, outs: &Row<Out>) -> Result<bool, NoMemory>
         requires { ActArgsFit act.now }
-        ensures { IfOk result (IsWorkOf act.now (standing_of self.now)) }
+        ensures { IfOk result (λ same. IsTrue same ↔ MakesBy act.now (standing_of self.now) outs.now) }
     {
-        run(alloc, self.own, act, self.store.as_slice(), &self.params)
+        let store = self.store.as_slice();
+        makes(alloc, self.own, act, store, &self.params, outs.as_slice())
+    }
+
+    /// The outputs that the behaviour makes where the object stands.
+    pub fn outputs_by(&self, alloc: Global, act: &Act) -> Result<Row<Out>, NoMemory>
+        requires { ActArgsFit act.now }
+        ensures { IfOk result (MakesBy act.now (standing_of self.now)) }
+    {
+        let store = self.store.as_slice();
+        let Outcome { store: _, outs } = outcome(alloc, self.own, act, store, &self.params)?;
+        Ok(outs)
     }
 }
 

@@ -15,7 +15,6 @@ use Rattle.pssm_semantics.specs.declared.setting.Class.{Class}
 use Rattle.pssm_semantics.specs.declared.setting.Outcome.{Outcome}
 use Rattle.pssm_semantics.specs.Values.{outcome_of, no_params}
 use Rattle.pssm_semantics.specs.Behaviours.{act_at}
-use Rattle.pssm_semantics.specs.Work.{Work, outcome_from}
 use Rattle.pssm_object.specs.Standing.{Standing}
 use Rattle.pssm_object.specs.inner.Working.{nothing_from}
 
@@ -34,10 +33,6 @@ MakesInStep class x s k outs = outs ≡ (step_outcome class x s k).outs
 -- The do step makes nothing, wherever an object stands.
 abbrev pub IsIdleStep : Class → VertexId → ℕ → Type 0
 IsIdleStep class s k = (x : Standing) → step_outcome class x s k ≡ nothing_from x.store
-
--- What was run makes what the behaviour makes in a do step where an object stands.
-abbrev pub IsStepWorkOf : Act → Standing → Work → Type 0
-IsStepWorkOf act x work = outcome_of act x.own x.store no_params ≡ outcome_from work
 
 -- These are the outputs that the behaviour makes in a do step there.
 abbrev pub MakesInStepBy : Act → Standing → List Out → Type 0

@@ -11,7 +11,6 @@ use Rattle.pssm_semantics.specs.declared.setting.Class.{Class}
 use Rattle.pssm_semantics.specs.declared.setting.Outcome.{Outcome}
 use Rattle.pssm_semantics.specs.Values.{Store, outcome_of}
 use Rattle.pssm_semantics.specs.Behaviours.{act_at}
-use Rattle.pssm_semantics.specs.Work.{Work, outcome_from}
 use Rattle.pssm_object.specs.Standing.{Standing}
 
 -- The vertex or transition of an exit, an effect or an entry is one of the machine.
@@ -44,10 +43,6 @@ Makes class x item outs = outs ≡ (outcome_for class x item).outs
 -- The item makes nothing, wherever an object stands.
 abbrev pub MakesNothing : Class → Item → Type 0
 MakesNothing class item = (x : Standing) → outcome_for class x item ≡ nothing_from x.store
-
--- What was run makes what the behaviour makes where an object stands.
-abbrev pub IsWorkOf : Act → Standing → Work → Type 0
-IsWorkOf act x work = outcome_of act x.own x.store x.params ≡ outcome_from work
 
 -- These are the outputs that the behaviour makes there.
 abbrev pub MakesBy : Act → Standing → List Out → Type 0
