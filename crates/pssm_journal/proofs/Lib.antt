@@ -11,3 +11,4 @@ pub mod FirstRules
 pub mod Spellings
 pub mod Fronts
 pub mod Judgements
+pub mod Digits

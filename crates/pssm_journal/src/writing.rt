@@ -12,10 +12,38 @@ ghost use Rattle.pssm_journal.specs.inner.LineOuts.{HasNoOuts};
 use crate::known::object_of;
 use crate::names::{mark_name, object_name, signal_name};
 use crate::ranges::Ranged;
-use pssm_lines::{Spelled, mode_name, put_call, put_place};
+use pssm_lines::{Spelled, mode_name, put_call};
 use pssm_model::{How, Mode, RegionId, VertexId};
 use pssm_semantics::{Entry, ObjectId, Out, Setting};
 use std::alloc::{AllocError as NoMemory, Global};
+
+// Writes a number in decimal, its digits straight into the text.
+#[tactic(auto, using(crate::proofs::Digits::of_digit, crate::proofs::Digits::of_more))]
+fn put_number(text: &mut Vec<u8>, number: u32) -> Result<(), NoMemory>
+    ensures { OnOk result (text.new.items ≡ text.old.items ++ decimal number) }
+{
+    if number >= 10 {
+        put_number(text, number / 10)?;
+    }
+    text.push(b'0' + (number % 10) as u8)?;
+    Ok(())
+}
+
+// Writes the kind of a line, its object, and a number behind a word.
+fn put_place(
+    text: &mut Vec<u8>,
+    kind: &[u8],
+    object: &[u8],
+    word: &[u8],
+    number: u32,
+) -> Result<(), NoMemory>
+    ensures { OnOk result (text.new.items ≡ text.old.items ++ (kind.now ++ (object.now ++ (word.now ++ decimal number)))) }
+{
+    text.extend_from_slice(kind)?;
+    text.extend_from_slice(object)?;
+    text.extend_from_slice(word)?;
+    put_number(text, number)
+}
 
 // Writes an output of an object.
 fn put_out(
@@ -74,7 +102,7 @@ fn put_opened(
 ) -> Result<(), NoMemory>
     ensures { OnOk result (text.new.items ≡ text.old.items ++ line_text (lines.Opened object.now region mode how.now)) }
 {
-    put_place(alloc, text, b"open ", object, b" r", u32::from(region.0))?;
+    put_place(text, b"open ", object, b" r", u32::from(region.0))?;
     text.push(b' ')?;
     text.extend_from_slice(mode_name(mode))?;
     text.push(b' ')?;
@@ -103,12 +131,12 @@ fn put_plain(
             text.extend_from_slice(object)
         }
         Entry::Take { number, firing, .. } => {
-            put_place(alloc, text, b"take ", object, b" ", *number)?;
+            put_place(text, b"take ", object, b" ", *number)?;
             text.push(b' ')?;
             firing.put(alloc, text)
         }
         Entry::Done { state, firing, .. } => {
-            put_place(alloc, text, b"done ", object, b" v", u32::from(state.0))?;
+            put_place(text, b"done ", object, b" v", u32::from(state.0))?;
             text.push(b' ')?;
             firing.put(alloc, text)
         }
@@ -119,7 +147,7 @@ fn put_plain(
             ..
         } => put_opened(alloc, text, object, *region, *mode, how),
         Entry::Pick { choice, route, .. } => {
-            put_place(alloc, text, b"pick ", object, b" v", u32::from(choice.0))?;
+            put_place(text, b"pick ", object, b" v", u32::from(choice.0))?;
             text.push(b' ')?;
             route.put(alloc, text)
         }
@@ -128,19 +156,13 @@ fn put_plain(
 }
 
 // Writes the front of the line of a step of a do-activity, up to its outputs.
-fn put_step(
-    alloc: Global,
-    text: &mut Vec<u8>,
-    object: &[u8],
-    state: VertexId,
-    step: u16,
-) -> Result<(), NoMemory>
+fn put_step(text: &mut Vec<u8>, object: &[u8], state: VertexId, step: u16) -> Result<(), NoMemory>
     ensures { OnOk result (text.new.items ≡ text.old.items
         ++ (codes "do " ++ (object.now ++ (codes " v" ++ (decimal state.0 ++ (codes " " ++ decimal step)))))) }
 {
-    put_place(alloc, text, b"do ", object, b" v", u32::from(state.0))?;
+    put_place(text, b"do ", object, b" v", u32::from(state.0))?;
     text.push(b' ')?;
-    u32::from(step).put(alloc, text)
+    put_number(text, u32::from(step))
 }
 
 // Writes the line of an entry, without its line feed.
@@ -157,7 +179,7 @@ fn put_named(
     let object = object_name(setting, own);
     match entry {
         Entry::Exit { state, outs, .. } => {
-            put_place(alloc, text, b"exit ", object, b" v", u32::from(state.0))?;
+            put_place(text, b"exit ", object, b" v", u32::from(state.0))?;
             put_outs(alloc, text, setting, own, outs.as_slice())
         }
         Entry::Effect {
@@ -166,11 +188,11 @@ fn put_named(
             ..
         } => {
             let number = u32::from(transition.0);
-            put_place(alloc, text, b"effect ", object, b" t", number)?;
+            put_place(text, b"effect ", object, b" t", number)?;
             put_outs(alloc, text, setting, own, outs.as_slice())
         }
         Entry::Enter { state, outs, .. } => {
-            put_place(alloc, text, b"enter ", object, b" v", u32::from(state.0))?;
+            put_place(text, b"enter ", object, b" v", u32::from(state.0))?;
             put_outs(alloc, text, setting, own, outs.as_slice())
         }
         Entry::DoStep {
@@ -179,7 +201,7 @@ fn put_named(
             outs,
             ..
         } => {
-            put_step(alloc, text, object, *state, *step)?;
+            put_step(text, object, *state, *step)?;
             put_outs(alloc, text, setting, own, outs.as_slice())
         }
         _ => put_plain(alloc, text, setting, entry),

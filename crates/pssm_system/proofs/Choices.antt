@@ -19,7 +19,7 @@ use Rattle.pssm_semantics.specs.Classes.{IsWellFormedClass}
 use Rattle.pssm_semantics.specs.Proper.{IsWellFormed}
 use Rattle.pssm_pool.specs.declared.pools.Waiting.{Waiting}
 use Rattle.pssm_object.specs.Standing.{Standing, StandsAfter}
-use Rattle.pssm_object.specs.Following.{NamesPlaces, KeepsRules, IsCandidate, IsMove, IsHandedIn, stimulus_for}
+use Rattle.pssm_object.specs.Following.{NamesPlaces, NamesSignal, KeepsRules, IsCandidate, IsMove, IsHandedIn, stimulus_for}
 use Rattle.pssm_object.specs.Following as objects
 use Rattle.pssm_object.specs.Tasks.{ready_tasks, Does}
 use Rattle.pssm_object.proofs.TaskLists.{lists_tasks}
@@ -34,7 +34,7 @@ use Rattle.pssm_system.proofs.Following.{IsNoTake, own_alike, object_there}
 use Rattle.pssm_system.proofs.Judged.{IsPart, is_part, names_none}
 use Rattle.pssm_system.proofs.Named.{names_places}
 use Rattle.pssm_system.proofs.Signals.{IsFirst}
-use Rattle.pssm_system.proofs.Nexts.{first_in, next_follows, follows_next}
+use Rattle.pssm_system.proofs.Nexts.{first_in, alone_follows, next_follows, follows_next}
 
 -- no move is a post
 pub move-no_post : (e : Entry) → IsMove e → IsPost e → ⊥
@@ -149,6 +149,27 @@ module _ {setting : Setting} (b : IsWellFormed setting) {s : Situation} {J : Lis
   next-own (e, c, keeps) quiet =
       quiet e (candidate_as e c).own c.no_post
       (next_follows part first_is e (candidate_as e c) (names_places class part.well_formed part.object.stands first e c keeps) keeps)
+
+-- a candidate without a signal is no take
+no_take_of : (e : Entry) → NamesSignal None e → IsNoTake e
+no_take_of (Take o number firing) named = absurd named
+no_take_of (Post o g args) named = tt
+no_take_of (Start o) named = tt
+no_take_of (Done o v firing) named = tt
+no_take_of (Exit o v outs) named = tt
+no_take_of (Effect o v outs) named = tt
+no_take_of (Enter o v outs) named = tt
+no_take_of (Opened o r mode how) named = tt
+no_take_of (Pick o v route) named = tt
+no_take_of (DoStep o v k outs) named = tt
+
+-- an object that has something to do without a signal is not quiet
+pub alone-own : {setting : Setting} {J : List Entry} {pools : List (List Waiting)} {o : ObjectId} {class : Class} {x : Standing}
+    → IsPart setting J pools o class x → objects.HasNext class x None J → IsQuietOf setting J o → ⊥
+alone-own {class = class} p (e, c, keeps) quiet =
+    let mine = subst (λ q. IsCandidate q None e) p.object.own c in
+    quiet e mine.own c.no_post
+    (alone_follows p e mine (names_places class p.well_formed p.object.stands None e c keeps) keeps (no_take_of e c.names))
 
 -- a signal is handed in where one waits
 pub handed_in : (signal : Option Waiting) (waiting : Bool) → waiting ≡ is_some signal → IsHandedIn waiting signal

@@ -19,8 +19,9 @@ use Rattle.pssm_system.specs.Tasks.{IsQuietOf}
 use Rattle.pssm_system.specs.inner.Deferring.{IsFirstFor}
 use Rattle.pssm_system.specs.inner.Keeping.{StandsSo}
 use Rattle.pssm_system.specs.inner.Choosing.{Finds, NoneMayCome, FindsAmong}
+use Rattle.pssm_system.proofs.Judged.{is_part}
 use Rattle.pssm_system.proofs.Members.{IsMember}
-use Rattle.pssm_system.proofs.Choices.{part, found-follows, none-follows, quiet-none, next-some, next-own, handed_in, none-both, none-of_all}
+use Rattle.pssm_system.proofs.Choices.{part, found-follows, none-follows, quiet-none, next-some, next-own, alone-own, handed_in, none-both, none-of_all}
 
 -- objects with the same number are one
 same_number : (o p : ObjectId) → o.0 ≡ p.0 → o ≡ p
@@ -74,6 +75,17 @@ module _ {setting : Setting} (b : IsWellFormed setting) (s : Situation) {K : Lis
       let p = part b stands o class x m.class_is m.there first f in
       let next = says J first p.object.stands (handed_in first waiting is) in
       ((λ yes. absurd (false≢true yes)), (λ quiet. absurd (next-own b stands o class x m.class_is m.there first f next quiet)))
+
+-- an object that has something to do without a signal is not quiet
+pub busy_own : {setting : Setting} (b : IsWellFormed setting) (s : Situation) {K : List Entry} {o : ObjectId} {class : Class} {x : Standing}
+    → IsMember setting K s.objects.items o class x
+    → ((J : List Entry) (signal : Option Waiting) → StandsAfter class J x → objects.IsHandedIn false signal
+    → MatchBool false (objects.IsQuiet class x signal J) (objects.HasNext class x signal J)) → (J : List Entry) → StandsSo setting J s
+    → IsTrue false ↔ IsQuietOf setting J o
+busy_own b s {o = o} {class = class} {x = x} m says J stands =
+    let p = is_part b stands.objects stands.pools o class x m.class_is m.there in
+    let next = says J None p.object.stands (handed_in None false refl) in
+    ((λ yes. absurd (false≢true yes)), (λ quiet. absurd (alone-own p next quiet)))
 
 -- where no object has a next entry, the setting is quiet
 pub all_quiet : {setting : Setting} {s : Situation} → NoneMayCome setting s AnyEntry 0 (length s.objects.items) → (J : List Entry) → StandsSo setting J s

@@ -45,6 +45,15 @@ module _ {setting : Setting} {J : List Entry} {pools : List (List Waiting)} {o :
     told = told_none J (stimulus_for o signal) e free;
   }
 
+  -- what the object may do next without a signal may follow
+  pub alone_follows : (e : Entry) → IsCandidate o None e → NamesPlaces class.machine e → KeepsRules class x None J e → IsNoTake e → MayFollow setting J e
+  alone_follows e c places keeps free =
+      let known : NamesKnown setting class e =
+      known_by setting class e c.no_post places
+      (known_outs setting class p.fits o (object_there setting o class p.class_is) (told_by J) J e c.own (keeps A12)) in
+      let none = no_take-has e None free refl in
+      λ rule. asked p None e c.own known none.pool none.signal_is rule (keeps rule)
+
   -- the first signal that waits and is not deferred
   module _ {first : Option Waiting} (f : IsFirst pools o class x first) where
     take-has : (number : ℕ) (firing : Firing) (w : Waiting) → first ≡ Some w → number ≡ w.number → HasSignal J class o (Take o number firing) (Some w)

@@ -54,8 +54,15 @@ impl Situation {
         ensures { (J : List AnEntry) → StandsSo setting.now J self.now → (IsTrue result ↔ IsQuietOf setting.now J own) }
     {
         let object = &self.objects[usize::from(own.0)];
-        let waiting = self.first_for(setting, own).is_some();
-        object.quiet(class_of(setting, own), waiting)
+        let class = class_of(setting, own);
+        if !object.quiet(class, false) {
+            return false;
+        }
+        // (what waits is looked for only where nothing else is to be done)
+        match self.first_for(setting, own) {
+            Some(_) => object.quiet(class, true),
+            None => true,
+        }
     }
 
     /// An entry of those that are looked for that may come next, if there is one.

@@ -82,7 +82,8 @@ impl<L: Ledger, V: Scene> Floor<L, V> {
         match &claimed {
             // (the lock is given up in the wait: who makes more ready after this, or ends, wakes it)
             Claimed::Busy { .. } => drop(self.more.wait(rt, hall)),
-            Claimed::Moved => {
+            // (who works alone has nobody to wake, and claims anew)
+            Claimed::Moved if self.shared => {
                 let more = opens_more(hall.book());
                 let moved = last_moved(hall.book());
                 let job = self.claim_more(&mut *hall, moved)?;
@@ -117,6 +118,10 @@ impl<L: Ledger, V: Scene> Floor<L, V> {
             None => self.enter(rt),
         };
         seat.commit(&mut *hall, task, worked)?;
+        if !self.shared {
+            drop(hall);
+            return Ok(None);
+        }
         let steps_back = met && hasty;
         let more = makes_more(hall.book(), worked);
         if steps_back {

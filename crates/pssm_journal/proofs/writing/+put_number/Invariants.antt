@@ -1,0 +1,5 @@
+-- A number loses its last digit.
+use Rattle.pssm_journal.proofs.writing.+put_number.Given as goal
+
+abbrev pub decreases-put_number : goal.decreases-put_number
+decreases-put_number l = l.number
