@@ -6,6 +6,7 @@ use Rattle.std.proofs.lemmas.Bool.{cond-true, cond-false, and_parts, and_from, e
 use Rattle.std.proofs.lemmas.Bool.Decides.{Decides-eqb}
 use Rattle.std.proofs.lemmas.Slice.Eq.{starts_is}
 use Rattle.std.proofs.lemmas.List.{append-nil, take-append-drop, length-take-le, take_all}
+use Rattle.std.proofs.Math.Seq.{take-append-add, drop-append_seam}
 use Rattle.pssm_semantics.specs.declared.line.Line.{Line}
 use Rattle.pssm_semantics.specs.declared.line.Line.TheVariants.{Start}
 use Rattle.pssm_spelling.specs.SpellingReading.{EndsRun, stripped}
@@ -15,9 +16,6 @@ use Rattle.pssm_lines.specs.LineText.{line_text, header_text, header_line}
 use Rattle.pssm_lines.specs.Grammar.{IsLine}
 use Rattle.pssm_lines.specs.Faults.{is_no_feed, IsJournalLine, BeginsHeader, Begins, IsOpen, IsFaultOf}
 use Rattle.pssm_lines.specs.inner.Lines.{BeginsNoLine, HasNoWholeLine}
-use Rattle.pssm_lines.specs.inner.LineReading.{shown_of, line_taken}
-use Rattle.pssm_lines.proofs.Readers.{got, same_got}
-use Rattle.pssm_lines.proofs.LineLaws.{line_again}
 use Rattle.pssm_lines.proofs.Feeds.{has_no_feed, feed_apart}
 use Rattle.pssm_lines.proofs.LineFeeds.{clean_line}
 use Rattle.pssm_lines.proofs.Samples.{sample_name}
@@ -222,20 +220,38 @@ no_header bytes e = λ rest parts.
     let some : stripped header_line bytes ≡ Some rest = ap (λ (t : List ℕ). stripped header_line t) parts ∙ stripped_again header_line rest in
     absurd (cc (e, some))
 
-pub no_line : (bytes : List ℕ) → BeginsNoLine bytes → HasNoWholeLine true bytes
-no_line bytes none = λ l rest is parts. none l rest is.line parts
+-- ---- a line among the first bytes, as many as the longest line has with its line feed
 
--- a line that is longer than a journal may have
-pub no_short_line : (bytes rest : List ℕ) (l : Line) → IsLine l → bytes ≡ line_text l ++ 10 ∷ rest → 65537 < length bytes - length rest → HasNoWholeLine true bytes
-no_short_line bytes rest l is parts long = λ m after is_m parts_m.
-    let read : line_taken bytes ≡ got (shown_of l) rest = ap line_taken parts ∙ line_again l rest is in
-    let again : line_taken bytes ≡ got (shown_of m) after = ap line_taken parts_m ∙ line_again m after is_m.line in
-    let follows : rest ≡ after = (same_got (shown_of l) (shown_of m) rest after (sym read ∙ again)).1 in
-    let all : length bytes ≡ length (line_text m ++ 10 ∷ after) = ap length parts_m in
-    let same : length rest ≡ length after = ap length follows in
-    absurd (omega (arith, all, same, long, is_m.short, length-append (line_text m) (10 ∷ after)))
+feed_behind : (text rest : List ℕ) → text ++ 10 ∷ rest ≡ (text ++ 10 ∷ []) ++ rest
+feed_behind text rest = sym (append_assoc text (10 ∷ []) rest)
 
-pub short_line : (bytes rest : List ℕ) (l : Line) → IsLine l → bytes ≡ line_text l ++ 10 ∷ rest → length bytes - length rest ≤ 65537 → IsJournalLine l
-short_line bytes rest l is parts few =
-    let all : length bytes ≡ length (line_text l ++ 10 ∷ rest) = ap length parts in
-    record { line = is; short = omega (arith, all, few, length-append (line_text l) (10 ∷ rest)) }
+module _ (bytes near : List ℕ) (n : ℕ) (n_is : n ≡ min (length bytes) 65537) (is_near : near ≡ take n bytes) where
+  -- no line among them
+  pub no_line : BeginsNoLine near → HasNoWholeLine true bytes
+  no_line none = λ l rest is parts.
+      let whole = line_text l ++ 10 ∷ [] in
+      let all : bytes ≡ whole ++ rest = parts ∙ feed_behind (line_text l) rest in
+      let some : length whole ≤ n = omega (arith, n_is, ap length all, length-append whole rest, is.short, length-append (line_text l) (10 ∷ [])) in
+      let cut : n ≡ length whole + (n - length whole) = omega (arith, some) in
+      let stands : near ≡ whole ++ take (n - length whole) rest =
+      is_near ∙ ap (λ (t : List ℕ). take n t) all ∙ ap (λ (k : ℕ). take k (whole ++ rest)) cut ∙ take-append-add whole rest (n - length whole) in
+      none l (take (n - length whole) rest) is.line (stands ∙ sym (feed_behind (line_text l) (take (n - length whole) rest)))
+
+  module _ (l : Line) (after rest : List ℕ) (is : IsLine l) (parts : near ≡ line_text l ++ 10 ∷ after) (rest_is : rest ≡ drop (length near - length after) bytes) where
+    -- A line among them is short enough.
+    pub near_line : IsJournalLine l
+    near_line =
+        let few : length near ≤ 65537 = omega (arith, n_is, ap length is_near, length-take-le n bytes (omega (arith, n_is))) in
+        record { line = is; short = omega (arith, ap length parts, few, length-append (line_text l) (10 ∷ after)) }
+
+    -- Behind it stand all other bytes.
+    pub near_rest : bytes ≡ line_text l ++ 10 ∷ rest
+    near_rest =
+        let whole = line_text l ++ 10 ∷ [] in
+        let far = drop n bytes in
+        let front : near ≡ whole ++ after = parts ∙ feed_behind (line_text l) after in
+        let all : bytes ≡ whole ++ (after ++ far) =
+        sym (take-append-drop n bytes) ∙ ap (λ (t : List ℕ). t ++ far) (sym is_near ∙ front) ∙ append_assoc whole after far in
+        let size : length near - length after ≡ length whole = omega (arith, ap length front, length-append whole after) in
+        let follows : rest ≡ after ++ far = rest_is ∙ ap (λ (k : ℕ). drop k bytes) size ∙ ap (λ (t : List ℕ). drop (length whole) t) all ∙ drop-append_seam whole (after ++ far) in
+        all ∙ ap (λ (t : List ℕ). whole ++ t) (sym follows) ∙ sym (feed_behind (line_text l) rest)

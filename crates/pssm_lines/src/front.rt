@@ -89,7 +89,8 @@ fn unread(alloc: Global, begun: bool, line: u32, bytes: &[u8]) -> Result<Front<'
 /// What stands at the front of the bytes of a journal that are still to be read.
 ///
 /// `begun` says whether the first line of the text was read, and `number` is the number of the line that begins here.
-/// A line is at most 65,536 bytes long without its line feed.
+/// A line is at most 65,536 bytes long without its line feed. It is read off the first 65,537 bytes alone, so a longer
+/// one takes no more memory than the longest (no clause says so).
 #[inline(always)]
 pub fn front_of(
     alloc: Global,
@@ -105,11 +106,10 @@ pub fn front_of(
             None => unread(alloc, begun, number, bytes),
         };
     }
-    let Some((parts, rest)) = line_at(alloc, bytes)? else {
+    let (near, _) = bytes.split_at(bytes.len().min(LINE_LEN + 1));
+    let Some((parts, after)) = line_at(alloc, near)? else {
         return unread(alloc, begun, number, bytes);
     };
-    if bytes.len() - rest.len() > LINE_LEN + 1 {
-        return unread(alloc, begun, number, bytes);
-    }
+    let (_, rest) = bytes.split_at(near.len() - after.len());
     Ok(Front::Line { parts, rest })
 }
