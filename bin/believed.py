@@ -4,6 +4,8 @@
   bin/believed.py             for each file of definitions, in the order of crates.txt, how many of its lines, without comments, the clauses
                               of `pssm` rest on
   bin/believed.py --names     the same, and the names of these definitions
+  bin/believed.py --tiers     the same, in four parts: what the headline rests on where the model is flat text; what else the answers on flat
+                              texts rest on; what model files add; and what refusals add. A reader may stop behind any of them
   bin/believed.py --others    the definitions in `specs/`, but for those in `specs/inner/`, that no clause of a function that a crate gives out
                               rests on
 
@@ -16,6 +18,14 @@ import re
 import sys
 
 ROOT = os.path.dirname(os.path.dirname(os.path.abspath(__file__)))
+# what each part of the reading adds: the clauses of `pssm` that it begins with (all, where none is named), and the definitions at which it stops
+MODEL_FILES = ['pssm_xmi.specs.Faults.ReadsDraft', 'pssm_settings.specs.Settings.IsSettingOf']
+REFUSALS = ['pssm_load.specs.Loads.IsLoadFault', 'pssm_tool.specs.Refusals.load_fault_text', 'pssm_tool.specs.Words.IsUsage',
+            'pssm_journal.specs.Judged.IsBadJournal']
+TIERS = [('the headline, where the model is flat text', ['headline'], MODEL_FILES + REFUSALS),
+         ('what else is answered where the model is flat text', [], MODEL_FILES + REFUSALS),
+         ('model files', [], REFUSALS),
+         ('refusals', [], [])]
 WORD = re.compile(r"[A-Za-z_][\w'-]*(?:\.[A-Za-z_][\w'-]*)*")
 # the line with which a definition begins, or goes on by cases
 HEAD = re.compile(r"(?:(?:abbrev|unfoldable|pub|record|data) )*([A-Za-z_][\w'-]*|◌\S+)(?= |$)")
@@ -105,10 +115,10 @@ class House:
             name = f'{last}.{name}'
         return None
 
-    def reached(self, words):
-        """All definitions that these paths lead to."""
+    def reached(self, words, but=()):
+        """All definitions that these paths lead to, but for some and what is come to through these alone."""
         found, open_paths = [], list(words)
-        seen = set()
+        seen = {self.find('Rattle.' + path) for path in but}
         while open_paths:
             place = self.find(open_paths.pop())
             if place is None or place in seen or place[1] not in self.files[place[0]].at:
@@ -124,8 +134,8 @@ class House:
                     open_paths.append(inside.names[first] + ('.' + rest if rest else ''))
         return found
 
-    def clauses(self, crate, only=None):
-        """The paths that the clauses of a crate's public functions name."""
+    def clauses(self, crate, only=None, named=()):
+        """The paths that the clauses of a crate's public functions name; of one function, those with these names, or all."""
         root = read(f'{ROOT}/crates/{crate}/src/' + ('lib.rt' if os.path.exists(f'{ROOT}/crates/{crate}/src/lib.rt') else 'main.rt'))
         given = set(re.findall(r'\w+', ' '.join(re.findall(r'pub use [\w:]+::(\{[^}]*\}|\w+)', root))))
         found = set()
@@ -133,7 +143,7 @@ class House:
             for name in names:
                 text = read(os.path.join(folder, name))
                 known = imports(text)
-                for fn, words in functions(text, given, only):
+                for fn, words in functions(text, given, only, named):
                     for word in words:
                         first = word.split('.')[0]
                         if first in known:
@@ -141,7 +151,7 @@ class House:
         return found
 
 
-def functions(text, given, only):
+def functions(text, given, only, named=()):
     """The public functions of a file, and the words of their clauses; also what an impl or a trait says of its type."""
     owner = None
     for block in re.split(r'\n(?=impl|pub |trait|fn |struct|enum|#\[)', text):
@@ -159,8 +169,38 @@ def functions(text, given, only):
             is_public = fn.group(2) and ((owner or fn.group(3)) in given) or (owner in given and ' for ' in block.split('\n')[0]) or block.startswith('pub trait')
             if only is None and not is_public:
                 continue
-            said = re.findall(r'(?:requires|ensures)(?: \w+)? \{(.*?)\}(?=\s*(?:requires|ensures|//|$))', re.sub(r'//.*', '', fn.group(4)), re.S)
-            yield fn.group(3), set(WORD.findall(' '.join(said)))
+            clauses = re.findall(r'(?:requires|ensures)(?: (\w+))? \{(.*?)\}(?=\s*(?:requires|ensures|//|$))', re.sub(r'//.*', '', fn.group(4)), re.S)
+            yield fn.group(3), set(WORD.findall(' '.join(said for name, said in clauses if not named or name in named)))
+
+
+def show(house, found):
+    """Prints how many lines of each file these definitions take, and how many in all."""
+    by_module = {}
+    for module, name in found:
+        by_module.setdefault(module, []).append(name)
+    total = 0
+    for module in sorted(by_module, key=lambda m: (house.crates.index(m.split('.')[1]), m)):
+        inside = house.files[module]
+        names = sorted(set(by_module[module]), key=lambda n: inside.at[n][0])
+        lines = sum(inside.count(n) for n in names)
+        total += lines
+        _, crate, _, *rest = module.split('.')
+        print(f"{lines:5}  crates/{crate}/specs/{'/'.join(rest)}.antt" + ('  ' + ' '.join(names) if '--names' in sys.argv else ''))
+    print(f'{total:5}  lines in {len(by_module)} files')
+
+
+def show_tiers(house):
+    """Prints part after part what is to be read, each time what the parts before do not have."""
+    known = set()
+    for title, named, but in TIERS:
+        for path in but:
+            place = house.find('Rattle.' + path)
+            if place is None or place[1] not in house.files[place[0]].at:
+                sys.exit(f'no definition {path}, at which a part of the reading stops')
+        found = [place for place in house.reached(house.clauses('pssm_tool', 'pssm', named), but) if place not in known]
+        known.update(found)
+        print(f'\n{title}\n')
+        show(house, found)
 
 
 def main():
@@ -175,19 +215,10 @@ def main():
                 whole = ' (whole)' if len(names) == len(house.files[module].at) else ''
                 print(f"{module.replace('Rattle.', '')}{whole}: {', '.join(names)}")
         return
-    found = house.reached(house.clauses('pssm_tool', 'pssm'))
-    by_module = {}
-    for module, name in found:
-        by_module.setdefault(module, []).append(name)
-    total = 0
-    for module in sorted(by_module, key=lambda m: (house.crates.index(m.split('.')[1]), m)):
-        inside = house.files[module]
-        names = sorted(set(by_module[module]), key=lambda n: inside.at[n][0])
-        lines = sum(inside.count(n) for n in names)
-        total += lines
-        _, crate, _, *rest = module.split('.')
-        print(f"{lines:5}  crates/{crate}/specs/{'/'.join(rest)}.antt" + ('  ' + ' '.join(names) if '--names' in sys.argv else ''))
-    print(f'{total:5}  lines in {len(by_module)} files')
+    if '--tiers' in sys.argv:
+        show_tiers(house)
+    else:
+        show(house, house.reached(house.clauses('pssm_tool', 'pssm')))
 
 
 main()
