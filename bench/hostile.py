@@ -17,6 +17,7 @@ END = b'</uml:Model>'
 GO = b'pssm-flat 1\nsignal Go 0\nclass M\nobject a M\nmachine M\nregion r0 top\nvertex v0 r0 initial\nvertex v1 r0 state\n' \
      b'transition t0 v0 v1 external\ntransition t1 v1 v1 external\non Go\nend\n'
 JOURNAL = b'pssm-journal 1\n'
+FIT = 'well formed'
 
 
 def filled(front, piece, back, size=MOST):
@@ -51,6 +52,60 @@ def models():
     yield 'one byte past 16 MiB', b'p' * (MOST + 1), 9, 'too large'
 
 
+def flat(signals=(), variables=(), regions=(), vertices=(), transitions=(), name=b'M', others=(), objects=()):
+    """A flat text of one class with its machine, whose top region has an initial vertex and a State, and what is put to it."""
+    lines = [b'pssm-flat 1', b'signal Go 0', *signals, b'class ' + name, *others, b'object a ' + name, *objects, b'machine ' + name,
+             *variables, b'region r0 top', *regions, b'vertex v0 r0 initial', b'vertex v1 r0 state', *vertices, b'transition t0 v0 v1 external', *transitions,
+             *(b'machine C%d\nregion r0 top\nvertex v0 r0 initial\nvertex v1 r0 state\ntransition t0 v0 v1 external' % k for k in range(len(others))), b'end']
+    return b'\n'.join(lines) + b'\n'
+
+
+def each(line, first, count):
+    """So many lines, with the numbers from the first on."""
+    return [line.replace(b'#', b'%d' % number) for number in range(first, first + count)]
+
+
+def nested(count):
+    """So many regions in one another under the top region: the regions, and in each an initial vertex and a State."""
+    regions = [b'region r%d v%d' % (k + 1, 2 * k + 1) for k in range(count)]
+    vertices = [b'vertex v%d r%d initial' % (2 * k, k) for k in range(1, count + 1)]
+    states = [b'vertex v%d r%d state' % (2 * k + 1, k) for k in range(1, count + 1)]
+    both = [line for pair in zip(vertices, states) for line in pair]
+    return dict(regions=regions, vertices=both, transitions=[b'transition t%d v%d v%d external' % (k, 2 * k, 2 * k + 1) for k in range(1, count + 1)])
+
+
+def at_limits():
+    """For each limit of a flat text: its name, the text that has as much, and one that has one more, with the line that is owed for it."""
+    loops = each(b'transition t# v1 v1 external\non Go', 1, 8191)
+    guarded = [b'transition t1 v1 v1 external', b'on Go']
+    yield '4,096 vertices', flat(vertices=each(b'vertex v# r0 state', 2, 4094)), FIT
+    yield '4,097 vertices', flat(vertices=each(b'vertex v# r0 state', 2, 4095)), 'flat line 4103 shape TooMany'
+    yield '1,024 regions', flat(regions=each(b'region r# v1', 1, 1023)), FIT
+    yield '1,025 regions', flat(regions=each(b'region r# v1', 1, 1024)), 'flat line 1030 shape TooMany'
+    yield '8,192 transitions', flat(transitions=loops), FIT
+    yield '8,193 transitions', flat(transitions=loops + each(b'transition t# v1 v1 external\non Go', 8192, 1)), 'flat line 16392 shape TooMany'
+    yield '32 regions in one another', flat(**nested(31)), FIT
+    yield '33 regions in one another', flat(**nested(32)), 'flat line 103 shape TooDeep'
+    yield '64 classes', flat(others=each(b'class C#', 0, 63)), FIT
+    yield '65 classes', flat(others=each(b'class C#', 0, 64)), 'flat line 67 bad line'
+    yield '64 objects', flat(objects=each(b'object o# M', 0, 63)), FIT
+    yield '65 objects', flat(objects=each(b'object o# M', 0, 64)), 'flat line 68 bad line'
+    yield '256 signals', flat(signals=each(b'signal S# 0', 0, 255)), FIT
+    yield '257 signals', flat(signals=each(b'signal S# 0', 0, 256)), 'flat line 258 bad line'
+    yield '8 parameters', flat(signals=[b'signal S 8']), FIT
+    yield '9 parameters', flat(signals=[b'signal S 9']), 'flat line 3 bad line'
+    yield '64 variables', flat(variables=each(b'var x# 0', 0, 64)), FIT
+    yield '65 variables', flat(variables=each(b'var x# 0', 0, 65)), 'flat line 70 bad line'
+    yield '64 do steps', flat(variables=[b'var x 0'], vertices=each(b'step x := #;', 0, 64)), FIT
+    yield '65 do steps', flat(variables=[b'var x 0'], vertices=each(b'step x := #;', 0, 65)), 'flat line 74 bad line'
+    yield '64 statements in each of 8,191 effects', flat(transitions=[line + b'\neffect ' + b' '.join([b'mark m();'] * 64) for line in loops]), FIT
+    yield '65 statements', flat(vertices=[b'entry ' + b' '.join([b'mark m();'] * 65)]), 'flat line 9 act TooLong byte 640'
+    yield 'a text of 4,096 bytes', flat(transitions=guarded + [b'if ' + b'!' * 4092 + b'true']), FIT
+    yield 'a text of 4,097 bytes', flat(transitions=guarded + [b'if ' + b'!' * 4093 + b'true']), 'flat line 12 act TooLong byte 0'
+    yield 'a name of 64 letters', flat(name=b'x' * 64), FIT
+    yield 'a name of 65 letters', flat(name=b'x' * 65), 'flat line 3 bad line'
+
+
 def journals():
     """For each journal: its name, its bytes, the status and the line that are owed."""
     post = b'post a.Go()\n'
@@ -82,6 +137,10 @@ def main():
             with open(path, 'wb') as file:
                 file.write(text)
             well = try_file(name, len(text), ['check', path], status, owed) and well
+        for name, text, owed in at_limits():
+            with open(path, 'wb') as file:
+                file.write(text)
+            well = try_file(name, len(text), ['check', path], 0 if owed == FIT else 3, owed) and well
         with open(model, 'wb') as file:
             file.write(GO)
         for name, text, status, owed in journals():
