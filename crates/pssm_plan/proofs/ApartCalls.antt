@@ -26,9 +26,9 @@ use Rattle.pssm_plan.specs.inner.ByWays.{calls_by}
 use Rattle.pssm_plan.specs.inner.Marks.{IsListed, IsLonger, IsNoted, IsSettled, HasSeen, ArePairwise}
 use Rattle.pssm_plan.specs.declared.waiting.Since.{Since}
 use Rattle.pssm_plan.specs.declared.waiting.Wait.{Wait}
-use Rattle.pssm_plan.specs.Waiting.{IsExact}
-use Rattle.pssm_plan.specs.inner.Sequence.{IsSequence, IsNestedPair, IsOrderedBySome, AreLooseUpTo, ArePassedNested, AreApartFrom, AreNewSince, IsNewCall, IsRoster}
-use Rattle.pssm_plan.specs.inner.Passes.{ArePassed, IsOrderedBehindNone}
+use Rattle.pssm_plan.specs.Waiting.{HoldsUp, IsMetBefore, IsExact}
+use Rattle.pssm_plan.specs.inner.Sequence.{IsSequence, IsNestedPair, IsOrderedBySome, AreLooseUpTo, AreApartFrom, AreNewSince, IsNewCall, IsRoster}
+use Rattle.pssm_plan.specs.inner.Passes.{ArePassed, AreFreeFrom, IsOrderedBehindNone}
 use Rattle.pssm_plan.specs.inner.Calling.{IsNoExit, IsLate, IsOfRestored, IsEntered}
 use Rattle.pssm_plan.specs.inner.Going.{KeepsOrder, IsFollowedSo}
 use Rattle.pssm_plan.proofs.Growing.{lower_or_same}
@@ -37,17 +37,17 @@ use Rattle.pssm_plan.proofs.NearWays.{way_calls_first, way_calls_second}
 use Rattle.pssm_plan.proofs.Rewriting.{AreAlike}
 
 -- what none before the new ones holds up, and no way orders behind one of these, waits only for what comes before it by where the States lie
-pub free_settled : (m : DraftMachine) (ways : List Way) (calls : List Call) (call new : Call) (first : ℕ)
+pub free_settled : (m : DraftMachine) (ways : List Way) (calls : List Call) (place : ℕ) (call new : Call) (first : ℕ)
     → ArePassed (IsSequence m ways) calls call.item first → IsOrderedBehindNone m ways calls call.item first
-    → IsSettled (IsNestedPair m) calls call new → IsSettled (IsSequence m ways) calls call new
-free_settled m ways calls call new first passed apart n = record {
+    → IsSettled (IsNestedPair m) calls place call new → IsSettled (IsSequence m ways) calls place call new
+free_settled m ways calls place call new first passed apart n = record {
   item_is = n.item_is;
   ran = n.ran;
   exact = record {
-    passed = λ k d lt inside up. ⊎_elim
+    passed = λ k d met inside up. ⊎_elim
         (λ low. passed k d low inside (subst (λ (i : Item). IsSequence m ways (get_or calls k d).item i) n.item_is up.0, up.1))
         (λ high. ⊎_elim
-        (λ nested. n.exact.passed k d lt inside (nested, up.1))
+        (λ nested. n.exact.passed k d met inside (nested, up.1))
         (λ ordered. apart k d high inside (subst (λ (i : Item). IsOrderedBySome m ways (get_or calls k d).item i) n.item_is ordered))
         up.0)
         (cases_lt k first);
@@ -96,19 +96,6 @@ pub not_unset : (b : Bool) → (IsTrue (not b) → ⊥) → IsTrue b
 not_unset true h = refl
 not_unset false h = absurd (h refl)
 
--- a new call has as good as seen all before the new ones of which none holds it up by where their States lie
-pub begun_seen : (m : DraftMachine) (ways : List Way) (calls : List Call) (call begun : Call) (since : Since) → IsNewCall m ways calls call since
-    → ArePassedNested m calls call.item begun.seen → begun.seen ≤ since.calls → begun.item ≡ call.item → (IsTrue begun.blocked → ⊥)
-    → HasSeen (IsSequence m ways) calls begun
-begun_seen m ways calls call begun since h none low item free = record {
-  within = omega (arith, h.within, low);
-  passed = λ k d lt inside up. ⊎_elim
-      (λ nested. none k d lt inside (subst (λ (y : Item). IsNestedPair m (get_or calls k d).item y) item nested, up.1))
-      (λ ordered. h.apart k d (omega (arith, lt, low)) inside (subst (λ (y : Item). IsOrderedBySome m ways (get_or calls k d).item y) item ordered))
-      up.0;
-  there = λ blocked. absurd (free blocked);
-}
-
 -- the rest of a list, as a slice from a place on
 module _ {X : Type 0} (xs : List X) (first : ℕ) where
   pub rest_is : take (length xs - first) (drop first xs) ≡ drop first xs
@@ -126,6 +113,60 @@ pub rest_all : (m : DraftMachine) (ways : List Way) (calls : List Call) (call be
     → Contains (take (length ways - since.ways) (drop since.ways ways)) way
 rest_all m ways calls call begun since h same way inside by =
     subst (λ (l : List Way). Contains l way) (sym (rest_is ways since.ways)) (h.by way inside (subst (calls_by m way) same by))
+
+-- only new ways order something before a new call
+new_ordered : (m : DraftMachine) (ways : List Way) (calls : List Call) (call : Call) (since : Since) → IsNewCall m ways calls call since
+    → (x : Item) → IsSequence m ways x call.item → IsSequence m (take (length ways - since.ways) (drop since.ways ways)) x call.item
+new_ordered m ways calls call since h x before =
+    ⊎_elim
+    (λ nested. inl nested)
+    (λ by. inr (by.0, rest_all m ways calls call call since h refl by.0 by.1 (way_calls_second m by.0 x call.item by.2), by.2))
+    before
+
+-- a new call has looked at the new ones up to its own place, and at the others down to where one may hold it up by where their States lie
+pub begun_seen : (m : DraftMachine) (ways : List Way) (calls : List Call) (place left : ℕ) (call begun : Call) (since : Since)
+    → IsNewCall m ways calls call since → since.calls ≤ place → place < length calls
+    → AreFreeFrom (IsSequence m (take (length ways - since.ways) (drop since.ways ways))) calls call.item since.calls (place + 1)
+    → AreFreeFrom (IsNestedPair m) calls call.item left since.calls → left ≤ since.calls → begun.item ≡ call.item → (IsTrue begun.blocked → ⊥)
+    → (left ≡ 0 → begun.seen ≡ place + 1) → (0 < left → begun.seen + 1 ≡ left)
+    → HasSeen (IsSequence m ways) calls place begun
+begun_seen m ways calls place left call begun since h from there near none low item free first further = record {
+  within = ⊎_elim
+      (λ some. let is = further some in omega (arith, is, low, from, there))
+      (λ zero. let is = first (omega (arith, zero)) in omega (arith, is, there))
+      (cases_lt 0 left);
+  passed = λ k d met inside up.
+      (let is = met_from k met in
+      free_from k d is.0 is.1 inside (subst (λ (y : Item). IsSequence m ways (get_or calls k d).item y) item up.0, up.1));
+  there = λ blocked. absurd (free blocked);
+}
+  where
+    met_from : (k : ℕ) → IsMetBefore place begun.seen k → (left ≤ k) × (k < place + 1)
+    met_from k met =
+        ⊎_elim
+        (λ some.
+        (let is = further some in
+        ⊎_elim
+        (λ back. (omega (arith, is, back.0), omega (arith, back.1)))
+        (λ on. absurd (omega (arith, is, on.0, low, from)))
+        met))
+        (λ zero.
+        (let is = first (omega (arith, zero)) in
+        ⊎_elim
+        (λ back. absurd (omega (arith, is, back.0, back.1)))
+        (λ on. (omega (arith, zero), omega (arith, is, on.1)))
+        met))
+        (cases_lt 0 left)
+
+    free_from : (k : ℕ) (d : Call) → left ≤ k → k < place + 1 → k < length calls → HoldsUp (IsSequence m ways) (get_or calls k d) call.item → ⊥
+    free_from k d le lt inside up =
+        ⊎_elim
+        (λ old. ⊎_elim
+        (λ nested. none k d le old inside (nested, up.1))
+        (λ ordered. h.apart k d old inside ordered)
+        up.0)
+        (λ new. near k d new lt inside (new_ordered m ways calls call since h (get_or calls k d).item up.0, up.1))
+        (cases_lt k since.calls)
 
 -- what comes before none by where States lie
 pub loose_regions : (m : DraftMachine) (s : VertexId) (rs : List RegionId)
@@ -152,28 +193,32 @@ loose_more m calls first k d there none h j e x le lt inside nested =
     (lower_or_same j k lt)
 
 -- a call that none before the new ones holds up has as good as seen those that come before none so
-pub raised_seen : (m : DraftMachine) (calls : List Call) (call raised : Call) (first nests : ℕ) → nests ≤ length calls
+pub raised_seen : (m : DraftMachine) (calls : List Call) (place : ℕ) (call raised : Call) (first nests : ℕ) → place < first → first ≤ nests
+    → nests ≤ length calls
     → AreLooseUpTo m calls first nests → (IsTrue call.blocked → ⊥) → ArePassed (IsNestedPair m) calls call.item first
-    → raised.item ≡ call.item → raised.blocked ≡ call.blocked → raised.seen ≡ nests → HasSeen (IsNestedPair m) calls raised
-raised_seen m calls call raised first nests within loose free passed item blocked seen = record {
+    → raised.item ≡ call.item → raised.blocked ≡ call.blocked → raised.seen ≡ nests → HasSeen (IsNestedPair m) calls place raised
+raised_seen m calls place call raised first nests old from within loose free passed item blocked seen = record {
   within = omega (arith, within, seen);
-  passed = λ k d lt inside up.
+  passed = λ k d met inside up.
       (let here = subst (λ (y : Item). IsNestedPair m (get_or calls k d).item y) item up.0 in
       ⊎_elim
+      (λ back. absurd (omega (arith, back.0, back.1, seen, old, from)))
+      (λ on. ⊎_elim
       (λ low. passed k d low inside (here, up.1))
-      (λ high. loose k d call.item high (omega (arith, lt, seen)) inside here)
-      (cases_lt k first));
+      (λ high. loose k d call.item high (let lt = on.1 in omega (arith, lt, seen)) inside here)
+      (cases_lt k first))
+      met);
   there = λ b. absurd (free (subst (λ (v : Bool). IsTrue v) blocked b));
 }
 
 -- what is settled of a call is so of one of the same item
-pub settled_begun : (Comes : Item → Item → Type 0) (calls : List Call) (begun call : Call) (wait : Wait) → begun.item ≡ call.item
-    → begun.ran ≡ call.ran → IsSettled Comes calls begun (waiting begun wait) → IsSettled Comes calls call (waiting call wait)
-settled_begun Comes calls begun call wait item ran s = record {
+pub settled_begun : (Comes : Item → Item → Type 0) (calls : List Call) (place : ℕ) (begun call : Call) (wait : Wait) → begun.item ≡ call.item
+    → begun.ran ≡ call.ran → IsSettled Comes calls place begun (waiting begun wait) → IsSettled Comes calls place call (waiting call wait)
+settled_begun Comes calls place begun call wait item ran s = record {
   item_is = refl;
   ran = refl;
   exact =
-      subst (λ (c : Call). IsExact Comes calls c)
+      subst (λ (c : Call). IsExact Comes calls place c)
       (ap (λ (i : Item). let c : Call = record { item = i; ran = begun.ran; blocked = wait.blocked; seen = wait.seen } in c) item
       ∙ ap (λ (r : Bool). let c : Call = record { item = call.item; ran = r; blocked = wait.blocked; seen = wait.seen } in c) ran)
       s.exact;

@@ -12,8 +12,9 @@ use Rattle.pssm_model.proofs.ElementLaws.{top_lies_nowhere}
 use Rattle.pssm_model.proofs.Nesting.{under_cases}
 use Rattle.pssm_plan.specs.declared.roster.Call.{Call}
 use Rattle.pssm_plan.specs.inner.Marks.{IsPlaceOf}
-use Rattle.pssm_plan.specs.inner.Places.{IsEntryPassed}
-use Rattle.pssm_plan.specs.inner.Sequence.{IsNestedPair, ArePassedNested}
+use Rattle.pssm_plan.specs.inner.Passes.{AreFreeFrom}
+use Rattle.pssm_plan.specs.inner.Places.{IsEntryFreeFrom}
+use Rattle.pssm_plan.specs.inner.Sequence.{IsNestedPair}
 
 module _ (m : DraftMachine) where
   -- the State of the innermost region in which a vertex lies is the innermost around it
@@ -39,20 +40,21 @@ module _ (m : DraftMachine) where
       (under_cases m (Region r) Top (Region h.0) e under))
       (home.innermost h.0 h.2)
 
--- each State around the vertex is around the inner one too, or its entry is passed
-abbrev pub IsClimbed : DraftMachine → List Call → VertexId → VertexId → ℕ → Type 0
-IsClimbed m calls v inner lowest = (s : VertexId) → LiesInState m v s → LiesInState m inner s ⊎ IsEntryPassed calls s lowest
+-- each State around the vertex is around the inner one too, or its entry does not stand between these places and wait
+abbrev pub IsClimbed : DraftMachine → List Call → VertexId → VertexId → ℕ → ℕ → Type 0
+IsClimbed m calls v inner last end = (s : VertexId) → LiesInState m v s → LiesInState m inner s ⊎ IsEntryFreeFrom calls s last end
 
 module _ (calls : List Call) (s : VertexId) where
-  pub entry_lower : (first less : ℕ) → less ≤ first → IsEntryPassed calls s first → IsEntryPassed calls s less
-  entry_lower first less le passed k d lt = let low : k < first = omega (arith, le, lt) in passed k d low
+  pub entry_higher : (last more end : ℕ) → last ≤ more → IsEntryFreeFrom calls s last end → IsEntryFreeFrom calls s more end
+  entry_higher last more end le free k d from = let low : last ≤ k = omega (arith, le, from) in free k d low
 
-  pub entry_behind : (place first : ℕ) → first ≤ place → IsPlaceOf calls (items.Enter s) place → IsEntryPassed calls s first
-  entry_behind place first le at k d lt inside is waits = let here = at k d inside is in absurd (omega (arith, here, lt, le))
+  pub entry_outside : (place from end : ℕ) → (place < from) ⊎ (end ≤ place) → IsPlaceOf calls (items.Enter s) place → IsEntryFreeFrom calls s from end
+  entry_outside place from end out at k d low high inside is waits =
+      let here = at k d inside is in ⊎_elim (λ lt. absurd (omega (arith, here, lt, low))) (λ le. absurd (omega (arith, here, le, high))) out
 
-  pub entry_ran : (place first : ℕ) → IsPlaceOf calls (items.Enter s) place → ((d : Call) → IsTrue (get_or calls place d).ran)
-      → IsEntryPassed calls s first
-  entry_ran place first at ran k d lt inside is waits =
+  pub entry_ran : (place from end : ℕ) → IsPlaceOf calls (items.Enter s) place → ((d : Call) → IsTrue (get_or calls place d).ran)
+      → IsEntryFreeFrom calls s from end
+  entry_ran place from end at ran k d low high inside is waits =
       waits (subst (λ (j : ℕ). IsTrue (get_or calls j d).ran) (sym (at k d inside is)) (ran d))
 
 -- the call at a place has run, whatever stands for one past the end
@@ -61,15 +63,15 @@ pub ran_there : (calls : List Call) (place : ℕ) (d : Call) → place < length 
 ran_there calls place d lt ran e = subst (λ (c : Call). IsTrue c.ran) (get_or_default calls place d e lt) ran
 
 module _ (m : DraftMachine) (calls : List Call) (v : VertexId) where
-  pub climbed_more : (inner q : VertexId) (lowest less : ℕ) → ((s : VertexId) → LiesInState m inner s → (s ≡ q) ⊎ LiesInState m q s)
-      → less ≤ lowest → IsEntryPassed calls q less → IsClimbed m calls v inner lowest → IsClimbed m calls v q less
-  climbed_more inner q lowest less around le passed climbed s h =
+  pub climbed_more : (inner q : VertexId) (last more end : ℕ) → ((s : VertexId) → LiesInState m inner s → (s ≡ q) ⊎ LiesInState m q s)
+      → last ≤ more → IsEntryFreeFrom calls q more end → IsClimbed m calls v inner last end → IsClimbed m calls v q more end
+  climbed_more inner q last more end around le free climbed s h =
       ⊎_elim
       (λ still. ⊎_elim
-      (λ is. inr (subst (λ (x : VertexId). IsEntryPassed calls x less) (sym is) passed))
+      (λ is. inr (subst (λ (x : VertexId). IsEntryFreeFrom calls x more end) (sym is) free))
       (λ further. inl further)
       (around s still))
-      (λ was. inr (entry_lower calls s lowest less le was))
+      (λ was. inr (entry_higher calls s last more end le was))
       (climbed s h)
 
   entry_of : (x : Item) → IsNestedPair m x (items.Enter v) → (s : VertexId) × (x ≡ items.Enter s) × LiesInState m v s
@@ -79,9 +81,9 @@ module _ (m : DraftMachine) (calls : List Call) (v : VertexId) where
   entry_of (items.Opened r mode) h = absurd h
   entry_of (items.Pick p) h = absurd h
 
-  -- the entries of all States around the vertex are passed
-  pub climbed_all : (inner : VertexId) (lowest : ℕ) → ((s : VertexId) → LiesInState m inner s → ⊥) → IsClimbed m calls v inner lowest
-      → ArePassedNested m calls (items.Enter v) lowest
-  climbed_all inner lowest none climbed k d lt inside up =
+  -- no entry of a State around the vertex stands between the places and waits
+  pub climbed_all : (inner : VertexId) (last end : ℕ) → ((s : VertexId) → LiesInState m inner s → ⊥) → IsClimbed m calls v inner last end
+      → AreFreeFrom (IsNestedPair m) calls (items.Enter v) last end
+  climbed_all inner last end none climbed k d low high inside up =
       let entry = entry_of (get_or calls k d).item up.0 in
-      ⊎_elim (λ still. none entry.0 still) (λ passed. passed k d lt inside entry.1 up.1) (climbed entry.0 entry.2)
+      ⊎_elim (λ still. none entry.0 still) (λ free. free k d low high inside entry.1 up.1) (climbed entry.0 entry.2)

@@ -20,15 +20,14 @@ use Rattle.pssm_legs.proofs.Places.{at_contains}
 use Rattle.pssm_legs.proofs.TheLegs.{calls_is, orders_is}
 use Rattle.pssm_plan.specs.declared.ways.Way.{Way}
 use Rattle.pssm_plan.specs.declared.roster.Call.{Call}
-use Rattle.pssm_plan.specs.Waiting.{HoldsUp}
 use Rattle.pssm_plan.specs.Ways.{IsWayIn}
 use Rattle.pssm_plan.specs.inner.ByWays.{calls_by, orders_by}
-use Rattle.pssm_plan.specs.inner.Marks.{IsPlaceOf, IsSettled, HasSeen}
+use Rattle.pssm_plan.specs.inner.Marks.{IsPlaceOf, IsSettled, AreRunBefore}
 use Rattle.pssm_plan.specs.inner.Near.{EndsNear}
 use Rattle.pssm_plan.specs.inner.Direct.{IsDirect}
 use Rattle.pssm_plan.specs.inner.Passes.{ArePassed}
-use Rattle.pssm_plan.specs.inner.Sequence.{IsSequence, IsNestedPair, IsOrderedBySome, ArePassedNested}
-use Rattle.pssm_plan.specs.inner.Clear.{IsDone, IsLone, IsExitIn, HasNoExitIn, AreClearFrom}
+use Rattle.pssm_plan.specs.inner.Sequence.{IsSequence, IsNestedPair, IsOrderedBySome}
+use Rattle.pssm_plan.specs.inner.Clear.{IsDone, IsLone, IsExitIn, HasNoExitIn}
 use Rattle.pssm_plan.proofs.DirectWays.{exit_lies}
 use Rattle.pssm_plan.proofs.Growing.{lower_or_same}
 use Rattle.pssm_plan.proofs.NearItems.{enters_near}
@@ -103,7 +102,7 @@ module _ {m : DraftMachine} (shape : HasShape m) (rules : KeepsModelRules m) (wa
   exits_before t r direct (items.Pick c) h = absurd (comes_first (items.Pick c) (items.Effect t) h)
 
 -- where the entries of the States around have run, and what ways order before the entry, nothing holds it up
-pub entry_passed : (m : DraftMachine) (ways : List Way) (calls : List Call) (s : VertexId) → ArePassedNested m calls (items.Enter s) (length calls)
+pub entry_passed : (m : DraftMachine) (ways : List Way) (calls : List Call) (s : VertexId) → ArePassed (IsNestedPair m) calls (items.Enter s) (length calls)
     → ((x : Item) → IsOrderedBySome m ways x (items.Enter s) → IsDone calls x)
     → ArePassed (IsSequence m ways) calls (items.Enter s) (length calls)
 entry_passed m ways calls s around led k d lt inside up =
@@ -113,7 +112,7 @@ entry_passed m ways calls s around led k d lt inside up =
     up.0
 
 -- nothing comes before an effect by where States lie
-effect_nested : (m : DraftMachine) (x : Item) (t : TransId) → IsNestedPair m x (items.Effect t) → ⊥
+pub effect_nested : (m : DraftMachine) (x : Item) (t : TransId) → IsNestedPair m x (items.Effect t) → ⊥
 effect_nested m (items.Exit s) t h = h
 effect_nested m (items.Effect u) t h = h
 effect_nested m (items.Enter s) t h = h
@@ -123,11 +122,14 @@ effect_nested m (items.Pick c) t h = h
 -- where ways order exits in a region alone before an effect, and none of these is left, nothing holds it up
 pub effect_passed : (m : DraftMachine) (ways : List Way) (calls : List Call) (t : TransId) (r : RegionId) (from : ℕ)
     → ((x : Item) → IsOrderedBySome m ways x (items.Effect t) → IsExitIn m r x) → HasNoExitIn m calls r from (length calls)
-    → AreClearFrom (IsSequence m ways) calls (items.Effect t) from
-effect_passed m ways calls t r from within none k d le inside up =
+    → AreRunBefore calls from → ArePassed (IsSequence m ways) calls (items.Effect t) (length calls)
+effect_passed m ways calls t r from within none run k d lt inside up =
     ⊎_elim
     (λ nested. effect_nested m (get_or calls k d).item t nested)
-    (λ ordered. none k d le inside inside (within (get_or calls k d).item ordered) up.1)
+    (λ ordered. ⊎_elim
+    (λ ran. up.1 (run k d ran inside))
+    (λ le. none k d le inside inside (within (get_or calls k d).item ordered) up.1)
+    (cases_lt k from))
     up.0
 
 -- one more call is no such exit that is left
@@ -142,15 +144,14 @@ no_exit_more m calls r from place d there not none k e le low inside exit waits 
     not (subst (λ (c : Call). IsExitIn m r c.item) here exit) (λ ran. waits (subst (λ (c : Call). IsTrue c.ran) (sym here) ran))))
     (lower_or_same k place low)
 
--- a call that has seen some calls, and that none of the others holds up, waits for none
-pub clear_settled : (Comes : Item → Item → Type 0) (calls : List Call) (call : Call) → HasSeen Comes calls call
-    → AreClearFrom Comes calls call.item call.seen
-    → IsSettled Comes calls call (record { item = call.item; ran = call.ran; blocked = false; seen = length calls })
-clear_settled Comes calls call seen clear = record {
+-- a call that none holds up waits for none
+pub clear_settled : (Comes : Item → Item → Type 0) (calls : List Call) (place : ℕ) (call : Call) → ArePassed Comes calls call.item (length calls)
+    → IsSettled Comes calls place call (record { item = call.item; ran = call.ran; blocked = false; seen = length calls })
+clear_settled Comes calls place call clear = record {
   item_is = refl;
   ran = refl;
   exact = record {
-    passed = λ k d lt inside up. ⊎_elim (λ low. seen.passed k d low inside up) (λ high. clear k d high inside up) (cases_lt k call.seen);
+    passed = λ k d met inside up. clear k d inside inside up;
     waits = λ blocked. absurd (false≢true blocked);
     through = λ free. refl;
   };

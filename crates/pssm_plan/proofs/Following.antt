@@ -58,12 +58,15 @@ module _ (m : DraftMachine) (old grown : List Call) (ways more : List Way) (long
     (kept : KeepsOrder m old ways more) where
   -- each call that was sure says for which of the calls before the new ones it waits
   pub sure_over_ways : AreAllSure (IsSequence m ways) old → AreSureBefore (IsSequence m more) (length old) grown
-  sure_over_ways sure k d low inside = subst (λ (c : Call). IsSureBefore (IsSequence m more) (length old) grown c) (sym (same k d low)) (record {
+  sure_over_ways sure k d low inside = subst (λ (c : Call). IsSureBefore (IsSequence m more) (length old) grown k c) (sym (same k d low)) (record {
     seen = λ blocked. record {
       within = (let at = (s.waits blocked).0 in omega (arith, at, more_calls));
-      passed = λ j e lt there up.
-          (let less : j < length old = (let at = (s.waits blocked).0 in omega (arith, at, lt)) in
-          s.passed blocked j e lt less (up_before j e less up));
+      passed = λ j e met there up.
+          (let less : j < length old = ⊎_elim
+          (λ back. let high = back.1 in omega (arith, high, low))
+          (λ on. let at = (s.waits blocked).0 in let lt = on.1 in omega (arith, at, lt))
+          met in
+          s.passed blocked j e met less (up_before j e less up));
       there = λ again e there. sequence_longer m ways more (get_or grown call.seen e).item call.item further
           (subst (λ (c : Call). IsSequence m ways c.item call.item) (sym (same call.seen e (s.waits blocked).0)) ((s.waits blocked).1 e).0);
     };
@@ -83,7 +86,7 @@ module _ (m : DraftMachine) (old grown : List Call) (ways more : List Way) (long
       call : Call
       call = get_or old k d
 
-      s : IsSure (IsSequence m ways) old call
+      s : IsSure (IsSequence m ways) old k call
       s = sure k d low
 
       up_before : (j : ℕ) (e : Call) → j < length old → HoldsUp (IsSequence m more) (get_or grown j e) call.item → HoldsUp (IsSequence m ways) (get_or old j e) call.item

@@ -55,10 +55,10 @@ none_before_exit {m} shape rules ways n are short x s h =
     (ordered_by_some shape rules (drop n ways) (rest_ways m ways n are) x (items.Exit s) h)
 
 -- a new call before which none comes, neither by where States lie nor by a new way, waits for none
-pub new_settled : (m : DraftMachine) (ways : List Way) (calls : List Call) (call : Call) (since : Since) → IsNewCall m ways calls call since
+pub new_settled : (m : DraftMachine) (ways : List Way) (calls : List Call) (place : ℕ) (call : Call) (since : Since) → IsNewCall m ways calls call since
     → IsNestedInNone m call.item → ((x : Item) → IsOrderedBySome m (drop since.ways ways) x call.item → ⊥)
-    → IsSettled (IsSequence m ways) calls call (record { item = call.item; ran = call.ran; blocked = false; seen = length calls })
-new_settled m ways calls call since new nested none = record {
+    → IsSettled (IsSequence m ways) calls place call (record { item = call.item; ran = call.ran; blocked = false; seen = length calls })
+new_settled m ways calls place call since new nested none = record {
   item_is = refl;
   ran = refl;
   exact = record {

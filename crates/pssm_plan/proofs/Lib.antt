@@ -15,6 +15,7 @@ pub mod FiredWays
 pub mod Firing
 pub mod Following
 pub mod Looking
+pub mod RunBefore
 pub mod SomeWay
 pub mod BetweenWays
 pub mod OrderedKinds
@@ -60,5 +61,9 @@ pub mod CalledNext
 pub mod Settled
 pub mod CalledPlaces
 pub mod AddedCalls
+pub mod InnerEntries
+pub mod JunctionEffects
+pub mod ApartPairs
 pub mod OnceCalled
+pub mod OwnOrder
 pub mod Stations

@@ -1,5 +1,5 @@
 -- The ways that call an item say all that there is to say of what comes before it.
-use Rattle.std.proofs.Common.{◌↔◌, Bool, List, Contains, sym, subst, inl, inr, ⊎_elim}
+use Rattle.std.proofs.Common.{◌↔◌, Bool, List, Contains, sym, subst, inl, inr, ⊎_elim, ℕ}
 use Rattle.pssm_model.specs.declared.ids.TransId.{TransId}
 use Rattle.pssm_model.specs.declared.elements.DraftMachine.{DraftMachine}
 use Rattle.pssm_model.specs.declared.steps.Route.{Route}
@@ -62,15 +62,16 @@ way_calls_second m way x y h = leg_calls_second m way.route.value way.fires x y 
 
 -- what has been seen, and what is exact, in one order, is so in the same order in other words
 module _ (A B : Item → Item → Type 0) (calls : List Call) where
-  pub seen_same : (call : Call) → ((x : Item) → A x call.item ↔ B x call.item) → HasSeen A calls call → HasSeen B calls call
-  seen_same call same s = record {
+  pub seen_same : (place : ℕ) (call : Call) → ((x : Item) → A x call.item ↔ B x call.item) → HasSeen A calls place call → HasSeen B calls place call
+  seen_same place call same s = record {
     within = s.within;
-    passed = λ k d lt inside up. s.passed k d lt inside ((same _).1 up.0, up.1);
+    passed = λ k d met inside up. s.passed k d met inside ((same _).1 up.0, up.1);
     there = λ blocked d inside. (same _).0 (s.there blocked d inside);
   }
 
-  pub settled_same : (call new : Call) → ((x : Item) → A x new.item ↔ B x new.item) → IsSettled A calls call new → IsSettled B calls call new
-  settled_same call new same s = record {
+  pub settled_same : (place : ℕ) (call new : Call) → ((x : Item) → A x new.item ↔ B x new.item) → IsSettled A calls place call new
+      → IsSettled B calls place call new
+  settled_same place call new same s = record {
     item_is = s.item_is;
     ran = s.ran;
     exact = record {
@@ -92,17 +93,17 @@ module _ (m : DraftMachine) (ways near : List Way) (some : (way : Way) → Conta
       λ h. ⊎_elim (λ nested. inl nested) (λ by. inr (by.0, some by.0 by.1, by.2)) h,
     )
 
-pub near_seen : (m : DraftMachine) (ways near : List Way) (calls : List Call) (call : Call)
+pub near_seen : (m : DraftMachine) (ways near : List Way) (calls : List Call) (place : ℕ) (call : Call)
     → ((way : Way) → Contains near way → Contains ways way) → ((way : Way) → Contains ways way → calls_by m way call.item → Contains near way)
-    → HasSeen (IsSequence m ways) calls call → HasSeen (IsSequence m near) calls call
-near_seen m ways near calls call some all s =
-    seen_same (IsSequence m ways) (IsSequence m near) calls call (near_sequence m ways near some call.item all) s
+    → HasSeen (IsSequence m ways) calls place call → HasSeen (IsSequence m near) calls place call
+near_seen m ways near calls place call some all s =
+    seen_same (IsSequence m ways) (IsSequence m near) calls place call (near_sequence m ways near some call.item all) s
 
-pub near_settled : (m : DraftMachine) (ways near : List Way) (calls : List Call) (call new : Call)
+pub near_settled : (m : DraftMachine) (ways near : List Way) (calls : List Call) (place : ℕ) (call new : Call)
     → ((way : Way) → Contains near way → Contains ways way) → ((way : Way) → Contains ways way → calls_by m way call.item → Contains near way)
-    → IsSettled (IsSequence m near) calls call new → IsSettled (IsSequence m ways) calls call new
-near_settled m ways near calls call new some all s =
+    → IsSettled (IsSequence m near) calls place call new → IsSettled (IsSequence m ways) calls place call new
+near_settled m ways near calls place call new some all s =
     let same : (x : Item) → IsSequence m near x new.item ↔ IsSequence m ways x new.item =
     λ x. subst (λ (i : Item). IsSequence m near x i ↔ IsSequence m ways x i) (sym s.item_is)
     (let is = near_sequence m ways near some call.item all x in (is.1, is.0)) in
-    settled_same (IsSequence m near) (IsSequence m ways) calls call new same s
+    settled_same (IsSequence m near) (IsSequence m ways) calls place call new same s

@@ -11,7 +11,7 @@ use Rattle.pssm_plan.specs.declared.waiting.Wait.{Wait}
 use Rattle.pssm_plan.specs.Waiting.{HoldsUp, IsExact}
 use Rattle.pssm_plan.specs.inner.Marks.{IsTold, IsPlaceOf, IsAlike, HasSeen, IsSettled, IsSettledSo, IsSettledAt, ArePairwise}
 use Rattle.pssm_plan.specs.inner.Sequence.{IsSequence, IsNestedPair, IsOrderedBySome, IsNestedInNone, AreLooseUpTo, AreNewSince}
-use Rattle.pssm_plan.specs.inner.Passes.{ArePassed, IsSure, IsWaitingLeft, IsFreeLeft, AreSureBut, AreAllSure, NewLeft, WaitingLeft, FreeLeft, IsOrderedBehindNone, AreSureBefore, IsSureBefore, IsPut, told_wait}
+use Rattle.pssm_plan.specs.inner.Passes.{ArePassed, AreMet, IsSure, IsWaitingLeft, IsFreeLeft, AreSureBut, AreAllSure, NewLeft, WaitingLeft, FreeLeft, IsOrderedBehindNone, AreSureBefore, IsSureBefore, IsPut, told_wait}
 use Rattle.pssm_plan.proofs.Rewriting.{AreAlike}
 use Rattle.pssm_plan.proofs.Settling.{set_or_not, holds_along, seen_along, seen_told}
 
@@ -48,9 +48,15 @@ module _ (Comes : Item → Item → Type 0) where
       let is = h.1 k d low in
       p k d lt low (holds_along Comes (get_or b k d) (get_or a k d) item item (sym is.0) (sym is.1) refl up)
 
-  pub sure_along : (a b : List Call) (call : Call) → AreAlike a b → IsSure Comes a call → IsSure Comes b call
-  sure_along a b call h s = record {
-    passed = λ blocked. passed_along a b call.item call.seen h (s.passed blocked);
+  pub met_along : (a b : List Call) (item : Item) (place n : ℕ) → AreAlike a b → AreMet Comes a item place n → AreMet Comes b item place n
+  met_along a b item place n h p k d met inside up =
+      let low : k < length a = (let long = h.0 in omega (arith, long, inside)) in
+      let is = h.1 k d low in
+      p k d met low (holds_along Comes (get_or b k d) (get_or a k d) item item (sym is.0) (sym is.1) refl up)
+
+  pub sure_along : (a b : List Call) (place : ℕ) (call : Call) → AreAlike a b → IsSure Comes a place call → IsSure Comes b place call
+  sure_along a b place call h s = record {
+    passed = λ blocked. met_along a b call.item place call.seen h (s.passed blocked);
     waits = λ blocked.
         (let was = s.waits blocked in (
           (let long = h.0 in omega (arith, long, was.0)),
@@ -60,16 +66,16 @@ module _ (Comes : Item → Item → Type 0) where
         passed_along a b call.item (length a) h (s.clear free) k d (let long = h.0 in omega (arith, long, lt)) inside;
   }
 
-  pub sure_exactly : (calls : List Call) (call : Call) → IsExact Comes calls call → IsSure Comes calls call
-  sure_exactly calls call h = record {
+  pub sure_exactly : (calls : List Call) (place : ℕ) (call : Call) → place < length calls → IsExact Comes calls place call → IsSure Comes calls place call
+  sure_exactly calls place call there h = record {
     passed = λ blocked. h.passed;
     waits = h.waits;
-    clear = λ free k d lt inside. h.passed k d (let all = h.through free in omega (arith, all, inside)) inside;
+    clear = λ free k d lt inside. h.passed k d (let all = h.through free in inr (omega (arith, all, there), omega (arith, all, inside))) inside;
   }
 
   -- a blocked call that is sure has seen so much
-  pub sure_seen : (calls : List Call) (call : Call) → IsTrue call.blocked → IsSure Comes calls call → HasSeen Comes calls call
-  sure_seen calls call blocked s = record {
+  pub sure_seen : (calls : List Call) (place : ℕ) (call : Call) → IsTrue call.blocked → IsSure Comes calls place call → HasSeen Comes calls place call
+  sure_seen calls place call blocked s = record {
     within = (let low = (s.waits blocked).0 in omega (arith, low));
     passed = s.passed blocked;
     there = λ again d lt. ((s.waits blocked).1 d).0;
@@ -77,7 +83,7 @@ module _ (Comes : Item → Item → Type 0) where
 
   pub waiting_along : (first ran k : ℕ) (a b : List Call) (call : Call) → AreAlike a b → IsWaitingLeft Comes first ran k a call
       → IsWaitingLeft Comes first ran k b call
-  waiting_along first ran k a b call h w = record { old = w.old; blocked = w.blocked; on = w.on; seen = seen_along Comes a b call h w.seen }
+  waiting_along first ran k a b call h w = record { old = w.old; blocked = w.blocked; on = w.on; seen = seen_along Comes a b k call h w.seen }
 
   pub free_along : (first k : ℕ) (a b : List Call) (call : Call) → AreAlike a b → IsFreeLeft Comes first k a call → IsFreeLeft Comes first k b call
   free_along first k a b call h f = record { old = f.old; free = f.free; passed = passed_along a b call.item first h f.passed }
@@ -109,20 +115,20 @@ module _ (Comes : Item → Item → Type 0) where
     put_sure Left More left on k d inside =
         let low : k < length now = (let long = put_alike.0 in omega (arith, long, inside)) in
         ⊎_elim
-        (λ here. inl (subst (λ (n : ℕ). IsSure Comes new (get_or new n d)) (sym here)
-        (subst (λ (c : Call). IsSure Comes new c) (sym (put_here d))
-        (sure_along now new s.call put_alike (sure_exactly now s.call (s.settled d).exact)))))
+        (λ here. inl (subst (λ (n : ℕ). IsSure Comes new n (get_or new n d)) (sym here)
+        (subst (λ (c : Call). IsSure Comes new p c) (sym (put_here d))
+        (sure_along now new p s.call put_alike (sure_exactly now p s.call lt (s.settled d).exact)))))
         (λ other.
         (let at = put_other k d other in
         ⊎_elim
-        (λ sure. inl (subst (λ (c : Call). IsSure Comes new c) (sym at) (sure_along now new (get_or now k d) put_alike sure)))
+        (λ sure. inl (subst (λ (c : Call). IsSure Comes new k c) (sym at) (sure_along now new k (get_or now k d) put_alike sure)))
         (λ was. inr (subst (λ (c : Call). More k new c) (sym at) (on k (get_or now k d) other was)))
         (left k d low)))
         (same_or_not k p)
 
   -- what is left is seen to be sure, or stays
   pub left_less : (Left More : ℕ → List Call → Call → Type 0) (now : List Call) → AreSureBut Left Comes now
-      → ((k : ℕ) (d : Call) → k < length now → Left k now (get_or now k d) → IsSure Comes now (get_or now k d) ⊎ More k now (get_or now k d))
+      → ((k : ℕ) (d : Call) → k < length now → Left k now (get_or now k d) → IsSure Comes now k (get_or now k d) ⊎ More k now (get_or now k d))
       → AreSureBut More Comes now
   left_less Left More now left on k d lt = ⊎_elim (λ sure. inl sure) (λ was. on k d lt was) (left k d lt)
 
@@ -163,10 +169,10 @@ module _ (Comes : Item → Item → Type 0) where
 
   -- an old call that may be left waiting has seen what it says, where it is blocked
   pub waiting_seen : (first ran p end k : ℕ) (now : List Call) (d : Call) → AreSureBut (WaitingLeft Comes first ran p end) Comes now → k < first
-      → k < length now → IsTrue (get_or now k d).blocked → HasSeen Comes now (get_or now k d)
+      → k < length now → IsTrue (get_or now k d).blocked → HasSeen Comes now k (get_or now k d)
   waiting_seen first ran p end k now d left old lt blocked =
       ⊎_elim
-      (λ sure. sure_seen now (get_or now k d) blocked sure)
+      (λ sure. sure_seen now k (get_or now k d) blocked sure)
       (λ is. ⊎_elim
       (λ new. absurd (omega (arith, new, old)))
       (λ w. w.2.seen)
@@ -239,7 +245,7 @@ module _ (Comes : Item → Item → Type 0) where
       ⊎_elim
       (λ blocked.
       (let was = subst (λ (v : Bool). IsTrue v) t.blocked blocked in
-      let seen = seen_told Comes grown now item g a told t (b.seen was) in
+      let seen = seen_told Comes grown now item k g a told t (b.seen was) in
       ⊎_elim
       (λ on. inr (inr (inl (record { old = old; blocked = blocked; on = on; seen = seen }))))
       (λ other. inl (record {
@@ -262,8 +268,8 @@ module _ (Comes : Item → Item → Type 0) where
       (λ new. inr (inl new))
       (cases_lt k first)
     where
-      held_on : (b : IsSureBefore Comes first grown (get_or grown k d)) → (was : IsTrue (get_or grown k d).blocked)
-          → IsTrue (get_or now k d).blocked → HasSeen Comes now (get_or now k d) → IsTold item (get_or grown k d) (get_or now k d)
+      held_on : (b : IsSureBefore Comes first grown k (get_or grown k d)) → (was : IsTrue (get_or grown k d).blocked)
+          → IsTrue (get_or now k d).blocked → HasSeen Comes now k (get_or now k d) → IsTold item (get_or grown k d) (get_or now k d)
           → (get_or now k d).seen ≢ ran
           → ((get_or now k d).seen < length now) × ((e : Call) → HoldsUp Comes (get_or now (get_or now k d).seen e) (get_or now k d).item)
       held_on b was blocked seen t other =
@@ -315,7 +321,7 @@ module _ (Comes : Item → Item → Type 0) where
 pub free_rests : (m : DraftMachine) (ways : List Way) (now : List Call) (since : Since) (k : ℕ) (d : Call) → AreNewSince m ways now since → k < length now
     → IsFreeLeft (IsSequence m ways) since.calls k now (get_or now k d)
     → ((j : ℕ) (e : Call) → since.calls ≤ j → j < length now → IsNestedPair m (get_or now j e).item (get_or now k d).item → ⊥)
-    → IsSure (IsSequence m ways) now (get_or now k d)
+    → IsSure (IsSequence m ways) now k (get_or now k d)
 free_rests m ways now since k d new lt f none = record {
   passed = λ blocked. absurd (f.free blocked);
   waits = λ blocked. absurd (f.free blocked);
@@ -376,9 +382,9 @@ free_loose m ways now since ran nests new loose all left =
 
 -- the list with a call at the place that waits so
 pub settled_put : (Comes : Item → Item → Type 0) (now new : List Call) (p : ℕ) (wait : Wait) (e : Call) → p < length now → IsPut now p wait new
-    → IsSettledSo Comes now (get_or now p e) wait → IsSettledAt Comes now p new
+    → IsSettledSo Comes now p (get_or now p e) wait → IsSettledAt Comes now p new
 settled_put Comes now new p wait e lt is settled = record {
   call = told_wait (get_or now p e) wait;
   put = is e;
-  settled = λ d. subst (λ (x : Call). IsSettled Comes now x (told_wait (get_or now p e) wait)) (get_or_default now p e d lt) settled;
+  settled = λ d. subst (λ (x : Call). IsSettled Comes now p x (told_wait (get_or now p e) wait)) (get_or_default now p e d lt) settled;
 }

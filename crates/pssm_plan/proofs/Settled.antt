@@ -35,7 +35,7 @@ use Rattle.pssm_plan.specs.declared.roster.Call.{Call}
 use Rattle.pssm_plan.specs.declared.progress.Restored.{Restored}
 use Rattle.pssm_plan.specs.declared.progress.Progress.{Progress}
 use Rattle.pssm_plan.specs.Agenda.{Agenda, course_of}
-use Rattle.pssm_plan.specs.Waiting.{HoldsUp, IsExact}
+use Rattle.pssm_plan.specs.Waiting.{HoldsUp, IsMetBefore, IsExact}
 use Rattle.pssm_plan.specs.Ways.{AreWaysOf}
 use Rattle.pssm_plan.specs.Plans.{IsPlanOf}
 use Rattle.pssm_plan.specs.inner.Marks.{IsListed, IsMarked, IsNoted, IsAlike, ArePairwise}
@@ -59,7 +59,7 @@ module _ {m : DraftMachine} (head : Head) (tables : Tables) (ran : List (Item ×
   pub settled_plan : (calls new : List Call) → IsRoster m calls
       → ((x : Item) → IsListed calls x ↔ Called m (course_by head (configuration_of tables) ran) x)
       → ((x : Item) → IsMarked calls x ↔ HasRun (course_by head (configuration_of tables) ran) x)
-      → ArePairwise IsAlike calls new → ((call : Call) → Contains new call → IsExact (IsSequence m ways) new call)
+      → ArePairwise IsAlike calls new → ((k : ℕ) (d : Call) → k < length new → IsExact (IsSequence m ways) new k (get_or new k d))
       → IsPlanOf m (record { head = head; at_head = tables; ran = ran; calls = new; ways = ways; restored = states })
   settled_plan calls new r listed marked settled sure = record {
     step = gone;
@@ -70,7 +70,7 @@ module _ {m : DraftMachine} (head : Head) (tables : Tables) (ran : List (Item ×
       λ h. marked_along calls new x alike ((marked x).1 h),
     );
     blocked = λ call inside. (is_blocked call inside, blocks call inside);
-    exact = λ call inside. exact call inside;
+    exact = exact;
     ways = are;
   }
     where
@@ -93,12 +93,17 @@ module _ {m : DraftMachine} (head : Head) (tables : Tables) (ran : List (Item ×
       called_at : (call : Call) → Contains new call → Called m course call.item
       called_at call inside = (listed call.item).0 (back call.item (call, inside, refl))
 
-      exact : (call : Call) → Contains new call → IsExact (Before m course) new call
-      exact call inside =
-          exact_same (IsSequence m ways) (Before m course) new call
-          (λ k d lt. before_both course ways states are (get_or new k d).item call.item
-          (called_at (get_or new k d) (Contains-get_or new k d lt)) (called_at call inside))
-          (sure call inside)
+      exact : (k : ℕ) (d : Call) → k < length new → IsExact (Before m course) new k (get_or new k d)
+      exact k d lt =
+          let call = get_or new k d in
+          let inside : Contains new call = Contains-get_or new k d lt in
+          exact_same (IsSequence m ways) (Before m course) new k call
+          (λ j e less. before_both course ways states are (get_or new j e).item call.item
+          (called_at (get_or new j e) (Contains-get_or new j e less)) (called_at call inside))
+          (sure k d lt)
+
+      exact_of : (call : Call) (inside : Contains new call) → IsExact (Before m course) new inside.0 call
+      exact_of call inside = subst (λ (c : Call). IsExact (Before m course) new inside.0 c) inside.2 (exact inside.0 call inside.1)
 
       run_at : (call : Call) → Contains new call → (IsTrue call.ran → ⊥) → HasRun course call.item → ⊥
       run_at call inside not run =
@@ -109,7 +114,7 @@ module _ {m : DraftMachine} (head : Head) (tables : Tables) (ran : List (Item ×
       is_blocked : (call : Call) → Contains new call → IsTrue call.blocked
           → (x : Item) × Called m course x × Before m course x call.item × (HasRun course x → ⊥)
       is_blocked call inside true =
-          let waits = (exact call inside).waits true in
+          let waits = (exact_of call inside).waits true in
           let on = get_or new call.seen call in
           let here : Contains new on = Contains-get_or new call.seen call waits.0 in
           let up = waits.1 call in
@@ -121,10 +126,10 @@ module _ {m : DraftMachine} (head : Head) (tables : Tables) (ran : List (Item ×
           ⊎_elim
           (λ is. is)
           (λ free. (
-          let is = exact call inside in
+          let is = exact_of call inside in
           let at = on h.0 ((listed h.0).1 h.1) in
           let all = is.through free in
-          let low : at.1.0 < call.seen = omega (arith, at.1.1) in
+          let low : IsMetBefore inside.0 call.seen at.1.0 = inr (omega (arith, all, inside.1), omega (arith, all, at.1.1)) in
           let before = subst (λ (i : Item). Before m course i call.item) (sym at.2) h.2 in
           let waiting : IsTrue (at.0).ran → ⊥ = (λ ran. h.3 ((marked h.0).0 (marked_along new calls h.0 (alike_back calls new alike) (at.0, at.1, at.2, ran)))) in
           absurd (is.passed at.1.0 at.0 low at.1.1
@@ -152,16 +157,20 @@ module _ (m : DraftMachine) (shape : HasShape m) (plan : Agenda) (h : IsPlanOf m
   }
 
   -- its calls say exactly for which they wait, as its ways say it
-  pub plan_exact : (call : Call) → Contains plan.calls call → IsExact (IsSequence m plan.ways) plan.calls call
-  plan_exact call inside =
-      exact_same (Before m (course_of plan)) (IsSequence m plan.ways) plan.calls call (λ k d lt. ((both k d lt).1, (both k d lt).0)) (h.exact call inside)
+  pub plan_exact : (k : ℕ) (d : Call) → k < length plan.calls → IsExact (IsSequence m plan.ways) plan.calls k (get_or plan.calls k d)
+  plan_exact k d lt =
+      exact_same (Before m (course_of plan)) (IsSequence m plan.ways) plan.calls k (get_or plan.calls k d)
+      (λ j e less. ((both j e less).1, (both j e less).0)) (h.exact k d lt)
     where
-      both : (k : ℕ) (d : Call) → k < length plan.calls
-          → IsSequence m plan.ways (get_or plan.calls k d).item call.item ↔ Before m (course_of plan) (get_or plan.calls k d).item call.item
-      both k d lt =
-          let on = get_or plan.calls k d in
+      both : (j : ℕ) (e : Call) → j < length plan.calls
+          → IsSequence m plan.ways (get_or plan.calls j e).item (get_or plan.calls k d).item
+          ↔ Before m (course_of plan) (get_or plan.calls j e).item (get_or plan.calls k d).item
+      both j e less =
+          let on = get_or plan.calls j e in
+          let call = get_or plan.calls k d in
           before_both (course_of plan) plan.ways plan.restored h.ways on.item call.item
-          ((h.called on.item).0 (on, Contains-get_or plan.calls k d lt, refl)) ((h.called call.item).0 (call, inside, refl))
+          ((h.called on.item).0 (on, Contains-get_or plan.calls j e less, refl))
+          ((h.called call.item).0 (call, Contains-get_or plan.calls k d lt, refl))
 
 may_run : (course : Course) (x : Item) → IsNoExit x → MayRun course.at_head x
 may_run course (items.Exit s) none = absurd none

@@ -1,10 +1,10 @@
 -- Calls that look on, each until it comes to one that holds it up.
-use Rattle.std.proofs.Common.{◌≡◌, ◌⊎◌, ◌↔◌, ◌<◌, ℕ, List, Bool, true, false, length, get_or, IsTrue, arith, refl, sym, subst, inl, inr, ◌∙◌}
+use Rattle.std.proofs.Common.{◌≡◌, ◌⊎◌, ◌↔◌, ◌<◌, ℕ, List, Bool, true, false, length, get_or, IsTrue, arith, refl, sym, subst, inl, inr, ⊎_elim, ◌∙◌}
 use Rattle.std.proofs.lemmas.Bool.{false≢true}
 use Rattle.pssm_model.specs.declared.steps.Item.{Item}
 use Rattle.pssm_plan.specs.declared.roster.Call.{Call}
-use Rattle.pssm_plan.specs.Waiting.{HoldsUp, IsExact}
-use Rattle.pssm_plan.specs.inner.Marks.{IsTold, IsFresh, HasSeen, ArePairwise}
+use Rattle.pssm_plan.specs.Waiting.{HoldsUp, IsMetBefore, IsExact}
+use Rattle.pssm_plan.specs.inner.Marks.{IsTold, IsFreshAt, HasSeen, ArePairwise}
 use Rattle.pssm_plan.proofs.Rewriting.{AreAlike}
 
 -- a mark is set or it is not
@@ -21,21 +21,24 @@ module _ (Comes : Item → Item → Type 0) where
   )
 
   -- a call that has not looked yet
-  pub seen_fresh : (calls : List Call) (call : Call) → IsFresh call → HasSeen Comes calls call
-  seen_fresh calls call h = record {
-    within = (let none = h.0 in omega arith);
-    passed = λ k d lt inside up. (let none = h.0 in absurd (omega arith));
+  pub seen_fresh : (calls : List Call) (place : ℕ) (call : Call) → place < length calls → IsFreshAt place call → HasSeen Comes calls place call
+  seen_fresh calls place call there h = record {
+    within = (let own = h.0 in omega (arith, own, there));
+    passed = λ k d met inside up. (let own = h.0 in ⊎_elim
+        (λ back. absurd (omega (arith, own, back.0, back.1)))
+        (λ on. absurd (omega (arith, own, on.0)))
+        met);
     there = λ blocked. absurd (h.1 blocked);
   }
 
   -- nor does one that has run now hold it up
-  pub seen_told : (grown now : List Call) (item : Item) (g a : Call) → ArePairwise (IsTold item) grown now → IsTold item g a
-      → HasSeen Comes grown g → HasSeen Comes now a
-  seen_told grown now item g a told t h = record {
+  pub seen_told : (grown now : List Call) (item : Item) (place : ℕ) (g a : Call) → ArePairwise (IsTold item) grown now → IsTold item g a
+      → HasSeen Comes grown place g → HasSeen Comes now place a
+  seen_told grown now item place g a told t h = record {
     within = omega (arith, told.0, t.seen, h.within);
-    passed = λ k d lt inside up.
+    passed = λ k d met inside up.
         (let low : k < length grown = omega (arith, told.0) in
-        let before : k < g.seen = omega (arith, t.seen) in
+        let before = subst (λ (n : ℕ). IsMetBefore place n k) t.seen met in
         let s = told.1 k d low in
         h.passed k d before low (
           subst (λ (i : Item). Comes i g.item) s.item_is (subst (λ (i : Item). Comes (get_or now k d).item i) t.item_is up.0),
@@ -50,8 +53,8 @@ module _ (Comes : Item → Item → Type 0) where
   }
 
   -- the same in a list of the same items, of which the same have run
-  pub seen_along : (a b : List Call) (call : Call) → AreAlike a b → HasSeen Comes a call → HasSeen Comes b call
-  seen_along a b call h s = record {
+  pub seen_along : (a b : List Call) (place : ℕ) (call : Call) → AreAlike a b → HasSeen Comes a place call → HasSeen Comes b place call
+  seen_along a b place call h s = record {
     within = omega (arith, h.0, s.within);
     passed = λ k d lt inside up.
         (let low : k < length a = omega (arith, h.0) in
@@ -62,8 +65,8 @@ module _ (Comes : Item → Item → Type 0) where
         subst (λ (i : Item). Comes i call.item) (sym (h.1 call.seen d low).0) (s.there blocked d low));
   }
 
-  pub exact_along : (a b : List Call) (call : Call) → AreAlike a b → IsExact Comes a call → IsExact Comes b call
-  exact_along a b call h s = record {
+  pub exact_along : (a b : List Call) (place : ℕ) (call : Call) → AreAlike a b → IsExact Comes a place call → IsExact Comes b place call
+  exact_along a b place call h s = record {
     passed = λ k d lt inside up.
         (let low : k < length a = omega (arith, h.0) in
         let is = h.1 k d low in
@@ -77,10 +80,10 @@ module _ (Comes : Item → Item → Type 0) where
   }
 
   -- what is exact in one order is so in another in which the same listed items come before
-  pub exact_same : (Other : Item → Item → Type 0) (calls : List Call) (call : Call)
+  pub exact_same : (Other : Item → Item → Type 0) (calls : List Call) (place : ℕ) (call : Call)
       → ((k : ℕ) (d : Call) → k < length calls → Comes (get_or calls k d).item call.item ↔ Other (get_or calls k d).item call.item)
-      → IsExact Comes calls call → IsExact Other calls call
-  exact_same Other calls call same h = record {
+      → IsExact Comes calls place call → IsExact Other calls place call
+  exact_same Other calls place call same h = record {
     passed = λ k d lt inside up. h.passed k d lt inside ((same k d inside).1 up.0, up.1);
     waits = λ blocked.
         (let was = h.waits blocked in

@@ -1,5 +1,5 @@
 -- The calls of a plan as clauses see them.
-use Rattle.std.proofs.Common.{◌≡◌, ◌↔◌, ◌<◌, ◌∷◌, ℕ, List, [], Bool, true, false, cond, length, map, take, get_or, Contains, IsTrue, IfSome, IfNone, Option, Some, None, arith, refl, sym, ap, subst, ⊎_elim, ◌∙◌}
+use Rattle.std.proofs.Common.{◌≡◌, ◌↔◌, ◌<◌, ◌∷◌, ℕ, List, [], Bool, true, false, cond, length, map, take, get_or, Contains, IsTrue, IfSome, IfNone, Option, Some, None, arith, refl, sym, ap, subst, inr, ⊎_elim, ◌∙◌}
 use Rattle.std.specs.List.{filter}
 use Rattle.std.proofs.lemmas.Bool.{false≢true}
 use Rattle.std.proofs.lemmas.List.{length-map, get_or-map, get_or_default, take-map}
@@ -9,7 +9,7 @@ use Rattle.pssm_model.specs.declared.elements.DraftMachine.{DraftMachine}
 use Rattle.pssm_plan.specs.declared.ways.Way.{Way}
 use Rattle.pssm_plan.specs.declared.roster.Call.{Call}
 use Rattle.pssm_plan.specs.declared.ready.ReadyItem.{ReadyItem}
-use Rattle.pssm_plan.specs.Waiting.{HoldsUp, IsExact}
+use Rattle.pssm_plan.specs.Waiting.{HoldsUp, IsMetBefore, IsExact}
 use Rattle.pssm_plan.specs.Standings.{stands_ready, ready_before, IsItemAt, IsNextReady}
 use Rattle.pssm_plan.specs.inner.Marks.{IsListed, IsMarked, IsAlike, ArePairwise}
 use Rattle.pssm_plan.specs.inner.Sequence.{IsRoster}
@@ -80,10 +80,10 @@ seen_blocked false x n blocked = absurd (false≢true blocked)
 
 module _ (Comes : Item → Item → Type 0) (calls : List Call) where
   -- a call that is sure is shown as it is exactly
-  shown_one : (call : Call) → IsSure Comes calls call → IsExact Comes calls (shown_among (length calls) call)
-  shown_one call s = record {
-    passed = λ k d lt inside up. ⊎_elim
-        (λ blocked. (let is = seen_blocked call.blocked call.seen (length calls) blocked in s.passed blocked k d (omega (arith, is, lt)) inside up))
+  shown_one : (place : ℕ) (call : Call) → IsSure Comes calls place call → IsExact Comes calls place (shown_among (length calls) call)
+  shown_one place call s = record {
+    passed = λ k d met inside up. ⊎_elim
+        (λ blocked. s.passed blocked k d (subst (λ (n : ℕ). IsMetBefore place n k) (seen_blocked call.blocked call.seen (length calls) blocked) met) inside up)
         (λ free. s.clear free k d inside inside up)
         (set_or_not call.blocked);
     waits = λ blocked.
@@ -95,17 +95,17 @@ module _ (Comes : Item → Item → Type 0) (calls : List Call) where
     through = λ free. seen_free call.blocked call.seen (length calls) free;
   }
 
-  pub shown_exact : AreAllSure Comes calls → (call : Call) → Contains (shown calls) call → IsExact Comes (shown calls) call
-  shown_exact sure call h =
-      let lt : h.0 < length calls = (let long = shown_length calls in omega (arith, long, h.1)) in
-      exact_along Comes calls (shown calls) call (shown_alike calls)
-      (subst (λ (c : Call). IsExact Comes calls c) (sym (shown_at calls h.0 call lt) ∙ h.2) (shown_one (get_or calls h.0 call) (sure h.0 call lt)))
+  pub shown_exact : AreAllSure Comes calls → (k : ℕ) (d : Call) → k < length (shown calls) → IsExact Comes (shown calls) k (get_or (shown calls) k d)
+  shown_exact sure k d low =
+      let lt : k < length calls = (let long = shown_length calls in omega (arith, long, low)) in
+      exact_along Comes calls (shown calls) k (get_or (shown calls) k d) (shown_alike calls)
+      (subst (λ (c : Call). IsExact Comes calls k c) (sym (shown_at calls k d lt)) (shown_one k (get_or calls k d) (sure k d lt)))
 
   -- and one that is shown so is sure
-  shown_back : (call : Call) → IsExact Comes calls (shown_among (length calls) call) → IsSure Comes calls call
-  shown_back call e = record {
-    passed = λ blocked k d lt inside.
-        (let is = seen_blocked call.blocked call.seen (length calls) blocked in e.passed k d (omega (arith, is, lt)) inside);
+  shown_back : (place : ℕ) (call : Call) → place < length calls → IsExact Comes calls place (shown_among (length calls) call) → IsSure Comes calls place call
+  shown_back place call there e = record {
+    passed = λ blocked k d met inside.
+        e.passed k d (subst (λ (n : ℕ). IsMetBefore place n k) (sym (seen_blocked call.blocked call.seen (length calls) blocked)) met) inside;
     waits = λ blocked.
         (let is = seen_blocked call.blocked call.seen (length calls) blocked in
         let w = e.waits blocked in (
@@ -113,16 +113,15 @@ module _ (Comes : Item → Item → Type 0) (calls : List Call) where
           λ d. subst (λ (n : ℕ). HoldsUp Comes (get_or calls n d) call.item) is (w.1 d),
         ));
     clear = λ free k d lt inside.
-        (let is = seen_free call.blocked call.seen (length calls) free in e.passed k d (omega (arith, is, lt)) inside);
+        (let is = seen_free call.blocked call.seen (length calls) free in e.passed k d (inr (omega (arith, is, there), omega (arith, is, inside))) inside);
   }
 
-  pub shown_sure : ((call : Call) → Contains (shown calls) call → IsExact Comes (shown calls) call) → AreAllSure Comes calls
+  pub shown_sure : ((k : ℕ) (d : Call) → k < length (shown calls) → IsExact Comes (shown calls) k (get_or (shown calls) k d)) → AreAllSure Comes calls
   shown_sure exact k d lt =
       let low : k < length (shown calls) = (let long = shown_length calls in omega (arith, long, lt)) in
-      shown_back (get_or calls k d)
-      (subst (λ (c : Call). IsExact Comes calls c) (shown_at calls k d lt)
-      (exact_along Comes (shown calls) calls (get_or (shown calls) k d) (alike_back calls (shown calls) (shown_alike calls))
-      (exact (get_or (shown calls) k d) (Contains-get_or (shown calls) k d low))))
+      shown_back k (get_or calls k d) lt
+      (subst (λ (c : Call). IsExact Comes calls k c) (shown_at calls k d lt)
+      (exact_along Comes (shown calls) calls k (get_or (shown calls) k d) (alike_back calls (shown calls) (shown_alike calls)) (exact k d low)))
 
 mapped_more : (n : ℕ) (c : Call) (b : Bool) (xs ys : List Call) → xs ≡ map (shown_among n) ys
     → cond b (shown_among n c ∷ xs) xs ≡ map (shown_among n) (cond b (c ∷ ys) ys)

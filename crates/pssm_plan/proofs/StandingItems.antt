@@ -9,7 +9,7 @@ use Rattle.pssm_plan.proofs.KnownRuns.{run_known}
 use Rattle.pssm_plan.specs.declared.roster.Call.{Call}
 use Rattle.pssm_plan.specs.declared.standing.Standing.TheVariants.{Ready, NotCalled, Ran, Waits}
 use Rattle.pssm_plan.specs.Agenda.{Agenda, course_of}
-use Rattle.pssm_plan.specs.Waiting.{HoldsUp}
+use Rattle.pssm_plan.specs.Waiting.{HoldsUp, IsExact}
 use Rattle.pssm_plan.specs.Plans.{IsPlanOf}
 use Rattle.pssm_plan.specs.Standings.{StandsAs}
 use Rattle.pssm_plan.specs.inner.Marks.{IsListed, IsMarked}
@@ -73,16 +73,19 @@ module _ (m : DraftMachine) (plan : Agenda) (h : IsPlanOf m plan) where
           (run_known (course_of plan) x);
     })
 
+    exact : IsExact (Before m (course_of plan)) plan.calls inside.0 call
+    exact = subst (λ (c : Call). IsExact (Before m (course_of plan)) plan.calls inside.0 c) inside.2 (h.exact inside.0 call inside.1)
+
     pub call_waits : (on : Call) → (IsTrue call.ran → ⊥) → IsTrue call.blocked → get_or plan.calls call.seen on ≡ on → StandsAs m (course_of plan) item (Waits on.item)
     call_waits on not blocked at =
-        let waits = (h.exact call inside).waits blocked in
+        let waits = exact.waits blocked in
         let up = subst (λ (c : Call). HoldsUp (Before m (course_of plan)) c call.item) at (waits.1 on) in
         subst (λ (x : Item). StandsAs m (course_of plan) x (Waits on.item)) same
         (call_waiting call inside not, call_waiting on (call.seen, waits.0, at) up.1, up.0)
 
     -- the place that it has seen is that of a call
     pub call_within : IsTrue call.blocked → call.seen < length plan.calls
-    call_within blocked = ((h.exact call inside).waits blocked).0
+    call_within blocked = (exact.waits blocked).0
 
   pub all_ran : ((call : Call) → Contains plan.calls call → IsTrue call.ran) ↔ HasRunOut m (course_of plan)
   all_ran = (

@@ -1,5 +1,5 @@
 -- When a plan is that of a step of a machine.
-use Rattle.std.specs.Prelude.{◌≡◌, ◌≢◌, ◌↔◌, List, IsTrue, Contains, AllPairs}
+use Rattle.std.specs.Prelude.{◌≡◌, ◌≢◌, ◌↔◌, ◌<◌, ℕ, List, IsTrue, Contains, AllPairs, length, slice_index_or}
 use Rattle.pssm_model.specs.declared.elements.DraftMachine.{DraftMachine}
 use Rattle.pssm_model.specs.declared.steps.Item.{Item}
 use Rattle.pssm_model.specs.Course.{HasRun}
@@ -20,7 +20,7 @@ abbrev pub IsOfRunCall : List Call → Item → Type 0
 IsOfRunCall calls item = (call : Call) × Contains calls call × (call.item ≡ item) × IsTrue call.ran
 
 -- The plan is that of its step in the machine: its calls are exactly the called items, each once, marked as run exactly where they have run and as
--- blocked exactly where a called one that comes before has not, and each says which is the first that it waits for; and its ways are those of the routes
+-- blocked exactly where a called one that comes before has not, and each says which is the nearest that it waits for; and its ways are those of the routes
 -- by which the step goes (UML 2.5.1 14.2.3.9, transition execution sequence).
 pub record IsPlanOf (m : DraftMachine) (plan : Agenda) : Type 0 where
   pub step : HasGone m plan.head (configuration_of plan.at_head) plan.ran
@@ -29,5 +29,5 @@ pub record IsPlanOf (m : DraftMachine) (plan : Agenda) : Type 0 where
   pub ran : (item : Item) → IsOfRunCall plan.calls item ↔ HasRun (course_of plan) item
   pub blocked : (call : Call) → Contains plan.calls call → IsTrue call.blocked
       ↔ ((on : Item) × Called m (course_of plan) on × Before m (course_of plan) on call.item × (HasRun (course_of plan) on → ⊥))
-  pub exact : (call : Call) → Contains plan.calls call → IsExact (Before m (course_of plan)) plan.calls call
+  pub exact : (k : ℕ) (d : Call) → k < length plan.calls → IsExact (Before m (course_of plan)) plan.calls k (slice_index_or plan.calls k d)
   pub ways : AreWaysOf m (course_of plan) plan.ways plan.restored

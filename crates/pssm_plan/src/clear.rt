@@ -9,17 +9,18 @@ ghost use Rattle.pssm_plan.specs.Ways.{IsWayIn, AreWaysIn};
 ghost use Rattle.pssm_plan.specs.inner.ByWays.{orders_by};
 ghost use Rattle.pssm_plan.specs.inner.Near.{EndsNear};
 ghost use Rattle.pssm_plan.specs.inner.Direct.{IsDirect};
+ghost use Rattle.pssm_plan.specs.inner.Marks.{AreRunBefore};
 ghost use Rattle.pssm_plan.specs.inner.Places.{ArePlaced};
 ghost use Rattle.pssm_plan.specs.inner.Passes.{ArePassed};
-ghost use Rattle.pssm_plan.specs.inner.Sequence.{IsSequence, IsOrderedBySome, ArePassedNested, AreItemsOf};
-ghost use Rattle.pssm_plan.specs.inner.Clear.{IsDone, IsLone, IsExitIn, HasNoExitIn, AreClearFrom};
+ghost use Rattle.pssm_plan.specs.inner.Sequence.{IsSequence, IsOrderedBySome, IsNestedPair, AreItemsOf};
+ghost use Rattle.pssm_plan.specs.inner.Clear.{IsDone, IsLone, IsExitIn, HasNoExitIn};
 
 use crate::calls::place_among;
 use crate::direct::{is_direct, may_lie_in};
 use crate::near::ends_near;
 use crate::places::Row;
 use crate::roster::Call;
-use crate::waiting::{first_entry, state_around};
+use crate::waiting::{Around, last_entry, state_around};
 use crate::ways::{Way, is_long, is_named};
 use pssm_model::{Item, Machine, Owner, RegionId, TransId, VertexId};
 
@@ -92,11 +93,11 @@ fn are_around(machine: &Machine, calls: &[Call], rows: &[Row], v: VertexId) -> b
     requires rules { KeepsModelRules machine.now }
     requires placed { ArePlaced calls.now rows.now }
     requires vertex { v.0 < length machine.now.vertices }
-    ensures { IsTrue result → ArePassedNested machine.now calls.now (Called.Enter v) (length calls.now) }
+    ensures { IsTrue result → ArePassed (IsNestedPair machine.now) calls.now (Called.Enter v) (length calls.now) }
 {
     let count = calls.len();
-    let passed = first_entry(machine, calls, rows, v, count);
-    if passed < count {
+    let left = last_entry(machine, calls, rows, v, count);
+    if left > 0 {
         return false;
     }
     true
@@ -199,38 +200,47 @@ fn has_no_exit_in(machine: &Machine, calls: &[Call], from: usize, r: RegionId) -
     true
 }
 
-// Whether all that may come before an effect has run, of the calls from a place on.
+// Whether all that may come before an effect has run.
 #[inline(always)]
-fn effect_is_clear(machine: &Machine, ways: &[Way], calls: &[Call], t: TransId, from: usize) -> bool
+fn effect_is_clear(machine: &Machine, ways: &[Way], calls: &[Call], t: TransId, done: usize) -> bool
     requires rules { KeepsModelRules machine.now }
     requires ways { AreWaysIn machine.now ways.now }
     requires items { AreItemsOf machine.now calls.now }
     requires transition { t.0 < length machine.now.transitions }
-    ensures { IsTrue result → AreClearFrom (IsSequence machine.now ways.now) calls.now (Called.Effect t) from }
+    requires done { AreRunBefore calls.now done }
+    ensures { IsTrue result → ArePassed (IsSequence machine.now ways.now) calls.now (Called.Effect t) (length calls.now) }
 {
     let _shaped = machine.regions();
     match machine.vertex(machine.target(t)).owner {
         Owner::Region(r) => {
-            is_within(machine, ways, t, r) && has_no_exit_in(machine, calls, from, r)
+            is_within(machine, ways, t, r) && has_no_exit_in(machine, calls, done, r)
         }
         Owner::State(_) | Owner::Top => false,
     }
 }
 
-/// Whether none of the calls that a call has not seen holds it up, as far as ways of one transition tell: asked of
+/// Whether none of the calls holds it up, as far as ways of one transition tell: asked of
 /// entries and effects alone.
 #[inline(always)]
-pub fn is_clear(machine: &Machine, ways: &[Way], calls: &[Call], rows: &[Row], call: &Call) -> bool
+pub fn is_clear(
+    machine: &Machine,
+    ways: &[Way],
+    calls: &[Call],
+    rows: &[Row],
+    call: &Call,
+    at: Around,
+) -> bool
     requires rules { KeepsModelRules machine.now }
     requires ways { AreWaysIn machine.now ways.now }
     requires placed { ArePlaced calls.now rows.now }
     requires items { AreItemsOf machine.now calls.now }
     requires item { IsItemIn machine.now call.now.item }
-    ensures { IsTrue result → AreClearFrom (IsSequence machine.now ways.now) calls.now call.now.item call.now.seen }
+    requires done { AreRunBefore calls.now at.done }
+    ensures { IsTrue result → ArePassed (IsSequence machine.now ways.now) calls.now call.now.item (length calls.now) }
 {
     match call.item {
         Item::Enter(s) => entry_is_clear(machine, ways, calls, rows, s),
-        Item::Effect(t) => effect_is_clear(machine, ways, calls, t, call.seen as usize),
+        Item::Effect(t) => effect_is_clear(machine, ways, calls, t, at.done),
         Item::Exit(_) | Item::Opened(_, _) | Item::Pick(_) => false,
     }
 }

@@ -4,9 +4,11 @@
 //! This crate knows nothing of behaviours, journals or objects.
 #![tactic(auto)]
 
+mod apart;
 mod calls;
 mod clear;
 mod direct;
+mod junctions;
 mod laws;
 mod listing;
 mod meeting;

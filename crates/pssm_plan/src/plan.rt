@@ -15,7 +15,7 @@ ghost use Rattle.pssm_plan.specs.Standings.{StandsAs, ListsReady, IsItemAt, IsNe
 
 use crate::progress::Progress;
 use crate::ready::{ReadyItem, count_ready, next_ready, ready_item};
-use crate::roster::{call_at, have_all_run};
+use crate::roster::{call_at, done_from, have_all_run};
 use crate::standing::Standing;
 use pssm_config::Config;
 use pssm_model::{Firing, How, Item, Machine};
@@ -48,6 +48,8 @@ pub struct Plan {
     beginning: Beginning,
     ran: Vec<Step>,
     progress: Progress,
+    /// All calls before this place have run.
+    done: usize,
     /// A progress that is out of use, whose room the next step takes.
     spare: Progress,
 }
@@ -59,10 +61,11 @@ impl Model for Plan {
 
     ghost use Rattle.pssm_plan.specs.inner.Views.{head_of, tables_of, steps_of, shown};
     ghost use Rattle.pssm_plan.specs.inner.Passes.{AreCaught};
+    ghost use Rattle.pssm_plan.specs.inner.Marks.{AreRunUpTo};
 
     ghost view = { λ p. record { head = head_of p.beginning; at_head = tables_of p.beginning; ran = steps_of p.ran.items; calls = shown p.progress.roster.calls.items; ways = p.progress.ways.items; restored = p.progress.restored.items } };
 
-    ghost invariant = { λ p. AreCaught p.progress.spans.items p.progress.roster.calls.items };
+    ghost invariant = { λ p. AreCaught p.progress.spans.items p.progress.roster.calls.items × AreRunUpTo p.progress.roster.calls.items p.done };
 }
 
 impl Plan {
@@ -139,6 +142,7 @@ impl Plan {
             beginning: Beginning::Start,
             ran: Vec::new(alloc),
             progress,
+            done: 0,
             spare: Progress::new(alloc),
         })
     }
@@ -166,6 +170,7 @@ impl Plan {
             beginning: Beginning::Firing(Snapshot::of(firing), Snapshot::of(config)),
             ran: Vec::new(alloc),
             progress,
+            done: 0,
             spare: Progress::new(alloc),
         })
     }
@@ -196,6 +201,7 @@ impl Plan {
         mem::swap(&mut self.progress, &mut self.spare);
         self.beginning = Beginning::Firing(Snapshot::of(firing), Snapshot::of(config));
         self.ran.clear();
+        self.done = 0;
         Ok(())
     }
 
@@ -226,9 +232,12 @@ impl Plan {
             how: Snapshot::of(how),
         };
         self.ran.push(step)?;
-        let outcome = self.progress.run(alloc, machine, item, how, ran);
+        let done = self.done;
+        let outcome = self.progress.run(alloc, machine, item, how, ran, done);
         if outcome.is_err() {
             self.ran.truncate(ran);
+        } else {
+            self.done = done_from(self.progress.roster.calls.as_slice(), done);
         }
         outcome
     }

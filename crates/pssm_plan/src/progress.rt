@@ -9,7 +9,7 @@ ghost use Rattle.pssm_config.specs.Tables.{Fits, configuration_of};
 ghost use Rattle.pssm_legs.specs.Calls.{IsItemIn};
 ghost use Rattle.pssm_plan.specs.declared.roster.Call.{Call};
 ghost use Rattle.pssm_plan.specs.Ways.{AreWaysIn};
-ghost use Rattle.pssm_plan.specs.inner.Marks.{IsFresh, IsLonger, IsAlike, ArePairwise};
+ghost use Rattle.pssm_plan.specs.inner.Marks.{IsLonger, IsAlike, AreRunBefore, AreRunUpTo, ArePairwise};
 ghost use Rattle.pssm_plan.specs.inner.Passes.{AreCaught, AreAllSure, AreSureBut, AreSureBefore, FreeLeft};
 ghost use Rattle.pssm_plan.specs.inner.Sequence.{IsSequence, AreItemsOf, AreNewSince, IsRoster, IsExtended};
 ghost use Rattle.pssm_plan.specs.inner.Calling.{IsTopOpening, IsOfWays};
@@ -100,7 +100,7 @@ fn settle_fired(
         roster.settle_anew(machine, ways, spans);
     } else {
         let none = roster.calls.len();
-        roster.settle(machine, ways, spans, since, none);
+        roster.settle(machine, ways, spans, since, none, 0);
     }
 }
 
@@ -480,7 +480,7 @@ impl Progress {
     }
 
     /// Notes that a listed item runs in this way, and lists what it calls, all of it or nothing.
-    /// The item is looked for from the hint on first.
+    /// The item is looked for from the hint on first. All calls before a place have run.
     #[inline(always)]
     pub fn run(
         &mut self,
@@ -489,16 +489,19 @@ impl Progress {
         item: Item,
         how: &How,
         hint: usize,
+        done: usize,
     ) -> Result<(), NoMemory>
         requires rules { KeepsModelRules machine.now }
         requires roster { IsRoster machine.now self.old.roster.calls.items }
         requires ways { AreWaysIn machine.now self.old.ways.items }
         requires item { IsItemIn machine.now item }
         requires covered { AreCovered machine.now self.old.ways.items self.old.roster.calls.items }
+        requires done { AreRunUpTo self.old.roster.calls.items done }
         requires caught { AreCaught self.old.spans.items self.old.roster.calls.items }
         requires sure { AreAllSure (IsSequence machine.now self.old.ways.items) self.old.roster.calls.items }
         requires way { CanRunSo machine.now item how.now }
         ensures ran { OnOk result (IsRunSo machine.now self.old item how.now self.new) }
+        ensures done { AreRunUpTo self.new.roster.calls.items done }
         ensures caught { AreCaught self.new.spans.items self.new.roster.calls.items }
         ensures refused { OnErr result (IsUnchanged self.old self.new) }
     {
@@ -514,6 +517,7 @@ impl Progress {
             hint,
             since,
             anew,
+            done,
         );
         Ok(())
     }
@@ -531,9 +535,11 @@ fn finish(
     hint: usize,
     since: Since,
     anew: bool,
+    done: usize,
 )
     requires rules { KeepsModelRules machine.now }
     requires ways { AreWaysIn machine.now ways.now }
+    requires done { AreRunBefore roster.old.calls.items done }
     requires roster { IsRoster machine.now roster.old.calls.items }
     requires caught { AreCaught spans.old roster.old.calls.items }
     requires left { (IsTrue anew → ⊥)
@@ -546,6 +552,6 @@ fn finish(
     if anew {
         roster.settle_anew(machine, ways, spans);
     } else {
-        roster.settle(machine, ways, spans, since, ran);
+        roster.settle(machine, ways, spans, since, ran, done);
     }
 }

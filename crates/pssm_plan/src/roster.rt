@@ -1,9 +1,9 @@
 //! The items that a step calls.
-ghost use Rattle.std.specs.Prelude.{◌≡◌, ◌≢◌, ◌↔◌, ◌<◌, ◌≤◌, [], length, slice_index_or};
+ghost use Rattle.std.specs.Prelude.{◌≡◌, ◌≢◌, ◌↔◌, ◌<◌, ◌≤◌, ◌^◌, [], length, slice_index_or};
 ghost use Rattle.std.specs.Prelude.{IsTrue, AllPairs, IfSome, MatchOption, Contains, OnOk};
 ghost use Rattle.pssm_model.specs.declared.steps.Item.{Item};
 ghost use Rattle.pssm_plan.specs.declared.roster.Call.{Call};
-ghost use Rattle.pssm_plan.specs.inner.Marks.{IsListed, IsLonger, IsTold, IsForgotten, IsPlaceOf, ArePairwise};
+ghost use Rattle.pssm_plan.specs.inner.Marks.{IsListed, IsLonger, IsTold, AreForgotten, AreRunUpTo, IsPlaceOf, ArePairwise};
 ghost use Rattle.pssm_legs.specs.Calls.{IsItemIn};
 ghost use Rattle.pssm_plan.specs.inner.Sequence.{IsRoster, IsExtended};
 
@@ -13,8 +13,8 @@ use std::alloc::{AllocError as NoMemory, Global};
 
 /// An item that a step calls: whether it has run, and whether an item that comes before it has not.
 ///
-/// No call before the place that it has seen holds it up. Where it is blocked, the call at that
-/// place does; else it has seen them all.
+/// It looks from its own place down to the first call, and then at those behind its own. None that it meets before the
+/// place that it has seen holds it up. Where it is blocked, the call at that place does; else it has seen them all.
 #[derive(Clone, Copy)]
 pub struct Call {
     pub item: Item,
@@ -46,7 +46,8 @@ pub fn call_at(calls: &[Call], place: u32) -> Option<Call>
 #[inline(always)]
 fn waits_at(calls: &[Call], place: usize) -> bool
     requires { place < length calls.now }
-    ensures { IsTrue result → ((call : Call) → Contains calls.now call → IsTrue call.ran) → ⊥ }
+    ensures waits { IsTrue result → ((call : Call) → Contains calls.now call → IsTrue call.ran) → ⊥ }
+    ensures ran { (IsTrue result → ⊥) → (d : Call) → IsTrue (slice_index_or calls.now place d).ran }
 {
     !calls[place].ran
 }
@@ -93,14 +94,29 @@ fn tell_at(calls: &mut [Call], item: Item, place: Option<usize>) -> usize
     }
 }
 
+/// The first place from this one on at which a call stands that has not run; the place behind all where there is none.
+#[inline(always)]
+pub fn done_from(calls: &[Call], from: usize) -> usize
+    requires { AreRunUpTo calls.now from }
+    ensures { AreRunUpTo calls.now result }
+{
+    for k in from..calls.len() {
+        if waits_at(calls, k) {
+            return k;
+        }
+    }
+    calls.len()
+}
+
 // Says of each call that it has not looked at the others yet.
 fn forget_all(calls: &mut [Call])
-    ensures { ArePairwise IsForgotten calls.old calls.new }
+    requires { length calls.old < 2 ^ 32 }
+    ensures { AreForgotten calls.old calls.new }
 {
     for k in 0..calls.len() {
         calls[k] = Call {
             blocked: false,
-            seen: 0,
+            seen: k as u32,
             ..calls[k]
         };
     }
@@ -156,7 +172,8 @@ impl Roster {
 
     /// Says of each item that it has not looked at the others yet.
     pub fn forget(&mut self)
-        ensures forgot { ArePairwise IsForgotten self.old.calls.items self.new.calls.items }
+        requires few { length self.old.calls.items < 2 ^ 32 }
+        ensures forgot { AreForgotten self.old.calls.items self.new.calls.items }
     {
         let calls = &mut self.calls;
         forget_all(calls.list.as_mut_slice());

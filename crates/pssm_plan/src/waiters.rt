@@ -1,20 +1,25 @@
 //! Each listed item that waits is told for which one, as more is listed and one has run.
-ghost use Rattle.std.specs.Prelude.{◌≡◌, ◌<◌, ◌≤◌, ◌↔◌, ◌+◌, ◌^◌, ℕ, IsTrue, Contains, length, drop, slice_index_or};
+ghost use Rattle.std.specs.Prelude.{◌≡◌, ◌≢◌, ◌<◌, ◌≤◌, ◌↔◌, ◌+◌, ◌^◌, ℕ, IsTrue, Contains, AllPairs, length, drop, slice_index_or};
+ghost use Rattle.std.specs.Prelude.{false};
 ghost use Rattle.pssm_model.specs.WellFormed.{KeepsModelRules};
+ghost use Rattle.pssm_legs.specs.Calls.{IsItemIn};
 ghost use Rattle.pssm_plan.specs.declared.roster.Call.{Call};
 ghost use Rattle.pssm_plan.specs.declared.waiters.Span.{Span as TheSpan};
 ghost use Rattle.pssm_plan.specs.Ways.{AreWaysIn};
-ghost use Rattle.pssm_plan.specs.inner.Marks.{HasSeen, IsFresh, IsAlike, IsSettledAt, ArePairwise};
+ghost use Rattle.pssm_plan.specs.inner.Marks.{HasSeen, IsFreshAt, IsAlike, IsSettledAt, AreRunBefore, ArePairwise};
 ghost use Rattle.pssm_plan.specs.inner.Sequence.{IsSequence, IsSomeLong, AreItemsOf, AreNewSince};
 ghost use Rattle.pssm_plan.specs.inner.Sequence.{AreLooseUpTo, IsNestedInNone};
 ghost use Rattle.pssm_plan.specs.inner.Places.{ArePlaced};
 ghost use Rattle.pssm_plan.specs.inner.Passes.{AreSureBut, AreAllSure, NewLeft, WaitingLeft, FreeLeft};
-ghost use Rattle.pssm_plan.specs.inner.Passes.{AreCaught, IsPut};
+ghost use Rattle.pssm_plan.specs.inner.Passes.{ArePassed, AreCaught, IsPut};
+ghost use Rattle.pssm_plan.specs.inner.Clear.{LeadsTo, AreClearBefore};
 
+use crate::junctions::leads_to;
 use crate::places::Row;
 use crate::roster::{Call, Roster};
 use crate::waiting::{
-    Since, Wait, first_nesting, look_free, look_new, look_on, look_over, may_wait, some_new_is_long,
+    Around, Since, Wait, first_nesting, look_free, look_new, look_on, look_over, may_wait,
+    some_new_is_long,
 };
 use crate::ways::Way;
 use pssm_model::Machine;
@@ -115,6 +120,7 @@ fn settle_free_at(
     requires new { AreNewSince machine.now ways.now calls.old since }
     requires old { place < since.calls }
     requires within { nests ≤ length calls.old }
+    requires from { since.calls ≤ nests }
     requires loose { AreLooseUpTo machine.now calls.old since.calls nests }
     requires left { AreSureBut (FreeLeft (IsSequence machine.now ways.now) since.calls ran place)
         (IsSequence machine.now ways.now) calls.old }
@@ -125,7 +131,7 @@ fn settle_free_at(
 {
     if may_wait_at(machine, calls, place) {
         let all = &calls[..];
-        let wait = look_free(machine, ways, all, &all[place], since.calls, nests);
+        let wait = look_free(machine, ways, all, &all[place], since.calls, nests, place);
         put(calls, spans, place, wait);
     }
 }
@@ -147,6 +153,7 @@ fn settle_each_free(
     requires caught { AreCaught spans.old calls.old }
     requires new { AreNewSince machine.now ways.now calls.old since }
     requires within { nests ≤ length calls.old }
+    requires from { since.calls ≤ nests }
     requires loose { AreLooseUpTo machine.now calls.old since.calls nests }
     requires left { AreSureBut (FreeLeft (IsSequence machine.now ways.now) since.calls ran 0)
         (IsSequence machine.now ways.now) calls.old }
@@ -206,12 +213,13 @@ fn look_once_more(
     requires caught { AreCaught spans.old calls.old }
     requires there { place < length calls.old }
     requires seen { (d : Call)
-        → HasSeen (IsSequence machine.now ways.now) calls.old (slice_index_or calls.old place d) }
+        → HasSeen (IsSequence machine.now ways.now) calls.old place (slice_index_or calls.old place d) }
     ensures settled { IsSettledAt (IsSequence machine.now ways.now) calls.old place calls.new }
     ensures caught { AreCaught spans.new calls.new }
 {
     let all = &calls[..];
-    let wait = look_on(machine, ways, all, &all[place]);
+    let at = Around { place, done: 0 };
+    let wait = look_on(machine, ways, all, &all[place], at);
     put(calls, spans, place, wait);
 }
 
@@ -225,21 +233,120 @@ fn look_again(
     rows: &[Row],
     spans: &mut [Span],
     place: usize,
+    done: usize,
 )
     requires rules { KeepsModelRules machine.now }
     requires ways { AreWaysIn machine.now ways.now }
     requires items { AreItemsOf machine.now calls.old }
+    requires done { AreRunBefore calls.old done }
     requires placed { ArePlaced calls.old rows.now }
     requires caught { AreCaught spans.old calls.old }
     requires there { place < length calls.old }
     requires seen { (d : Call)
-        → HasSeen (IsSequence machine.now ways.now) calls.old (slice_index_or calls.old place d) }
+        → HasSeen (IsSequence machine.now ways.now) calls.old place (slice_index_or calls.old place d) }
     ensures settled { IsSettledAt (IsSequence machine.now ways.now) calls.old place calls.new }
     ensures caught { AreCaught spans.new calls.new }
 {
     let all = &calls[..];
-    let wait = look_over(machine, ways, all, rows, &all[place]);
+    let at = Around { place, done };
+    let wait = look_over(machine, ways, all, rows, &all[place], at);
     put(calls, spans, place, wait);
+}
+
+// Whether a call has run and waits for none, and what comes before the item of another is its own or comes before that.
+#[inline(always)]
+fn leads_on(machine: &Machine, ways: &[Way], on: &Call, call: &Call) -> bool
+    requires rules { KeepsModelRules machine.now }
+    requires ways { AreWaysIn machine.now ways.now }
+    requires on { IsItemIn machine.now on.now.item }
+    requires item { IsItemIn machine.now call.now.item }
+    ensures ran { IsTrue result → IsTrue on.now.ran }
+    ensures free { IsTrue result → IsTrue on.now.blocked → ⊥ }
+    ensures leads { IsTrue result → LeadsTo (IsSequence machine.now ways.now) on.now.item call.now.item }
+{
+    on.ran && !on.blocked && leads_to(machine, ways, on.item, call.item)
+}
+
+// Whether no new call stands at a place.
+#[inline(always)]
+fn is_old(place: usize, since: Since) -> bool
+    ensures { IsTrue result ↔ (place < since.calls) }
+{
+    place < since.calls
+}
+
+// Whether nothing holds up the call at a place, since all that comes before it is the call that has run, or comes before
+// that.
+#[inline(always)]
+fn is_freed(
+    machine: &Machine,
+    ways: &[Way],
+    calls: &[Call],
+    since: Since,
+    ran: usize,
+    place: usize,
+) -> bool
+    requires rules { KeepsModelRules machine.now }
+    requires ways { AreWaysIn machine.now ways.now }
+    requires items { AreItemsOf machine.now calls.now }
+    requires once { AllPairs (λ a b. a.item ≢ b.item) calls.now }
+    requires inside { place < length calls.now }
+    requires there { since.calls ≤ length calls.now }
+    requires clear { AreClearBefore (IsSequence machine.now ways.now) calls.now since.calls }
+    ensures { IsTrue result → (d : Call)
+        → ArePassed (IsSequence machine.now ways.now) calls.now (slice_index_or calls.now place d).item (length calls.now) }
+{
+    is_old(ran, since) && leads_on(machine, ways, &calls[ran], &calls[place])
+}
+
+// Says of the call at a place that it waits for none.
+#[inline(always)]
+fn put_free(calls: &mut [Call], spans: &mut [Span], place: usize)
+    requires there { place < length calls.old }
+    requires caught { AreCaught spans.old calls.old }
+    ensures put { IsPut calls.old place (record { blocked = false; seen = length calls.old }) calls.new }
+    ensures caught { AreCaught spans.new calls.new }
+{
+    let wait = Wait {
+        blocked: false,
+        seen: calls.len() as u32,
+    };
+    put(calls, spans, place, wait);
+}
+
+// Says of the call at a place, which waited for the one that has run, whether it waits, and for which one. It looks at
+// the others only where that which has run does not lead to it alone.
+#[inline(always)]
+fn look_behind(
+    machine: &Machine,
+    ways: &[Way],
+    calls: &mut [Call],
+    rows: &[Row],
+    spans: &mut [Span],
+    since: Since,
+    ran: usize,
+    place: usize,
+    done: usize,
+)
+    requires rules { KeepsModelRules machine.now }
+    requires ways { AreWaysIn machine.now ways.now }
+    requires items { AreItemsOf machine.now calls.old }
+    requires done { AreRunBefore calls.old done }
+    requires placed { ArePlaced calls.old rows.now }
+    requires caught { AreCaught spans.old calls.old }
+    requires there { place < length calls.old }
+    requires within { since.calls ≤ length calls.old }
+    requires seen { (d : Call)
+        → HasSeen (IsSequence machine.now ways.now) calls.old place (slice_index_or calls.old place d) }
+    requires clear { AreClearBefore (IsSequence machine.now ways.now) calls.old since.calls }
+    ensures settled { IsSettledAt (IsSequence machine.now ways.now) calls.old place calls.new }
+    ensures caught { AreCaught spans.new calls.new }
+{
+    if is_freed(machine, ways, calls, since, ran, place) {
+        put_free(calls, spans, place);
+    } else {
+        look_again(machine, ways, calls, rows, spans, place, done);
+    }
 }
 
 // Tells the old call at a place for which one it waits, if it waited for the one that has run.
@@ -254,10 +361,12 @@ fn settle_waiting_at(
     ran: usize,
     end: usize,
     place: usize,
+    done: usize,
 )
     requires rules { KeepsModelRules machine.now }
     requires ways { AreWaysIn machine.now ways.now }
     requires items { AreItemsOf machine.now calls.old }
+    requires done { AreRunBefore calls.old done }
     requires caught { AreCaught spans.old calls.old }
     requires placed { ArePlaced calls.old rows.now }
     requires old { place < since.calls }
@@ -270,7 +379,7 @@ fn settle_waiting_at(
         (IsSequence machine.now ways.now) calls.new }
 {
     if waits_for(calls[place], ran) {
-        look_again(machine, ways, calls, rows, spans, place);
+        look_behind(machine, ways, calls, rows, spans, since, ran, place, done);
     }
 }
 
@@ -307,10 +416,12 @@ fn settle_waiting(
     spans: &mut [Span],
     since: Since,
     ran: usize,
+    done: usize,
 )
     requires rules { KeepsModelRules machine.now }
     requires ways { AreWaysIn machine.now ways.now }
     requires items { AreItemsOf machine.now calls.old }
+    requires done { AreRunBefore calls.old done }
     requires placed { ArePlaced calls.old rows.now }
     requires caught { AreCaught spans.old calls.old }
     requires there { since.calls ≤ length calls.old }
@@ -323,7 +434,9 @@ fn settle_waiting(
     let span = span_of(spans, ran, since);
     let end = span.end as usize;
     for place in span.first as usize..end {
-        settle_waiting_at(machine, ways, calls, rows, spans, since, ran, end, place);
+        settle_waiting_at(
+            machine, ways, calls, rows, spans, since, ran, end, place, done,
+        );
     }
 }
 
@@ -338,10 +451,12 @@ fn settle_new_at(
     since: Since,
     long: bool,
     place: usize,
+    done: usize,
 )
     requires rules { KeepsModelRules machine.now }
     requires ways { AreWaysIn machine.now ways.now }
     requires items { AreItemsOf machine.now calls.old }
+    requires done { AreRunBefore calls.old done }
     requires placed { ArePlaced calls.old rows.now }
     requires caught { AreCaught spans.old calls.old }
     requires new { AreNewSince machine.now ways.now calls.old since }
@@ -354,7 +469,8 @@ fn settle_new_at(
     ensures left { AreSureBut (NewLeft (place + 1)) (IsSequence machine.now ways.now) calls.new }
 {
     let all = &calls[..];
-    let wait = look_new(machine, ways, long, all, rows, &all[place], since);
+    let at = Around { place, done };
+    let wait = look_new(machine, ways, long, all, rows, &all[place], since, at);
     put(calls, spans, place, wait);
 }
 
@@ -368,10 +484,12 @@ fn settle_each_new(
     spans: &mut [Span],
     since: Since,
     long: bool,
+    done: usize,
 )
     requires rules { KeepsModelRules machine.now }
     requires ways { AreWaysIn machine.now ways.now }
     requires items { AreItemsOf machine.now calls.old }
+    requires done { AreRunBefore calls.old done }
     requires placed { ArePlaced calls.old rows.now }
     requires caught { AreCaught spans.old calls.old }
     requires new { AreNewSince machine.now ways.now calls.old since }
@@ -382,7 +500,7 @@ fn settle_each_new(
     ensures sure { AreAllSure (IsSequence machine.now ways.now) calls.new }
 {
     for place in since.calls..calls.len() {
-        settle_new_at(machine, ways, calls, rows, spans, since, long, place);
+        settle_new_at(machine, ways, calls, rows, spans, since, long, place, done);
     }
 }
 
@@ -395,10 +513,12 @@ fn settle_new(
     rows: &[Row],
     spans: &mut [Span],
     since: Since,
+    done: usize,
 )
     requires rules { KeepsModelRules machine.now }
     requires ways { AreWaysIn machine.now ways.now }
     requires items { AreItemsOf machine.now calls.old }
+    requires done { AreRunBefore calls.old done }
     requires placed { ArePlaced calls.old rows.now }
     requires caught { AreCaught spans.old calls.old }
     requires new { AreNewSince machine.now ways.now calls.old since }
@@ -409,7 +529,7 @@ fn settle_new(
 {
     if since.calls < calls.len() {
         let long = some_new_is_long(ways, since);
-        settle_each_new(machine, ways, calls, rows, spans, since, long);
+        settle_each_new(machine, ways, calls, rows, spans, since, long, done);
     }
 }
 
@@ -420,7 +540,7 @@ fn settle_each(machine: &Machine, ways: &[Way], calls: &mut [Call], spans: &mut 
     requires ways { AreWaysIn machine.now ways.now }
     requires items { AreItemsOf machine.now calls.old }
     requires caught { AreCaught spans.old calls.old }
-    requires fresh { (call : Call) → Contains calls.old call → IsFresh call }
+    requires fresh { (k : ℕ) (d : Call) → k < length calls.old → IsFreshAt k (slice_index_or calls.old k d) }
     ensures alike { ArePairwise IsAlike calls.old calls.new }
     ensures caught { AreCaught spans.new calls.new }
     ensures sure { AreAllSure (IsSequence machine.now ways.now) calls.new }
@@ -440,10 +560,12 @@ fn settle_all(
     spans: &mut [Span],
     since: Since,
     ran: usize,
+    done: usize,
 )
     requires rules { KeepsModelRules machine.now }
     requires ways { AreWaysIn machine.now ways.now }
     requires items { AreItemsOf machine.now calls.old }
+    requires done { AreRunBefore calls.old done }
     requires placed { ArePlaced calls.old rows.now }
     requires caught { AreCaught spans.old calls.old }
     requires new { AreNewSince machine.now ways.now calls.old since }
@@ -454,8 +576,8 @@ fn settle_all(
     ensures sure { AreAllSure (IsSequence machine.now ways.now) calls.new }
 {
     settle_free(machine, ways, calls, spans, since, ran);
-    settle_waiting(machine, ways, calls, rows, spans, since, ran);
-    settle_new(machine, ways, calls, rows, spans, since);
+    settle_waiting(machine, ways, calls, rows, spans, since, ran, done);
+    settle_new(machine, ways, calls, rows, spans, since, done);
 }
 
 impl Roster {
@@ -468,10 +590,12 @@ impl Roster {
         spans: &mut [Span],
         since: Since,
         ran: usize,
+        done: usize,
     )
         requires rules { KeepsModelRules machine.now }
         requires ways { AreWaysIn machine.now ways.now }
         requires items { AreItemsOf machine.now self.old.calls.items }
+        requires done { AreRunBefore self.old.calls.items done }
         requires caught { AreCaught spans.old self.old.calls.items }
         requires new { AreNewSince machine.now ways.now self.old.calls.items since }
         requires left { AreSureBut (FreeLeft (IsSequence machine.now ways.now) since.calls ran 0)
@@ -490,6 +614,7 @@ impl Roster {
             spans,
             since,
             ran,
+            done,
         );
     }
 
@@ -500,7 +625,7 @@ impl Roster {
         requires ways { AreWaysIn machine.now ways.now }
         requires items { AreItemsOf machine.now self.old.calls.items }
         requires caught { AreCaught spans.old self.old.calls.items }
-        requires fresh { (call : Call) → Contains self.old.calls.items call → IsFresh call }
+        requires fresh { (k : ℕ) (d : Call) → k < length self.old.calls.items → IsFreshAt k (slice_index_or self.old.calls.items k d) }
         ensures alike { ArePairwise IsAlike self.old.calls.items self.new.calls.items }
         ensures caught { AreCaught spans.new self.new.calls.items }
         ensures sure { AreAllSure (IsSequence machine.now ways.now) self.new.calls.items }

@@ -11,12 +11,16 @@ ghost use Rattle.pssm_plan.specs.inner.ByWays.{calls_by, opens_by, orders_by};
 ghost use Rattle.pssm_plan.specs.inner.Sequence.{IsLong, IsSomeLong, MayOrder, IsNestedPair, IsSequence, IsOrderedBySome};
 ghost use Rattle.pssm_plan.specs.inner.Sequence.{IsOpenedBySome, IsNoEnd, kind_number};
 
+use crate::apart::{may_be_led, may_follow};
 use crate::direct::{may_call, may_exit};
 use crate::near::leads_on_near;
 use pssm_legs::{Legs, calls, legs_of, lone_legs, lone_start, opens_for, orders};
 use pssm_model::{Item, Machine, RegionId, Route, TransId, VertexId};
 use std::alloc::{AllocError as NoMemory, Global};
 use std::snapshot::Snapshot;
+
+// Of so many legs but the first at most it is looked where they end, to see whether an entry comes before an item.
+const FEW_LEGS: usize = 2;
 
 /// A route by which a step goes: one that fires at its head, or one by which a region has opened or a choice was left.
 #[derive(Drop)]
@@ -112,10 +116,10 @@ fn is_end(item: Item) -> bool
     matches!(item, Item::Opened(_, _) | Item::Pick(_))
 }
 
-// Whether the entry of a State may come before an item by a way: before what its leg calls at the end, or what another
-// leg calls.
+// Whether the entry of a State may come before what is no entry by a way: before what its leg calls at the end, or what
+// another leg calls. Where there are many legs it is not asked where they end.
 #[inline(always)]
-fn entry_may_lead(machine: &Machine, way: &Way, s: VertexId, second: Item) -> bool
+fn entry_may_lead_on(machine: &Machine, way: &Way, s: VertexId, second: Item) -> bool
     requires rules { KeepsModelRules machine.now }
     requires way { IsWayIn machine.now way.now }
     requires state { s.0 < length machine.now.vertices }
@@ -125,7 +129,27 @@ fn entry_may_lead(machine: &Machine, way: &Way, s: VertexId, second: Item) -> bo
     if is_end(second) {
         return true;
     }
+    if way.legs.more.len() > FEW_LEGS {
+        return true;
+    }
     leads_on_near(machine, way, s)
+}
+
+// Whether the entry of a State may come before an item by a way: before the entry of what lies in the State, or what is no
+// entry.
+#[inline(always)]
+fn entry_may_lead(machine: &Machine, way: &Way, s: VertexId, second: Item) -> bool
+    requires rules { KeepsModelRules machine.now }
+    requires way { IsWayIn machine.now way.now }
+    requires state { s.0 < length machine.now.vertices }
+    requires second { IsItemIn machine.now second }
+    ensures { orders_by machine.now way.now (Called.Enter s) second → IsTrue result }
+{
+    let _shaped = machine.regions();
+    match second {
+        Item::Enter(q) => lies_in(machine, q, s),
+        _ => entry_may_lead_on(machine, way, s, second),
+    }
 }
 
 /// Whether the first leg of a way is named by a transition.
@@ -136,16 +160,26 @@ pub fn is_named(way: &Way, t: TransId) -> bool
     way.legs.first.named == t
 }
 
-// Whether an effect may come before an item by a way: one of a way that is not long is that of its one transition.
+// Whether a way may call an effect: one that is not long calls that of its one transition.
+#[inline(always)]
+fn may_call_effect(way: &Way, t: TransId) -> bool
+    ensures named { (way.now.legs.first.named ≡ t) → IsTrue result }
+    ensures long { IsLong way.now → IsTrue result }
+{
+    is_named(way, t) || is_long(way)
+}
+
+// Whether an effect may come before an item by a way: one of the way, and no other effect from which a fork or join parts
+// it.
 #[inline(always)]
 fn effect_may_lead(machine: &Machine, way: &Way, t: TransId, second: Item) -> bool
+    requires rules { KeepsModelRules machine.now }
     requires way { IsWayIn machine.now way.now }
+    requires first { t.0 < length machine.now.transitions }
+    requires second { IsItemIn machine.now second }
     ensures { orders_by machine.now way.now (Called.Effect t) second → IsTrue result }
 {
-    if is_named(way, t) {
-        return true;
-    }
-    is_long(way)
+    may_call_effect(way, t) && may_follow(machine, way, t, second)
 }
 
 // Whether the exit of a vertex may come before an item by a way: of one of which the way may call the exit.
@@ -165,6 +199,7 @@ fn may_lead(machine: &Machine, way: &Way, first: Item, second: Item) -> bool
     requires rules { KeepsModelRules machine.now }
     requires way { IsWayIn machine.now way.now }
     requires first { IsItemIn machine.now first }
+    requires second { IsItemIn machine.now second }
     ensures { orders_by machine.now way.now first second → IsTrue result }
 {
     match first {
@@ -173,6 +208,18 @@ fn may_lead(machine: &Machine, way: &Way, first: Item, second: Item) -> bool
         Item::Exit(s) => exit_may_lead(machine, way, s, second),
         Item::Opened(_, _) | Item::Pick(_) => true,
     }
+}
+
+// Whether the first of two items may come before the second by a way: nothing does before an exit of its first leg.
+#[inline(always)]
+fn may_come_first(machine: &Machine, way: &Way, first: Item, second: Item) -> bool
+    requires rules { KeepsModelRules machine.now }
+    requires way { IsWayIn machine.now way.now }
+    requires first { IsItemIn machine.now first }
+    requires second { IsItemIn machine.now second }
+    ensures { orders_by machine.now way.now first second → IsTrue result }
+{
+    may_be_led(machine, way, second) && may_lead(machine, way, first, second)
 }
 
 // Whether the first of two items comes before the second by a way that calls both.
@@ -184,7 +231,8 @@ fn way_orders(machine: &Machine, way: &Way, first: Item, second: Item) -> bool
     requires second { IsItemIn machine.now second }
     ensures { IsTrue result ↔ orders_by machine.now way.now first second }
 {
-    may_lead(machine, way, first, second) && orders(machine, &way.legs, way.fires, first, second)
+    may_come_first(machine, way, first, second)
+        && orders(machine, &way.legs, way.fires, first, second)
 }
 
 // Whether the first of two items comes before the second by one of the ways. It is asked of each.

@@ -1,14 +1,18 @@
 -- What says that all has run that may hold up an item.
-use Rattle.std.specs.Prelude.{◌≡◌, ◌<◌, ◌≤◌, ℕ, List, [], IsTrue, length, slice_index_or}
+use Rattle.std.specs.Prelude.{◌≡◌, ◌⊎◌, ◌<◌, ◌≤◌, ℕ, List, [], IsTrue, length, slice_index_or}
 use Rattle.pssm_model.specs.declared.ids.VertexId.{VertexId}
 use Rattle.pssm_model.specs.declared.ids.RegionId.{RegionId}
+use Rattle.pssm_model.specs.declared.ids.TransId.{TransId}
 use Rattle.pssm_model.specs.declared.elements.DraftMachine.{DraftMachine}
+use Rattle.pssm_model.specs.declared.elements.VertexKind.{VertexKind}
+use Rattle.pssm_model.specs.declared.elements.VertexKind.TheVariants as kinds
 use Rattle.pssm_model.specs.declared.steps.Item.{Item}
 use Rattle.pssm_model.specs.declared.steps.Item.TheVariants.{Exit}
-use Rattle.pssm_model.specs.Forest.{LiesInRegion}
+use Rattle.pssm_model.specs.Forest.{HasKind, LiesInRegion}
+use Rattle.pssm_model.specs.Legs.{Leaves, Enters}
 use Rattle.pssm_plan.specs.declared.ways.Way.{Way}
 use Rattle.pssm_plan.specs.declared.roster.Call.{Call}
-use Rattle.pssm_plan.specs.Waiting.{HoldsUp}
+use Rattle.pssm_plan.specs.inner.Passes.{ArePassed}
 
 -- The item has run, where it is listed.
 abbrev pub IsDone : List Call → Item → Type 0
@@ -29,6 +33,24 @@ HasNoExitIn m calls r from place =
     (k : ℕ) (d : Call) → from ≤ k → k < place → k < length calls → IsExitIn m r (slice_index_or calls k d).item
     → (IsTrue (slice_index_or calls k d).ran → ⊥) → ⊥
 
--- None of the calls from this place on holds up the item.
-abbrev pub AreClearFrom : (Item → Item → Type 0) → List Call → Item → ℕ → Type 0
-AreClearFrom Comes calls item from = (k : ℕ) (d : Call) → from ≤ k → k < length calls → HoldsUp Comes (slice_index_or calls k d) item → ⊥
+-- The second transition goes on from the junction on which the first ends.
+abbrev pub AreMeeting : DraftMachine → TransId → TransId → Type 0
+AreMeeting m t u = (v : VertexId) × HasKind m v kinds.Junction × Enters m t v × Leaves m u v
+
+-- What comes before the second item is the first, or comes before that.
+abbrev pub LeadsTo : (Item → Item → Type 0) → Item → Item → Type 0
+LeadsTo Comes x y = (z : Item) → Comes z y → (z ≡ x) ⊎ Comes z x
+
+-- Nothing holds up those of the calls before the place that are not blocked.
+abbrev pub AreClearBefore : (Item → Item → Type 0) → List Call → ℕ → Type 0
+AreClearBefore Comes calls first =
+    (k : ℕ) (d : Call) → k < first → k < length calls → (IsTrue (slice_index_or calls k d).blocked → ⊥)
+    → ArePassed Comes calls (slice_index_or calls k d).item (length calls)
+
+-- The transition leaves a vertex of the kind.
+abbrev pub LeavesKind : DraftMachine → TransId → VertexKind → Type 0
+LeavesKind m t kind = (v : VertexId) × HasKind m v kind × Leaves m t v
+
+-- The transition enters a vertex of the kind.
+abbrev pub EntersKind : DraftMachine → TransId → VertexKind → Type 0
+EntersKind m t kind = (v : VertexId) × HasKind m v kind × Enters m t v

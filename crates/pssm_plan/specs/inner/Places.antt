@@ -61,7 +61,7 @@ pub record ArePlaced (calls : List Call) (rows : List Row) : Type 0 where
 abbrev pub IsAdded : List Call → Call → List Call → Type 0
 IsAdded old call new = (IsListed old call.item × (new ≡ old)) ⊎ ((IsListed old call.item → ⊥) × (new ≡ old ++ call ∷ []))
 
--- No call before this place is of the entry of the State and has not run.
-abbrev pub IsEntryPassed : List Call → VertexId → ℕ → Type 0
-IsEntryPassed calls s place =
-    (k : ℕ) (d : Call) → k < place → k < length calls → (slice_index_or calls k d).item ≡ Enter s → (IsTrue (slice_index_or calls k d).ran → ⊥) → ⊥
+-- No call from a place on and before another is of the entry of the State and has not run.
+abbrev pub IsEntryFreeFrom : List Call → VertexId → ℕ → ℕ → Type 0
+IsEntryFreeFrom calls s from end =
+    (k : ℕ) (d : Call) → from ≤ k → k < end → k < length calls → (slice_index_or calls k d).item ≡ Enter s → (IsTrue (slice_index_or calls k d).ran → ⊥) → ⊥

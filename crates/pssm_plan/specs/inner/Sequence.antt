@@ -10,7 +10,6 @@ use Rattle.pssm_legs.specs.Calls.{IsItemIn}
 use Rattle.pssm_plan.specs.declared.ways.Way.{Way}
 use Rattle.pssm_plan.specs.declared.roster.Call.{Call}
 use Rattle.pssm_plan.specs.declared.waiting.Since.{Since}
-use Rattle.pssm_plan.specs.Waiting.{HoldsUp}
 use Rattle.pssm_plan.specs.inner.ByWays.{calls_by, opens_by, orders_by}
 use Rattle.pssm_plan.specs.inner.Marks.{IsListed, IsMarked, IsFresh}
 
@@ -70,11 +69,6 @@ AreApartFrom m ways calls first =
 abbrev pub AreLooseUpTo : DraftMachine → List Call → ℕ → ℕ → Type 0
 AreLooseUpTo m calls first nests =
     (k : ℕ) (d : Call) (x : Item) → first ≤ k → k < nests → k < length calls → IsNestedPair m (slice_index_or calls k d).item x → ⊥
-
--- None of the calls before this place holds up the item by where their States lie.
-abbrev pub ArePassedNested : DraftMachine → List Call → Item → ℕ → Type 0
-ArePassedNested m calls item place =
-    (k : ℕ) (d : Call) → k < place → k < length calls → HoldsUp (IsNestedPair m) (slice_index_or calls k d) item → ⊥
 
 -- The calls from this place on are new: no way orders one of them and another, and only ways from this place on call them.
 pub record AreNewSince (m : DraftMachine) (ways : List Way) (calls : List Call) (since : Since) : Type 0 where

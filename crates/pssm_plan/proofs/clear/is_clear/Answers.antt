@@ -1,8 +1,8 @@
-use Rattle.std.proofs.Common.{◌≡◌, get_or, sym, subst}
+use Rattle.std.proofs.Common.{◌≡◌, length, get_or, sym, subst}
 use Rattle.pssm_model.specs.declared.steps.Item.{Item}
 use Rattle.pssm_model.specs.declared.steps.Item.TheVariants.{Enter, Effect}
 use Rattle.pssm_plan.specs.Waiting.{HoldsUp}
-use Rattle.pssm_plan.specs.inner.Clear.{AreClearFrom}
+use Rattle.pssm_plan.specs.inner.Passes.{ArePassed}
 use Rattle.pssm_plan.specs.inner.Sequence.{IsSequence}
 use Rattle.pssm_plan.proofs.clear.is_clear.Goals as goal
 
@@ -15,5 +15,5 @@ returns-in-Enter c = λ ok k d le inside up.
 pub returns-in-Effect : goal.returns-in-Effect
 returns-in-Effect c = λ ok.
     let is : c.args.call.now.item ≡ Effect c.in-Effect.t = (let i = c.in-Effect.is in cc) in
-    subst (λ (x : Item). AreClearFrom (IsSequence c.args.machine.now c.args.ways.now) c.args.calls.now x c.args.call.now.seen) (sym is)
+    subst (λ (x : Item). ArePassed (IsSequence c.args.machine.now c.args.ways.now) c.args.calls.now x (length c.args.calls.now)) (sym is)
     (c.effect_is_clear.ensures ok)

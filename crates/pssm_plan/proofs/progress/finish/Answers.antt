@@ -2,6 +2,7 @@ use Rattle.pssm_plan.proofs.ApartCalls.{noted_new}
 use Rattle.pssm_plan.proofs.Caught.{caught_told}
 use Rattle.pssm_plan.proofs.Following.{noted_items, told_noted}
 use Rattle.pssm_plan.proofs.Passes.{told_left}
+use Rattle.pssm_plan.proofs.RunBefore.{run_told}
 use Rattle.pssm_plan.proofs.StandingItems.{is_false}
 use Rattle.pssm_plan.specs.inner.Sequence.{IsSequence}
 use Rattle.pssm_plan.proofs.progress.finish.Goals as goal
@@ -51,3 +52,7 @@ returns-else-anew-clause-finished c = record {
   alike = c.settle.ensures.alike;
   sure = c.settle.ensures.sure;
 }
+
+pub settle-requires-clause-done : goal.settle-requires-clause-done
+settle-requires-clause-done c =
+    run_told c.args.item c.args.roster.now.calls.items c.tell-ran.new.self.calls.items c.args.done c.tell-ran.ensures.told c.requires.done

@@ -1,5 +1,4 @@
 use Rattle.std.proofs.Common.{◌<◌, ◌≢◌, ◌+◌, length, get_or, subst, sym, arith, ◌∙◌}
-use Rattle.std.proofs.lemmas.List.Elements.{Contains-get_or}
 use Rattle.pssm_plan.specs.declared.roster.Call.{Call}
 use Rattle.pssm_plan.specs.inner.Sequence.{IsSequence}
 use Rattle.pssm_plan.specs.inner.Marks.{HasSeen}
@@ -16,9 +15,9 @@ look_once_more-requires-clause-seen c = λ e.
     let Comes = IsSequence c.args.machine.now c.args.ways.now in
     let inv = c.loop-place.invariant in
     let lt : c.loop-place.place < length c.args.calls.now = (let long = c.loop-place.invariant.0.0 in let test = c.loop-place-test.true in omega (arith, long, test)) in
-    subst (λ (x : Call). HasSeen Comes now x) (sym (inv.3 p e (omega arith)))
-    (seen_along Comes old now (get_or old p e) (pairs_alike old now inv.0)
-    (seen_fresh Comes old (get_or old p e) (c.requires.fresh (get_or old p e) (Contains-get_or old p e lt))))
+    subst (λ (x : Call). HasSeen Comes now p x) (sym (inv.3 p e (omega arith)))
+    (seen_along Comes old now p (get_or old p e) (pairs_alike old now inv.0)
+    (seen_fresh Comes old p (get_or old p e) lt (c.requires.fresh p e lt)))
 
 pub loop-place-preserved : goal.loop-place-preserved
 loop-place-preserved c =

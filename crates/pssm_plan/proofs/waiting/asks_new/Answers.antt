@@ -1,4 +1,4 @@
-use Rattle.std.proofs.Common.{◌≡◌, IsTrue, Bool, true, false, not, drop, refl, sym, subst}
+use Rattle.std.proofs.Common.{◌≡◌, IsTrue, Bool, true, not, drop, refl, sym, subst}
 use Rattle.pssm_model.specs.declared.steps.Item.{Item}
 use Rattle.pssm_model.specs.declared.steps.Item.TheVariants.{Exit}
 use Rattle.pssm_plan.specs.inner.Sequence.{IsOrderedBySome}

@@ -8,7 +8,7 @@ raised-requires-clause-passed c = λ k d lt inside up. c.requires.passed k d lt 
 
 pub returns : goal.returns
 returns c =
-    free_settled c.args.machine.now c.args.ways.now c.args.calls.now c.args.call.now (waiting c.args.call.now c.look_nested.result) c.args.first
+    free_settled c.args.machine.now c.args.ways.now c.args.calls.now c.args.place c.args.call.now (waiting c.args.call.now c.look_nested.result) c.args.first
     c.requires.passed c.requires.apart
-    (settled_begun _ c.args.calls.now c.raised.result c.args.call.now c.look_nested.result c.raised.ensures.item c.raised.ensures.ran
+    (settled_begun _ c.args.calls.now c.args.place c.raised.result c.args.call.now c.look_nested.result c.raised.ensures.item c.raised.ensures.ran
     c.look_nested.ensures)

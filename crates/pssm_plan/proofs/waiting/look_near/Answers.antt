@@ -8,10 +8,10 @@ look_by-requires-clause-ways c =
 
 pub look_by-requires-clause-seen : goal.look_by-requires-clause-seen
 look_by-requires-clause-seen c =
-    near_seen c.args.machine.now c.args.ways.now c.ways_of-near.result.now c.args.calls.now c.args.call.now
+    near_seen c.args.machine.now c.args.ways.now c.ways_of-near.result.now c.args.calls.now c.args.at.place c.args.call.now
     c.ways_of-near.ensures.some c.ways_of-near.ensures.all c.requires.seen
 
 pub returns : goal.returns
 returns c =
-    near_settled c.args.machine.now c.args.ways.now c.ways_of-near.result.now c.args.calls.now c.args.call.now (waiting c.args.call.now c.look_by.result)
+    near_settled c.args.machine.now c.args.ways.now c.ways_of-near.result.now c.args.calls.now c.args.at.place c.args.call.now (waiting c.args.call.now c.look_by.result)
     c.ways_of-near.ensures.some c.ways_of-near.ensures.all c.look_by.ensures

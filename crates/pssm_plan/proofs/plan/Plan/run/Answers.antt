@@ -1,4 +1,4 @@
-use Rattle.std.proofs.Common.{◌∙◌, ◌++◌, ◌∷◌, [], List, Contains, ap, subst, sym}
+use Rattle.std.proofs.Common.{◌<◌, ◌∙◌, ◌++◌, ◌∷◌, [], ℕ, List, length, get_or, ap, subst, sym}
 use Rattle.std.proofs.lemmas.Result.{on_ok_weaker}
 use Rattle.std.proofs.lemmas.List.{map-append}
 use Rattle.pssm_model.specs.declared.steps.How.{How}
@@ -42,7 +42,7 @@ run-outcome-requires-clause-covered c =
 pub run-outcome-requires-clause-sure : goal.run-outcome-requires-clause-sure
 run-outcome-requires-clause-sure c =
     shown_sure (IsSequence c.args.machine.now c.self.inside.progress.ways.items) c.self.inside.progress.roster.calls.items
-    (subst (λ (p : Agenda). (call : Call) → Contains p.calls call → IsExact (IsSequence c.args.machine.now p.ways) p.calls call) (sym c.self.view_is)
+    (subst (λ (p : Agenda). (k : ℕ) (d : Call) → k < length p.calls → IsExact (IsSequence c.args.machine.now p.ways) p.calls k (get_or p.calls k d)) (sym c.self.view_is)
     (plan_exact c.args.machine.now c.regions-shaped.ensures.shaped c.args.self.now c.requires.plan))
 
 pub run-outcome-requires-clause-way : goal.run-outcome-requires-clause-way

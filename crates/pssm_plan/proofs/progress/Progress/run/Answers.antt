@@ -1,12 +1,15 @@
 use Rattle.std.proofs.Common.{List, ℕ, length, subst, sym, refl}
 use Rattle.pssm_plan.specs.declared.ways.Way.{Way}
+use Rattle.pssm_plan.specs.declared.roster.Call.{Call}
 use Rattle.pssm_plan.specs.Ways.{AreWaysIn}
+use Rattle.pssm_plan.specs.inner.Marks.{AreRunUpTo}
 use Rattle.pssm_plan.specs.inner.Sequence.{IsSequence, AreNewSince}
 use Rattle.pssm_plan.specs.inner.Passes.{AreCaught, AreSureBefore}
 use Rattle.pssm_plan.specs.inner.Calling.{IsNoExit}
 use Rattle.pssm_plan.specs.declared.waiters.Span.{Span}
 use Rattle.pssm_plan.proofs.ApartCalls.{new_from, followed_no_exit}
 use Rattle.pssm_plan.proofs.Caught.{caught_grown, caught_room}
+use Rattle.pssm_plan.proofs.RunBefore.{run_longer, run_finished}
 use Rattle.pssm_plan.proofs.Following.{followed_roster, followed_ways, followed_fresh, sure_over_ways, run_so}
 use Rattle.pssm_plan.proofs.progress.Progress.run.Goals as goal
 
@@ -61,3 +64,20 @@ pub returns-in_err-anew-clause-caught : goal.returns-in_err-anew-clause-caught
 returns-in_err-anew-clause-caught c =
     caught_room c.args.self.now.spans.items _ c.args.self.now.roster.calls.items _ c.in_err-anew.ensures.refused.spans c.in_err-anew.ensures.refused.calls
     c.requires.caught
+
+-- all that ran before the place have run still
+pub finish-requires-clause-done : goal.finish-requires-clause-done
+finish-requires-clause-done c =
+    (run_longer c.args.self.now.roster.calls.items c.follow_whole.new.self.roster.calls.items c.args.done c.in_ok-anew.ensures.longer.calls
+    c.requires.done).1
+
+pub returns-clause-done : goal.returns-clause-done
+returns-clause-done c =
+    let grown = c.follow_whole.new.self.roster.calls.items in
+    let finished = c.finish.ensures.finished in
+    run_finished c.args.item grown finished.now _ c.args.done finished.noted finished.alike
+    (run_longer c.args.self.now.roster.calls.items grown c.args.done c.in_ok-anew.ensures.longer.calls c.requires.done)
+
+pub returns-in_err-anew-clause-done : goal.returns-in_err-anew-clause-done
+returns-in_err-anew-clause-done c =
+    subst (λ (l : List Call). AreRunUpTo l c.args.done) (sym c.in_err-anew.ensures.refused.calls) c.requires.done

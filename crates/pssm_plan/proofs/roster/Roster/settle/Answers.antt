@@ -3,6 +3,7 @@ use Rattle.std.proofs.Math.Seq.{take-append_seam}
 use Rattle.pssm_plan.specs.declared.roster.Call.{Call}
 use Rattle.pssm_plan.specs.inner.Sequence.{IsSequence, AreNewSince}
 use Rattle.pssm_plan.specs.inner.Passes.{AreCaught, AreSureBut, FreeLeft}
+use Rattle.pssm_plan.specs.inner.Marks.{AreRunBefore}
 use Rattle.pssm_plan.specs.inner.Places.{CallList, ArePlaced}
 use Rattle.pssm_plan.proofs.PlacedCalls.{placed_alike}
 use Rattle.pssm_plan.proofs.roster.Roster.settle.Goals as goal
@@ -38,3 +39,8 @@ invariant_of-calls c =
     rw count (take-append_seam new (drop (length new) c.calls.inside.list.items)) in
     rw whole (placed_alike c.calls.inside.list.items new c.calls.inside.rows.items wide
     (λ k d lt. (c.settle_all.ensures.alike.1 k d (rw value lt)).item_is ∙ ap (λ (l : List Call). (get_or l k d).item) value) c.calls.invariant)
+
+pub settle_all-requires-clause-done : goal.settle_all-requires-clause-done
+settle_all-requires-clause-done c =
+    let same = c.as_mut_slice.ensures.value ∙ ap (λ (l : CallList). l.items) c.calls.view_is in
+    subst (λ (l : List Call). AreRunBefore l c.args.done) (sym same) c.requires.done

@@ -1,7 +1,7 @@
-use Rattle.std.proofs.Common.{◌≡◌, ◌∙◌, ◌++◌, List, Contains, length, take, drop, get_or, rules, ap, sym, subst}
+use Rattle.std.proofs.Common.{◌≡◌, ◌<◌, ◌∙◌, ◌++◌, ℕ, List, length, take, drop, get_or, rules, ap, sym, subst}
 use Rattle.std.proofs.Math.Seq.{take-append_seam}
 use Rattle.pssm_plan.specs.declared.roster.Call.{Call}
-use Rattle.pssm_plan.specs.inner.Marks.{IsFresh}
+use Rattle.pssm_plan.specs.inner.Marks.{IsFreshAt}
 use Rattle.pssm_plan.specs.inner.Passes.{AreCaught}
 use Rattle.pssm_plan.specs.inner.Places.{CallList}
 use Rattle.pssm_plan.proofs.PlacedCalls.{placed_alike}
@@ -15,7 +15,7 @@ settle_each-requires-clause-caught c =
 pub settle_each-requires-clause-fresh : goal.settle_each-requires-clause-fresh
 settle_each-requires-clause-fresh c =
     let same = c.as_mut_slice.ensures.value ∙ ap (λ (l : CallList). l.items) c.calls.view_is in
-    subst (λ (l : List Call). (call : Call) → Contains l call → IsFresh call) (sym same) c.requires.fresh
+    subst (λ (l : List Call). (k : ℕ) (d : Call) → k < length l → IsFreshAt k (get_or l k d)) (sym same) c.requires.fresh
 
 pub invariant_of-calls : goal.invariant_of-calls
 invariant_of-calls c =
