@@ -35,6 +35,7 @@ pub mod Counting
 pub mod TaskLists
 pub mod TasksReady
 pub mod Eights
+pub mod Awaiting
 pub mod Views
 pub mod Deferring
 pub mod QueueLists

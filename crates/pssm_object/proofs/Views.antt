@@ -31,12 +31,12 @@ use Rattle.pssm_object.specs.Queue.{CompletionQueue, IsQueueOf}
 use Rattle.pssm_object.specs.Doing.{AreDoersBelow}
 use Rattle.pssm_object.specs.inner.Queueing.{QueueFits}
 use Rattle.pssm_object.specs.Standing.{Standing, StandsAfter, Stands}
-use Rattle.pssm_object.specs.Following.{NamesPlaces, KeepsRule, KeepsRules, IsCandidate, IsMove, IsQuiet, HasNext, IsHandedIn, IsTold, CanCome, Defers, TellsEnd, IsFirstCompletion, TellsCompletion, TellsReady, stimulus_for, made_by}
+use Rattle.pssm_object.specs.Following.{NamesPlaces, KeepsRule, KeepsRules, IsCandidate, IsMove, IsQuiet, HasNext, IsHandedIn, IsTold, CanCome, Defers, TellsEnd, TellsWait, IsFirstCompletion, TellsCompletion, TellsReady, stimulus_for, made_by}
 use Rattle.pssm_object.specs.Tasks.{ready_tasks, AreReadyTasks, Does}
 use Rattle.pssm_object.specs.inner.Situations.{standing_of}
 use Rattle.pssm_object.specs.inner.Judging.{Judges, IsTaskReady}
 use Rattle.pssm_object.specs.inner.Advancing.{CanFollow, Advances}
-use Rattle.pssm_object.specs.inner.Choosing.{Chooses, DoesTask, IsDeferredHere, IsStill}
+use Rattle.pssm_object.specs.inner.Choosing.{Chooses, DoesTask, IsDeferredHere, IsStill, AwaitsHere}
 use Rattle.pssm_object.proofs.QueueEntries.{queue_before_all}
 use Rattle.pssm_object.proofs.QueueHeads.{head_of_queue, end_of_queue, queue_fits}
 use Rattle.pssm_object.proofs.Standings.{plan_fits}
@@ -46,6 +46,7 @@ use Rattle.pssm_object.proofs.Following.{can_follow}
 use Rattle.pssm_object.proofs.Deferring.{deferred_is}
 use Rattle.pssm_object.proofs.Advancing.{following}
 use Rattle.pssm_object.proofs.Eights.{params_eight}
+use Rattle.pssm_object.proofs.Awaiting.{wait_told}
 use Rattle.pssm_object.proofs.Chosen.{IsGoodMove, good_move, chosen_keeps, quiet_is}
 use Rattle.pssm_object.proofs.TaskLists.{lists_tasks, does_task}
 use Rattle.pssm_object.proofs.TaskCounts.{few_tasks}
@@ -61,6 +62,13 @@ module _ (situation : Situation) (x : Standing) (view_is : standing_of situation
   -- whether it has ended, and which completion is the first that waits
   pub end_seen : (answer : Bool) → answer ≡ situation.ended → (class : Class) → TellsEnd class x answer
   end_seen answer is class J s = subst (λ (ended : Bool). IsTrue ended ↔ HasEnded class.machine J x.own) (sym (is ∙ ap (λ (y : Standing). y.ended) view_is)) s.ended_is
+
+  -- whether it waits for a signal
+  pub wait_seen : (answer : Bool) → ((m : DraftMachine) → IfSome situation.plan (IsPlanOf m) → (IsTrue answer ↔ AwaitsHere m (standing_of situation)))
+      → (class : Class) → TellsWait class x answer
+  wait_seen answer h class J s =
+      wait_told class s answer
+      (seen (λ y. IsTrue answer ↔ AwaitsHere class.machine y) (h class.machine (unseen (λ y. IfSome y.plan (IsPlanOf class.machine)) (plan_fits s))))
 
   first_told : (class : Class) (J : List Entry) → StandsAfter class J x → (first : Option VertexId) → slice_get x.queue.states 0 ≡ first
       → IsFirstCompletion class.machine J x.own first

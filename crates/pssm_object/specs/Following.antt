@@ -1,5 +1,5 @@
 -- Which entries of an object may follow and which tasks are ready, as far as the object itself shows it.
-use Rattle.std.specs.Prelude.{◌≡◌, ◌↔◌, ◌<◌, ◌++◌, List, [], ◌∷◌, length, Option, Some, None, option_map, IsSome, IsSomeAnd, Bool, IsTrue}
+use Rattle.std.specs.Prelude.{◌≡◌, ◌↔◌, ◌<◌, ◌++◌, List, [], ◌∷◌, length, Option, Some, None, option_map, IsSome, IsSomeAnd, Bool, IsTrue, Contains}
 use Rattle.std.specs.Option.{option_map_or}
 use Rattle.pssm_model.specs.declared.ids.VertexId.{VertexId}
 use Rattle.pssm_model.specs.declared.elements.DraftMachine.{DraftMachine}
@@ -11,14 +11,14 @@ use Rattle.pssm_semantics.specs.declared.setting.Class.{Class}
 use Rattle.pssm_semantics.specs.declared.setting.Outcome.{Outcome}
 use Rattle.pssm_semantics.specs.declared.stimulus.Stimulus.{Stimulus}
 use Rattle.pssm_semantics.specs.declared.stimulus.Task.{Task}
-use Rattle.pssm_semantics.specs.Journal.{IsPost, object_of}
+use Rattle.pssm_semantics.specs.Journal.{IsPost, IsStart, object_of}
 use Rattle.pssm_semantics.specs.Pool.{told_by}
 use Rattle.pssm_semantics.specs.Values.{Params, no_params, outcome_of}
 use Rattle.pssm_semantics.specs.Behaviours.{act_of}
 use Rattle.pssm_semantics.specs.Tasks.{IsReadyTask}
 use Rattle.pssm_semantics.specs.Known.{IsFiringOf, IsRouteOf, IsVertexOf, IsWayOf}
 use Rattle.pssm_semantics.specs.Rules.{KeepsOwn}
-use Rattle.pssm_semantics.specs.Completion.{HasEnded, IsQueueEmpty, IsQueueHead}
+use Rattle.pssm_semantics.specs.Completion.{HasEnded, IsQueueEmpty, IsQueueHead, IsStepFinished}
 use Rattle.pssm_semantics.specs.Deferral.{IsDeferred}
 use Rattle.pssm_semantics.specs.Verdict.{IsFirstBroken}
 use Rattle.pssm_pool.specs.declared.pools.Waiting.{Waiting}
@@ -143,6 +143,19 @@ IsFirstCompletion m J o (Some s) = IsQueueHead m J o s
 abbrev pub TellsCompletion : Class → Standing → Option VertexId → Type 0
 TellsCompletion class x answer =
     (J : List Entry) → StandsAfter class J x → IsFirstCompletion class.machine J x.own answer
+
+-- The object waits for a signal: it has started and has not ended, its step is finished, and no completion waits. A take may come
+-- next only then (UML 2.5.1 14.2.3.9, run to completion).
+pub record AwaitsSignal (m : DraftMachine) (J : List Entry) (o : ObjectId) : Type 0 where
+  pub living : HasEnded m J o → ⊥
+  pub started : (f : Entry) × Contains J f × IsStart f o
+  pub finished : IsStepFinished m J o
+  pub empty : IsQueueEmpty m J o
+
+-- After all entries after which the object stands so, the answer is whether it waits for a signal
+-- (UML 2.5.1 14.2.3.9, run to completion).
+abbrev pub TellsWait : Class → Standing → Bool → Type 0
+TellsWait class x answer = (J : List Entry) → StandsAfter class J x → IsTrue answer ↔ AwaitsSignal class.machine J x.own
 
 -- After all entries after which the object stands so, the answer is whether the task is ready
 -- (UML 2.5.1 14.2.3.9, transition execution sequence).

@@ -1,5 +1,5 @@
 //! What an object may do next, where it stands so.
-ghost use Rattle.std.specs.Prelude.{◌≡◌, ◌≤◌, ◌<◌, ◌↔◌, length, IsTrue, IfOk, IfSome, IfNone, Some, Contains};
+ghost use Rattle.std.specs.Prelude.{◌≡◌, ◌<◌, ◌↔◌, length, IsTrue, IfOk, IfSome, IfNone, Some, Contains};
 ghost use Rattle.std.specs.Option.{option_copied};
 ghost use Rattle.pssm_model.specs.declared.elements.DraftMachine.{DraftMachine};
 ghost use Rattle.pssm_model.specs.declared.elements.VertexKind.TheVariants as kinds;
@@ -7,12 +7,11 @@ ghost use Rattle.pssm_model.specs.Forest.{HasKind};
 ghost use Rattle.pssm_semantics.specs.Classes.{IsWellFormedClass};
 ghost use Rattle.pssm_config.specs.Tables.{Fits};
 ghost use Rattle.pssm_plan.specs.Plans.{IsPlanOf};
-ghost use Rattle.pssm_plan.specs.Standings.{ready_calls};
 ghost use Rattle.pssm_object.specs.Tasks.{ready_tasks};
 ghost use Rattle.pssm_object.specs.inner.Situations.{standing_of, IsAtRest, first_waiting};
 ghost use Rattle.pssm_object.specs.inner.Working.{HasPlace, Makes};
 ghost use Rattle.pssm_object.specs.inner.Judging.{Completes};
-ghost use Rattle.pssm_object.specs.inner.Choosing.{IsItemThere, HasWays, IsReadyChoice, HasNoChoice, GoesSomeWay, TakesSignal, ServesCompletion, ChoosesNext, ChoosesInStep, Chooses, DoesTask, LacksChoices, IsDeferredHere};
+ghost use Rattle.pssm_object.specs.inner.Choosing.{IsItemThere, HasWays, IsReadyChoice, HasNoChoice, GoesSomeWay, TakesSignal, ServesCompletion, ChoosesNext, ChoosesInStep, Chooses, DoesTask, IsDeferredHere, AwaitsHere};
 
 use crate::firing::{is_deferred, pick_firing};
 use crate::opening::some_way;
@@ -34,6 +33,14 @@ impl Situation {
             Some(plan) => plan.finished(),
             None => false,
         }
+    }
+
+    /// Whether it has not ended, has started and its step is finished, and no completion waits.
+    pub fn awaits_signal(&self) -> bool
+        ensures { (m : DraftMachine) → IfSome self.now.plan (IsPlanOf m)
+            → (IsTrue result ↔ AwaitsHere m (standing_of self.now)) }
+    {
+        !self.ended && self.is_at_rest() && self.queue.first().is_none()
     }
 
     /// Whether some active State defers the signal.
@@ -320,42 +327,78 @@ impl Situation {
     }
 }
 
+// A ready opening or pick, with its number among the ready items and the place behind it in the plan's list.
+#[derive(Clone, Copy)]
+struct ReadyChoice {
+    item: Item,
+    number: u32,
+    behind: u32,
+}
+
 // A ready opening or pick, if there is one: the first at or after the place that the word picks, or else the first
 // of all. Most often there is none, and then one look at the ready items tells it.
 fn ready_choice(plan: &Plan, word: u64) -> Option<Item>
     ensures none { (m : DraftMachine) → IsPlanOf m plan.now → IfNone result (HasNoChoice m plan.now) }
     ensures ready { (m : DraftMachine) → IsPlanOf m plan.now → IfSome result (IsReadyChoice m plan.now) }
 {
-    match any_choice(plan) {
+    match first_choice(plan) {
         Some(first) => Some(choice_from(plan, word, first)),
         None => None,
     }
 }
 
-// The first ready opening or pick at or after the place that the word picks, or else the one that is handed in.
-fn choice_from(plan: &Plan, word: u64, first: Item) -> Item
-    ensures { (m : DraftMachine) → IsPlanOf m plan.now → IsReadyChoice m plan.now first
+// The first ready opening or pick at or after the place that the word picks, or else the one that is handed in, which
+// is the first of all.
+fn choice_from(plan: &Plan, word: u64, first: ReadyChoice) -> Item
+    ensures { (m : DraftMachine) → IsPlanOf m plan.now → IsReadyChoice m plan.now first.item
         → IsReadyChoice m plan.now result }
 {
     let count = plan.ready_count();
     if count == 0 {
-        return first;
+        return first.item;
     }
     let place = (word % u64::from(count)) as u32;
-    match first_choice(plan, place, count) {
+    if place <= first.number {
+        return first.item;
+    }
+    match choice_behind(plan, first.behind, place - first.number) {
         Some(item) => item,
-        None => first,
+        None => first.item,
     }
 }
 
 // The first ready opening or pick of all.
-fn any_choice(plan: &Plan) -> Option<Item>
+fn first_choice(plan: &Plan) -> Option<ReadyChoice>
     ensures none { (m : DraftMachine) → IsPlanOf m plan.now → IfNone result (HasNoChoice m plan.now) }
-    ensures ready { (m : DraftMachine) → IsPlanOf m plan.now → IfSome result (IsReadyChoice m plan.now) }
+    ensures ready { (m : DraftMachine) → IsPlanOf m plan.now
+        → IfSome result (λ choice. IsReadyChoice m plan.now choice.item) }
 {
+    let mut number: u32 = 0;
     let mut place = 0;
     while let Some(next) = plan.ready_from(place) {
         if has_ways(next.item) {
+            return Some(ReadyChoice {
+                item: next.item,
+                number,
+                behind: next.behind,
+            });
+        }
+        number = number.saturating_add(1);
+        place = next.behind;
+    }
+    None
+}
+
+// The first opening or pick among the ready items from a place of the plan's list on, where so many of them less one
+// are passed by.
+fn choice_behind(plan: &Plan, from: u32, steps: u32) -> Option<Item>
+    ensures { (m : DraftMachine) → IsPlanOf m plan.now → IfSome result (IsReadyChoice m plan.now) }
+{
+    let mut left = steps;
+    let mut place = from;
+    while let Some(next) = plan.ready_from(place) {
+        left = left.saturating_sub(1);
+        if left == 0 && has_ways(next.item) {
             return Some(next.item);
         }
         place = next.behind;
@@ -371,25 +414,4 @@ fn has_ways(item: Item) -> bool
         Item::Opened(_, _) | Item::Pick(_) => true,
         Item::Exit(_) | Item::Effect(_) | Item::Enter(_) => false,
     }
-}
-
-// The first ready opening or pick from one place on and before another.
-fn first_choice(plan: &Plan, from: u32, to: u32) -> Option<Item>
-    requires { to ≤ length (ready_calls plan.now) }
-    ensures none { IfNone result (LacksChoices (ready_calls plan.now) from to) }
-    ensures ready { (m : DraftMachine) → IsPlanOf m plan.now → IfSome result (IsReadyChoice m plan.now) }
-{
-    let mut i = 0;
-    let mut place = 0;
-    while let Some(next) = plan.ready_from(place) {
-        if i == to {
-            return None;
-        }
-        if from <= i && has_ways(next.item) {
-            return Some(next.item);
-        }
-        i += 1;
-        place = next.behind;
-    }
-    None
 }

@@ -41,7 +41,7 @@ impl Model for Object {
 impl Object {
     ghost use Rattle.pssm_pool.specs.declared.pools.Waiting.{Waiting as Signal};
     ghost use Rattle.pssm_object.specs.Standing.{StandsAfter, Stands};
-    ghost use Rattle.pssm_object.specs.Following.{NamesPlaces, IsCandidate, IsMove, IsQuiet, HasNext, IsHandedIn, CanCome, MayCome, BreaksFirst, HasNoMove, Brings, Defers, TellsEnd, TellsCompletion, TellsReady, made_by};
+    ghost use Rattle.pssm_object.specs.Following.{NamesPlaces, IsCandidate, IsMove, IsQuiet, HasNext, IsHandedIn, CanCome, MayCome, BreaksFirst, HasNoMove, Brings, Defers, TellsEnd, TellsWait, TellsCompletion, TellsReady, made_by};
     ghost use Rattle.pssm_object.specs.Tasks.{ready_tasks, AreReadyTasks, Does};
 
     /// An object of the class before its start, with the first values of the class's variables (UML
@@ -152,6 +152,15 @@ impl Object {
         ensures tells { (class : AClass) → TellsEnd class self.now result }
     {
         self.situation.ended
+    }
+
+    /// Whether it waits for a signal: it has started and has not ended, its step is finished, and no completion waits
+    /// (UML 2.5.1, 14.2.3.9, run to completion). Where it does not, no signal may be taken next.
+    #[inline(always)]
+    pub fn awaits_signal(&self) -> bool
+        ensures { (class : AClass) → TellsWait class self.now result }
+    {
+        self.situation.awaits_signal()
     }
 
     /// The State whose completion is the first that waits; none where none waits (UML 2.5.1, 14.2.3.8, completion

@@ -151,7 +151,7 @@ module _ {setting : Setting} (b : IsWellFormed setting) {s : Situation} {J : Lis
       (next_follows part first_is e (candidate_as e c) (names_places class part.well_formed part.object.stands first e c keeps) keeps)
 
 -- a candidate without a signal is no take
-no_take_of : (e : Entry) → NamesSignal None e → IsNoTake e
+pub no_take_of : (e : Entry) → NamesSignal None e → IsNoTake e
 no_take_of (Take o number firing) named = absurd named
 no_take_of (Post o g args) named = tt
 no_take_of (Start o) named = tt

@@ -1,5 +1,5 @@
 -- What was found for one object, as what may follow in the setting.
-use Rattle.std.proofs.Common.{◌≡◌, ◌+◌, ◌↔◌, ℕ, List, length, Bool, true, false, IsTrue, MatchBool, Option, Some, None, Result, Ok, Err, IfOk, is_some, Bor, refl, ap, arith}
+use Rattle.std.proofs.Common.{◌≡◌, ◌+◌, ◌↔◌, ℕ, List, length, Bool, true, false, IsTrue, MatchBool, Option, Some, None, Result, Ok, Err, IfOk, is_some, Bor, refl, sym, ap, subst, inl, inr, arith}
 use Rattle.std.specs.Option.{option_copied}
 use Rattle.std.proofs.lemmas.Bool.{false≢true}
 use Rattle.pssm_semantics.specs.declared.entry.ObjectId.{ObjectId}
@@ -16,12 +16,13 @@ use Rattle.pssm_system.specs.declared.situation.Situation.{Situation}
 use Rattle.pssm_system.specs.declared.choosing.Wanted.{Wanted}
 use Rattle.pssm_system.specs.declared.choosing.Wanted.TheVariants.{AnyEntry}
 use Rattle.pssm_system.specs.Tasks.{IsQuietOf}
-use Rattle.pssm_system.specs.inner.Deferring.{IsFirstFor}
+use Rattle.pssm_system.specs.inner.Deferring.{IsFirstFor, IsAwaited}
 use Rattle.pssm_system.specs.inner.Keeping.{StandsSo}
 use Rattle.pssm_system.specs.inner.Choosing.{Finds, NoneMayCome, FindsAmong}
-use Rattle.pssm_system.proofs.Judged.{is_part}
+use Rattle.pssm_system.proofs.Judged.{IsPart, is_part}
 use Rattle.pssm_system.proofs.Members.{IsMember}
-use Rattle.pssm_system.proofs.Choices.{part, found-follows, none-follows, quiet-none, next-some, next-own, alone-own, handed_in, none-both, none-of_all}
+use Rattle.pssm_system.proofs.Choices.{wanted-no_post, no_take_of, part, found-follows, none-follows, quiet-none, next-some, next-own, alone-own, handed_in, none-both, none-of_all}
+use Rattle.pssm_system.proofs.Nexts.{alone_follows, follows_alone}
 
 -- objects with the same number are one
 same_number : (o p : ObjectId) → o.0 ≡ p.0 → o ≡ p
@@ -75,6 +76,43 @@ module _ {setting : Setting} (b : IsWellFormed setting) (s : Situation) {K : Lis
       let p = part b stands o class x m.class_is m.there first f in
       let next = says J first p.object.stands (handed_in first waiting is) in
       ((λ yes. absurd (false≢true yes)), (λ quiet. absurd (next-own b stands o class x m.class_is m.there first f next quiet)))
+
+-- What was found without a signal for an object that waits for none.
+module _ {setting : Setting} (b : IsWellFormed setting) (s : Situation) {K : List Entry} {o : ObjectId} {class : Class} {x : Standing}
+    (m : IsMember setting K s.objects.items o class x) (still : objects.TellsWait class x false) where
+  alone : (J : List Entry) → StandsSo setting J s → IsPart setting J s.pools.waiting o class x
+  alone J stands = is_part b stands.objects stands.pools o class x m.class_is m.there
+
+  awaits_none : (J : List Entry) → StandsSo setting J s → objects.AwaitsSignal class.machine J o → ⊥
+  awaits_none J stands h =
+      let p = alone J stands in
+      false≢true ((still J p.object.stands).1 (subst (objects.AwaitsSignal class.machine J) (sym p.object.own) h))
+
+  still_one : (wanted : Wanted) (chosen : Option Entry) → Finds class x None wanted chosen → FindsAmong setting s wanted o.0 (o.0 + 1) chosen
+  still_one wanted None finds = λ J e stands le lt is may.
+      let p = alone J stands in
+      let next = follows_alone p (awaits_none J stands) e (same_number (object_of e) o (omega arith)) (wanted-no_post wanted e is) may in
+      finds J e p.object.stands is (subst (λ q. objects.IsCandidate q None e) (sym p.object.own) next.0) next.1
+  still_one wanted (Some e) finds = record {
+    wanted_is = finds.wanted_is;
+    follows = λ J stands.
+        let p = alone J stands in
+        alone_follows p e (subst (λ q. objects.IsCandidate q None e) p.object.own finds.candidate) finds.places (finds.keeps J p.object.stands)
+        (no_take_of e finds.candidate.names);
+  }
+
+  pub still_found : {E : Type 0} (wanted : Wanted) (r : Result (Option Entry) E) → IfOk r (Finds class x None wanted)
+      → IfOk r (FindsAmong setting s wanted o.0 (o.0 + 1))
+  still_found wanted (Ok chosen) finds = still_one wanted chosen finds
+  still_found wanted (Err none) finds = tt
+
+-- what was found for the signal that the object waits for
+pub awaited_found : {E : Type 0} {setting : Setting} (b : IsWellFormed setting) (s : Situation) {K : List Entry} {o : ObjectId} {class : Class} {x : Standing}
+    (m : IsMember setting K s.objects.items o class x) (signal : Option Waiting) → IsAwaited setting s o signal → (wanted : Wanted)
+    (r : Result (Option Entry) E) → IfOk r (Finds class x signal wanted) → IfOk r (FindsAmong setting s wanted o.0 (o.0 + 1))
+awaited_found b s m signal (inl f) wanted r finds = found_of b s m signal f wanted r finds
+awaited_found b s {class = class} {x = x} m signal (inr (none, still)) wanted r finds =
+    still_found b s m (still class x m.class_is m.there) wanted r (subst (λ g. IfOk r (Finds class x g wanted)) none finds)
 
 -- an object that has something to do without a signal is not quiet
 pub busy_own : {setting : Setting} (b : IsWellFormed setting) (s : Situation) {K : List Entry} {o : ObjectId} {class : Class} {x : Standing}

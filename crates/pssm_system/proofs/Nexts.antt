@@ -7,7 +7,7 @@ use Rattle.pssm_semantics.specs.declared.entry.ObjectId.{ObjectId}
 use Rattle.pssm_semantics.specs.declared.entry.Entry.{Entry}
 use Rattle.pssm_semantics.specs.declared.entry.Entry.TheVariants.{Take}
 use Rattle.pssm_semantics.specs.declared.entry.Rule.{Rule}
-use Rattle.pssm_semantics.specs.declared.entry.Rule.TheVariants.{A1, A6, A12}
+use Rattle.pssm_semantics.specs.declared.entry.Rule.TheVariants.{A1, A2, A3, A4, A5, A6, A12}
 use Rattle.pssm_semantics.specs.declared.setting.Class.{Class}
 use Rattle.pssm_semantics.specs.declared.setting.Setting.{Setting}
 use Rattle.pssm_semantics.specs.Settings.{class_of}
@@ -20,7 +20,7 @@ use Rattle.pssm_semantics.specs.Proper.{IsWellFormed}
 use Rattle.pssm_semantics_laws.proofs.Outcomes.{known_outs}
 use Rattle.pssm_pool.specs.declared.pools.Waiting.{Waiting}
 use Rattle.pssm_object.specs.Standing.{Standing}
-use Rattle.pssm_object.specs.Following.{NamesPlaces, NamesSignal, IsCandidate, IsTold, KeepsRules, stimulus_of, stimulus_for}
+use Rattle.pssm_object.specs.Following.{NamesPlaces, NamesSignal, AwaitsSignal, IsCandidate, IsTold, KeepsRules, stimulus_of, stimulus_for}
 use Rattle.pssm_system.specs.declared.situation.Situation.{Situation}
 use Rattle.pssm_system.specs.inner.Deferring.{ComesFirst, IsFirstFree, IsFirstFor, if_numbered, ComesWith}
 use Rattle.pssm_system.specs.inner.Keeping.{StandsSo}
@@ -53,6 +53,34 @@ module _ {setting : Setting} {J : List Entry} {pools : List (List Waiting)} {o :
       (known_outs setting class p.fits o (object_there setting o class p.class_is) (told_by J) J e c.own (keeps A12)) in
       let none = no_take-has e None free refl in
       λ rule. asked p None e c.own known none.pool none.signal_is rule (keeps rule)
+
+  -- where the object waits for no signal, no take of it may follow
+  no_take_there : (AwaitsSignal class.machine J o → ⊥) → (number : ℕ) (firing : Firing) → MayFollow setting J (Take o number firing) → ⊥
+  no_take_there still number firing may = still (record {
+    living = may A2 class p.class_is;
+    started = may A3 class p.class_is;
+    finished = may A4 class p.class_is;
+    empty = may A5 class p.class_is;
+  })
+
+  -- and what may follow the object may do next without a signal
+  pub follows_alone : (AwaitsSignal class.machine J o → ⊥) → (e : Entry) → object_of e ≡ o → (IsPost e → ⊥) → MayFollow setting J e
+      → IsCandidate o None e × KeepsRules class x None J e
+  follows_alone still e own no_post may = by (take_or_not e)
+    where
+      here : class_of setting (object_of e) ≡ Some class
+      here = ap (λ q. class_of setting q) own ∙ p.class_is
+
+      by : TakeOrNot e → IsCandidate o None e × KeepsRules class x None J e
+      by (no_take free) =
+          let has : HasSignal J class o e None = no_take-has e None free refl in (
+            record { own = own; no_post = no_post; names = names_none None e free },
+            λ rule. shown p None e own (names_of setting J e class here (may A1)) has.pool has.signal_is rule (may rule),
+          )
+      by (is_take q number firing is) =
+          let owner : q ≡ o = sym (ap object_of is) ∙ own in
+          let at : e ≡ Take o number firing = is ∙ ap (λ r. Take r number firing) owner in
+          absurd (no_take_there still number firing (subst (MayFollow setting J) at may))
 
   -- the first signal that waits and is not deferred
   module _ {first : Option Waiting} (f : IsFirst pools o class x first) where

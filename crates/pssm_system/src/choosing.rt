@@ -130,7 +130,7 @@ impl Situation {
     {
         let class = class_of(setting, own);
         let object = &self.objects[usize::from(own.0)];
-        let signal = self.first_for(setting, own);
+        let signal = self.awaited(setting, own);
         next_of(alloc, object, class, signal, wanted, word)
     }
 }

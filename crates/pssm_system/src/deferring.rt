@@ -15,7 +15,7 @@ use pssm_semantics::{Class, ObjectId, Setting};
 
 impl Situation {
     ghost use Rattle.pssm_system.specs.inner.Keeping.{Stands};
-    ghost use Rattle.pssm_system.specs.inner.Deferring.{IsFirstFor};
+    ghost use Rattle.pssm_system.specs.inner.Deferring.{IsFirstFor, IsAwaited};
 
     /// The first signal that waits for the object and that it does not defer, if there is one.
     pub fn first_for(&self, setting: &Setting, own: ObjectId) -> Option<&Waiting>
@@ -26,6 +26,21 @@ impl Situation {
     {
         let object = &self.objects[usize::from(own.0)];
         first_free(object, class_of(setting, own), &self.pools, own)
+    }
+
+    /// The same where the object waits for a signal; none where it does not. What waits is looked for only where it
+    /// does.
+    pub fn awaited(&self, setting: &Setting, own: ObjectId) -> Option<&Waiting>
+        requires well_formed { IsWellFormed setting.now }
+        requires stands { Stands setting.now self.now }
+        requires there { own.0 < length self.now.objects.items }
+        ensures { IsAwaited setting.now self.now own (option_copied result) }
+    {
+        let object = &self.objects[usize::from(own.0)];
+        if !object.awaits_signal() {
+            return None;
+        }
+        self.first_for(setting, own)
     }
 }
 

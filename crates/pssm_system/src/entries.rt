@@ -1,5 +1,5 @@
 //! Of an entry its object and its signals, and of an object its class.
-ghost use Rattle.std.specs.Prelude.{◌≡◌, ◌<◌, [], length, Some, IsTrue, IfOk, flat_map};
+ghost use Rattle.std.specs.Prelude.{◌≡◌, ◌<◌, [], length, Some, IsTrue, IfOk, IfSome, flat_map};
 ghost use Rattle.pssm_semantics.specs.Settings.{class_of as class_in};
 ghost use Rattle.pssm_semantics.specs.Journal.{object_of as object_in};
 ghost use Rattle.pssm_semantics.specs.Pool.{signals_of_entry, signals_of_out};
@@ -65,6 +65,36 @@ pub fn signals_of(alloc: Global, entry: &Entry) -> Result<Vec<Stimulus>, NoMemor
         | Entry::Done { .. }
         | Entry::Opened { .. }
         | Entry::Pick { .. } => Ok(Vec::new(alloc)),
+    }
+}
+
+/// The output of an entry that has one alone.
+#[inline(always)]
+pub fn only_out(entry: &Entry) -> Option<&Out>
+    ensures { IfSome result (λ out. signals_of_entry entry.now ≡ signals_of_out out.now) }
+{
+    match entry {
+        Entry::Exit { outs, .. }
+        | Entry::Effect { outs, .. }
+        | Entry::Enter { outs, .. }
+        | Entry::DoStep { outs, .. } => only_of(outs.as_slice()),
+        Entry::Post { .. }
+        | Entry::Start { .. }
+        | Entry::Take { .. }
+        | Entry::Done { .. }
+        | Entry::Opened { .. }
+        | Entry::Pick { .. } => None,
+    }
+}
+
+// The output, where there is one alone.
+#[inline(always)]
+fn only_of(outs: &[Out]) -> Option<&Out>
+    ensures { IfSome result (λ out. flat_map signals_of_out outs.now ≡ signals_of_out out.now) }
+{
+    match outs {
+        [out] => Some(out),
+        _ => None,
     }
 }
 

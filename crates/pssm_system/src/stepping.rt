@@ -1,18 +1,18 @@
 //! What is kept of the journal once one more entry has come that may follow.
-ghost use Rattle.std.specs.Prelude.{◌≡◌, ◌≤◌, ◌<◌, ◌+◌, [], length, IfSome, OnOk, OnErr};
+ghost use Rattle.std.specs.Prelude.{◌≡◌, ◌≤◌, ◌<◌, ◌+◌, ◌∷◌, [], length, IfSome, OnOk, OnErr};
 ghost use Rattle.std.specs.Option.{option_copied};
 ghost use Rattle.pssm_semantics.specs.Pool.{signals_of_entry};
 ghost use Rattle.pssm_semantics.specs.Proper.{IsWellFormed};
 ghost use Rattle.pssm_pool.specs.Waits.{held_in};
 ghost use Rattle.pssm_system.specs.inner.Stepping.{CanStep, HaveStepped, AreMade};
 
-use crate::entries::{class_of, object_of, sends_nothing, signals_of};
+use crate::entries::{class_of, object_of, only_out, sends_nothing, signals_of};
 use crate::pooling::{deliver, leave, leave_slot, signal_at, taken_signal, taken_slot};
 use crate::situation::Situation;
 use pssm_model::{Duplicate, SignalId};
 use pssm_object::Object;
 use pssm_pool::Waiting;
-use pssm_semantics::{Args, Entry, ObjectId, Setting};
+use pssm_semantics::{Args, Entry, ObjectId, Out, Setting};
 use std::alloc::{AllocError as NoMemory, Global};
 
 impl Situation {
@@ -35,7 +35,7 @@ impl Situation {
                 signal,
                 args,
             } => self.post(alloc, *object, *signal, args),
-            _ if sends_nothing(entry) => self.go_on(setting, entry),
+            _ if sends_nothing(entry) => self.go_on(setting, entry, None),
             _ => self.send(alloc, setting, entry, None),
         }
     }
@@ -63,6 +63,7 @@ impl Situation {
                 signal,
                 args,
             } => self.post(alloc, *object, *signal, args),
+            _ if sends_nothing(entry) => self.go_on(setting, entry, Some(store)),
             _ => self.send(alloc, setting, entry, Some(store)),
         }
     }
@@ -93,18 +94,25 @@ impl Situation {
         Ok(())
     }
 
-    // Goes on by an entry that posts and sends nothing.
+    // Goes on by an entry that posts and sends nothing; the values that its behaviour left are handed in where it was
+    // run elsewhere.
     #[inline(always)]
-    fn go_on(&mut self, setting: &Setting, entry: &Entry) -> Result<(), NoMemory>
+    fn go_on(
+        &mut self,
+        setting: &Setting,
+        entry: &Entry,
+        made: Option<&[i64]>,
+    ) -> Result<(), NoMemory>
         requires well_formed { IsWellFormed setting.now }
         requires can { CanCome setting.now self.old entry.now }
         requires silent { signals_of_entry entry.now ≡ [] }
+        requires made { IfSome made (λ store. AreMade setting.now self.old.objects.items entry.now store.now) }
         ensures ok { OnOk result (Brings setting.now self.old entry.now self.new) }
         ensures err { OnErr result (IsUnchanged self.old self.new) }
     {
         let slot = taken_slot(&self.pools, entry);
         let taken = signal_at(&self.pools, slot);
-        step(self.objects.as_mut_slice(), setting, entry, taken)?;
+        step_by(self.objects.as_mut_slice(), setting, entry, taken, made)?;
         leave_slot(&mut self.pools, entry, slot);
         Ok(())
     }
@@ -112,6 +120,68 @@ impl Situation {
     // Goes on by any entry; the values that its behaviour left are handed in where it was run elsewhere.
     #[inline(never)]
     fn send(
+        &mut self,
+        alloc: Global,
+        setting: &Setting,
+        entry: &Entry,
+        made: Option<&[i64]>,
+    ) -> Result<(), NoMemory>
+        requires well_formed { IsWellFormed setting.now }
+        requires can { CanCome setting.now self.old entry.now }
+        requires made { IfSome made (λ store. AreMade setting.now self.old.objects.items entry.now store.now) }
+        ensures ok { OnOk result (Brings setting.now self.old entry.now self.new) }
+        ensures err { OnErr result (IsUnchanged self.old self.new) }
+    {
+        match only_out(entry) {
+            Some(
+                Out::Send {
+                    object,
+                    signal,
+                    args,
+                },
+            ) => self.send_one(alloc, setting, entry, made, *object, *signal, args),
+            _ => self.send_all(alloc, setting, entry, made),
+        }
+    }
+
+    // Goes on by an entry with this signal alone, which is copied where it is to wait.
+    #[inline(always)]
+    fn send_one(
+        &mut self,
+        alloc: Global,
+        setting: &Setting,
+        entry: &Entry,
+        made: Option<&[i64]>,
+        object: ObjectId,
+        signal: SignalId,
+        args: &Args,
+    ) -> Result<(), NoMemory>
+        requires well_formed { IsWellFormed setting.now }
+        requires can { CanCome setting.now self.old entry.now }
+        requires made { IfSome made (λ store. AreMade setting.now self.old.objects.items entry.now store.now) }
+        requires sends { signals_of_entry entry.now ≡ posted object signal args.now ∷ [] }
+        requires few { self.old.told + 1 < 4_294_967_295 }
+        ensures ok { OnOk result (Brings setting.now self.old entry.now self.new) }
+        ensures err { OnErr result (IsUnchanged self.old self.new) }
+    {
+        let args = args.duplicate(alloc)?;
+        self.pools.reserve(1)?;
+        let taken = taken_signal(&self.pools, entry);
+        step_by(self.objects.as_mut_slice(), setting, entry, taken, made)?;
+        leave(&mut self.pools, entry);
+        self.told += 1;
+        let waiting = Waiting {
+            number: self.told,
+            signal,
+            args,
+        };
+        self.pools.arrive(object, waiting);
+        Ok(())
+    }
+
+    // The same by an entry with any signals.
+    #[inline(never)]
+    fn send_all(
         &mut self,
         alloc: Global,
         setting: &Setting,
@@ -155,6 +225,7 @@ fn step(
 }
 
 // The same where the values that the behaviour of the entry left are handed in if it was run elsewhere.
+#[inline(always)]
 fn step_by(
     objects: &mut [Object],
     setting: &Setting,

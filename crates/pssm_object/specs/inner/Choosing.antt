@@ -116,6 +116,10 @@ pub record HasNothingLeft (m : DraftMachine) (x : Standing) : Type 0 where
   pub queue : first_waiting x ≡ None
   pub steps : do_tasks m x.config ≡ []
 
+-- The object has not ended, it has started and its step is finished, and no completion waits.
+abbrev pub AwaitsHere : DraftMachine → Standing → Type 0
+AwaitsHere m x = (IsTrue x.ended → ⊥) × IsAtRest m x.plan × (first_waiting x ≡ None)
+
 -- It has ended, or it has nothing left and no signal waits.
 abbrev pub IsStill : DraftMachine → Standing → Bool → Type 0
 IsStill m x waiting = IsTrue x.ended ⊎ ((waiting ≡ false) × HasNothingLeft m x)

@@ -2,7 +2,7 @@
 use Rattle.std.proofs.Common.{length, refl, arith}
 use Rattle.pssm_plan.specs.Standings.{ready_calls}
 use Rattle.pssm_object.proofs.ChoiceLists.{no_choice}
-use Rattle.pssm_object.proofs.choosing.any_choice.Goals as goal
+use Rattle.pssm_object.proofs.choosing.first_choice.Goals as goal
 
 pub returns-clause-none : goal.returns-clause-none
 returns-clause-none c = λ m plan.
