@@ -1,2 +1,5 @@
+pub mod Histories
+pub mod Once
 pub mod Pieces
+pub mod ThroughReal
 pub mod Untold

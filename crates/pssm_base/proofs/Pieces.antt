@@ -4,6 +4,7 @@ use Rattle.std.proofs.Math.Seq.{take-add, take-length}
 use Rattle.std.proofs.KnownBytes.{Appends-trans}
 use Rattle.std.specs.Io.KnownBytes.{Appends}
 use Rattle.pssm_base.specs.Faults.{NoneFell}
+use Rattle.pssm_base.specs.History.{History, Added, ReadsOn}
 use Rattle.pssm_base.specs.Reading.{SameContent, IsFront}
 use Rattle.pssm_base.specs.inner.Filling.{IsRead}
 
@@ -22,12 +23,13 @@ has_put_more before now next old mid new bytes done n rest is had within more up
   count = omega arith;
 }
 
--- reading so far: n bytes at most, through a piece of that size, with nothing changed but counts that rose
-pub record HasRead (content now : List ℕ → Option (List ℕ)) (old new : List ℕ → ℕ) (path bytes : List ℕ) (n : ℕ) : Type 0 where
+-- reading so far: n bytes at most, through a piece of that size, with nothing changed but counts that rose and calls that were kept
+pub record HasRead (content now : List ℕ → Option (List ℕ)) (before after : History) (old new : List ℕ → ℕ) (path bytes : List ℕ) (n : ℕ) : Type 0 where
   pub front : IsRead (content path) bytes
   pub most : length bytes ≤ n
   pub same : SameContent content now
   pub counts : NoneFell old new
+  pub calls : Added before after (λ calls. ReadsOn path 0 calls bytes)
 
 -- the next piece
 pub read_more : (content : Option (List ℕ)) (bytes into : List ℕ) (n : ℕ) → IsRead content bytes → n ≤ length into → IfSome content (λ held. IsFront held (length bytes) n into)

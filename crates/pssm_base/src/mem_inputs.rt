@@ -1,5 +1,5 @@
 //! Files in memory, whose calls can be made to fail.
-ghost use Rattle.std.specs.Prelude.{◌≡◌, ◌<◌, ◌≤◌, ◌-◌, length, Contains, OnOk, OnErr, IfOk, IfSome, IsOk, IsErr, IsNone, IsSome};
+ghost use Rattle.std.specs.Prelude.{◌≡◌, ◌<◌, ◌≤◌, ◌-◌, length, None, Contains, OnOk, OnErr, IfOk, IfSome, IsOk, IsErr, IsNone, IsSome};
 ghost use Rattle.pssm_base.specs.Faults.{Rose, NoneFell, raised};
 ghost use Rattle.pssm_base.specs.Memory.{files_of, bytes_under, passed_on};
 ghost use Rattle.pssm_base.specs.Reading.{SameContent, IsFront};
@@ -60,6 +60,8 @@ impl MemInputs {
 
 impl Inputs for MemInputs {
     ghost content = { λ m path. bytes_under m.files path };
+
+    ghost history = { λ m. None };
 
     ghost faults = { λ m path. m.faults };
 

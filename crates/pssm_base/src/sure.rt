@@ -34,6 +34,8 @@ impl SureInputs {
 impl Inputs for SureInputs {
     ghost content = { λ files path. Some (bytes_or_none files path) };
 
+    ghost history = { λ files. None };
+
     ghost faults = { λ files path. 0 };
 
     fn read_at(&mut self, path: &str, from: u64, into: &mut [u8]) -> Result<usize, Failed>

@@ -1,8 +1,9 @@
 //! All that a path holds, in memory.
 ghost use Rattle.std.specs.Prelude.{◌≡◌, ◌<◌, ◌≤◌, ◌≢◌, ◌+◌, [], length, IfSome, IfOk, IfErr, OnOk, vec_len, IsErrOf};
 ghost use Rattle.pssm_base.specs.Faults.{Rose, NoneFell};
+ghost use Rattle.pssm_base.specs.History.{Added, Adds, Grows, ReadsAll, ReadsFront, ReadsPast};
 ghost use Rattle.pssm_base.specs.Reading.{SameContent};
-ghost use Rattle.pssm_base.specs.inner.Filling.{IsRead};
+ghost use Rattle.pssm_base.specs.inner.Filling.{IsRead, ReadsMore};
 
 use crate::{Inputs, WholeFault};
 use std::alloc::Global;
@@ -32,12 +33,23 @@ pub fn read_whole<I: Inputs>(
         (λ held. bytes.items ≡ held)) }
     ensures at_most { IfOk result (λ bytes. vec_len bytes ≤ limit) }
 
+    // The bytes are all that was read of it, once and from its start to its end, where the calls are kept.
+    ensures given { IfOk result (λ bytes. Added (I.history inputs.old) (I.history inputs.new)
+        (λ calls. ReadsAll path.now calls bytes.items)) }
+
     // Too large exactly where the path holds more than the limit.
     ensures too_large { IsErrOf result WholeFault.TooLarge → IfSome (I.content inputs.old path.now)
         (λ held. limit < length held) }
     ensures fits { OnOk result (IfSome (I.content inputs.old path.now) (λ held. length held ≤ limit)) }
 
-    // A read fault is the path's own.
+    // Too large only where as many bytes as the limit and one more were read, where the calls are kept.
+    ensures past { IsErrOf result WholeFault.TooLarge → Added (I.history inputs.old) (I.history inputs.new)
+        (λ calls. ReadsPast path.now calls limit) }
+    ensures grows { Grows (I.history inputs.old) (I.history inputs.new) }
+
+    // A read fault is the path's own, and comes behind what was read of it, where the calls are kept.
+    ensures fault { IsErrOf result WholeFault.ReadFault → Added (I.history inputs.old) (I.history inputs.new)
+        (λ calls. ReadsFront path.now calls) }
     ensures read_fault { IsErrOf result WholeFault.ReadFault
         → Rose (I.faults inputs.old path.now) (I.faults inputs.new path.now) }
     ensures counts { NoneFell (I.faults inputs.old) (I.faults inputs.new) }
@@ -63,6 +75,13 @@ fn fill<I: Inputs>(
     ensures whole { OnOk result (IfSome (I.content inputs.old path.now)
         (λ held. bytes.new.items ≡ held)) }
     ensures at_most { OnOk result (vec_len bytes.new ≤ limit) }
+    ensures given { OnOk result (Added (I.history inputs.old) (I.history inputs.new)
+        (λ calls. ReadsAll path.now calls bytes.new.items)) }
+    ensures past { IsErrOf result WholeFault.TooLarge → Added (I.history inputs.old) (I.history inputs.new)
+        (λ calls. ReadsPast path.now calls limit) }
+    ensures grows { Grows (I.history inputs.old) (I.history inputs.new) }
+    ensures fault { IsErrOf result WholeFault.ReadFault → Added (I.history inputs.old) (I.history inputs.new)
+        (λ calls. ReadsFront path.now calls) }
     ensures too_large { IsErrOf result WholeFault.TooLarge → IfSome (I.content inputs.old path.now)
         (λ held. limit < length held) }
     ensures fits { OnOk result (IfSome (I.content inputs.old path.now) (λ held. length held ≤ limit)) }
@@ -96,6 +115,9 @@ fn read_piece<I: Inputs>(
     ensures front { OnOk result (IsRead (I.content inputs.old path.now) bytes.new.items) }
     ensures within { IfOk result (λ n. n ≤ length piece.old) }
     ensures len { IfOk result (λ n. vec_len bytes.new ≡ vec_len bytes.old + n) }
+    ensures more { IfOk result
+        (ReadsMore (I.history inputs.old) (I.history inputs.new) path.now bytes.old.items bytes.new.items) }
+    ensures grows { Grows (I.history inputs.old) (I.history inputs.new) }
     ensures end { IfOk result (λ n. n ≡ 0 → IfSome (I.content inputs.old path.now)
         (λ held. bytes.new.items ≡ held)) }
 
@@ -103,6 +125,7 @@ fn read_piece<I: Inputs>(
     ensures not_large { IfErr result (λ e. e ≢ WholeFault.TooLarge) }
     ensures read_fault { IsErrOf result WholeFault.ReadFault
         → Rose (I.faults inputs.old path.now) (I.faults inputs.new path.now) }
+    ensures fault { IsErrOf result WholeFault.ReadFault → Adds (I.history inputs.old) (I.history inputs.new) [] }
     ensures counts { NoneFell (I.faults inputs.old) (I.faults inputs.new) }
     ensures same { SameContent (I.content inputs.old) (I.content inputs.new) }
 {

@@ -1,5 +1,5 @@
 -- The judging of a journal, line after line.
-use Rattle.std.proofs.Common.{◌≡◌, ◌<◌, ◌≤◌, ◌+◌, ℕ, suc, Bool, true, false, List, [], ◌∷◌, ◌++◌, length, refl, sym, ap, subst, ◌∙◌, arith, length-append}
+use Rattle.std.proofs.Common.{◌≡◌, ◌<◌, ◌≤◌, ◌+◌, ℕ, suc, Bool, true, false, List, [], ◌∷◌, ◌++◌, length, refl, sym, ap, subst, ◌∙◌, arith, append_assoc, length-append}
 use Rattle.std.specs.List.{AllByRecursion}
 use Rattle.std.proofs.lemmas.List.{append-nil}
 use Rattle.pssm_semantics.specs.declared.entry.Entry.{Entry}
@@ -13,17 +13,18 @@ use Rattle.pssm_semantics_laws.proofs.Appending.{every_push}
 use Rattle.pssm_lines.specs.declared.fault.LineFault.{LineFault}
 use Rattle.pssm_lines.specs.LineText.{line_text, header_line, journal_text}
 use Rattle.pssm_lines.specs.Faults.{IsJournalLine, IsFaultOf, in_header, in_line}
+use Rattle.pssm_lines.specs.Reading.{stream_of}
 use Rattle.pssm_journal.specs.Entries.{AreEntries}
 use Rattle.pssm_journal.proofs.Fronts.{one_more_line}
 use Rattle.pssm_journal.specs.Judged.{IsKept, IsJudged, BadText}
 use Rattle.pssm_system.specs.History.{History}
 use Rattle.pssm_judge.specs.declared.run.Stop.{Stop}
-use Rattle.pssm_judge.specs.declared.run.Stop.TheVariants.{Limit, Refuse}
+use Rattle.pssm_judge.specs.declared.run.Stop.TheVariants.{Limit, Refuse, Text}
 use Rattle.pssm_judge.specs.declared.verdict.Verdict.TheVariants.{Accept}
 use Rattle.pssm_judge.specs.Verdicts.{IsVerdictOn}
 use Rattle.pssm_judge.specs.inner.Answers.{said_at}
 use Rattle.pssm_judge.specs.inner.Following.{TakesLine, StopsAt}
-use Rattle.pssm_judge.specs.inner.Judging.{IsJudging}
+use Rattle.pssm_judge.specs.inner.Judging.{IsJudging, IsSaid}
 use Rattle.pssm_judge.proofs.FollowingLaws.{entries_append}
 
 -- ---- texts
@@ -38,6 +39,11 @@ as_many setting [] [] are = refl
 as_many setting [] (e ∷ J) are = absurd are
 as_many setting (l ∷ ls) [] are = absurd are
 as_many setting (l ∷ ls) (e ∷ J) are = ap (λ (n : ℕ). suc n) (as_many setting ls J are.1)
+
+-- what came, and more of it
+pub stream_more : (begun : Bool) (ls : List Line) (rest more : List ℕ) → stream_of begun ls rest ++ more ≡ stream_of begun ls (rest ++ more)
+stream_more true ls rest more = append_assoc (journal_text ls) rest more
+stream_more false ls rest more = refl
 
 -- ---- where the judging stands
 
@@ -117,6 +123,7 @@ said_behind setting bytes rest lines J line (Limit entry) text kept is stops = r
   passes = stops.1;
   position_is = stops.0;
 }
+said_behind setting bytes rest lines J line (Text fault) text kept is stops = absurd stops
 said_behind setting bytes rest lines J line (Refuse entry rule) text kept is stops = record {
   lines = lines;
   journal = J;
@@ -131,13 +138,34 @@ said_behind setting bytes rest lines J line (Refuse entry rule) text kept is sto
 }
 
 -- The judging ends at a line.
-pub stops_here : (setting : Setting) (bytes rest after : List ℕ) (begun : Bool) (number : ℕ) (run : History) (l : Line) (stop : Stop) → IsJudging setting bytes rest begun number run
+stops_now : (setting : Setting) (bytes rest after : List ℕ) (begun : Bool) (number : ℕ) (run : History) (l : Line) (stop : Stop) → IsJudging setting bytes rest begun number run
     → begun ≡ true → IsJournalLine l → rest ≡ line_text l ++ 10 ∷ after → StopsAt run.setting run.journal l stop → IsJudged setting bytes (said_at stop)
-stops_here setting bytes rest after false number run l stop j seen is_line is stops = absurd cc
-stops_here setting bytes rest after true number run l stop j seen is_line is stops =
+stops_now setting bytes rest after false number run l stop j seen is_line is stops = absurd cc
+stops_now setting bytes rest after true number run l stop j seen is_line is stops =
     said_behind setting bytes after j.lines run.journal l stop (j.stream ∙ ap (λ (x : List ℕ). journal_text j.lines ++ x) is ∙ line_behind j.lines l after)
     (record { lines_are = j.so_far; entries_are = j.entries; admissible = j.admissible; limits = j.limits }) is_line
     (subst (λ (s : Setting). StopsAt s run.journal l stop) j.setting_is stops)
+
+-- More bytes come.
+pub judging_more : (setting : Setting) (bytes rest more : List ℕ) (begun : Bool) (number : ℕ) (run : History) → IsJudging setting bytes rest begun number run
+    → IsJudging setting (bytes ++ more) (rest ++ more) begun number run
+judging_more setting bytes rest more begun number run j = record {
+  setting_is = j.setting_is;
+  lines = j.lines;
+  so_far = j.so_far;
+  numbered = j.numbered;
+  entries = j.entries;
+  admissible = j.admissible;
+  limits = j.limits;
+  stream = ap (λ (t : List ℕ). t ++ more) j.stream ∙ stream_more begun j.lines rest more;
+}
+
+-- It is said however the bytes go on.
+pub stops_here : (setting : Setting) (bytes rest after : List ℕ) (begun : Bool) (number : ℕ) (run : History) (l : Line) (stop : Stop) → IsJudging setting bytes rest begun number run
+    → begun ≡ true → IsJournalLine l → rest ≡ line_text l ++ 10 ∷ after → StopsAt run.setting run.journal l stop → IsSaid setting bytes stop
+stops_here setting bytes rest after begun number run l stop j seen is_line is stops = λ more.
+    stops_now setting (bytes ++ more) (rest ++ more) (after ++ more) begun number run l stop (judging_more setting bytes rest more begun number run j) seen is_line
+    (ap (λ (t : List ℕ). t ++ more) is ∙ append_assoc (line_text l) (10 ∷ after) more) stops
 
 -- What is still to be read has a fault.
 pub bad_here : (setting : Setting) (bytes rest : List ℕ) (begun : Bool) (number : ℕ) (run : History) (fault : LineFault) → IsJudging setting bytes rest begun number run
@@ -161,8 +189,10 @@ bad_here setting bytes rest false number run fault j f = record {
 }
 
 -- It has one however it goes on.
-pub bad_anyhow : (begun : Bool) (number : ℕ) (rest : List ℕ) (fault : LineFault) → ((more : List ℕ) → IsFaultOf begun number (rest ++ more) fault) → IsFaultOf begun number rest fault
-bad_anyhow begun number rest fault f = subst (λ (t : List ℕ). IsFaultOf begun number t fault) (append-nil rest) (f [])
+pub bad_anyhow : (setting : Setting) (bytes rest : List ℕ) (begun : Bool) (number : ℕ) (run : History) (fault : LineFault) → IsJudging setting bytes rest begun number run
+    → ((more : List ℕ) → IsFaultOf begun number (rest ++ more) fault) → IsSaid setting bytes (Text fault)
+bad_anyhow setting bytes rest begun number run fault j f = λ more.
+    bad_here setting (bytes ++ more) (rest ++ more) begun number run fault (judging_more setting bytes rest more begun number run j) (f more)
 
 -- All was read.
 pub judged_whole : (setting : Setting) (bytes rest : List ℕ) (begun : Bool) (number : ℕ) (run : History) → IsJudging setting bytes rest begun number run → begun ≡ true → rest ≡ []

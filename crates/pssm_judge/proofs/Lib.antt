@@ -7,3 +7,4 @@ pub mod SomeFault
 pub mod EveryJournal
 pub mod RoomLaws
 pub mod TurnLaws
+pub mod PieceLaws

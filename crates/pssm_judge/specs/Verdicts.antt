@@ -1,7 +1,7 @@
 -- What the judge's answers say of a journal.
 use Rattle.std.specs.Prelude.{◌≡◌, ℕ, List, length}
 use Rattle.pssm_base.specs.Faults.{Rose}
-use Rattle.pssm_base.specs.Reading.{Contents, ReadsWhole, HoldsMore}
+use Rattle.pssm_base.specs.Reading.{Given, ReadsWhole, HoldsMore}
 use Rattle.pssm_semantics.specs.declared.entry.Entry.{Entry}
 use Rattle.pssm_semantics.specs.declared.line.Line.{Line}
 use Rattle.pssm_semantics.specs.declared.setting.Setting.{Setting}
@@ -28,19 +28,19 @@ IsVerdictOn setting bytes (Accept entries) = IsJudged setting bytes (Accepted en
 IsVerdictOn setting bytes (Refuse entry rule) = IsJudged setting bytes (Refused entry rule)
 
 -- The path was read whole, and its bytes deserve the verdict.
-pub record IsVerdictFor (setting : Setting) (contents : Contents) (path : List ℕ) (verdict : Verdict) : Type 0 where
+pub record IsVerdictFor (setting : Setting) (given : Given) (path : List ℕ) (verdict : Verdict) : Type 0 where
   pub bytes : List ℕ
-  pub reads : ReadsWhole contents path 16777216 bytes
+  pub reads : ReadsWhole given path 16777216 bytes
   pub says : IsVerdictOn setting bytes verdict
 
 -- The path was read whole, and this is to be said of its bytes.
-abbrev pub ReadsJudged : Setting → Contents → List ℕ → Judged → Type 0
-ReadsJudged setting contents path judged = (bytes : List ℕ) × ReadsWhole contents path 16777216 bytes × IsJudged setting bytes judged
+abbrev pub ReadsJudged : Setting → Given → List ℕ → Judged → Type 0
+ReadsJudged setting given path judged = (bytes : List ℕ) × ReadsWhole given path 16777216 bytes × IsJudged setting bytes judged
 
 -- Why there is no verdict: the text has this fault, or passes the limits; the path holds too much; or the count of its faults rose. Want of memory is told without a cause.
-abbrev pub IsFaultFor : Setting → Contents → ℕ → ℕ → List ℕ → JudgeFault → Type 0
-IsFaultFor setting contents before after path (Text fault) = ReadsJudged setting contents path (BadText fault)
-IsFaultFor setting contents before after path (Limit entry) = ReadsJudged setting contents path (Limited entry)
-IsFaultFor setting contents before after path TooLarge = HoldsMore contents path 16777216
-IsFaultFor setting contents before after path ReadFault = Rose before after
-IsFaultFor setting contents before after path NoMemory = Unit {0}
+abbrev pub IsFaultFor : Setting → Given → ℕ → ℕ → List ℕ → JudgeFault → Type 0
+IsFaultFor setting given before after path (Text fault) = ReadsJudged setting given path (BadText fault)
+IsFaultFor setting given before after path (Limit entry) = ReadsJudged setting given path (Limited entry)
+IsFaultFor setting given before after path TooLarge = HoldsMore given path 16777216
+IsFaultFor setting given before after path ReadFault = Rose before after
+IsFaultFor setting given before after path NoMemory = Unit {0}

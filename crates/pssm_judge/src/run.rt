@@ -17,8 +17,8 @@ use crate::limits::{brief_output_count, output_count, passes_limits};
 use crate::room::{firing_in, firing_out};
 use crate::verdict::{JudgeFault, Verdict};
 use pssm_journal::{
-    BriefAct, BriefEntry, BriefParts, Entry, EntryAct, LineParts, Namespace, Near, entry_of_brief,
-    entry_of_parts,
+    BriefAct, BriefEntry, BriefParts, Entry, EntryAct, LineFault, LineParts, Namespace, Near,
+    entry_of_brief, entry_of_parts,
 };
 use pssm_model::{Firing, Row, SignalId, TransId, VertexId};
 use pssm_semantics::{Args, ObjectId, Rule, Setting};
@@ -34,6 +34,8 @@ pub enum Stop {
     Limit { entry: u32 },
     /// The entry breaks the rule.
     Refuse { entry: u32, rule: Rule },
+    /// The line is none of the form of journals, however it goes on.
+    Text(LineFault),
 }
 
 impl Stop {
@@ -52,6 +54,7 @@ impl Stop {
         match self {
             Stop::Limit { entry } => Err(JudgeFault::Limit { entry }),
             Stop::Refuse { entry, rule } => Ok(Verdict::Refuse { entry, rule }),
+            Stop::Text(fault) => Err(JudgeFault::Text(fault)),
         }
     }
 }

@@ -1,7 +1,8 @@
 -- How an answer that is owed comes of the parts of the work.
 use Rattle.std.proofs.Common.{◌≡◌, ◌<◌, ◌≤◌, ℕ, List, [], ◌∷◌, length, codes, Option, IfSome, Result, Ok, Err, IfOk, IfErr, refl, sym, subst, inl, inr, arith, ◌∙◌}
 use Rattle.pssm_base.specs.Faults.{Rose, NoneFell}
-use Rattle.pssm_base.specs.Reading.{Contents, ReadsWhole, HoldsMore, SameContent}
+use Rattle.pssm_base.specs.History.{History}
+use Rattle.pssm_base.specs.Reading.{Contents, Given, given, ReadsWhole, HoldsMore, ReadsNothing, SameContent}
 use Rattle.pssm_semantics.specs.declared.setting.Setting.{Setting}
 use Rattle.pssm_journal.specs.Judged.{Accepted, Refused, Limited, BadText}
 use Rattle.pssm_judge.specs.declared.verdict.Verdict.{Verdict}
@@ -28,16 +29,16 @@ pub journal_named : (words : List (List ℕ)) (model journal : List ℕ) → Mea
 journal_named words model journal is = inr (model, is)
 
 -- An answer that is owed, and that accepts no journal or one that goes on.
-abbrev pub IsGiven : List (List ℕ) → Contents → Answer → Type 0
-IsGiven words contents answer = IsOwed words contents answer × GoesOn words contents answer
+abbrev pub IsGiven : List (List ℕ) → Given → Answer → Type 0
+IsGiven words given answer = IsOwed words given answer × GoesOn words given answer
 
 -- What is answered where there is no model is owed.
-pub lacks_owed : (words : List (List ℕ)) (meaning : Meaning) (path : List ℕ) (contents : Contents) (answer : Answer) → Means words meaning → source_of meaning ≡ File path
-    → LacksModel contents path answer → IsGiven words contents answer
-lacks_owed words meaning path contents answer means is (holds_more more e) =
-    subst (λ (a : Answer). IsGiven words contents a) (sym e) (large_model path (meaning, means, is) more refl, tt)
-lacks_owed words meaning path contents answer means is (has_fault bytes fault reads wrong e) =
-    subst (λ (a : Answer). IsGiven words contents a) (sym e) (bad_model path bytes fault (meaning, means, is) reads wrong refl, tt)
+pub lacks_owed : (words : List (List ℕ)) (meaning : Meaning) (path : List ℕ) (given : Given) (answer : Answer) → Means words meaning → source_of meaning ≡ File path
+    → LacksModel given path answer → IsGiven words given answer
+lacks_owed words meaning path given answer means is (holds_more more e) =
+    subst (λ (a : Answer). IsGiven words given a) (sym e) (large_model path (meaning, means, is) more refl, tt)
+lacks_owed words meaning path given answer means is (has_fault bytes fault reads wrong e) =
+    subst (λ (a : Answer). IsGiven words given a) (sym e) (bad_model path bytes fault (meaning, means, is) reads wrong refl, tt)
 
 -- Reading the model failed.
 pub failed_at_model : (words : List (List ℕ)) (meaning : Meaning) (path : List ℕ) (before after : List ℕ → ℕ) (failure : Failure) → Means words meaning → source_of meaning ≡ File path
@@ -48,45 +49,54 @@ failed_at_model words meaning path before after NoMemory means is none = tt
 -- ---- the journal
 
 -- What was read after the model was read holds of what was told before.
-pub same_bytes : (contents then : Contents) (path bytes : List ℕ) → SameContent contents then → ReadsWhole then path 16777216 bytes → ReadsWhole contents path 16777216 bytes
-same_bytes contents then path bytes same reads =
-    record { told = subst (λ (o : Option (List ℕ)). IfSome o (λ held. bytes ≡ held)) (same path) reads.told; at_most = reads.at_most }
+pub same_bytes : (contents then : Contents) (moment ended : History) (path bytes : List ℕ) → SameContent contents then → ReadsWhole (given then moment ended) path 16777216 bytes
+    → ReadsWhole (given contents moment ended) path 16777216 bytes
+same_bytes contents then moment ended path bytes same reads = record {
+  told = subst (λ (o : Option (List ℕ)). IfSome o (λ held. bytes ≡ held)) (same path) reads.told;
+  read = reads.read;
+  at_most = reads.at_most;
+}
 
-same_size : (contents then : Contents) (path : List ℕ) → SameContent contents then → HoldsMore then path 16777216 → HoldsMore contents path 16777216
-same_size contents then path same large = subst (λ (o : Option (List ℕ)). IfSome o (λ held. 16777216 < length held)) (same path) large
+same_size : (contents then : Contents) (moment ended : History) (path : List ℕ) → SameContent contents then → HoldsMore (given then moment ended) path 16777216
+    → HoldsMore (given contents moment ended) path 16777216
+same_size contents then moment ended path same large = record {
+  told = subst (λ (o : Option (List ℕ)). IfSome o (λ held. 16777216 < length held)) (same path) large.told;
+  read = large.read;
+}
 
 -- a count that did not fall and then rose
 rose_after : (a b c : ℕ) → a ≤ b → Rose b c → Rose a c
 rose_after a b c fell rose below = let up : b < c = rose below in omega arith
 
 -- the model that was read, and what the judge said of the journal
-module _ (contents then : Contents) (before mid after : List ℕ → ℕ) (model journal : List ℕ) (setting : Setting) (has : HasModel contents (File model) setting) (same : SameContent contents then) (fell : NoneFell before mid) where
+module _ (contents then : Contents) (began moment ended : History) (before mid after : List ℕ → ℕ) (model journal : List ℕ) (setting : Setting) (has : HasModel (given contents began moment) (File model) setting) (same : SameContent contents then) (fell : NoneFell before mid) where
   -- The answer is owed.
-  owed_said : (r : Result Verdict JudgeFault) → IfOk r (IsVerdictFor setting then journal) → IfErr r (IsFaultFor setting then (mid journal) (after journal) journal)
-      → IfOk (said r) (λ answer. (words : List (List ℕ)) → Means words (Judges model journal) → IsOwed words contents answer)
-  owed_said (Ok (verdicts.Accept n)) v f = λ words is. on_model (Judges model journal) setting is has (judged v.bytes (Accepted n) (same_bytes contents then journal v.bytes same v.reads) v.says.0 refl)
-  owed_said (Ok (verdicts.Refuse n rule)) v f = λ words is. on_model (Judges model journal) setting is has (judged v.bytes (Refused n rule) (same_bytes contents then journal v.bytes same v.reads) v.says refl)
-  owed_said (Err (faults.Text bad)) v f = λ words is. on_model (Judges model journal) setting is has (judged f.0 (BadText bad) (same_bytes contents then journal f.0 same f.1) f.2 refl)
-  owed_said (Err (faults.Limit n)) v f = λ words is. on_model (Judges model journal) setting is has (judged f.0 (Limited n) (same_bytes contents then journal f.0 same f.1) f.2 refl)
-  owed_said (Err faults.TooLarge) v f = λ words is. on_model (Judges model journal) setting is has (large_journal (same_size contents then journal same f) refl)
+  owed_said : (r : Result Verdict JudgeFault) → IfOk r (IsVerdictFor setting (given then moment ended) journal) → IfErr r (IsFaultFor setting (given then moment ended) (mid journal) (after journal) journal)
+      → IfOk (said r) (λ answer. (words : List (List ℕ)) → Means words (Judges model journal) → IsOwed words (given contents began ended) answer)
+  owed_said (Ok (verdicts.Accept n)) v f = λ words is. on_model (Judges model journal) setting moment is has (judged v.bytes (Accepted n) (same_bytes contents then moment ended journal v.bytes same v.reads) v.says.0 refl)
+  owed_said (Ok (verdicts.Refuse n rule)) v f = λ words is. on_model (Judges model journal) setting moment is has (judged v.bytes (Refused n rule) (same_bytes contents then moment ended journal v.bytes same v.reads) v.says refl)
+  owed_said (Err (faults.Text bad)) v f = λ words is. on_model (Judges model journal) setting moment is has (judged f.0 (BadText bad) (same_bytes contents then moment ended journal f.0 same f.1) f.2 refl)
+  owed_said (Err (faults.Limit n)) v f = λ words is. on_model (Judges model journal) setting moment is has (judged f.0 (Limited n) (same_bytes contents then moment ended journal f.0 same f.1) f.2 refl)
+  owed_said (Err faults.TooLarge) v f = λ words is. on_model (Judges model journal) setting moment is has (large_journal (same_size contents then moment ended journal same f) refl)
   owed_said (Err faults.ReadFault) v f = tt
   owed_said (Err faults.NoMemory) v f = tt
 
   -- An accepted journal goes on to a complete run.
-  continues : (n : ℕ) (v : IsVerdictFor setting then journal (verdicts.Accept n)) (words : List (List ℕ)) → Means words (Judges model journal) → (m j : List ℕ) → Means words (Judges m j) → IsContinued contents m j
+  continues : (n : ℕ) (v : IsVerdictFor setting (given then moment ended) journal (verdicts.Accept n)) (words : List (List ℕ)) → Means words (Judges model journal) → (m j : List ℕ) → Means words (Judges m j) → IsContinued (given contents began ended) m j
   continues n v words is m j means =
       let both : codes "judge" ∷ model ∷ journal ∷ [] ≡ codes "judge" ∷ m ∷ j ∷ [] = sym is ∙ means in
       let models : model ≡ m = cc in
       let journals : journal ≡ j = cc in
       let p = v.says.1 in
-      subst (λ (t : List ℕ). IsContinued contents t j) models (subst (λ (t : List ℕ). IsContinued contents model t) journals (record {
+      subst (λ (t : List ℕ). IsContinued (given contents began ended) t j) models (subst (λ (t : List ℕ). IsContinued (given contents began ended) model t) journals (record {
         setting = setting;
         entries = p.journal;
+        moment = moment;
         model_is = has;
         holds = record {
           bytes = v.bytes;
           lines = p.lines;
-          reads = same_bytes contents then journal v.bytes same v.reads;
+          reads = same_bytes contents then moment ended journal v.bytes same v.reads;
           text = p.text;
           lines_are = p.kept.lines_are;
           entries_are = p.kept.entries_are;
@@ -95,8 +105,8 @@ module _ (contents then : Contents) (before mid after : List ℕ → ℕ) (model
         completes = p.completes;
       }))
 
-  goes_on_said : (r : Result Verdict JudgeFault) → IfOk r (IsVerdictFor setting then journal)
-      → IfOk (said r) (λ answer. (words : List (List ℕ)) → Means words (Judges model journal) → GoesOn words contents answer)
+  goes_on_said : (r : Result Verdict JudgeFault) → IfOk r (IsVerdictFor setting (given then moment ended) journal)
+      → IfOk (said r) (λ answer. (words : List (List ℕ)) → Means words (Judges model journal) → GoesOn words (given contents began ended) answer)
   goes_on_said (Ok (verdicts.Accept n)) v = λ words is. continues n v words is
   goes_on_said (Ok (verdicts.Refuse n rule)) v = λ words is. tt
   goes_on_said (Err (faults.Text (bad_lines.BadLine line byte))) v = λ words is. tt
@@ -108,7 +118,7 @@ module _ (contents then : Contents) (before mid after : List ℕ → ℕ) (model
   goes_on_said (Err faults.NoMemory) v = tt
 
   -- Reading the journal failed.
-  failed_said : (r : Result Verdict JudgeFault) → IfErr r (IsFaultFor setting then (mid journal) (after journal) journal)
+  failed_said : (r : Result Verdict JudgeFault) → IfErr r (IsFaultFor setting (given then moment ended) (mid journal) (after journal) journal)
       → IfErr (said r) (λ failure. (words : List (List ℕ)) → Means words (Judges model journal) → FailedFor words before after failure)
   failed_said (Ok (verdicts.Accept n)) f = tt
   failed_said (Ok (verdicts.Refuse n rule)) f = tt
@@ -119,13 +129,13 @@ module _ (contents then : Contents) (before mid after : List ℕ → ℕ) (model
   failed_said (Err faults.NoMemory) f = λ words is. tt
 
   -- ---- what the function answers, which is what the judge says
-  module _ (r : Result Verdict JudgeFault) (verdict : IfOk r (IsVerdictFor setting then journal)) (fault : IfErr r (IsFaultFor setting then (mid journal) (after journal) journal))
+  module _ (r : Result Verdict JudgeFault) (verdict : IfOk r (IsVerdictFor setting (given then moment ended) journal)) (fault : IfErr r (IsFaultFor setting (given then moment ended) (mid journal) (after journal) journal))
       (answered : Result Answer Failure) (is_said : answered ≡ said r) where
-    pub judged_owed : IfOk answered (λ answer. (words : List (List ℕ)) → Means words (Judges model journal) → IsOwed words contents answer)
-    judged_owed = subst (λ (x : Result Answer Failure). IfOk x (λ answer. (words : List (List ℕ)) → Means words (Judges model journal) → IsOwed words contents answer)) (sym is_said) (owed_said r verdict fault)
+    pub judged_owed : IfOk answered (λ answer. (words : List (List ℕ)) → Means words (Judges model journal) → IsOwed words (given contents began ended) answer)
+    judged_owed = subst (λ (x : Result Answer Failure). IfOk x (λ answer. (words : List (List ℕ)) → Means words (Judges model journal) → IsOwed words (given contents began ended) answer)) (sym is_said) (owed_said r verdict fault)
 
-    pub judged_goes_on : IfOk answered (λ answer. (words : List (List ℕ)) → Means words (Judges model journal) → GoesOn words contents answer)
-    judged_goes_on = subst (λ (x : Result Answer Failure). IfOk x (λ answer. (words : List (List ℕ)) → Means words (Judges model journal) → GoesOn words contents answer)) (sym is_said) (goes_on_said r verdict)
+    pub judged_goes_on : IfOk answered (λ answer. (words : List (List ℕ)) → Means words (Judges model journal) → GoesOn words (given contents began ended) answer)
+    judged_goes_on = subst (λ (x : Result Answer Failure). IfOk x (λ answer. (words : List (List ℕ)) → Means words (Judges model journal) → GoesOn words (given contents began ended) answer)) (sym is_said) (goes_on_said r verdict)
 
     pub judged_failed : IfErr answered (λ failure. (words : List (List ℕ)) → Means words (Judges model journal) → FailedFor words before after failure)
     judged_failed = subst (λ (x : Result Answer Failure). IfErr x (λ failure. (words : List (List ℕ)) → Means words (Judges model journal) → FailedFor words before after failure)) (sym is_said) (failed_said r fault)
@@ -141,6 +151,11 @@ at_words (Err e) Q words meaning holds means = tt
 pub at_any : {X E A : Type 0} (r : Result X E) (Q : A → X → Type 0) (a : A) → IfOk r (λ x. (b : A) → Q b x) → IfOk r (Q a)
 at_any (Ok x) Q a holds = holds a
 at_any (Err e) Q a holds = tt
+
+-- What holds where nothing is read holds here.
+pub at_nothing : {X E : Type 0} (r : Result X E) (Q : Given → X → Type 0) (given : Given) → ReadsNothing given → IfOk r (λ x. (other : Given) → ReadsNothing other → Q other x) → IfOk r (Q given)
+at_nothing (Ok x) Q given nothing holds = holds given nothing
+at_nothing (Err e) Q given nothing holds = tt
 
 -- Want of memory is a failure for all words.
 pub no_memory_failed : {X : Type 0} (r : Result X Failure) (words : List (List ℕ)) (before after : List ℕ → ℕ) → IfErr r (λ f. f ≡ NoMemory) → IfErr r (FailedFor words before after)

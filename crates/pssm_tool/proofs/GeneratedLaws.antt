@@ -2,7 +2,7 @@
 use Rattle.std.proofs.Common.{◌≡◌, ◌+◌, ◌*◌, ℕ, List, [], length, Result, Ok, Err, IfOk, refl, sym, ap, subst, ◌∙◌}
 use Rattle.std.specs.List.{AllByRecursion}
 use Rattle.sha2.specs.Sha256.{sha256}
-use Rattle.pssm_base.specs.Reading.{Contents}
+use Rattle.pssm_base.specs.Reading.{Given, ReadsNothing}
 use Rattle.pssm_semantics.specs.declared.entry.Entry.{Entry}
 use Rattle.pssm_semantics.specs.declared.setting.Setting.{Setting}
 use Rattle.pssm_semantics.specs.declared.stimulus.Stimulus.{Stimulus}
@@ -40,8 +40,8 @@ generated_read_as one n s reads is = one (generated_text n) s (generated_setting
 
 -- What is owed for the run of a generated model is owed for the words.
 pub generated_owed : (r : Result Answer Failure) (n : ℕ) (s : Setting) → ReadsSetting (generated_text n) s [] → IfOk r (IsDueForGenerated s n)
-    → IfOk r (λ a. (words : List (List ℕ)) → Means words (Generates n) → (contents : Contents) → IsOwed words contents a)
-generated_owed (Ok a) n s loads due = λ words is contents. on_model (Generates n) s is (record { bytes = generated_text n; reads = refl; loads = loads }) due
+    → IfOk r (λ a. (words : List (List ℕ)) → Means words (Generates n) → (given : Given) → ReadsNothing given → IsOwed words given a)
+generated_owed (Ok a) n s loads due = λ words is given nothing. on_model (Generates n) s given.before is (record { bytes = generated_text n; reads = (refl, refl); loads = loads }) (nothing, due)
 generated_owed (Err e) n s loads due = tt
 
 -- Nothing is wrong with the text.

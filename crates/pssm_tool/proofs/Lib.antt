@@ -7,6 +7,7 @@ pub mod TextLaws
 pub mod LoadLaws
 pub mod DueLaws
 pub mod DueOnce
+pub mod ReadOnce
 pub mod AnswerLaws
 pub mod HeadlineLaws
 pub mod GeneratedLaws

@@ -1,6 +1,6 @@
 -- How a model that is not there is told.
 use Rattle.std.proofs.Common.{◌≡◌, ◌≢◌, ◌⊎◌, ℕ, List, [], Result, Ok, Err, IfOk, IfErr, refl, sym, subst, inl, inr}
-use Rattle.pssm_base.specs.Reading.{Contents, ReadsWhole}
+use Rattle.pssm_base.specs.Reading.{Given, ReadsWhole}
 use Rattle.pssm_semantics.specs.declared.setting.Setting.{Setting}
 use Rattle.pssm_load.specs.declared.fault.LoadFault.{LoadFault}
 use Rattle.pssm_load.specs.declared.fault.LoadFault.TheVariants.{NoMemory}
@@ -64,13 +64,13 @@ bytes_lack bytes loaded wrong = if_err loaded (λ fault w other. lacks fault w o
 
 -- ---- a file that was read
 
-module _ (contents : Contents) (path bytes : List ℕ) (reads : ReadsWhole contents path 16777216 bytes) where
-  pub model_loads : (found : Result (Result Setting Answer) Failure) → IfOk found (λ r. IfOk r (λ s. ReadsSetting bytes s [])) → IfOk found (λ r. IfOk r (HasModel contents (File path)))
+module _ (given : Given) (path bytes : List ℕ) (reads : ReadsWhole given path 16777216 bytes) where
+  pub model_loads : (found : Result (Result Setting Answer) Failure) → IfOk found (λ r. IfOk r (λ s. ReadsSetting bytes s [])) → IfOk found (λ r. IfOk r (HasModel given (File path)))
   model_loads (Ok (Ok s)) loads = record { bytes = bytes; reads = reads; loads = loads }
   model_loads (Ok (Err a)) loads = tt
   model_loads (Err f) loads = tt
 
-  pub model_lacks : (found : Result (Result Setting Answer) Failure) → IfOk found (λ r. IfErr r (IsRefusedFor bytes)) → IfOk found (λ r. IfErr r (LacksModel contents path))
+  pub model_lacks : (found : Result (Result Setting Answer) Failure) → IfOk found (λ r. IfErr r (IsRefusedFor bytes)) → IfOk found (λ r. IfErr r (LacksModel given path))
   model_lacks (Ok (Ok s)) lacks = tt
   model_lacks (Ok (Err a)) (fault, wrong, is) = has_fault bytes fault reads wrong is
   model_lacks (Err f) lacks = tt

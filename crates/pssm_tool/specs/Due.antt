@@ -1,10 +1,12 @@
--- What the program owes for its words and files: first the words decide, then the model, then the stimuli, and then the journal or the run.
+-- What the program owes for its words and for what it was given of files: first the words decide, then the model, then the stimuli, and then the journal or the run.
+-- The model is read before the journal, each once, and nothing else is read.
 -- A model stands in a file, or is the generated one of a number.
 use Rattle.std.specs.Prelude.{◌≡◌, ◌⊎◌, ◌+◌, ◌*◌, ℕ, List, [], Option, IsSome}
 use Rattle.std.specs.Io.KnownBytes.{Appends}
 use Rattle.sha2.specs.Sha256.{sha256}
 use Rattle.pssm_base.specs.Faults.{Rose}
-use Rattle.pssm_base.specs.Reading.{Contents, ReadsWhole, HoldsMore}
+use Rattle.pssm_base.specs.History.{History, Grows}
+use Rattle.pssm_base.specs.Reading.{Contents, Given, until, onward, ReadsWhole, HoldsMore, ReadsNothing}
 use Rattle.pssm_semantics.specs.declared.setting.Setting.{Setting}
 use Rattle.pssm_semantics.specs.declared.stimulus.Stimulus.{Stimulus}
 use Rattle.pssm_flat.specs.Text.{flat_text}
@@ -67,17 +69,23 @@ ReadFailed words before after = (path : List ℕ) × NamePath words path × Rose
 
 -- ---- the model
 
--- These are the model's bytes: all that the file holds, or the generated text.
-abbrev pub HasBytes : Contents → Source → List ℕ → Type 0
-HasBytes contents (File path) bytes = ReadsWhole contents path most_bytes bytes
-HasBytes contents (Generator n) bytes = bytes ≡ generated_text n
+-- These are the model's bytes: all that the file holds and that was read, or the generated text, for which nothing is read.
+abbrev pub HasBytes : Given → Source → List ℕ → Type 0
+HasBytes given (File path) bytes = ReadsWhole given path most_bytes bytes
+HasBytes given (Generator n) bytes = ReadsNothing given × (bytes ≡ generated_text n)
 
 -- There is a model, in the flat form or as a model file, with this setting, which breaks no rule of models. (A file may be
 -- too large, or no model; a generated model is always there.)
-pub record HasModel (contents : Contents) (source : Source) (setting : Setting) : Type 0 where
+pub record HasModel (given : Given) (source : Source) (setting : Setting) : Type 0 where
   pub bytes : List ℕ
-  pub reads : HasBytes contents source bytes
+  pub reads : HasBytes given source bytes
   pub loads : ReadsSetting bytes setting []
+
+-- The model was read first, up to a moment, and perhaps more was read from then on.
+pub record BeginsWithModel (given : Given) (source : Source) (setting : Setting) : Type 0 where
+  pub moment : History
+  pub model_is : HasModel (until moment given) source setting
+  pub goes_on : Grows moment given.after
 
 -- ---- the answer
 
@@ -95,10 +103,10 @@ answer_to (Limited entry) = Limit entry
 answer_to (BadText fault) = answer_to_fault fault
 
 -- The answer is owed for the journal's path.
-pub data IsDueForJournal (contents : Contents) (setting : Setting) (journal : List ℕ) (answer : Answer) : Type 0 where
-  large_journal : HoldsMore contents journal most_bytes → answer ≡ TooLarge → IsDueForJournal contents setting journal answer
-  judged : (bytes : List ℕ) (said : Judged) → ReadsWhole contents journal most_bytes bytes → IsJudged setting bytes said → answer ≡ answer_to said
-      → IsDueForJournal contents setting journal answer
+pub data IsDueForJournal (given : Given) (setting : Setting) (journal : List ℕ) (answer : Answer) : Type 0 where
+  large_journal : HoldsMore given journal most_bytes → answer ≡ TooLarge → IsDueForJournal given setting journal answer
+  judged : (bytes : List ℕ) (said : Judged) → ReadsWhole given journal most_bytes bytes → IsJudged setting bytes said → answer ≡ answer_to said
+      → IsDueForJournal given setting journal answer
 
 -- The answer is owed for a run with stimuli of these names: none fit, or it is the text of a run's journal, and how the run ended.
 pub data IsDueForRun (setting : Setting) (options : Options) (names : List (List ℕ)) (answer : Answer) : Type 0 where
@@ -114,35 +122,35 @@ pub record IsDueForGenerated (setting : Setting) (n : ℕ) (answer : Answer) : T
   pub counted : HasAllEntries n run.journal
   pub answered : answer ≡ Generated n (12 * n + 14) (2 * n) (sha256 text)
 
--- The answer is owed for a command on a model that breaks no rule.
-abbrev pub IsDueForModel : Contents → Setting → Meaning → Answer → Type 0
-IsDueForModel contents setting (Judges model journal) answer = IsDueForJournal contents setting journal answer
-IsDueForModel contents setting (Runs options model names) answer = IsDueForRun setting options names answer
-IsDueForModel contents setting (Checks model) answer = answer ≡ WellFormed
-IsDueForModel contents setting (Prints model) answer = answer ≡ Flat (flat_text setting)
-IsDueForModel contents setting (Generates n) answer = IsDueForGenerated setting n answer
+-- The answer is owed for a command on a model that breaks no rule, and for what was read behind the model: the journal of a judgement, and else nothing.
+abbrev pub IsDueForModel : Given → Setting → Meaning → Answer → Type 0
+IsDueForModel given setting (Judges model journal) answer = IsDueForJournal given setting journal answer
+IsDueForModel given setting (Runs options model names) answer = ReadsNothing given × IsDueForRun setting options names answer
+IsDueForModel given setting (Checks model) answer = ReadsNothing given × (answer ≡ WellFormed)
+IsDueForModel given setting (Prints model) answer = ReadsNothing given × (answer ≡ Flat (flat_text setting))
+IsDueForModel given setting (Generates n) answer = ReadsNothing given × IsDueForGenerated setting n answer
 
--- The answer is owed for the words and the files.
-pub data IsOwed (words : List (List ℕ)) (contents : Contents) (answer : Answer) : Type 0 where
-  usage : IsUsage words → answer ≡ Usage → IsOwed words contents answer
-  large_model : (path : List ℕ) → NameModel words path → HoldsMore contents path most_bytes → answer ≡ TooLarge → IsOwed words contents answer
-  bad_model : (path bytes : List ℕ) (fault : LoadFault) → NameModel words path → ReadsWhole contents path most_bytes bytes → IsLoadFault bytes fault
-      → answer ≡ BadModel fault → IsOwed words contents answer
-  on_model : (meaning : Meaning) (setting : Setting) → Means words meaning → HasModel contents (source_of meaning) setting
-      → IsDueForModel contents setting meaning answer → IsOwed words contents answer
+-- The answer is owed for the words and for what was given of the files.
+pub data IsOwed (words : List (List ℕ)) (given : Given) (answer : Answer) : Type 0 where
+  usage : IsUsage words → ReadsNothing given → answer ≡ Usage → IsOwed words given answer
+  large_model : (path : List ℕ) → NameModel words path → HoldsMore given path most_bytes → answer ≡ TooLarge → IsOwed words given answer
+  bad_model : (path bytes : List ℕ) (fault : LoadFault) → NameModel words path → ReadsWhole given path most_bytes bytes → IsLoadFault bytes fault
+      → answer ≡ BadModel fault → IsOwed words given answer
+  on_model : (meaning : Meaning) (setting : Setting) (moment : History) → Means words meaning → HasModel (until moment given) (source_of meaning) setting
+      → IsDueForModel (onward moment given) setting meaning answer → IsOwed words given answer
 
 -- The answer is owed, and its text was written.
-abbrev pub Gives : List (List ℕ) → Contents → Option (List ℕ) → Option (List ℕ) → Answer → Type 0
-Gives words contents before after answer = IsOwed words contents answer × Appends before after (text_of answer)
+abbrev pub Gives : List (List ℕ) → Given → Option (List ℕ) → Option (List ℕ) → Answer → Type 0
+Gives words given before after answer = IsOwed words given answer × Appends before after (text_of answer)
 
 -- ---- runs
 
 -- A run of the setting with the stimuli is owed: of the model and the stimuli that the words name, or of a generated model with the stimuli for it.
-pub data IsRunOwed (words : List (List ℕ)) (contents : Contents) (setting : Setting) (stimuli : List Stimulus) : Type 0 where
-  named : (options : Options) (model : List ℕ) (names : List (List ℕ)) → Means words (Runs options model names) → HasModel contents (File model) setting
-      → AreStimuli setting names stimuli → IsRunOwed words contents setting stimuli
-  generated : (n : ℕ) → Means words (Generates n) → HasModel contents (Generator n) setting → stimuli ≡ generated_stimuli n
-      → IsRunOwed words contents setting stimuli
+pub data IsRunOwed (words : List (List ℕ)) (given : Given) (setting : Setting) (stimuli : List Stimulus) : Type 0 where
+  named : (options : Options) (model : List ℕ) (names : List (List ℕ)) → Means words (Runs options model names) → HasModel given (File model) setting
+      → AreStimuli setting names stimuli → IsRunOwed words given setting stimuli
+  generated : (n : ℕ) → Means words (Generates n) → HasModel given (Generator n) setting → stimuli ≡ generated_stimuli n
+      → IsRunOwed words given setting stimuli
 
 -- The answer is what a run came to: its journal, or the line on it. (Several runs may be owed; the words do not tell which it is.)
 abbrev pub IsOfRun : Answer → Type 0

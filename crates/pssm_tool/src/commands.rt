@@ -1,5 +1,6 @@
 //! What each command does, up to its answer.
 ghost use Rattle.std.specs.Prelude.{◌≡◌, ◌≤◌, List, ℕ, IfOk, IfErr};
+ghost use Rattle.pssm_base.specs.Reading.{given};
 ghost use Rattle.pssm_tool.specs.Words.{Means, Judges, Checks, Prints};
 ghost use Rattle.pssm_tool.specs.inner.Commands.{meaning_of_run};
 ghost use Rattle.pssm_tool.specs.Due.{IsOwed, answer_to_fault};
@@ -29,9 +30,11 @@ pub fn judge_journal<I: Inputs>(
     journal: &str,
 ) -> Result<Answer, Failure>
     ensures owed { IfOk result (λ answer. (words : List (List ℕ)) → Means words (Judges path.now journal.now)
-        → IsOwed words (I.content inputs.old) answer) }
+        → IsOwed words
+        (given (I.content inputs.old) (I.history inputs.old) (I.history inputs.new)) answer) }
     ensures goes_on { IfOk result (λ answer. (words : List (List ℕ)) → Means words (Judges path.now journal.now)
-        → GoesOn words (I.content inputs.old) answer) }
+        → GoesOn words
+        (given (I.content inputs.old) (I.history inputs.old) (I.history inputs.new)) answer) }
     ensures failed { IfErr result (λ failure. (words : List (List ℕ)) → Means words (Judges path.now journal.now)
         → FailedFor words (I.faults inputs.old) (I.faults inputs.new) failure) }
 {
@@ -81,9 +84,11 @@ pub fn run_model<R: Threads + Wait + Sync, I: Inputs, G: Gate + Sync>(
     requires limit { asked.now.options.limit ≤ 1000000 }
     requires workers { asked.now.options.workers ≤ 16 }
     ensures owed { IfOk result (λ answer. (words : List (List ℕ)) → Means words (meaning_of_run asked.now)
-        → IsOwed words (I.content inputs.old) answer) }
+        → IsOwed words
+        (given (I.content inputs.old) (I.history inputs.old) (I.history inputs.new)) answer) }
     ensures goes_on { IfOk result (λ answer. (words : List (List ℕ)) → Means words (meaning_of_run asked.now)
-        → GoesOn words (I.content inputs.old) answer) }
+        → GoesOn words
+        (given (I.content inputs.old) (I.history inputs.old) (I.history inputs.new)) answer) }
     ensures failed { IfErr result (λ failure. (words : List (List ℕ)) → Means words (meaning_of_run asked.now)
         → FailedFor words (I.faults inputs.old) (I.faults inputs.new) failure) }
 {
@@ -111,9 +116,11 @@ pub fn run_model<R: Threads + Wait + Sync, I: Inputs, G: Gate + Sync>(
 /// Says that the model that stands under the path is well formed.
 pub fn check_model<I: Inputs>(alloc: Global, inputs: &mut I, path: &str) -> Result<Answer, Failure>
     ensures owed { IfOk result (λ answer. (words : List (List ℕ)) → Means words (Checks path.now)
-        → IsOwed words (I.content inputs.old) answer) }
+        → IsOwed words
+        (given (I.content inputs.old) (I.history inputs.old) (I.history inputs.new)) answer) }
     ensures goes_on { IfOk result (λ answer. (words : List (List ℕ)) → Means words (Checks path.now)
-        → GoesOn words (I.content inputs.old) answer) }
+        → GoesOn words
+        (given (I.content inputs.old) (I.history inputs.old) (I.history inputs.new)) answer) }
     ensures failed { IfErr result (λ failure. (words : List (List ℕ)) → Means words (Checks path.now)
         → FailedFor words (I.faults inputs.old) (I.faults inputs.new) failure) }
 {
@@ -127,9 +134,11 @@ pub fn check_model<I: Inputs>(alloc: Global, inputs: &mut I, path: &str) -> Resu
 /// The flat text of the model that stands under the path.
 pub fn print_model<I: Inputs>(alloc: Global, inputs: &mut I, path: &str) -> Result<Answer, Failure>
     ensures owed { IfOk result (λ answer. (words : List (List ℕ)) → Means words (Prints path.now)
-        → IsOwed words (I.content inputs.old) answer) }
+        → IsOwed words
+        (given (I.content inputs.old) (I.history inputs.old) (I.history inputs.new)) answer) }
     ensures goes_on { IfOk result (λ answer. (words : List (List ℕ)) → Means words (Prints path.now)
-        → GoesOn words (I.content inputs.old) answer) }
+        → GoesOn words
+        (given (I.content inputs.old) (I.history inputs.old) (I.history inputs.new)) answer) }
     ensures failed { IfErr result (λ failure. (words : List (List ℕ)) → Means words (Prints path.now)
         → FailedFor words (I.faults inputs.old) (I.faults inputs.new) failure) }
 {

@@ -1,7 +1,7 @@
 //! What `gen` does, up to its answer.
 ghost use Rattle.std.specs.Prelude.{◌≡◌, ◌≤◌, List, ℕ, IfOk, IfErr};
 ghost use Rattle.std.specs.List.{AllByRecursion};
-ghost use Rattle.pssm_base.specs.Reading.{Contents};
+ghost use Rattle.pssm_base.specs.Reading.{Given, ReadsNothing};
 ghost use Rattle.pssm_semantics.specs.Known.{IsStimulusOf};
 ghost use Rattle.pssm_semantics.specs.Names.{HasSpelledNames};
 ghost use Rattle.pssm_semantics.specs.Proper.{IsWellFormed};
@@ -30,9 +30,9 @@ pub fn generate_and_run(alloc: Global, number: u16) -> Result<Answer, Failure>
     requires some { 1 ≤ number }
     requires few { number ≤ 4000 }
     ensures owed { IfOk result (λ answer. (words : List (List ℕ)) → Means words (Generates number)
-        → (contents : Contents) → IsOwed words contents answer) }
-    ensures goes_on { IfOk result (λ answer. (words : List (List ℕ)) (contents : Contents)
-        → GoesOn words contents answer) }
+        → (given : Given) → ReadsNothing given → IsOwed words given answer) }
+    ensures goes_on { IfOk result (λ answer. (words : List (List ℕ)) (given : Given)
+        → GoesOn words given answer) }
     ensures failed { IfErr result (λ failure. failure ≡ Failure.NoMemory) }
 {
     one_load();
@@ -64,8 +64,8 @@ fn run_generated(
     requires few { number ≤ 4000 }
     requires generated { setting ≡ generated_setting number }
     ensures owed { IfOk result (IsDueForGenerated setting number) }
-    ensures goes_on { IfOk result (λ answer. (words : List (List ℕ)) (contents : Contents)
-        → GoesOn words contents answer) }
+    ensures goes_on { IfOk result (λ answer. (words : List (List ℕ)) (given : Given)
+        → GoesOn words given answer) }
     ensures failed { IfErr result (λ failure. failure ≡ Failure.NoMemory) }
 {
     generated_runs();

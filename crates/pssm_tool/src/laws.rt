@@ -1,6 +1,6 @@
 //! A law of answers: something is always owed.
 ghost use Rattle.std.specs.Prelude.{List, ℕ};
-ghost use Rattle.pssm_base.specs.Reading.{Contents};
+ghost use Rattle.pssm_base.specs.Reading.{Contents, told};
 ghost use Rattle.pssm_semantics.specs.declared.setting.Setting.{Setting};
 ghost use Rattle.pssm_semantics.specs.declared.stimulus.Stimulus.{Stimulus};
 ghost use Rattle.pssm_tool.specs.declared.answer.Answer.{Answer};
@@ -14,8 +14,8 @@ use pssm_suite::generated_texts;
 /// [`crate::pssm`] speaks of each such call.
 pub fn always_due()
     ensures { (words : List (List ℕ)) (contents : Contents) → IsTold words contents
-        → ((answer : Answer) → IsOwed words contents answer → ⊥)
-        → ((setting : Setting) (stimuli : List Stimulus) → IsRunOwed words contents setting stimuli → ⊥) → ⊥ }
+        → ((answer : Answer) → IsOwed words (told contents) answer → ⊥)
+        → ((setting : Setting) (stimuli : List Stimulus) → IsRunOwed words (told contents) setting stimuli → ⊥) → ⊥ }
 {
     some_load();
     generated_texts();

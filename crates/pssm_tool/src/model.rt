@@ -1,7 +1,8 @@
 //! The model that the words name.
 ghost use Rattle.std.specs.Prelude.{◌≡◌, ◌≤◌, [], length, IfOk, IfErr};
 ghost use Rattle.pssm_base.specs.Faults.{NoneFell};
-ghost use Rattle.pssm_base.specs.Reading.{SameContent};
+ghost use Rattle.pssm_base.specs.History.{Grows};
+ghost use Rattle.pssm_base.specs.Reading.{SameContent, given};
 ghost use Rattle.pssm_semantics.specs.Names.{HasSpelledNames};
 ghost use Rattle.pssm_semantics.specs.Proper.{IsWellFormed};
 ghost use Rattle.pssm_load.specs.Loads.{ReadsSetting};
@@ -24,11 +25,14 @@ pub fn model<I: Inputs>(
     inputs: &mut I,
     path: &str,
 ) -> Result<Result<Setting, Answer>, Failure>
-    ensures loads { IfOk result (λ found. IfOk found (HasModel (I.content inputs.old) (File path.now))) }
+    ensures loads { IfOk result (λ found. IfOk found (HasModel
+        (given (I.content inputs.old) (I.history inputs.old) (I.history inputs.new)) (File path.now))) }
     ensures well_formed { IfOk result (λ found. IfOk found IsWellFormed) }
     ensures spelled { IfOk result (λ found. IfOk found HasSpelledNames) }
-    ensures lacks { IfOk result (λ found. IfErr found (LacksModel (I.content inputs.old) path.now)) }
+    ensures lacks { IfOk result (λ found. IfErr found (LacksModel
+        (given (I.content inputs.old) (I.history inputs.old) (I.history inputs.new)) path.now)) }
     ensures failed { IfErr result (FailedAt (I.faults inputs.old path.now) (I.faults inputs.new path.now)) }
+    ensures grows { Grows (I.history inputs.old) (I.history inputs.new) }
     ensures counts { NoneFell (I.faults inputs.old) (I.faults inputs.new) }
     ensures same { SameContent (I.content inputs.old) (I.content inputs.new) }
 {

@@ -16,12 +16,14 @@ IsFaultOn setting bytes (Limit entry) = IsJudged setting bytes (Limited entry)
 IsFaultOn setting bytes NoMemory = Unit {0}
 IsFaultOn setting bytes _ = ⊥
 
--- what is to be said where the judging ends at an entry
+-- what is to be said where the judging ends at a line
 abbrev pub said_at : Stop → Judged
 said_at (stops.Limit entry) = Limited entry
 said_at (stops.Refuse entry rule) = Refused entry rule
+said_at (stops.Text fault) = BadText fault
 
 -- the judge's answer there
 abbrev pub answer_to : Stop → Result Verdict JudgeFault
 answer_to (stops.Limit entry) = Err (Limit entry)
 answer_to (stops.Refuse entry rule) = Ok (Refuse entry rule)
+answer_to (stops.Text fault) = Err (Text fault)

@@ -8,7 +8,7 @@ use Rattle.pssm_journal.specs.Entries.{IsEntryOf, KeepsNames}
 use Rattle.pssm_journal.specs.Judged.{line_output_count, BreaksRule, PassesLimits}
 use Rattle.pssm_system.specs.History.{History}
 use Rattle.pssm_judge.specs.declared.run.Stop.{Stop}
-use Rattle.pssm_judge.specs.declared.run.Stop.TheVariants.{Limit, Refuse}
+use Rattle.pssm_judge.specs.declared.run.Stop.TheVariants.{Limit, Refuse, Text}
 
 -- The run has taken the entry that the line writes, is admissible and keeps the limits.
 pub record TakesLine (old new : History) (line : Line) : Type 0 where
@@ -28,7 +28,8 @@ pub record IsTold (run : History) (line : Line) (position outputs : ℕ) (entry 
   pub placed : position ≡ length run.journal + 1
   pub counted : outputs ≡ line_output_count line
 
--- Behind the journal the judging ends at this line: the limits are asked first, and then the rules.
+-- Behind the journal the judging ends at this line of the grammar: the limits are asked first, and then the rules.
 abbrev pub StopsAt : Setting → List Entry → Line → Stop → Type 0
 StopsAt setting J line (Limit entry) = (entry ≡ length J + 1) × PassesLimits J line
 StopsAt setting J line (Refuse entry rule) = (entry ≡ length J + 1) × (PassesLimits J line → ⊥) × BreaksRule setting J line rule
+StopsAt setting J line (Text fault) = ⊥

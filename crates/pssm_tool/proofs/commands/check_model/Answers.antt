@@ -1,4 +1,5 @@
 use Rattle.std.proofs.Common.{refl}
+use Rattle.pssm_base.specs.Reading.{given}
 use Rattle.pssm_tool.specs.Words.{Checks}
 use Rattle.pssm_tool.specs.Due.{File, HasModel, on_model}
 use Rattle.pssm_tool.specs.inner.Failures.{LacksModel}
@@ -8,8 +9,8 @@ use Rattle.pssm_tool.proofs.commands.check_model.Goals as goal
 -- There is no model.
 pub returns-in-Ok-Err-clause-owed : goal.returns-in-Ok-Err-clause-owed
 returns-in-Ok-Err-clause-owed g c = λ words is.
-    let lacks : LacksModel (g.I.Inputs.content c.args.inputs.now) c.args.path.now c.in-Ok-Err.answer = (rw c.in-Ok-Err.field-0-is at c.in-Ok-Err.ensures.lacks) in
-    (lacks_owed words (Checks c.args.path.now) c.args.path.now (g.I.Inputs.content c.args.inputs.now) c.in-Ok-Err.answer is refl lacks).0
+    let lacks : LacksModel (given (g.I.Inputs.content c.args.inputs.now) (g.I.Inputs.history c.args.inputs.now) (g.I.Inputs.history c.model.new.inputs)) c.args.path.now c.in-Ok-Err.answer = (rw c.in-Ok-Err.field-0-is at c.in-Ok-Err.ensures.lacks) in
+    (lacks_owed words (Checks c.args.path.now) c.args.path.now (given (g.I.Inputs.content c.args.inputs.now) (g.I.Inputs.history c.args.inputs.now) (g.I.Inputs.history c.model.new.inputs)) c.in-Ok-Err.answer is refl lacks).0
 
 -- Reading the model failed.
 pub returns-in-Err-clause-failed : goal.returns-in-Err-clause-failed
@@ -18,5 +19,5 @@ returns-in-Err-clause-failed g c = λ words is.
 
 pub returns-in-Ok-Ok-clause-owed : goal.returns-in-Ok-Ok-clause-owed
 returns-in-Ok-Ok-clause-owed g c = λ words is.
-    let has : HasModel (g.I.Inputs.content c.args.inputs.now) (File c.args.path.now) c.in-Ok-Ok._setting = (rw c.in-Ok-Ok.field-0-is at c.in-Ok-Ok.ensures.loads) in
-    on_model (Checks c.args.path.now) c.in-Ok-Ok._setting is has refl
+    let has : HasModel (given (g.I.Inputs.content c.args.inputs.now) (g.I.Inputs.history c.args.inputs.now) (g.I.Inputs.history c.model.new.inputs)) (File c.args.path.now) c.in-Ok-Ok._setting = (rw c.in-Ok-Ok.field-0-is at c.in-Ok-Ok.ensures.loads) in
+    on_model (Checks c.args.path.now) c.in-Ok-Ok._setting (g.I.Inputs.history c.model.new.inputs) is has (refl, refl)

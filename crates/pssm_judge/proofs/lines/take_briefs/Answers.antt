@@ -4,7 +4,7 @@ use Rattle.pssm_lines.specs.Parts.{brief_line}
 use Rattle.pssm_judge.specs.declared.run.Stop.{Stop}
 use Rattle.pssm_judge.specs.inner.Following.{TakesLine, StopsAt}
 use Rattle.pssm_judge.proofs.JudgingLaws.{judging_line, stops_here, few_lines, shorter_line}
-use Rattle.pssm_judge.proofs.judging.take_briefs.Goals as goal
+use Rattle.pssm_judge.proofs.lines.take_briefs.Goals as goal
 
 -- Nothing was read.
 pub loop-parts-init : goal.loop-parts-init

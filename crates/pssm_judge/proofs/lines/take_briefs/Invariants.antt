@@ -2,7 +2,7 @@
 use Rattle.std.proofs.Common.{◌≤◌, ℕ, List, true, length}
 use Rattle.pssm_semantics.specs.declared.setting.Setting.{Setting}
 use Rattle.pssm_judge.specs.inner.Judging.{IsJudging}
-use Rattle.pssm_judge.proofs.judging.take_briefs.Given as goal
+use Rattle.pssm_judge.proofs.lines.take_briefs.Given as goal
 
 abbrev pub invariant-loop-parts : goal.invariant-loop-parts
 invariant-loop-parts l = record {

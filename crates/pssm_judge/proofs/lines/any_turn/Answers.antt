@@ -1,12 +1,11 @@
-use Rattle.std.proofs.Common.{Option, refl, subst}
+use Rattle.std.proofs.Common.{Option, subst}
 use Rattle.std.specs.Prelude.{IfNone, IfSome}
 use Rattle.pssm_lines.specs.declared.front.Front.{Front}
-use Rattle.pssm_lines.specs.declared.fault.LineFault.TheVariants.{NoEnd}
 use Rattle.pssm_lines.specs.Reading.{IsFront}
 use Rattle.pssm_judge.specs.declared.run.Stop.{Stop}
 use Rattle.pssm_judge.specs.inner.Following.{TakesLine, StopsAt}
-use Rattle.pssm_judge.proofs.JudgingLaws.{judging_line, stops_here, bad_here, bad_anyhow}
-use Rattle.pssm_judge.proofs.judging.any_turn.Goals as goal
+use Rattle.pssm_judge.proofs.JudgingLaws.{judging_line, stops_here, bad_anyhow}
+use Rattle.pssm_judge.proofs.lines.any_turn.Goals as goal
 
 -- The judging ends at the line.
 pub returns-in-Some-clause-goes_on : goal.returns-in-Some-clause-goes_on
@@ -22,14 +21,8 @@ returns-in-None-clause-goes_on c = λ setting bytes j.
     let takes = subst (λ (o : Option Stop). IfNone o (TakesLine c.args.run.now c.take.new.self f.0)) c.in-None.is (c.in_ok-stop-in-Line.ensures.takes f.0 f.2.line f.4) in
     judging_line setting bytes c.args.rest.now c.in-Line.after.now c.args.begun c.args.line c.args.run.now c.take.new.self f.0 j f.1 f.2 f.3 takes
 
--- The bytes end within a line, or before the first one.
-pub returns-in-Open-clause-fault : goal.returns-in-Open-clause-fault
-returns-in-Open-clause-fault c = λ setting bytes j.
-    let open_ = subst (λ (x : Front). IsFront c.args.begun c.args.line c.args.rest.now x) c.in-Open.is c.in_ok-after.ensures in
-    bad_here setting bytes c.args.rest.now c.args.begun c.args.line c.args.run.now (NoEnd c.args.line) j (refl, open_, (λ ended. c.requires.open ended.0 ended.1))
-
 -- The line has a fault.
-pub returns-in-Fault-clause-fault : goal.returns-in-Fault-clause-fault
-returns-in-Fault-clause-fault c = λ setting bytes j.
+pub returns-in-Fault-clause-goes_on : goal.returns-in-Fault-clause-goes_on
+returns-in-Fault-clause-goes_on c = λ setting bytes j.
     let f = subst (λ (x : Front). IsFront c.args.begun c.args.line c.args.rest.now x) c.in-Fault.is c.in_ok-after.ensures in
-    bad_here setting bytes c.args.rest.now c.args.begun c.args.line c.args.run.now c.in-Fault.fault j (bad_anyhow c.args.begun c.args.line c.args.rest.now c.in-Fault.fault f)
+    bad_anyhow setting bytes c.args.rest.now c.args.begun c.args.line c.args.run.now c.in-Fault.fault j f
