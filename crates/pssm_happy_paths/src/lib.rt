@@ -3,7 +3,7 @@
 //! that no text spells (owners of a wrong sort, no region, a final state that behaves, numbers past those of a text).
 //!
 //! What a text can say is shown by the rows of `pssm_rows`. This crate has tests alone, so that the crates that it tries
-//! are proved once.
+//! are proved once; those of the crates that read a whole text stand in `pssm_happy_journals`.
 #![tactic(auto)]
 
 #[cfg(test)]

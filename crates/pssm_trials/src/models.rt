@@ -1,4 +1,4 @@
-//! The models of the rows.
+//! The model of most rows, and what a run of a model begins with.
 ghost use Rattle.std.specs.Prelude.{◌≤◌, length, IfOk};
 ghost use Rattle.std.specs.List.{AllByRecursion};
 ghost use Rattle.pssm_semantics.specs.Proper.{IsWellFormed};
@@ -24,20 +24,6 @@ pub const BOTH: &[u8] = b"pssm-flat 1\nsignal Go 0\nclass M\nobject a M\nmachine
     transition t0 v0 v1 external\ntransition t1 v2 v3 external\ntransition t2 v5 v6 external\n\
     transition t3 v3 v4 external\non Go\neffect x := x + 1;\n\
     transition t4 v6 v7 external\non Go\neffect x := x + 1;\nend\n";
-
-/// The same, but that the first region leads to the object's end.
-pub const ENDING: &[u8] = b"pssm-flat 1\nsignal Go 0\nclass M\nobject a M\nmachine M\nvar x 0\n\
-    region r0 top\nregion r1 v1\nregion r2 v1\n\
-    vertex v0 r0 initial\nvertex v1 r0 state S\nvertex v2 r1 initial\nvertex v3 r1 state P\n\
-    vertex v4 r1 terminate\nvertex v5 r2 initial\nvertex v6 r2 state R\nvertex v7 r2 state R2\n\
-    transition t0 v0 v1 external\ntransition t1 v2 v3 external\ntransition t2 v5 v6 external\n\
-    transition t3 v3 v4 external\non Go\neffect x := x + 1;\n\
-    transition t4 v6 v7 external\non Go\neffect x := x + 1;\nend\n";
-
-/// Two objects that go from one State to another on Go: each has 9 entries, of which 5 run behaviours.
-pub const TWO: &[u8] = b"pssm-flat 1\nsignal Go 0\nclass M\nobject a M\nobject b M\nmachine M\n\
-    region r0 top\nvertex v0 r0 initial\nvertex v1 r0 state A\nvertex v2 r0 state B\n\
-    transition t0 v0 v1 external\ntransition t1 v1 v2 external\non Go\nend\n";
 
 /// The setting of a model's text.
 pub fn setting_of(alloc: Global, text: &[u8]) -> Result<Setting, Failure>

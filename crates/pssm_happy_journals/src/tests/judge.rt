@@ -1,4 +1,6 @@
 //! What the judge answers of journals.
+mod pieces;
+
 use crate::tests::settings::setting_of;
 use pssm_base::SureInputs;
 use pssm_judge::{JudgeFault, LineFault, Rule, Verdict, judge};
@@ -6,7 +8,8 @@ use std::alloc::Global;
 use std::test::Fail;
 
 // An object whose machine goes from one State to another on a signal.
-const MODEL: &[u8] = b"pssm-flat 1\nsignal Go 0\nclass M\nobject a M\nmachine M\nregion r0 top\n\
+pub const MODEL: &[u8] =
+    b"pssm-flat 1\nsignal Go 0\nclass M\nobject a M\nmachine M\nregion r0 top\n\
     vertex v0 r0 initial\nvertex v1 r0 state A\nvertex v2 r0 state B\n\
     transition t0 v0 v1 external\ntransition t1 v1 v2 external\non Go\nend\n";
 
@@ -22,13 +25,18 @@ fn judged_from(
     Ok(judge(alloc, setting, inputs, "journal"))
 }
 
-// What a journal of a start and these bytes deserves.
-fn judged(alloc: Global, more: &[u8]) -> Result<Result<Verdict, JudgeFault>, Fail> {
+// The file of a journal of a start and these bytes.
+pub fn file_of(alloc: Global, more: &[u8]) -> Result<Vec<(String, Vec<u8>)>, Fail> {
     let mut bytes = START.to_vec(alloc)?;
     bytes.extend_from_slice(more)?;
     let mut files = Vec::new(alloc);
     files.push((String::from_str(alloc, "journal")?, bytes))?;
-    let mut inputs = SureInputs::new(files);
+    Ok(files)
+}
+
+// What a journal of a start and these bytes deserves.
+pub fn judged(alloc: Global, more: &[u8]) -> Result<Result<Verdict, JudgeFault>, Fail> {
+    let mut inputs = SureInputs::new(file_of(alloc, more)?);
     judged_from(alloc, &mut inputs)
 }
 

@@ -4,34 +4,36 @@ ghost use Rattle.pssm_semantics.specs.Arguments.{ActArgsFit};
 ghost use Rattle.pssm_book.specs.Claiming.{MayRun};
 
 use crate::answers::{claimed_words, committed_words};
-use crate::failure::{Failure, came, same, same_number};
-use crate::models::{setting_of, stimuli_of};
 use pssm_book::{Book, Claimed, Job};
 use pssm_semantics::{ObjectId, Task, Worked, run};
+use pssm_trials::{Failure, came, same, same_number, setting_of, stimuli_of};
 use std::alloc::{AllocError as NoMemory, Global};
 use std::sync::ledger::{Blank, Ledger, Share};
 
 // How many claims a row makes at most to come to what it asks.
 const TRIES: u64 = 1000;
 
-/// A book, and the share of who claims and commits in it.
+/// A book, the share of who claims and commits in it, and what is held there.
+///
+/// It keeps what is held, and rows borrow it: each place that lets go of a book is dear to prove.
 #[derive(Drop)]
 pub struct Table<L: Ledger> {
     alloc: Global,
     book: Book<L>,
     share: Share<L>,
+    held: Vec<Held>,
     ghost some: { 0 < share.parts },
 }
 
 /// A task that is claimed, and what its behaviour made.
 #[derive(Drop)]
-pub struct Held {
-    pub task: Task,
-    pub worked: Worked,
+struct Held {
+    task: Task,
+    worked: Worked,
 }
 
 impl<L: Ledger> Table<L> {
-    /// A book of a model with this limit, and with the stimulus `a.Go()` or none.
+    /// A book of a model with this limit, and with the stimulus `a.Go()` or none. Nothing is held.
     pub fn new(
         alloc: Global,
         blank: Blank,
@@ -47,12 +49,22 @@ impl<L: Ledger> Table<L> {
         let setting = setting_of(alloc, model)?;
         let stimuli = stimuli_of(alloc, &setting, has_go)?;
         let (book, share) = Book::<L>::new(alloc, blank, setting, stimuli, limit)?;
-        Ok(Table { alloc, book, share })
+        Ok(Table {
+            alloc,
+            book,
+            share,
+            held: Vec::new(alloc),
+        })
     }
 
-    /// How many entries there are.
-    pub fn count(&self) -> usize {
-        self.book.system().entries().len()
+    /// There are so many entries.
+    pub fn entries_owe(&self, count: usize) -> Result<(), Failure> {
+        same_number(
+            self.alloc,
+            "the entries",
+            count,
+            self.book.system().entries().len(),
+        )
     }
 
     /// How many stimuli are posted.
@@ -86,20 +98,20 @@ impl<L: Ledger> Table<L> {
     }
 
     /// What comes of the commit of what is held for a task is this, in words.
-    pub fn commit_owes(&mut self, held: &[Held], task: Task, owed: &str) -> Result<(), Failure> {
-        for other in held {
-            if other.task == task {
-                return self.commit_is(task, &other.worked, owed);
+    pub fn commit_owes(&mut self, task: Task, owed: &str) -> Result<(), Failure> {
+        self.commit_as(task, task, owed)
+    }
+
+    /// What comes of the commit for a task of what is held for another is this, in words.
+    pub fn commit_as(&mut self, task: Task, other: Task, owed: &str) -> Result<(), Failure> {
+        for held in self.held.as_slice() {
+            if held.task == other {
+                let committed = self.book.commit(task, &held.worked, &mut self.share)?;
+                let words = committed_words(self.alloc, committed)?;
+                return same(self.alloc, "a commit", owed, words.as_str());
             }
         }
         Err(came(self.alloc, "the task is not held"))
-    }
-
-    /// What comes of the commit of this work for a task is this, in words.
-    pub fn commit_is(&mut self, task: Task, worked: &Worked, owed: &str) -> Result<(), Failure> {
-        let committed = self.book.commit(task, worked, &mut self.share)?;
-        let words = committed_words(self.alloc, committed)?;
-        same(self.alloc, "a commit", owed, words.as_str())
     }
 
     /// Gives a task back.
@@ -107,36 +119,31 @@ impl<L: Ledger> Table<L> {
         self.book.release(object, task);
     }
 
-    /// Goes on until all of these tasks are claimed, and runs their behaviours; all other tasks are run and committed.
-    pub fn hold(&mut self, tasks: &[Task]) -> Result<Vec<Held>, Failure> {
-        let mut held = Vec::new(self.alloc);
+    /// Goes on until all of these tasks are claimed, and holds what their behaviours made, and nothing else; all other
+    /// tasks are run and committed.
+    pub fn hold(&mut self, tasks: &[Task]) -> Result<(), Failure> {
+        self.held.clear();
         for word in 0..TRIES {
-            if held.len() == tasks.len() {
-                return Ok(held);
+            if self.held.len() == tasks.len() {
+                return Ok(());
             }
             if let Claimed::Job(job) = self.claim(word)? {
-                let task = job.task;
-                let worked = worked(self.alloc, &job)?;
-                if tasks.contains(&task) {
-                    held.push(Held { task, worked })?;
-                } else {
-                    self.commit_is(task, &worked, "done")?;
-                }
+                self.work(&job, tasks.contains(&job.task))?;
             }
         }
         Err(came(self.alloc, "a task was not handed out"))
     }
 
-    /// Goes on to the end, and says in words what the last claim was.
-    pub fn go_on(&mut self) -> Result<String, Failure> {
+    /// Goes on to the end; the last claim is this, in words.
+    pub fn end_owes(&mut self, owed: &str) -> Result<(), Failure> {
         for word in 0..TRIES {
             match self.claim(word)? {
-                Claimed::Job(job) => {
-                    let worked = worked(self.alloc, &job)?;
-                    self.commit_is(job.task, &worked, "done")?;
-                }
+                Claimed::Job(job) => self.work(&job, false)?,
                 Claimed::Moved => {}
-                last => return Ok(claimed_words(self.alloc, &last)?),
+                last => {
+                    let words = claimed_words(self.alloc, &last)?;
+                    return same(self.alloc, "the last claim", owed, words.as_str());
+                }
             }
         }
         Err(came(self.alloc, "there was no end"))
@@ -153,17 +160,25 @@ impl<L: Ledger> Table<L> {
     {
         self.book.claim(word, &mut self.share)
     }
-}
 
-// Runs the behaviour of a job.
-fn worked(alloc: Global, job: &Job) -> Result<Worked, NoMemory>
-    requires { ActArgsFit job.now.act }
-{
-    run(
-        alloc,
-        job.object,
-        &job.act,
-        job.store.as_slice(),
-        &job.params,
-    )
+    // Runs the behaviour of a job, and holds what it made, or commits it.
+    fn work(&mut self, job: &Job, is_held: bool) -> Result<(), Failure>
+        requires { ActArgsFit job.now.act }
+    {
+        let task = job.task;
+        let worked = run(
+            self.alloc,
+            job.object,
+            &job.act,
+            job.store.as_slice(),
+            &job.params,
+        )?;
+        if is_held {
+            self.held.push(Held { task, worked })?;
+            return Ok(());
+        }
+        let committed = self.book.commit(task, &worked, &mut self.share)?;
+        let words = committed_words(self.alloc, committed)?;
+        same(self.alloc, "a commit", "done", words.as_str())
+    }
 }

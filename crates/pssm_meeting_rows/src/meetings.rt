@@ -1,10 +1,9 @@
 //! What the program's workers do side by side.
-use crate::failure::{Failure, came, same_number, surely};
 use crate::gates::{Holding, Meeting};
-use crate::models::{BOTH, TWO};
 use pssm_base::{Gate, MemInputs, MemSink};
 use pssm_tool::pssm;
-use std::alloc::Global;
+use pssm_trials::{BOTH, Failure, came, same_number, surely};
+use std::alloc::{AllocError as NoMemory, Global};
 use std::str;
 use std::sync::Wait;
 use std::thread::Threads;
@@ -20,6 +19,11 @@ const ROOM: usize = 1 << 16;
 
 // The name of the model.
 const MODEL: &str = "model";
+
+// Two objects that go from one State to another on Go: each has 9 entries, of which 5 run behaviours.
+const TWO: &[u8] = b"pssm-flat 1\nsignal Go 0\nclass M\nobject a M\nobject b M\nmachine M\n\
+    region r0 top\nvertex v0 r0 initial\nvertex v1 r0 state A\nvertex v2 r0 state B\n\
+    transition t0 v0 v1 external\ntransition t1 v1 v2 external\non Go\nend\n";
 
 /// Two workers stand side by side: those of the behaviours in two regions.
 pub fn two_calls_meet<R: Threads + Wait + Sync>(rt: &R, alloc: Global) -> Result<(), Failure> {
@@ -65,16 +69,32 @@ fn journal_of<R: Threads + Wait + Sync, G: Gate + Sync>(
     model: &[u8],
     gate: &G,
 ) -> Result<String, Failure> {
+    let texts = texts_of(alloc, words)?;
+    let mut inputs = inputs_of(alloc, model)?;
+    let mut out = MemSink::new(alloc, ROOM, Vec::new(alloc), ROOM)?;
+    let status = pssm(rt, alloc, texts.as_slice(), &mut inputs, &mut out, gate);
+    journal_in(alloc, status.code, &out)
+}
+
+// The words, each as a text of its own.
+fn texts_of(alloc: Global, words: &[&str]) -> Result<Vec<String>, NoMemory> {
     let mut texts = Vec::new(alloc);
     for word in words {
         texts.push(String::from_str(alloc, word)?)?;
     }
+    Ok(texts)
+}
+
+// Files of which one is this model.
+fn inputs_of(alloc: Global, model: &[u8]) -> Result<MemInputs, NoMemory> {
     let mut files = Vec::new(alloc);
     files.push((String::from_str(alloc, MODEL)?, model.to_vec(alloc)?))?;
-    let mut inputs = MemInputs::new(files, Vec::new(alloc), ROOM);
-    let mut out = MemSink::new(alloc, ROOM, Vec::new(alloc), ROOM)?;
-    let status = pssm(rt, alloc, texts.as_slice(), &mut inputs, &mut out, gate);
-    same_number(alloc, "the status", 0, usize::from(status.code))?;
+    Ok(MemInputs::new(files, Vec::new(alloc), ROOM))
+}
+
+// The journal that was written by a run with this status, which is to be 0.
+fn journal_in(alloc: Global, code: u8, out: &MemSink) -> Result<String, Failure> {
+    same_number(alloc, "the status", 0, usize::from(code))?;
     match str::from_utf8(out.bytes()) {
         Ok(journal) => Ok(String::from_str(alloc, journal)?),
         Err(_) => Err(came(alloc, "the journal is no text")),
