@@ -6,14 +6,17 @@ It builds failures.c, a small library that stands before the C library and lets 
 command of the list below again and again, with the first call failing, with the second, and so on, until the program ends
 before that call. Owed is, where memory is refused, status 7 and nothing written, or the answer as it is with ample memory
 (once for each file status 5, where there is no memory for its name, so that it cannot be opened); where a read fails, status
-5 and nothing written; where a write fails, status 6 and a front of the answer. Then it tries a full device, a pipe that is
-closed, a folder and a missing file. It prints a line for each command and kind of failure, and ends with status 1 where
-something else came.
+5 and nothing written; where a write fails, status 6 and a front of the answer. Then it lets a file become longer, or shorter, in
+front of each read in turn: the answer has to be the one on a file of exactly the bytes that the reads handed out. Then it tries a
+full device, a pipe that is closed, a folder and a missing file, and a journal that comes through standard input or a named pipe in
+pieces: the answer has to be the one on a file. It prints a line for each command and kind of failure, and ends with status 1
+where something else came.
 """
 import os
 import subprocess
 import sys
 import tempfile
+import threading
 
 from measure import PROGRAM, need_program
 
@@ -26,14 +29,40 @@ def example(name):
     return os.path.join(EXAMPLES, name)
 
 
+# A region with a shallow and a deep history, and the longest of the worked journals that leave it and come back by one of them.
+TWO_MODES = """pssm-flat 1 / signal Go 0 / signal Out 0 / signal Sh 0 / signal De 0 / signal Fin 0 / class M / object a M / machine M / \
+region r0 top / region r1 v1 / region r2 v4 / vertex v0 r0 initial / vertex v1 r0 state S / vertex v2 r0 state T / \
+vertex v3 r1 initial / vertex v4 r1 state P / vertex v5 r1 shallowHistory / vertex v6 r1 deepHistory / vertex v7 r1 final / \
+vertex v8 r2 initial / vertex v9 r2 state Q1 / vertex v10 r2 state Q2 / transition t0 v0 v1 external / \
+transition t1 v3 v4 external / transition t2 v8 v9 external / transition t3 v9 v10 external / on Go / \
+transition t4 v1 v2 external / on Out / transition t5 v2 v5 external / on Sh / transition t6 v2 v6 external / on De / \
+transition t7 v4 v7 external / on Fin / end"""
+SHALLOW = """pssm-journal 1 / post a.Go() / post a.Out() / post a.Sh() / start a / open a r0 default by t0 / effect a t0 / enter a v1 / \
+open a r1 default by t1 / effect a t1 / enter a v4 / open a r2 default by t2 / effect a t2 / enter a v9 / take a 1 t3 / exit a v9 / \
+effect a t3 / enter a v10 / take a 2 t4 / exit a v10 / exit a v4 / exit a v1 / effect a t4 / enter a v2 / take a 3 t5 / exit a v2 / \
+effect a t5 / enter a v1 / open a r1 shallow state v4 / enter a v4 / open a r2 default by t2 / effect a t2 / enter a v9"""
+WRITTEN = tempfile.TemporaryDirectory()
+
+
+def written(name, text):
+    """A file with the lines of this text, which stand between slashes."""
+    path = os.path.join(WRITTEN.name, name)
+    with open(path, 'w') as file:
+        file.write(text.replace(' / ', '\n') + '\n')
+    return path
+
+
 COMMANDS = [
     ['judge', example('go.flat'), example('go.journal')],
     ['judge', example('go.flat'), example('go-swapped.journal')],
     ['judge', example('washer.flat'), example('washer.journal')],
     ['judge', example('lamps.xmi'), example('lamps.journal')],
+    ['judge', written('two-modes.flat', TWO_MODES), written('shallow.journal', SHALLOW)],
     ['check', example('player-broken.flat')],
     ['flat', example('door.flat')],
+    ['flat', example('lamps.xmi')],
     ['flat', example('lamps-extended.xmi')],
+    ['run', example('lamps.xmi'), 'hall.Press()', 'hall.Press()'],
     ['run', example('door.flat'), 'door.Open()', 'door.Close()', 'door.Lock(1234)'],
     ['run', '--workers', '4', example('plant.flat'), 'control.Order(2)'],
     ['run', '--limit', '9', example('lamp.flat'), 'hall.Press()'],
@@ -96,6 +125,106 @@ def try_failures(library):
     return well
 
 
+# Commands, which of their words is the file that changes, what it holds, and what comes to it.
+POSTS = 'pssm-journal 1\n' + 'post a.Go()\n' * 30_000
+CHANGED = [
+    (['judge', example('go.flat'), 'posts.journal'], POSTS, 'post a.Go()\n' * 1_000),
+    (['judge', example('go.flat'), 'posts.journal'], POSTS, 'post b.Go()\n'),
+    (['check', 'go.flat'], open(example('go.flat')).read(), 'end\n'),
+    (['flat', 'lamps.xmi'], open(example('lamps.xmi')).read(), '<a/>'),
+]
+
+
+def try_change(library, folder, words, text, more, kind):
+    """Lets a file become longer or shorter in front of each read in turn; as `try_each`."""
+    path, log = os.path.join(folder, words[-1]), os.path.join(folder, 'handed-out')
+    words = words[:-1] + [path]
+    as_it_is, changed, wrong, number = None, 0, [], 0
+    while True:
+        number += 1
+        for name, bytes_of in ((path, text), (log, '')):
+            with open(name, 'w') as file:
+                file.write(bytes_of)
+        if as_it_is is None:
+            as_it_is = called(words, os.environ)[:2]
+        ended, written, made = called(words, dict(
+            os.environ, LD_PRELOAD=library, FAILS=kind, AT=str(number), FILE=path, MORE=more, LOG=log))
+        if called(words[:-1] + [log], os.environ)[:2] != (ended, written):
+            wrong.append('%s at read %d: status %d, %r' % (kind, number, ended, written[:60]))
+        if not made:
+            return number - 1, changed, wrong
+        changed += (ended, written) != as_it_is
+
+
+def try_changes(library, folder):
+    """One line for each command and kind of change; whether all answers are owed."""
+    well = True
+    for words, text, more in CHANGED:
+        for kind in ('grows', 'shrinks'):
+            count, changed, wrong = try_change(library, folder, words, text, more, kind)
+            print('%-52s %-7s %5d times, each in front of one read, %5d with another answer' % (shown(words), kind, count, changed),
+                  flush=True)
+            for line in wrong[:5]:
+                print('  NOT OWED: ' + line)
+            well = well and not wrong and count > 0 and changed > 0
+    return well
+
+
+def fed(output, text, size):
+    """Writes a text in pieces of this size, as long as it is read."""
+    try:
+        for first in range(0, len(text), size):
+            os.write(output, text[first:first + size])
+    except BrokenPipeError:
+        pass
+    os.close(output)
+
+
+def through_input(model, text, size):
+    """The answer on a journal that comes through standard input, as the script hands on a path `-`."""
+    call = subprocess.Popen([PROGRAM, 'judge', model, '/dev/stdin'], stdin=subprocess.PIPE, stdout=subprocess.PIPE)
+    fed(os.dup(call.stdin.fileno()), text, size)
+    call.stdin.close()
+    call.stdin = None
+    return call.communicate()[0], call.returncode
+
+
+def through_named_pipe(model, text, size):
+    """The answer on a journal that comes through a named pipe."""
+    path = os.path.join(WRITTEN.name, 'pipe')
+    os.mkfifo(path)
+    call = subprocess.Popen([PROGRAM, 'judge', model, path], stdout=subprocess.PIPE)
+    feeding = threading.Thread(target=lambda: fed(os.open(path, os.O_WRONLY), text, size), daemon=True)
+    feeding.start()
+    answer = call.communicate()[0]
+    feeding.join(60)
+    os.remove(path)
+    return answer, call.returncode
+
+
+def try_pipes():
+    """One line for each way, journal and size of the pieces; whether the answer is that on a file."""
+    well = True
+    journals = [('go.journal', (1, 7, 65_536)), ('go-swapped.journal', (1, 65_536)), ('30,000 posts', (1_000, 65_536, 1 << 20))]
+    for name, sizes in journals:
+        path = example(name)
+        if not os.path.exists(path):
+            path = os.path.join(WRITTEN.name, name)
+            with open(path, 'w') as file:
+                file.write(POSTS)
+        with open(path, 'rb') as file:
+            text = file.read()
+        owed = called(['judge', example('go.flat'), path], os.environ)[:2]
+        for way, through in (('standard input', through_input), ('a named pipe', through_named_pipe)):
+            for size in sizes:
+                answer, status = through(example('go.flat'), text, size)
+                print('%-52s status %d, %s' % ('%s through %s, %d at a time' % (name, way, size), status, answer.decode().strip()), flush=True)
+                if (status, answer) != owed:
+                    print('  NOT OWED: status %d, %r' % owed)
+                    well = False
+    return well
+
+
 def closed_pipe():
     """The writing end of a pipe that nobody reads."""
     reading, writing = os.pipe()
@@ -125,9 +254,8 @@ def main():
     with tempfile.TemporaryDirectory() as folder:
         library = os.path.join(folder, 'failures.so')
         subprocess.run(['cc', '-O2', '-shared', '-fPIC', '-o', library, os.path.join(HERE, 'failures.c'), '-ldl'], check=True)
-        failures = try_failures(library)
-    devices = try_devices()
-    sys.exit(0 if failures and devices else 1)
+        well = [try_failures(library), try_changes(library, folder), try_devices(), try_pipes()]
+    sys.exit(0 if all(well) else 1)
 
 
 if __name__ == '__main__':

@@ -4,13 +4,18 @@
 Run it at the top of the repository after the program is built: python3 bench/hostile.py
 It writes its files into a temporary folder, and prints a line for each: bytes, seconds, bytes per second, peak memory, and the
 answer. Each answer is looked at: it is the one that docs/FORMATS.md owes.
+
+Where there is a C compiler `cc` it builds alike.c, which finds names whose hashes begin alike, and tries files of them too. Marks are
+found by their hashes, which have no key; the ids of a model file are compared in an ordered map, so that no choice of ids slows it.
 """
 import os
+import shutil
 import subprocess
 import tempfile
 
 from measure import PROGRAM, measure, need_program, report
 
+HERE = os.path.dirname(os.path.abspath(__file__))
 MOST = 16 << 20
 XMI = b'<uml:Model xmlns:xmi="http://www.omg.org/spec/XMI/20131001" xmi:id="m">'
 END = b'</uml:Model>'
@@ -74,6 +79,28 @@ def nested(count):
     return dict(regions=regions, vertices=both, transitions=[b'transition t%d v%d v%d external' % (k, 2 * k, 2 * k + 1) for k in range(1, count + 1)])
 
 
+def stepped(count):
+    """A flat text with so many behaviours of one machine beside the empty one, each a do step; a State has 64 of them."""
+    vertices = []
+    for first in range(0, count, 64):
+        vertices += each(b'vertex v# r0 state', 2 + first // 64, 1) + each(b'step x := #;', first, min(64, count - first))
+    return flat(variables=[b'var x 0'], vertices=vertices)
+
+
+def marked(names):
+    """A flat text with marks of these names, 64 in the entry behaviour of a State."""
+    vertices = []
+    for first in range(0, len(names), 64):
+        vertices += each(b'vertex v# r0 state', 2 + first // 64, 1)
+        vertices.append(b'entry ' + b' '.join(b'mark ' + name + b'();' for name in names[first:first + 64]))
+    return flat(vertices=vertices)
+
+
+def argued(what, count):
+    """A flat text with a signal of eight parameters and an entry behaviour of one statement with so many arguments."""
+    return flat(signals=[b'signal S 8'], vertices=[b'entry %s(%s);' % (what, b', '.join([b'1'] * count))])
+
+
 def at_limits():
     """For each limit of a flat text: its name, the text that has as much, and one that has one more, with the line that is owed for it."""
     loops = each(b'transition t# v1 v1 external\non Go', 1, 8191)
@@ -94,16 +121,37 @@ def at_limits():
     yield '257 signals', flat(signals=each(b'signal S# 0', 0, 256)), 'flat line 258 bad line'
     yield '8 parameters', flat(signals=[b'signal S 8']), FIT
     yield '9 parameters', flat(signals=[b'signal S 9']), 'flat line 3 bad line'
+    yield '8 arguments of a send', argued(b'send self.S', 8), FIT
+    yield '9 arguments of a send', argued(b'send self.S', 9), 'flat line 10 act Arity byte 37'
+    yield '8 arguments of a mark', argued(b'mark m', 8), FIT
+    yield '9 arguments of a mark', argued(b'mark m', 9), 'flat line 10 act Arity byte 32'
     yield '64 variables', flat(variables=each(b'var x# 0', 0, 64)), FIT
     yield '65 variables', flat(variables=each(b'var x# 0', 0, 65)), 'flat line 70 bad line'
     yield '64 do steps', flat(variables=[b'var x 0'], vertices=each(b'step x := #;', 0, 64)), FIT
     yield '65 do steps', flat(variables=[b'var x 0'], vertices=each(b'step x := #;', 0, 65)), 'flat line 74 bad line'
+    yield '32,768 behaviours, the empty one counted', stepped(32_767), FIT
+    yield '32,769 behaviours', stepped(32_768), 'flat line 33289 bad line'
+    yield '32,768 marks', marked(each(b'm#', 0, 32_768)), FIT
+    yield '32,769 marks', marked(each(b'm#', 0, 32_769)), 'flat line 1034 bad line'
     yield '64 statements in each of 8,191 effects', flat(transitions=[line + b'\neffect ' + b' '.join([b'mark m();'] * 64) for line in loops]), FIT
     yield '65 statements', flat(vertices=[b'entry ' + b' '.join([b'mark m();'] * 65)]), 'flat line 9 act TooLong byte 640'
     yield 'a text of 4,096 bytes', flat(transitions=guarded + [b'if ' + b'!' * 4092 + b'true']), FIT
     yield 'a text of 4,097 bytes', flat(transitions=guarded + [b'if ' + b'!' * 4093 + b'true']), 'flat line 12 act TooLong byte 0'
     yield 'a name of 64 letters', flat(name=b'x' * 64), FIT
     yield 'a name of 65 letters', flat(name=b'x' * 65), 'flat line 3 bad line'
+
+
+def alike(folder):
+    """The same of texts of names whose hashes begin alike: 32,768 names of eight letters that a table of 4,096 groups seeks from one group on."""
+    if shutil.which('cc') is None:
+        print('no C compiler cc: texts of names whose hashes begin alike are left out', flush=True)
+        return
+    tool = os.path.join(folder, 'alike')
+    subprocess.run(['cc', '-O2', '-o', tool, os.path.join(HERE, 'alike.c')], check=True)
+    names = subprocess.run([tool, '32768', '12'], check=True, stdout=subprocess.PIPE).stdout.split()
+    yield '32,768 marks of eight letters', marked(each(b'mmm#', 10_000, 32_768)), FIT
+    yield '32,768 marks whose hashes begin alike', marked(names), FIT
+    yield '32,768 such ids', XMI + b''.join(b'<a xmi:id="%s"/>' % name for name in names) + END, FIT
 
 
 def journals():
@@ -137,10 +185,11 @@ def main():
             with open(path, 'wb') as file:
                 file.write(text)
             well = try_file(name, len(text), ['check', path], status, owed) and well
-        for name, text, owed in at_limits():
-            with open(path, 'wb') as file:
-                file.write(text)
-            well = try_file(name, len(text), ['check', path], 0 if owed == FIT else 3, owed) and well
+        for texts in (at_limits(), alike(folder)):
+            for name, text, owed in texts:
+                with open(path, 'wb') as file:
+                    file.write(text)
+                well = try_file(name, len(text), ['check', path], 0 if owed == FIT else 3, owed) and well
         with open(model, 'wb') as file:
             file.write(GO)
         for name, text, status, owed in journals():
